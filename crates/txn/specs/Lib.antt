@@ -1,0 +1,4 @@
+pub mod Choices
+pub mod History
+pub mod Refusals
+pub mod Transactions
