@@ -1,0 +1,26 @@
+-- The last writers that a list of entries makes.
+use Rattle.std.proofs.Common.{◌≡◌, ℕ, Bool, cond, Option, Some, List, [], ◌∷◌, refl, sym, ap, ◌∙◌}
+use Rattle.std.specs.Ordering.{nat_cmp}
+use Rattle.std.specs.BTreeMap.{is_at}
+use Rattle.std.specs.Map.{lookup}
+use Rattle.std.specs.Cmp.{eq_by_cmp_equiv}
+use Rattle.std.specs.FinMap.{FinMap, find, get, insert, from_entries, get-from_entries, get-insert, same_map, nat_cmp-IsAntisymmetric}
+use Rattle.std.proofs.lemmas.Cmp.{nat_cmp_total}
+
+-- what the first entry of the key has
+abbrev pub entry_at : {X : Type 0} → List (ℕ × X) → ℕ → Option X
+entry_at entries key = lookup (is_at (nat_cmp key)) entries
+
+find-entry_at : {X : Type 0} (es : List (ℕ × X)) (q : ℕ) → find nat_cmp q es ≡ entry_at es q
+find-entry_at [] q = refl
+find-entry_at (e ∷ es) q = ap (cond (is_at (nat_cmp q) e.0) (Some e.1)) (find-entry_at es q)
+
+-- what the map that the entries make has at a key
+pub get-entry_at : {X : Type 0} (es : List (ℕ × X)) (q : ℕ) → get (from_entries {R = nat_cmp} es) q ≡ entry_at es q
+get-entry_at es q = get-from_entries nat_cmp_total es q ∙ find-entry_at es q
+
+-- entries that differ at one key make maps that differ there
+pub one_put : {X : Type 0} (es fs : List (ℕ × X)) (key : ℕ) (x : X) → ((q : ℕ) → entry_at fs q ≡ cond (is_at (nat_cmp key) q) (Some x) (entry_at es q)) → from_entries {R = nat_cmp} fs ≡ insert (from_entries es) key x
+one_put es fs key x h = same_map nat_cmp_total nat_cmp-IsAntisymmetric _ _ (λ q.
+    get-entry_at fs q ∙ h q ∙ ap (λ b. cond b (Some x) (entry_at es q)) ((eq_by_cmp_equiv nat_cmp_total).symm key q)
+    ∙ sym (get-insert nat_cmp_total (from_entries es) key x q ∙ ap (cond (is_at (nat_cmp q) key) (Some x)) (get-entry_at es q)))

@@ -1,0 +1,9 @@
+pub mod Based
+pub mod Codes
+pub mod Explains
+pub mod Good
+pub mod Known
+pub mod Settled
+pub mod StandsFor
+pub mod Verdict
+pub mod Whole

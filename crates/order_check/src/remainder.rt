@@ -1,0 +1,125 @@
+ghost use Rattle.std.specs.Prelude.{◌≡◌, IfOk, OnOk, OnErr};
+ghost use Rattle.std.specs.FinMap as map;
+
+use std::alloc::Global;
+use std::collections::BTreeMap;
+use std::marker::Model;
+use txn::{NoMemory, Sequence, Txn, TxnId};
+
+/// The last writer of each key. Contracts see a finite map.
+#[derive(Clone, Drop, Debug)]
+pub struct LastWriters {
+    entries: BTreeMap<u64, TxnId>,
+}
+
+impl Model for LastWriters {
+    ghost use Rattle.std.specs.FinMap as map;
+    ghost use Rattle.std.specs.Ordering.{nat_cmp};
+    ghost use Rattle.std.specs.Coded.{coded_ℕ};
+    ghost use Rattle.txn.specs.declared.transactions.TxnId.{TxnId};
+    ghost use Rattle.order_check.specs.Codes.{coded_id};
+
+    ghost Value = { map.FinMap nat_cmp TxnId };
+
+    ghost coded = { map.code coded_ℕ coded_id };
+
+    ghost view = { λ a. map.from_entries a.entries.entries };
+}
+
+impl LastWriters {
+    pub fn new(alloc: Global) -> Self
+        ensures { result ≡ map.empty }
+    {
+        LastWriters {
+            entries: BTreeMap::new(alloc),
+        }
+    }
+
+    pub fn get(&self, key: u64) -> Option<TxnId>
+        ensures { result ≡ map.get self.now key }
+    {
+        self.entries.get(&key).copied()
+    }
+
+    /// Makes the id the key's last writer.
+    pub fn insert(&mut self, key: u64, writer: TxnId) -> Result<(), NoMemory>
+        ensures ok { OnOk result (self.new ≡ map.insert self.old key writer) }
+        ensures err { OnErr result (self.new ≡ self.old) }
+    {
+        self.entries.insert(key, writer)?;
+        Ok(())
+    }
+}
+
+/// What is known of the transactions that are gone: the last gone writer of each key, and how many are gone of each
+/// session.
+#[derive(Clone, Drop, Debug)]
+pub struct Base {
+    pub last: LastWriters,
+    pub marks: Sequence<u64>,
+}
+
+/// What is kept of a history: a base, what remains of each session, which sessions are closed, and how many
+/// transactions may remain at a time.
+#[derive(Drop, Debug)]
+pub struct Parts {
+    pub base: Base,
+    pub remain: Sequence<Sequence<Txn>>,
+    pub closed: Sequence<bool>,
+    pub limit: u64,
+}
+
+/// What a check of a history says.
+#[derive(Clone, Copy, Debug, PartialEq, Eq)]
+pub enum Kind {
+    /// Some order explains it, and no read is pending.
+    Serial,
+    /// Some order explains it, and some read is pending.
+    Pending,
+    /// No order explains it.
+    Violated,
+    /// The search ran out of its budget.
+    Spent,
+}
+
+fn copy_of_session(session: &Sequence<Txn>) -> Result<Sequence<Txn>, NoMemory>
+    ensures { IfOk result (λ copy. copy ≡ session.now) }
+{
+    session.clone()
+}
+
+/// A whole copy of each list.
+fn copy_of_sessions(
+    alloc: Global,
+    sessions: &[Sequence<Txn>],
+) -> Result<Sequence<Sequence<Txn>>, NoMemory>
+    ensures { IfOk result (λ copy. copy ≡ sessions.now) }
+{
+    let mut copies = Vec::with_capacity(alloc, sessions.len())?;
+    for session in sessions {
+        copies.push(copy_of_session(session)?)?;
+    }
+    Ok(Sequence::new(copies))
+}
+
+/// A whole copy.
+fn copy_of_parts(parts: &Parts) -> Result<Parts, NoMemory>
+    ensures { IfOk result (λ copy. copy ≡ parts.now) }
+{
+    Ok(Parts {
+        base: parts.base.clone()?,
+        remain: copy_of_sessions(parts.remain.allocator(), parts.remain.as_slice())?,
+        closed: parts.closed.clone()?,
+        limit: parts.limit,
+    })
+}
+
+impl Clone for Parts {
+    ghost use Rattle.std.specs.Prelude.{◌≡◌};
+
+    ghost is_clone = { λ old new. new ≡ old };
+
+    fn clone(&self) -> Result<Self, NoMemory> {
+        copy_of_parts(self)
+    }
+}
