@@ -1,4 +1,4 @@
-ghost use Rattle.std.specs.Prelude.{◌≡◌, ◌↔◌, ◌<◌, length, IsTrue, sum_by, slice_get};
+ghost use Rattle.std.specs.Prelude.{◌≡◌, ◌↔◌, ◌<◌, length, IsTrue, sum_by, slice_get, true};
 ghost use Rattle.std.specs.Option.{option_copied};
 ghost use Rattle.order_check.specs.Based.{mark_of, remaining_of, received_count, remaining_at, IsReceived, last_gone};
 ghost use Rattle.order_check.specs.Good.{IsGood};
@@ -66,10 +66,11 @@ impl Parts {
     pub fn is_closed(&self, session: u8) -> bool
         ensures { IsTrue result ↔ (slice_get self.now.closed session ≡ Some true) }
     {
-        match self.closed.as_slice().get(usize::from(session)) {
-            Some(closed) => *closed,
-            None => false,
-        }
+        self.closed
+            .as_slice()
+            .get(usize::from(session))
+            .copied()
+            .unwrap_or(false)
     }
 
     /// How many sessions there are.
