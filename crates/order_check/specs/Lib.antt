@@ -1,8 +1,10 @@
 pub mod Based
 pub mod Codes
+pub mod Cycles
 pub mod Explains
 pub mod Good
 pub mod Known
+pub mod Precedes
 pub mod Settled
 pub mod StandsFor
 pub mod Verdict

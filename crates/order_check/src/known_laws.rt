@@ -1,0 +1,12 @@
+//! Laws of the known relation, which hold of its definition. The functions do nothing.
+ghost use Rattle.order_check.specs.Precedes.{KeepsKnown, CycleLeavesNoOrder};
+
+/// Every order that explains good parts keeps the known relation.
+pub fn every_order_keeps_known()
+    ensures { KeepsKnown }
+{}
+
+/// Where a transaction is known to come before itself, no order explains the parts.
+pub fn cycle_leaves_no_order()
+    ensures { CycleLeavesNoOrder }
+{}
