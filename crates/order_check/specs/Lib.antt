@@ -3,6 +3,8 @@ pub mod Codes
 pub mod Explains
 pub mod Good
 pub mod Known
+pub mod Laws
+pub mod NoBase
 pub mod Settled
 pub mod StandsFor
 pub mod Verdict

@@ -1,7 +1,12 @@
 //! Which orders explain a history of which a part is gone, and what its verdict is.
 #![tactic(auto)]
 
+mod laws;
 mod lookups;
 mod remainder;
 
+pub use laws::{
+    offer_keeps_stands_for, orders_as_of_whole, stands_for_what_remains, verdict_as_of_whole,
+    verdict_as_stood_for,
+};
 pub use remainder::{Base, Kind, LastWriters, Parts};
