@@ -1,3 +1,4 @@
+pub mod Whole
 pub mod Writers
 pub mod Places
 pub mod OrderLaws

@@ -4,6 +4,8 @@ pub mod Cycles
 pub mod Explains
 pub mod Good
 pub mod Known
+pub mod Laws
+pub mod NoBase
 pub mod Precedes
 pub mod Settled
 pub mod StandsFor

@@ -1,0 +1,139 @@
+-- Parts of which nothing is gone, and the whole history that they have.
+use Rattle.std.proofs.Common.{◌≡◌, ℕ, ◌<◌, ◌++◌, ◌↔◌, List, [], ◌∷◌, length, Some, None, Option, IsSome, ltb, slice_get, refl, sym, subst, ap, ◌∙◌, arith, zero, suc, set, nat_cmp, length-set, length-append, get_or-set_same, get_or-set_other, ◌+◌, ⊎_elim}
+use Rattle.std.proofs.Math.Nat.{sub-zero}
+use Rattle.std.proofs.lemmas.Bool.{cond-false, le-ltb, cases_eq}
+use Rattle.std.proofs.lemmas.Option.{slice_get_within}
+use Rattle.std.proofs.lemmas.List.Elements.{All-weaker}
+use Rattle.std.specs.FinMap.{get, get-empty}
+use Rattle.txn.specs.declared.transactions.TxnId.{TxnId}
+use Rattle.txn.specs.declared.transactions.Source.{Source}
+use Rattle.txn.specs.declared.transactions.Source.TheVariants.{Init, By}
+use Rattle.txn.specs.declared.transactions.Txn.{Txn}
+use Rattle.txn.specs.declared.transactions.Fragment.{Fragment}
+use Rattle.txn.specs.History.{History, Received, Reads, session_of, txn_at, ids_from, NoneWrites, IsLastWriter}
+use Rattle.order_check.specs.declared.remainder.Parts.{Parts}
+use Rattle.order_check.specs.declared.remainder.Kind.{Kind}
+use Rattle.order_check.specs.declared.remainder.Kind.TheVariants.{Serial, Pending, Violated, Spent}
+use Rattle.order_check.specs.Based.{mark_of, remaining_of, remaining_at, last_gone, IsReceived, HasPending}
+use Rattle.order_check.specs.NoBase.{HasNoBase}
+use Rattle.order_check.specs.Explains.{Explains, Meets}
+use Rattle.order_check.specs.Verdict.{HasOrder, IsVerdict}
+use Rattle.order_check.specs.Whole.{MeetsWhole, ExplainsWhole, HasOrderWhole, HasPendingWhole, IsVerdictWhole}
+use Rattle.order_check.specs.StandsFor.{StandsFor, parts_with, parts_then, history_then, IsNextFragment, with_fragment}
+
+-- what remains is what the whole history has
+at_same : (parts : Parts) → HasNoBase parts → (id : TxnId) → remaining_at parts id ≡ txn_at parts.remain id
+at_same parts bare id = rw (bare.marks id.session, sub-zero) (cond-false (ltb id.number 0) None (slice_get (remaining_of parts id.session) id.number) (le-ltb id.number 0 (omega arith)))
+
+look_ups_same : (parts : Parts) → HasNoBase parts → remaining_at parts ≡ txn_at parts.remain
+look_ups_same parts bare = λ i id. at_same parts bare id i
+
+meets_whole : (parts : Parts) → HasNoBase parts → (front : List TxnId) (key : ℕ) (source : Source) → Meets parts front key source ↔ MeetsWhole parts.remain front key source
+meets_whole parts bare front key Init =
+    let e = look_ups_same parts bare in
+    let none : last_gone parts key ≡ None = ap (λ last. get last key) bare.last ∙ get-empty nat_cmp key in
+    (λ h. subst (λ at. NoneWrites at key front) e h.1, λ h. (none, subst (λ at. NoneWrites at key front) (sym e) h))
+meets_whole parts bare front key (By writer) =
+    let e = look_ups_same parts bare in
+    let mark = bare.marks writer.session in (
+      λ h received. subst (λ at. IsLastWriter at key front writer) e (h.remaining (subst (λ at. IsSome (at writer)) (sym e) received)),
+      λ h. record {
+        gone = λ gone. absurd (omega arith);
+        remaining = λ remains. subst (λ at. IsLastWriter at key front writer) (sym e) (h (subst (λ at. IsSome (at writer)) e remains));
+      },
+    )
+
+pub explains_whole : (parts : Parts) (order : List TxnId) → HasNoBase parts → Explains parts order ↔ ExplainsWhole parts.remain order
+explains_whole parts order bare =
+    let e = look_ups_same parts bare in (
+      λ h. record {
+        sessions = λ s. h.sessions s ∙ ap (λ mark. ids_from s mark (remaining_of parts s)) (bare.marks s);
+        reads = λ front back id is txn at. All-weaker (λ read. Meets parts front read.0 read.1) (λ read. MeetsWhole parts.remain front read.0 read.1) (λ read. (meets_whole parts bare front read.0 read.1).0) txn.reads (h.reads front back id is txn (at_same parts bare id ∙ at));
+      },
+      λ h. record {
+        sessions = λ s. h.sessions s ∙ ap (λ mark. ids_from s mark (remaining_of parts s)) (sym (bare.marks s));
+        reads = λ front back id is txn at. All-weaker (λ read. MeetsWhole parts.remain front read.0 read.1) (λ read. Meets parts front read.0 read.1) (λ read. (meets_whole parts bare front read.0 read.1).1) txn.reads (h.reads front back id is txn (sym (at_same parts bare id) ∙ at));
+      },
+    )
+
+some_within : {X : Type 0} (xs : List X) (n : ℕ) → IsSome (slice_get xs n) → n < length xs
+some_within {X} xs n = go (slice_get xs n) refl
+  where
+    go : (o : Option X) → slice_get xs n ≡ o → IsSome o → n < length xs
+    go None is some = absurd (cc)
+    go (Some x) is some = slice_get_within xs n x is
+
+within_some : {X : Type 0} (xs : List X) (n : ℕ) → n < length xs → IsSome (slice_get xs n)
+within_some (x ∷ xs) zero within = refl
+within_some (x ∷ xs) (suc n) within = within_some xs n (omega arith)
+within_some [] n within = absurd (omega arith)
+
+received_whole : (parts : Parts) → HasNoBase parts → (id : TxnId) → IsReceived parts id ↔ Received parts.remain id
+received_whole parts bare id =
+    let mark = bare.marks id.session in (
+      λ received. within_some (session_of parts.remain id.session) id.number (omega arith),
+      λ some. let within = some_within (session_of parts.remain id.session) id.number some in omega arith,
+    )
+
+pending_whole : (parts : Parts) → HasNoBase parts → HasPending parts ↔ HasPendingWhole parts.remain
+pending_whole parts bare =
+    let e = look_ups_same parts bare in (
+      λ h. (h.0, h.1, h.2, subst (λ at. Reads at h.0 h.2 (By h.1)) e h.3, λ received. h.4 ((received_whole parts bare h.1).1 received)),
+      λ h. (h.0, h.1, h.2, subst (λ at. Reads at h.0 h.2 (By h.1)) (sym e) h.3, λ received. h.4 ((received_whole parts bare h.1).0 received)),
+    )
+
+has_order_whole : (parts : Parts) → HasNoBase parts → HasOrder parts ↔ HasOrderWhole parts.remain
+has_order_whole parts bare =
+    (λ h. (h.0, (explains_whole parts h.0 bare).0 h.1), λ h. (h.0, (explains_whole parts h.0 bare).1 h.1))
+
+pub verdict_whole : (parts : Parts) (kind : Kind) → HasNoBase parts → IsVerdictWhole parts.remain kind ↔ IsVerdict parts kind
+verdict_whole parts Violated bare =
+    let order = has_order_whole parts bare in
+    (λ none some. none (order.0 some), λ none some. none (order.1 some))
+verdict_whole parts Pending bare =
+    let order = has_order_whole parts bare in
+    let pending = pending_whole parts bare in
+    (λ h. (order.1 h.0, pending.1 h.1), λ h. (order.0 h.0, pending.0 h.1))
+verdict_whole parts Serial bare =
+    let order = has_order_whole parts bare in
+    let pending = pending_whole parts bare in
+    (λ h. (order.1 h.0, λ some. h.1 (pending.0 some)), λ h. (order.0 h.0, λ some. h.1 (pending.1 some)))
+verdict_whole parts Spent bare = (λ h. h, λ h. h)
+
+-- a fragment takes nothing away
+bare_with : (parts : Parts) (fragment : Fragment) → HasNoBase parts → HasNoBase (parts_with parts fragment)
+bare_with parts fragment bare = record { marks = bare.marks; last = bare.last }
+
+future_whole : (parts : Parts) → HasNoBase parts → (more : List Fragment) (kind : Kind) → IsVerdictWhole (history_then parts.remain more) kind ↔ IsVerdict (parts_then parts more) kind
+future_whole parts bare [] kind = verdict_whole parts kind bare
+future_whole parts bare (fragment ∷ more) kind = future_whole (parts_with parts fragment) (bare_with parts fragment bare) more kind
+
+pub stands_bare : (parts : Parts) → HasNoBase parts → StandsFor parts parts.remain
+stands_bare parts bare = record {
+  sessions = refl;
+  received = λ s. let mark = bare.marks s in omega arith;
+  future = λ more _ kind. future_whole parts bare more kind;
+}
+
+pub verdict_of_whole : (parts : Parts) (history : History) (kind : Kind) → StandsFor parts history → IsVerdictWhole history kind ↔ IsVerdict parts kind
+verdict_of_whole parts history kind stands = stands.future [] tt kind
+
+-- a fragment adds to the sessions of both alike
+with_received : (mark : ℕ) (remain history : History) (place s : ℕ) (txns : List Txn) → place < length remain → length history ≡ length remain → ((t : ℕ) → t ≡ s → mark + length (session_of remain t) ≡ length (session_of history t)) → mark + length (session_of (set remain place (session_of remain place ++ txns)) s) ≡ length (session_of (set history place (session_of history place ++ txns)) s)
+with_received mark remain history place s txns within same received = ⊎_elim at_place elsewhere (cases_eq s place)
+  where
+    at_place : s ≡ place → mark + length (session_of (set remain place (session_of remain place ++ txns)) s) ≡ length (session_of (set history place (session_of history place ++ txns)) s)
+    at_place here =
+        let before = received place (sym here) in
+        rw (here, get_or-set_same remain place (session_of remain place ++ txns) [] within, get_or-set_same history place (session_of history place ++ txns) [] (omega arith), length-append (session_of remain place) txns, length-append (session_of history place) txns) (omega arith)
+
+    elsewhere : ¬ (s ≡ place) → mark + length (session_of (set remain place (session_of remain place ++ txns)) s) ≡ length (session_of (set history place (session_of history place ++ txns)) s)
+    elsewhere apart =
+        rw (get_or-set_other remain place s (session_of remain place ++ txns) [] apart, get_or-set_other history place s (session_of history place ++ txns) [] apart) (received s refl)
+
+pub stands_with : (parts : Parts) (history : History) (fragment : Fragment) → StandsFor parts history → IsNextFragment parts fragment → StandsFor (parts_with parts fragment) (with_fragment history fragment)
+stands_with parts history fragment stands next = record {
+  sessions = length-set history fragment.session _ ∙ stands.sessions ∙ sym (length-set parts.remain fragment.session _);
+  received = λ s. with_received (mark_of parts s) parts.remain history fragment.session s fragment.txns next.session.0 stands.sessions (λ t is. ap (λ u. mark_of parts u + length (session_of parts.remain t)) (sym is) ∙ stands.received t);
+  future = λ more come kind. stands.future (fragment ∷ more) (next, come) kind;
+}
