@@ -1,2 +1,5 @@
+pub mod MetReads
+pub mod Orders
+pub mod Received
 pub mod Replayed
 pub mod Writers
