@@ -1,6 +1,6 @@
 -- Reads that are met by the last writers in front, and reads that are met by what stands in front.
-use Rattle.std.proofs.Common.{◌≡◌, ℕ, ◌+◌, ◌<◌, ◌↔◌, true, false, refl, sym, ap, subst, ◌∙◌, ◌⊎◌, inl, inr, arith, Option, Some, None, List, ◌∷◌, ◌++◌, All}
-use Rattle.std.specs.Option.{IsSome, is_some, option_or}
+use Rattle.std.proofs.Common.{◌≡◌, ℕ, true, refl, sym, ap, subst, ◌∙◌, inl, inr, Option, Some, None, List, All}
+use Rattle.std.specs.Option.{option_or}
 use Rattle.std.specs.Ordering.{nat_cmp}
 use Rattle.std.specs.FinMap.{FinMap, get}
 use Rattle.std.proofs.lemmas.List.Elements.{All-weaker}
@@ -10,9 +10,9 @@ use Rattle.txn.specs.declared.transactions.Source.TheVariants.{Init, By}
 use Rattle.txn.specs.declared.transactions.Txn.{Txn}
 use Rattle.txn.specs.History.{writes_key, Writes, NoneWrites, IsLastWriter}
 use Rattle.order_check.specs.declared.remainder.Parts.{Parts}
-use Rattle.order_check.specs.Based.{remaining_at, last_gone, IsGone, Remains, IsReceived}
+use Rattle.order_check.specs.Based.{remaining_at, last_gone, IsGone, Remains}
 use Rattle.order_check.specs.Good.{IsGood}
-use Rattle.order_check.specs.Explains.{Meets, MeetsId, MeetsReads}
+use Rattle.order_check.specs.Explains.{Meets, MeetsReads}
 use Rattle.order_check.specs.Replay.{last_writer, IsMetBy, AreMetBy}
 use Rattle.order_check.proofs.Received.{gone_none, gone_past, gone_received, remains_received, received_cases}
 use Rattle.order_check.proofs.Replayed.{Last, last_from, last_cases, last_stays, last_found}

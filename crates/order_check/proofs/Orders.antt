@@ -1,5 +1,5 @@
 -- Orders place by place.
-use Rattle.std.proofs.Common.{◌≡◌, ℕ, ◌+◌, ◌<◌, ◌≤◌, refl, sym, ap, subst, ◌∙◌, arith, None, List, [], ◌∷◌, ◌++◌, length, get_or, take, drop, below_more}
+use Rattle.std.proofs.Common.{◌≡◌, ℕ, ◌+◌, ◌<◌, ◌≤◌, refl, sym, ap, subst, ◌∙◌, arith, None, List, ◌∷◌, ◌++◌, length, get_or, take, drop}
 use Rattle.std.specs.Ordering.{nat_cmp}
 use Rattle.std.specs.FinMap.{FinMap, get}
 use Rattle.std.proofs.lemmas.List.{take-append-drop, drop_more, take_at, get_or_at, take_more, length-append}
@@ -8,7 +8,7 @@ use Rattle.order_check.specs.declared.remainder.Parts.{Parts}
 use Rattle.order_check.specs.Based.{remaining_at}
 use Rattle.order_check.specs.Explains.{MeetsReads, MeetsAllReads}
 use Rattle.order_check.specs.Replay.{writer_after}
-use Rattle.order_check.proofs.Replayed.{last_from, last_push}
+use Rattle.order_check.proofs.Replayed.{last_push}
 use Rattle.order_check.proofs.MetReads.{Notes}
 
 -- the id at a place past the end

@@ -1,8 +1,8 @@
 -- Orders session by session.
-use Rattle.std.proofs.Common.{◌≡◌, ℕ, ◌+◌, ◌<◌, ◌≤◌, true, false, cond, zero, suc, refl, sym, ap, subst, ◌∙◌, ◌⊎◌, inl, inr, arith, List, [], ◌∷◌, ◌++◌, length, get_or, set, take, drop, filter, nat_eq, slice_index, replicate, eq-eqb}
+use Rattle.std.proofs.Common.{◌≡◌, ℕ, ◌+◌, ◌<◌, ◌≤◌, cond, zero, suc, refl, sym, ap, subst, ◌∙◌, inl, inr, arith, List, [], ◌∷◌, ◌++◌, length, set, take, drop, filter, slice_index, replicate, eq-eqb}
 use Rattle.std.proofs.lemmas.Bool.{cases_eq, cases_lt, ne_eqb}
-use Rattle.std.proofs.lemmas.List.{take_all, take_more, take_at, get_or_at, get_or_past, get_or-replicate, get_or-set_same, get_or-set_other, length-set, length-take-le, length-append, length-replicate, append-nil}
-use Rattle.std.proofs.lemmas.List.Elements.{filter-append, filter_more}
+use Rattle.std.proofs.lemmas.List.{take_all, take_more, get_or_at, get_or_past, get_or-replicate, get_or-set_same, get_or-set_other, length-set, length-take-le, length-append, length-replicate, append-nil}
+use Rattle.std.proofs.lemmas.List.Elements.{filter-append}
 use Rattle.txn.specs.declared.transactions.TxnId.{TxnId}
 use Rattle.txn.specs.declared.transactions.Txn.{Txn}
 use Rattle.txn.specs.History.{in_session, ids_from}
@@ -61,8 +61,8 @@ next_within parts ids taken id come next =
     elim (cases_lt id.session (length taken)) as (λ _. id.session < length taken) [
       | inl within ↦ within
       | inr past ↦
-        let empty : remaining_of parts id.session ≡ [] = get_or_past parts.remain id.session [] (omega (arith, come.sessions)) in
-        absurd (omega (arith, next.remains, ap length empty))
+          let empty : remaining_of parts id.session ≡ [] = get_or_past parts.remain id.session [] (omega (arith, come.sessions)) in
+          absurd (omega (arith, next.remains, ap length empty))
     ]
 
 -- one more id
@@ -81,8 +81,8 @@ come_more parts ids taken id come next =
       ];
       come = λ s. elim (cases_eq s id.session) as (λ _. filter (in_session s) (ids ++ id ∷ []) ≡ take (slice_index new s) (remaining_ids parts s)) [
         | inl here ↦
-          let P : ℕ → Type 0 = λ s. filter (in_session s) (ids ++ id ∷ []) ≡ take (slice_index new s) (remaining_ids parts s) in
-          subst P (sym here) (come_here parts ids taken id come next ∙ ap (λ n. take n (remaining_ids parts id.session)) (sym same))
+            let P : ℕ → Type 0 = λ s. filter (in_session s) (ids ++ id ∷ []) ≡ take (slice_index new s) (remaining_ids parts s) in
+            subst P (sym here) (come_here parts ids taken id come next ∙ ap (λ n. take n (remaining_ids parts id.session)) (sym same))
         | inr other ↦ come_other parts ids taken id come s other ∙ ap (λ n. take n (remaining_ids parts s)) (sym (kept s other))
       ];
     }
@@ -97,9 +97,9 @@ is_next parts order k taken come keeps within =
     let back = filter (in_session s) (drop (k + 1) order) in
     let long : length rest ≡ length (remaining_of parts s) = length-ids_from s (mark_of parts s) (remaining_of parts s) in
     let split : rest ≡ take t rest ++ id ∷ back =
-      sym (keeps s) ∙ ap (filter (in_session s)) (split_at order k within) ∙ filter-append (in_session s) (take k order) (id ∷ drop (k + 1) order)
-      ∙ ap (λ b. filter (in_session s) (take k order) ++ cond b (id ∷ back) back) (eq-eqb s s refl)
-      ∙ ap (λ xs. xs ++ id ∷ back) (come.come s) in
+    sym (keeps s) ∙ ap (filter (in_session s)) (split_at order k within) ∙ filter-append (in_session s) (take k order) (id ∷ drop (k + 1) order)
+    ∙ ap (λ b. filter (in_session s) (take k order) ++ cond b (id ∷ back) back) (eq-eqb s s refl)
+    ∙ ap (λ xs. xs ++ id ∷ back) (come.come s) in
     let taken_all : length (take t rest) ≡ t = length-take-le t rest (omega (arith, come.most s, long)) in
     let room : t < length (remaining_of parts s) = omega (arith, long, taken_all, ap length split, length-append (take t rest) (id ∷ back)) in
     let here : id ≡ id_at rest t = sym (get_or_at (take t rest) id back first_id t taken_all) ∙ ap (λ xs. id_at xs t) (sym split) in

@@ -1,14 +1,13 @@
-use Rattle.std.proofs.Common.{◌≡◌, ℕ, ◌+◌, List, [], replicate, sym, ap, subst, ◌∙◌, refl, arith, true, take, length}
+use Rattle.std.proofs.Common.{◌≡◌, ◌+◌, [], replicate, sym, ap, subst, ◌∙◌, refl, take}
 use Rattle.std.proofs.lemmas.Bool.{false≢true}
 use Rattle.std.proofs.lemmas.List.{take_all, take_more}
-use Rattle.order_check.specs.Explains.{KeepsSessions}
 use Rattle.order_check.specs.Replay.{AreAllTaken}
 use Rattle.order_check.proofs.Orders.{id_at, first_id}
 use Rattle.order_check.proofs.Sessions.{HaveCome, none_come, come_more, is_next, all_come, come_all}
 use Rattle.order_check.proofs.explaining.keeps_sessions.Goals as goal
 
 pub loop-id-init : goal.loop-id-init
-loop-id-init c = 
+loop-id-init c =
     let parts = c.args.parts.now in
     let zeros = c.in_ok-taken.ensures.items_if_clones_equal (λ y e. e) ∙ ap (λ n. replicate n 0) c.sessions.ensures in
     subst (HaveCome parts []) (sym zeros) (none_come parts)

@@ -1,4 +1,4 @@
-use Rattle.std.proofs.Common.{ℕ, sym, ap, ◌∙◌, refl, arith, true, take, below_more}
+use Rattle.std.proofs.Common.{sym, ap, ◌∙◌, refl, arith, take, below_more}
 use Rattle.std.specs.Ordering.{nat_cmp}
 use Rattle.std.specs.FinMap as map
 use Rattle.std.proofs.lemmas.Bool.{false≢true}
@@ -28,9 +28,11 @@ pub returns-then-not-met : goal.returns-then-not-met
 returns-then-not-met c =
     let parts = c.args.parts.now in
     let order = c.args.order.now in
-    let k = c.loop-id.id-index in
-    (λ h. absurd (false≢true h), λ all.
-      sym c.if-not-met.true ∙ c.in_ok-met.ensures.met.1 (reads_back parts (take k order) c.loop-id.front (id_at order k) c.loop-id.invariant.notes (meet_at parts order k all c.loop-id-test.true)))
+    let k = c.loop-id.id-index in (
+      λ h. absurd (false≢true h),
+      λ all.
+          sym c.if-not-met.true ∙ c.in_ok-met.ensures.met.1 (reads_back parts (take k order) c.loop-id.front (id_at order k) c.loop-id.invariant.notes (meet_at parts order k all c.loop-id-test.true)),
+    )
 
 pub returns : goal.returns
 returns c = (λ _. all_meet c.args.parts.now c.args.order.now c.loop-id.id-index c.loop-id.invariant.met c.loop-id-test.false, λ _. refl)

@@ -1,4 +1,4 @@
-use Rattle.std.proofs.Common.{sym, ap, ◌∙◌}
+use Rattle.std.proofs.Common.{ap, ◌∙◌}
 use Rattle.std.specs.FinMap as map
 use Rattle.order_check.proofs.Replayed.{noted_more}
 use Rattle.order_check.proofs.explaining.note_writes.Goals as goal
