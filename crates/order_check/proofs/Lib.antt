@@ -1,4 +1,9 @@
+pub mod MetReads
+pub mod OrderLaws
+pub mod Orders
+pub mod Places
+pub mod Received
+pub mod Replayed
+pub mod Sessions
 pub mod Whole
 pub mod Writers
-pub mod Places
-pub mod OrderLaws

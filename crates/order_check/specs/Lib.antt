@@ -7,6 +7,7 @@ pub mod Known
 pub mod Laws
 pub mod NoBase
 pub mod Precedes
+pub mod Replay
 pub mod Settled
 pub mod StandsFor
 pub mod Verdict
