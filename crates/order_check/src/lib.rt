@@ -1,7 +1,9 @@
 //! Which orders explain a history of which a part is gone, and what its verdict is.
 #![tactic(auto)]
 
+mod explaining;
 mod lookups;
 mod remainder;
 
+pub use explaining::explains;
 pub use remainder::{Base, Kind, LastWriters, Parts};
