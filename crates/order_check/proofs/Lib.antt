@@ -1,1 +1,3 @@
+pub mod PendingReads
+pub mod Remaining
 pub mod Writers

@@ -6,4 +6,5 @@ pub mod Known
 pub mod Settled
 pub mod StandsFor
 pub mod Verdict
+pub mod Waiting
 pub mod Whole

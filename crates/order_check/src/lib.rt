@@ -4,6 +4,7 @@
 mod explaining;
 mod lookups;
 mod remainder;
+mod waiting;
 
 pub use explaining::explains;
 pub use remainder::{Base, Kind, LastWriters, Parts};
