@@ -1,3 +1,4 @@
 pub mod PendingReads
 pub mod Remaining
+pub mod RulesKept
 pub mod Writers

@@ -3,6 +3,7 @@ pub mod Codes
 pub mod Explains
 pub mod Good
 pub mod Known
+pub mod Rules
 pub mod Settled
 pub mod StandsFor
 pub mod Verdict

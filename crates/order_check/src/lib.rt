@@ -4,6 +4,7 @@
 mod explaining;
 mod lookups;
 mod remainder;
+mod rules;
 mod waiting;
 
 pub use explaining::explains;
