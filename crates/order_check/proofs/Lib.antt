@@ -1,9 +1,12 @@
 pub mod MetReads
 pub mod OrderLaws
 pub mod Orders
+pub mod PendingReads
 pub mod Places
 pub mod Received
+pub mod Remaining
 pub mod Replayed
+pub mod RulesKept
 pub mod Sessions
 pub mod Whole
 pub mod Writers

@@ -8,7 +8,9 @@ pub mod Laws
 pub mod NoBase
 pub mod Precedes
 pub mod Replay
+pub mod Rules
 pub mod Settled
 pub mod StandsFor
 pub mod Verdict
+pub mod Waiting
 pub mod Whole

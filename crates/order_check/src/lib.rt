@@ -6,6 +6,8 @@ mod known_laws;
 mod laws;
 mod lookups;
 mod remainder;
+mod rules;
+mod waiting;
 
 pub use explaining::explains;
 pub use known_laws::{cycle_leaves_no_order, every_order_keeps_known};
