@@ -1,3 +1,5 @@
+pub mod Extensions
+pub mod Lengths
 pub mod PendingReads
 pub mod Remaining
 pub mod RulesKept

@@ -1,6 +1,7 @@
 pub mod Based
 pub mod Codes
 pub mod Explains
+pub mod Fronts
 pub mod Good
 pub mod Known
 pub mod Rules

@@ -5,7 +5,9 @@ mod explaining;
 mod lookups;
 mod remainder;
 mod rules;
+mod trial;
 mod waiting;
 
 pub use explaining::explains;
 pub use remainder::{Base, Kind, LastWriters, Parts};
+pub use trial::{brute, find_order};
