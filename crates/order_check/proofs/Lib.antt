@@ -1,3 +1,5 @@
+pub mod Extensions
+pub mod Lengths
 pub mod MetReads
 pub mod OrderLaws
 pub mod Orders

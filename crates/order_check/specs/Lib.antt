@@ -2,6 +2,7 @@ pub mod Based
 pub mod Codes
 pub mod Cycles
 pub mod Explains
+pub mod Fronts
 pub mod Good
 pub mod Known
 pub mod Laws

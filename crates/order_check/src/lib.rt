@@ -7,6 +7,7 @@ mod laws;
 mod lookups;
 mod remainder;
 mod rules;
+mod trial;
 mod waiting;
 
 pub use explaining::explains;
@@ -16,3 +17,4 @@ pub use laws::{
     verdict_as_stood_for,
 };
 pub use remainder::{Base, Kind, LastWriters, Parts};
+pub use trial::{brute, find_order};
