@@ -25,7 +25,7 @@ use Rattle.order_check.specs.StandsFor.{StandsFor, parts_with, parts_then, histo
 at_same : (parts : Parts) → HasNoBase parts → (id : TxnId) → remaining_at parts id ≡ txn_at parts.remain id
 at_same parts bare id = rw (bare.marks id.session, sub-zero) (cond-false (ltb id.number 0) None (slice_get (remaining_of parts id.session) id.number) (le-ltb id.number 0 (omega arith)))
 
-look_ups_same : (parts : Parts) → HasNoBase parts → remaining_at parts ≡ txn_at parts.remain
+pub look_ups_same : (parts : Parts) → HasNoBase parts → remaining_at parts ≡ txn_at parts.remain
 look_ups_same parts bare = λ i id. at_same parts bare id i
 
 meets_whole : (parts : Parts) → HasNoBase parts → (front : List TxnId) (key : ℕ) (source : Source) → Meets parts front key source ↔ MeetsWhole parts.remain front key source
@@ -63,7 +63,7 @@ some_within {X} xs n = go (slice_get xs n) refl
     go None is some = absurd (cc)
     go (Some x) is some = slice_get_within xs n x is
 
-within_some : {X : Type 0} (xs : List X) (n : ℕ) → n < length xs → IsSome (slice_get xs n)
+pub within_some : {X : Type 0} (xs : List X) (n : ℕ) → n < length xs → IsSome (slice_get xs n)
 within_some (x ∷ xs) zero within = refl
 within_some (x ∷ xs) (suc n) within = within_some xs n (omega arith)
 within_some [] n within = absurd (omega arith)
@@ -75,14 +75,14 @@ received_whole parts bare id =
       λ some. let within = some_within (session_of parts.remain id.session) id.number some in omega arith,
     )
 
-pending_whole : (parts : Parts) → HasNoBase parts → HasPending parts ↔ HasPendingWhole parts.remain
+pub pending_whole : (parts : Parts) → HasNoBase parts → HasPending parts ↔ HasPendingWhole parts.remain
 pending_whole parts bare =
     let e = look_ups_same parts bare in (
       λ h. (h.0, h.1, h.2, subst (λ at. Reads at h.0 h.2 (By h.1)) e h.3, λ received. h.4 ((received_whole parts bare h.1).1 received)),
       λ h. (h.0, h.1, h.2, subst (λ at. Reads at h.0 h.2 (By h.1)) (sym e) h.3, λ received. h.4 ((received_whole parts bare h.1).0 received)),
     )
 
-has_order_whole : (parts : Parts) → HasNoBase parts → HasOrder parts ↔ HasOrderWhole parts.remain
+pub has_order_whole : (parts : Parts) → HasNoBase parts → HasOrder parts ↔ HasOrderWhole parts.remain
 has_order_whole parts bare =
     (λ h. (h.0, (explains_whole parts h.0 bare).0 h.1), λ h. (h.0, (explains_whole parts h.0 bare).1 h.1))
 

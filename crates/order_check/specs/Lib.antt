@@ -5,6 +5,7 @@ pub mod Good
 pub mod Known
 pub mod Laws
 pub mod NoBase
+pub mod Rows
 pub mod Settled
 pub mod StandsFor
 pub mod Verdict

@@ -1,10 +1,15 @@
 //! Which orders explain a history of which a part is gone, and what its verdict is.
 #![tactic(auto)]
 
+mod facts;
 mod laws;
 mod lookups;
 mod remainder;
 
+pub use facts::{
+    row_first_cut, row_gone_read, row_lost_update, row_open_choice, row_pending_arrives,
+    row_reader_first, row_session_order, row_unordered_writers, row_write_skew,
+};
 pub use laws::{
     offer_keeps_stands_for, orders_as_of_whole, stands_for_what_remains, verdict_as_of_whole,
     verdict_as_stood_for,

@@ -1,0 +1,87 @@
+-- Small histories, on which the definitions are shown to say what is expected.
+use Rattle.std.specs.Prelude.{ℕ, false, [], ◌∷◌, map}
+use Rattle.std.specs.FinMap.{empty, insert}
+use Rattle.txn.specs.declared.transactions.TxnId.{TxnId}
+use Rattle.txn.specs.declared.transactions.Source.{Source}
+use Rattle.txn.specs.declared.transactions.Source.TheVariants.{Init, By}
+use Rattle.txn.specs.declared.transactions.Txn.{Txn}
+use Rattle.txn.specs.declared.choices.Choice.{Choice}
+use Rattle.txn.specs.History.{History}
+use Rattle.order_check.specs.declared.remainder.Parts.{Parts}
+
+-- an id: its session, and its number there
+abbrev pub id : ℕ → ℕ → TxnId
+id session number = record { session = session; number = number }
+
+-- it writes the key
+abbrev pub writes : ℕ → Txn
+writes key = record { reads = []; writes = key ∷ [] }
+
+-- it reads the key from the source
+abbrev pub reads : ℕ → Source → Txn
+reads key source = record { reads = (key, source) ∷ []; writes = [] }
+
+-- it reads the key from the source, and writes the other key
+abbrev pub reads_writes : ℕ → Source → ℕ → Txn
+reads_writes key source other = record { reads = (key, source) ∷ []; writes = other ∷ [] }
+
+-- a fence that follows the source
+abbrev pub fence : Source → Txn
+fence source = reads_writes 0 source 0
+
+-- the parts that have the whole history: nothing is gone, and every session is open
+abbrev pub fresh : History → Parts
+fresh history = record { base = record { last = empty; marks = map (λ _. 0) history }; remain = history; closed = map (λ _. false) history; limit = 4096 }
+
+-- 1.0 reads from the initial state what 0.0 writes
+abbrev pub reader_first : History
+reader_first = (writes 5 ∷ []) ∷ (reads 5 Init ∷ []) ∷ []
+
+-- each reads from the initial state what the other writes
+abbrev pub write_skew : History
+write_skew = (reads_writes 5 Init 6 ∷ []) ∷ (reads_writes 6 Init 5 ∷ []) ∷ []
+
+-- session 1 sees what 0.0 writes, and then no longer
+abbrev pub session_order : History
+session_order = (writes 5 ∷ []) ∷ (reads 5 (By (id 0 0)) ∷ reads 5 Init ∷ []) ∷ []
+
+-- 1.0 reads from a transaction that hasn't come
+abbrev pub pending : History
+pending = [] ∷ (reads 5 (By (id 0 0)) ∷ []) ∷ []
+
+-- it has come
+abbrev pub arrived : History
+arrived = (writes 5 ∷ []) ∷ (reads 5 (By (id 0 0)) ∷ []) ∷ []
+
+-- 0.1 and 1.0 both overwrite what they read from 0.0
+abbrev pub lost_update : History
+lost_update = (writes 5 ∷ reads_writes 5 (By (id 0 0)) 5 ∷ []) ∷ (reads_writes 5 (By (id 0 0)) 5 ∷ []) ∷ []
+
+-- Gone are three of session 0: 0.1 was the last writer of key 5, and 0.2 a fence. 1.1 reads key 5 from 0.0.
+abbrev pub gone_read : Parts
+gone_read = record {
+  base = record { last = insert (insert empty 0 (id 0 2)) 5 (id 0 1); marks = 3 ∷ 0 ∷ [] };
+  remain = [] ∷ (fence (By (id 0 2)) ∷ reads 5 (By (id 0 0)) ∷ []) ∷ [];
+  closed = false ∷ false ∷ [];
+  limit = 4096;
+}
+
+-- 2.0 reads from 0.0 what 1.0 writes too
+abbrev pub two_writers : History
+two_writers = (writes 5 ∷ []) ∷ (writes 5 ∷ []) ∷ (reads 5 (By (id 0 0)) ∷ []) ∷ []
+
+-- then 0.1 reads it from 1.0
+abbrev pub two_writers_read : History
+two_writers_read = (writes 5 ∷ reads 5 (By (id 1 0)) ∷ []) ∷ (writes 5 ∷ []) ∷ (reads 5 (By (id 0 0)) ∷ []) ∷ []
+
+-- reader 2.0 of key 5, its writer 0.0, the other writer 1.0
+abbrev pub open_choice : Choice
+open_choice = record { reader = id 2 0; key = 5; writer = id 0 0; other = id 1 0 }
+
+-- a fence in each session, 1.0 after 0.1
+abbrev pub first_cut : History
+first_cut = (writes 5 ∷ fence Init ∷ []) ∷ (fence (By (id 0 1)) ∷ []) ∷ []
+
+-- two writers of key 5 that nothing orders, and three fences behind them
+abbrev pub unordered_writers : History
+unordered_writers = (writes 5 ∷ fence Init ∷ fence (By (id 1 1)) ∷ []) ∷ (writes 5 ∷ fence (By (id 0 1)) ∷ []) ∷ []

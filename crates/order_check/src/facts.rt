@@ -1,0 +1,62 @@
+ghost use Rattle.std.specs.Prelude.{List, [], ◌∷◌};
+ghost use Rattle.order_check.specs.declared.remainder.Kind.TheVariants.{Serial, Pending, Violated};
+ghost use Rattle.order_check.specs.Explains.{MeetsAllReads};
+ghost use Rattle.order_check.specs.Verdict.{IsVerdict};
+ghost use Rattle.order_check.specs.Whole.{ExplainsWhole, IsVerdictWhole};
+ghost use Rattle.order_check.specs.Known.{Known, AreOpenChoices};
+ghost use Rattle.order_check.specs.Settled.{IsSettled};
+ghost use Rattle.order_check.specs.StandsFor.{IsOpenSession};
+ghost use Rattle.order_check.specs.Rows.{id, fresh, reader_first, write_skew, session_order, pending, arrived, lost_update, gone_read, two_writers, two_writers_read, open_choice, first_cut, unordered_writers};
+
+/// A reader from the initial state comes before the writer.
+pub fn row_reader_first()
+    ensures reader_then_writer { ExplainsWhole reader_first (id 1 0 ∷ id 0 0 ∷ []) }
+    ensures not_writer_then_reader { ¬ ExplainsWhole reader_first (id 0 0 ∷ id 1 0 ∷ []) }
+    ensures verdict { IsVerdictWhole reader_first Serial }
+{}
+
+/// Two that each overlook what the other writes have no order.
+pub fn row_write_skew()
+    ensures { IsVerdictWhole write_skew Violated }
+{}
+
+/// Only the order of a session's own transactions rules out the order that meets all reads.
+pub fn row_session_order()
+    ensures verdict { IsVerdictWhole session_order Violated }
+    ensures reads_alone { MeetsAllReads (fresh session_order) (id 1 1 ∷ id 0 0 ∷ id 1 0 ∷ []) }
+{}
+
+/// A read from what hasn't come is pending until it comes.
+pub fn row_pending_arrives()
+    ensures waiting { IsVerdictWhole pending Pending }
+    ensures arrived { IsVerdictWhole arrived Serial }
+{}
+
+/// Of two that both overwrite what they read, each is known to come before the other.
+pub fn row_lost_update()
+    ensures known { Known (fresh lost_update) [] (id 0 1) (id 0 1) }
+    ensures verdict { IsVerdictWhole lost_update Violated }
+{}
+
+/// A read from a gone transaction that isn't the key's last gone writer has no order.
+pub fn row_gone_read()
+    ensures { IsVerdict gone_read Violated }
+{}
+
+/// A choice is open until something orders its writers.
+pub fn row_open_choice()
+    ensures open_choices { AreOpenChoices (fresh two_writers) [] (open_choice ∷ []) }
+    ensures known { Known (fresh two_writers_read) [] (id 2 0) (id 1 0) }
+    ensures none_open { AreOpenChoices (fresh two_writers_read) [] [] }
+{}
+
+/// A fence is settled once all sessions are past it.
+pub fn row_first_cut()
+    ensures settled { IsSettled (fresh first_cut) (IsOpenSession (fresh first_cut)) (id 0 1) }
+    ensures not_past { ¬ IsSettled (fresh first_cut) (IsOpenSession (fresh first_cut)) (id 1 0) }
+{}
+
+/// A fence isn't settled where two writers of a key in front of it have no known order.
+pub fn row_unordered_writers()
+    ensures { ¬ IsSettled (fresh unordered_writers) (IsOpenSession (fresh unordered_writers)) (id 1 1) }
+{}
