@@ -1,5 +1,6 @@
 pub mod EachRemaining
 pub mod Fresh
+pub mod Grown
 pub mod KnownLaws
 pub mod KnownPairs
 pub mod OrderSearch

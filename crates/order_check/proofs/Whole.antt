@@ -56,7 +56,7 @@ explains_whole parts order bare =
       },
     )
 
-some_within : {X : Type 0} (xs : List X) (n : ℕ) → IsSome (slice_get xs n) → n < length xs
+pub some_within : {X : Type 0} (xs : List X) (n : ℕ) → IsSome (slice_get xs n) → n < length xs
 some_within {X} xs n = go (slice_get xs n) refl
   where
     go : (o : Option X) → slice_get xs n ≡ o → IsSome o → n < length xs
@@ -118,22 +118,24 @@ stands_bare parts bare = record {
 pub verdict_of_whole : (parts : Parts) (history : History) (kind : Kind) → StandsFor parts history → IsVerdictWhole history kind ↔ IsVerdict parts kind
 verdict_of_whole parts history kind stands = stands.future [] tt kind
 
--- a fragment adds to the sessions of both alike
-with_received : (mark : ℕ) (remain history : History) (place s : ℕ) (txns : List Txn) → place < length remain → length history ≡ length remain → ((t : ℕ) → t ≡ s → mark + length (session_of remain t) ≡ length (session_of history t)) → mark + length (session_of (set remain place (session_of remain place ++ txns)) s) ≡ length (session_of (set history place (session_of history place ++ txns)) s)
-with_received mark remain history place s txns within same received = ⊎_elim at_place elsewhere (cases_eq s place)
+-- a fragment adds as much to a session of the one as to that of the other
+with_received : (mark : ℕ) (remain history : History) (fragment : Fragment) (s : ℕ) → fragment.session < length remain → length history ≡ length remain → mark + length (session_of remain s) ≡ length (session_of history s) → mark + length (session_of (with_fragment remain fragment) s) ≡ length (session_of (with_fragment history fragment) s)
+with_received mark remain history fragment s within same received = ⊎_elim at_place elsewhere (cases_eq s fragment.session)
   where
-    at_place : s ≡ place → mark + length (session_of (set remain place (session_of remain place ++ txns)) s) ≡ length (session_of (set history place (session_of history place ++ txns)) s)
-    at_place here =
-        let before = received place (sym here) in
-        rw (here, get_or-set_same remain place (session_of remain place ++ txns) [] within, get_or-set_same history place (session_of history place ++ txns) [] (omega arith), length-append (session_of remain place) txns, length-append (session_of history place) txns) (omega arith)
+    place : ℕ
+    place = fragment.session
 
-    elsewhere : ¬ (s ≡ place) → mark + length (session_of (set remain place (session_of remain place ++ txns)) s) ≡ length (session_of (set history place (session_of history place ++ txns)) s)
-    elsewhere apart =
-        rw (get_or-set_other remain place s (session_of remain place ++ txns) [] apart, get_or-set_other history place s (session_of history place ++ txns) [] apart) (received s refl)
+    at_place : s ≡ place → mark + length (session_of (with_fragment remain fragment) s) ≡ length (session_of (with_fragment history fragment) s)
+    at_place here =
+        let before = rw here at received in
+        rw (here, get_or-set_same remain place (session_of remain place ++ fragment.txns) [] within, get_or-set_same history place (session_of history place ++ fragment.txns) [] (omega arith), length-append (session_of remain place) fragment.txns, length-append (session_of history place) fragment.txns) (omega arith)
+
+    elsewhere : ¬ (s ≡ place) → mark + length (session_of (with_fragment remain fragment) s) ≡ length (session_of (with_fragment history fragment) s)
+    elsewhere apart = rw (get_or-set_other remain place s (session_of remain place ++ fragment.txns) [] apart, get_or-set_other history place s (session_of history place ++ fragment.txns) [] apart) received
 
 pub stands_with : (parts : Parts) (history : History) (fragment : Fragment) → StandsFor parts history → IsNextFragment parts fragment → StandsFor (parts_with parts fragment) (with_fragment history fragment)
 stands_with parts history fragment stands next = record {
   sessions = length-set history fragment.session _ ∙ stands.sessions ∙ sym (length-set parts.remain fragment.session _);
-  received = λ s. with_received (mark_of parts s) parts.remain history fragment.session s fragment.txns next.session.0 stands.sessions (λ t is. ap (λ u. mark_of parts u + length (session_of parts.remain t)) (sym is) ∙ stands.received t);
+  received = λ s. with_received (mark_of parts s) parts.remain history fragment s next.session.0 stands.sessions (stands.received s);
   future = λ more come kind. stands.future (fragment ∷ more) (next, come) kind;
 }

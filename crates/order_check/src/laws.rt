@@ -1,4 +1,4 @@
-ghost use Rattle.order_check.specs.Laws.{SameOrdersAsWhole, SameVerdictAsWhole, StandsForWhatRemains, SameVerdictAsStoodFor, OfferKeepsStandsFor};
+ghost use Rattle.order_check.specs.Laws.{SameOrdersAsWhole, SameVerdictAsWhole, StandsForWhatRemains, SameVerdictAsStoodFor, OfferKeepsStandsFor, ViolatedIsFinal};
 
 /// An order explains parts of which nothing is gone exactly where it explains the whole history that remains.
 pub fn orders_as_of_whole()
@@ -24,3 +24,9 @@ pub fn verdict_as_stood_for()
 pub fn offer_keeps_stands_for()
     ensures { OfferKeepsStandsFor }
 {}
+
+/// A history that no order explains stays so, whatever comes.
+pub fn violated_is_final()
+    ensures { ViolatedIsFinal }
+{
+}

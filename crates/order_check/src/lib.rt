@@ -12,6 +12,6 @@ pub use facts::{
 };
 pub use laws::{
     offer_keeps_stands_for, orders_as_of_whole, stands_for_what_remains, verdict_as_of_whole,
-    verdict_as_stood_for,
+    verdict_as_stood_for, violated_is_final,
 };
 pub use remainder::{Base, Kind, LastWriters, Parts};
