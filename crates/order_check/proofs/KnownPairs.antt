@@ -1,7 +1,7 @@
 -- A list of pairs that has all that is known, shown by a test.
-use Rattle.std.proofs.Common.{◌≡◌, ◌≢◌, ℕ, Bool, true, false, not, ◌&&◌, List, [], arith, Contains, Option, Some, None, nat_eq, nat_lt, refl, subst}
+use Rattle.std.proofs.Common.{◌≡◌, ◌≢◌, ℕ, Bool, true, false, not, ◌&&◌, List, [], arith, Contains, Option, Some, None, nat_eq, nat_lt, refl, sym, ◌∙◌, subst}
 use Rattle.std.specs.List.{list_any, list_all}
-use Rattle.std.proofs.lemmas.Bool.{and_parts, and_from, eq-eqb, lt-ltb, false_from_ne_true, not_from_false}
+use Rattle.std.proofs.lemmas.Bool.{and_parts, and_from, eq-eqb, lt-ltb, false_from_ne_true, not_from_false, eqb-true, false≢true}
 use Rattle.std.proofs.lemmas.List.Sums.{AllPass-from_list_all}
 use Rattle.std.proofs.lemmas.List.Elements.{All-contains}
 use Rattle.std.proofs.lemmas.Map.Views.{Contains-from_any}
@@ -13,7 +13,7 @@ use Rattle.txn.specs.Transactions.{same_id}
 use Rattle.txn.specs.History.{writes_key}
 use Rattle.order_check.specs.declared.remainder.Parts.{Parts}
 use Rattle.order_check.specs.Based.{remaining_at, last_gone}
-use Rattle.order_check.specs.Known.{ReadsKey, WritesKey, IsBaseSource, IsChoice, Known}
+use Rattle.order_check.specs.Known.{ReadsKey, WritesKey, IsBaseSource, IsChoice, IsOpen, Known}
 use Rattle.order_check.proofs.EachRemaining.{each, each_read, each_read_at, each_writer, each_writer_at, each_remains, implies, implied, same_id_is, same_id_itself, apart_by_test}
 use Rattle.order_check.proofs.KnownLaws.{IsClosed, known_least}
 
@@ -148,3 +148,40 @@ each_choice parts test all choice is =
     let writers = implied (writes_key (remaining_at parts choice.writer) choice.key) (each_writer choice.key inner parts) (each_read_at (test_choices parts test) parts all choice.reader choice.key (By choice.writer) is.reads) is.written in
     let here = each_writer_at choice.key inner parts writers choice.other is.other in
     implied (not (same_id choice.other choice.writer) && not (same_id choice.other choice.reader)) (test choice) here (and_from (not (same_id choice.other choice.writer)) (not (same_id choice.other choice.reader)) (apart_test choice.other choice.writer is.not_writer) (apart_test choice.other choice.reader is.not_reader))
+
+abbrev pub same_choice : Choice → Choice → Bool
+same_choice a b = same_id a.reader b.reader && nat_eq a.key b.key && same_id a.writer b.writer && same_id a.other b.other
+
+pub same_choice_is : (a b : Choice) → same_choice a b ≡ true → a ≡ b
+same_choice_is a b same =
+    let three = and_parts (same_id a.reader b.reader && nat_eq a.key b.key && same_id a.writer b.writer) (same_id a.other b.other) same in
+    let two = and_parts (same_id a.reader b.reader && nat_eq a.key b.key) (same_id a.writer b.writer) three.0 in
+    let one = and_parts (same_id a.reader b.reader) (nat_eq a.key b.key) two.0 in
+    let reader = same_id_is a.reader b.reader one.0 in
+    let key = eqb-true a.key b.key one.1 in
+    let writer = same_id_is a.writer b.writer two.1 in
+    let other = same_id_is a.other b.other three.1 in
+    λ i. record { reader = reader i; key = key i; writer = writer i; other = other i }
+
+-- a choice is open where the pairs have neither side, nor what rules one out
+pub open_by_test : (parts : Parts) (base : ℕ → Option TxnId) (pairs : Pairs) → Covers parts base pairs → (choice : Choice) → IsChoice parts choice → has pairs choice.writer choice.other ≡ false → has pairs choice.other choice.reader ≡ false → has pairs choice.other choice.writer ≡ false → has pairs choice.reader choice.other ≡ false → IsOpen parts [] choice
+open_by_test parts base pairs covers choice is writer_other other_reader other_writer reader_other = record {
+  choice_of = is;
+  writer_other = not_known choice.writer choice.other writer_other;
+  other_reader = not_known choice.other choice.reader other_reader;
+  other_writer = not_known choice.other choice.writer other_writer;
+  reader_other = not_known choice.reader choice.other reader_other;
+}
+  where
+    not_known : (a b : TxnId) → has pairs a b ≡ false → ¬ Known parts [] a b
+    not_known a b none known = false≢true (sym none ∙ known_has parts base pairs covers a b known)
+
+-- each open choice is in a list that has each choice
+pub open_in : (parts : Parts) (choices : List Choice) → each_read (test_choices parts (λ choice. list_any (same_choice choice) choices)) parts ≡ true → (choice : Choice) → IsOpen parts [] choice → Contains choices choice
+open_in parts choices all choice open_one = Contains-from_any {eq = same_choice} same_choice_is choice choices (each_choice parts (λ c. list_any (same_choice c) choices) all choice open_one.choice_of)
+
+-- nothing is known to come before itself, where no pair has the same id twice
+pub no_cycle_by_test : (parts : Parts) (base : ℕ → Option TxnId) (pairs : Pairs) → Covers parts base pairs → list_all (λ (p : TxnId × TxnId). not (same_id p.0 p.1)) pairs ≡ true → (one : TxnId) → ¬ Known parts [] one one
+no_cycle_by_test parts base pairs covers test one known =
+    let apart = All-contains (λ p. not (same_id p.0 p.1) ≡ true) pairs (one, one) (AllPass-from_list_all (λ p. not (same_id p.0 p.1)) pairs test) (has_pair pairs one one (known_has parts base pairs covers one one known)) in
+    false≢true (subst (λ b. not b ≡ true) (same_id_itself one) apart)

@@ -33,6 +33,10 @@ fence source = reads_writes 0 source 0
 abbrev pub fresh : History → Parts
 fresh history = record { base = record { last = empty; marks = map (λ _. 0) history }; remain = history; closed = map (λ _. false) history; limit = 4096 }
 
+-- two sessions with nothing
+abbrev pub nothing : History
+nothing = [] ∷ [] ∷ []
+
 -- 1.0 reads from the initial state what 0.0 writes
 abbrev pub reader_first : History
 reader_first = (writes 5 ∷ []) ∷ (reads 5 Init ∷ []) ∷ []
@@ -57,6 +61,10 @@ arrived = (writes 5 ∷ []) ∷ (reads 5 (By (id 0 0)) ∷ []) ∷ []
 abbrev pub lost_update : History
 lost_update = (writes 5 ∷ reads_writes 5 (By (id 0 0)) 5 ∷ []) ∷ (reads_writes 5 (By (id 0 0)) 5 ∷ []) ∷ []
 
+-- 0.0 reads from 1.0, a fence, what it doesn't write
+abbrev pub not_a_writer : History
+not_a_writer = (reads 5 (By (id 1 0)) ∷ fence Init ∷ []) ∷ (fence (By (id 0 1)) ∷ []) ∷ []
+
 -- Gone are three of session 0: 0.1 was the last writer of key 5, and 0.2 a fence. 1.1 reads key 5 from 0.0.
 abbrev pub gone_read : Parts
 gone_read = record {
@@ -78,9 +86,42 @@ two_writers_read = (writes 5 ∷ reads 5 (By (id 1 0)) ∷ []) ∷ (writes 5 ∷
 abbrev pub open_choice : Choice
 open_choice = record { reader = id 2 0; key = 5; writer = id 0 0; other = id 1 0 }
 
+-- it writes two keys
+abbrev pub writes_two : ℕ → ℕ → Txn
+writes_two key other = record { reads = []; writes = key ∷ other ∷ [] }
+
+-- it reads three keys, each from a source
+abbrev pub reads_three : ℕ × Source → ℕ × Source → ℕ × Source → Txn
+reads_three first second third = record { reads = first ∷ second ∷ third ∷ []; writes = [] }
+
+-- Four writers and four readers: each way to order the writers of key 1 and those of key 2 fails one of the readers.
+abbrev pub real_split : History
+real_split =
+    (writes_two 1 3 ∷ [])
+    ∷ (writes_two 1 4 ∷ [])
+    ∷ (writes_two 2 5 ∷ [])
+    ∷ (writes_two 2 6 ∷ [])
+    ∷ (reads_three (1, By (id 0 0)) (5, By (id 2 0)) (6, By (id 3 0)) ∷ [])
+    ∷ (reads_three (1, By (id 1 0)) (5, By (id 2 0)) (6, By (id 3 0)) ∷ [])
+    ∷ (reads_three (2, By (id 2 0)) (3, By (id 0 0)) (4, By (id 1 0)) ∷ [])
+    ∷ (reads_three (2, By (id 3 0)) (3, By (id 0 0)) (4, By (id 1 0)) ∷ [])
+    ∷ []
+
+-- a choice of it: who reads the key from the writer, where the other writes it too
+abbrev pub split_choice : ℕ → ℕ → ℕ → ℕ → Choice
+split_choice reader key writer other = record { reader = id reader 0; key = key; writer = id writer 0; other = id other 0 }
+
 -- a fence in each session, 1.0 after 0.1
 abbrev pub first_cut : History
 first_cut = (writes 5 ∷ fence Init ∷ []) ∷ (fence (By (id 0 1)) ∷ []) ∷ []
+
+-- a third session is silent
+abbrev pub silent_session : History
+silent_session = (writes 5 ∷ fence Init ∷ []) ∷ (fence (By (id 0 1)) ∷ []) ∷ [] ∷ []
+
+-- 0.0, in front of the fence 0.1, waits for 1.1
+abbrev pub pending_in_front : History
+pending_in_front = (reads 5 (By (id 1 1)) ∷ fence Init ∷ []) ∷ (fence (By (id 0 1)) ∷ []) ∷ []
 
 -- two writers of key 5 that nothing orders, and three fences behind them
 abbrev pub unordered_writers : History

@@ -7,8 +7,9 @@ mod lookups;
 mod remainder;
 
 pub use facts::{
-    row_first_cut, row_gone_read, row_lost_update, row_open_choice, row_pending_arrives,
-    row_reader_first, row_session_order, row_unordered_writers, row_write_skew,
+    row_empty, row_first_cut, row_gone_read, row_lost_update, row_not_a_writer, row_open_choice,
+    row_pending_arrives, row_pending_in_front, row_reader_first, row_real_split, row_session_order,
+    row_silent_session, row_unordered_writers, row_write_skew,
 };
 pub use laws::{
     offer_keeps_stands_for, orders_as_of_whole, stands_for_what_remains, verdict_as_of_whole,
