@@ -39,7 +39,7 @@ whole_by_test history order kept met = (explains_whole (fresh history) order (fr
 pub fresh_meets_all : (history : History) (order : List TxnId) → replays (fresh history) no_base [] order ≡ true → MeetsAllReads (fresh history) order
 fresh_meets_all history order met = meets_all_by_test (fresh history) no_base (fresh_last history) order met
 
--- no order of this many ids explains
+-- where the search finds no order in this many steps, none explains the history
 pub whole_refuted : (history : History) (steps : ℕ) → some_order (fresh history) no_base steps [] ≡ false → ¬ HasOrderWhole history
 whole_refuted history steps none order = no_order (fresh history) no_base steps (fresh_last history) none ((has_order_whole (fresh history) (fresh_bare history)).1 order)
 

@@ -1,7 +1,6 @@
 -- An order of a history that has grown, and the order of what the history had before.
-use Rattle.std.proofs.Common.{◌≡◌, ℕ, ◌+◌, ◌<◌, ◌≤◌, Bool, true, false, cond, List, [], ◌∷◌, ◌++◌, length, filter, set, Option, Some, None, All, IsSome, is_some, nat_lt, ltb, slice_get, refl, sym, subst, ap, ◌∙◌, arith, zero, suc, inl, inr, append-nil, get_or-set_same, get_or-set_other, add-zero, ◌⊎◌, length-append}
-use Rattle.std.proofs.lemmas.Bool.{cases_lt, cases_eq, lt-ltb, ltb-true, le-ltb, true≢false, false≢true}
-use Rattle.std.proofs.lemmas.Option.{slice_get_within}
+use Rattle.std.proofs.Common.{◌≡◌, ℕ, ◌+◌, ◌<◌, ◌≤◌, Bool, true, false, cond, List, [], ◌∷◌, ◌++◌, length, filter, Option, Some, None, IsSome, nat_lt, slice_get, refl, sym, subst, ap, ◌∙◌, arith, zero, suc, inl, inr, append-nil, get_or-set_same, get_or-set_other, ◌⊎◌}
+use Rattle.std.proofs.lemmas.Bool.{cases_lt, cases_eq, lt-ltb, le-ltb, false≢true}
 use Rattle.std.proofs.lemmas.List.{set_past}
 use Rattle.std.proofs.lemmas.List.Elements.{All-weaker, All-filter, filter-append}
 use Rattle.txn.specs.declared.transactions.TxnId.{TxnId}
@@ -9,7 +8,7 @@ use Rattle.txn.specs.declared.transactions.Source.{Source}
 use Rattle.txn.specs.declared.transactions.Source.TheVariants.{Init, By}
 use Rattle.txn.specs.declared.transactions.Txn.{Txn}
 use Rattle.txn.specs.declared.transactions.Fragment.{Fragment}
-use Rattle.txn.specs.History.{History, Received, session_of, txn_at, in_session, ids_from, writes_key, NoneWrites, IsLastWriter}
+use Rattle.txn.specs.History.{History, Received, session_of, txn_at, in_session, ids_from, writes_key, NoneWrites}
 use Rattle.order_check.specs.Whole.{MeetsWhole, ExplainsWhole, HasOrderWhole}
 use Rattle.order_check.specs.StandsFor.{with_fragment, history_then}
 use Rattle.order_check.proofs.Whole.{some_within}

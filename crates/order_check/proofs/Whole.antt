@@ -1,5 +1,5 @@
 -- Parts of which nothing is gone, and the whole history that they have.
-use Rattle.std.proofs.Common.{◌≡◌, ℕ, ◌<◌, ◌++◌, ◌↔◌, List, [], ◌∷◌, length, Some, None, Option, IsSome, ltb, slice_get, refl, sym, subst, ap, ◌∙◌, arith, zero, suc, set, nat_cmp, length-set, length-append, get_or-set_same, get_or-set_other, ◌+◌, ⊎_elim}
+use Rattle.std.proofs.Common.{◌≡◌, ℕ, ◌<◌, ◌++◌, ◌↔◌, List, [], ◌∷◌, length, Some, None, Option, IsSome, ltb, slice_get, refl, sym, subst, ap, ◌∙◌, arith, zero, suc, nat_cmp, length-set, length-append, get_or-set_same, get_or-set_other, ◌+◌, ⊎_elim}
 use Rattle.std.proofs.Math.Nat.{sub-zero}
 use Rattle.std.proofs.lemmas.Bool.{cond-false, le-ltb, cases_eq}
 use Rattle.std.proofs.lemmas.Option.{slice_get_within}
@@ -8,7 +8,6 @@ use Rattle.std.specs.FinMap.{get, get-empty}
 use Rattle.txn.specs.declared.transactions.TxnId.{TxnId}
 use Rattle.txn.specs.declared.transactions.Source.{Source}
 use Rattle.txn.specs.declared.transactions.Source.TheVariants.{Init, By}
-use Rattle.txn.specs.declared.transactions.Txn.{Txn}
 use Rattle.txn.specs.declared.transactions.Fragment.{Fragment}
 use Rattle.txn.specs.History.{History, Received, Reads, session_of, txn_at, ids_from, NoneWrites, IsLastWriter}
 use Rattle.order_check.specs.declared.remainder.Parts.{Parts}

@@ -1,6 +1,7 @@
 -- Small histories, on which the definitions are shown to say what is expected.
-use Rattle.std.specs.Prelude.{ℕ, false, [], ◌∷◌, map}
-use Rattle.std.specs.FinMap.{empty, insert}
+use Rattle.std.specs.Prelude.{ℕ, false, List, [], ◌∷◌, map}
+use Rattle.std.specs.Ordering.{nat_cmp}
+use Rattle.std.specs.FinMap.{FinMap, empty, insert}
 use Rattle.txn.specs.declared.transactions.TxnId.{TxnId}
 use Rattle.txn.specs.declared.transactions.Source.{Source}
 use Rattle.txn.specs.declared.transactions.Source.TheVariants.{Init, By}
@@ -114,6 +115,16 @@ split_choice reader key writer other = record { reader = id reader 0; key = key;
 -- a fence in each session, 1.0 after 0.1
 abbrev pub first_cut : History
 first_cut = (writes 5 ∷ fence Init ∷ []) ∷ (fence (By (id 0 1)) ∷ []) ∷ []
+
+-- what a cut at fence 0.1 of it takes out, the last writers there, and what it leaves
+abbrev pub cut_gone : List TxnId
+cut_gone = id 0 0 ∷ id 0 1 ∷ []
+
+abbrev pub cut_writers : FinMap nat_cmp TxnId
+cut_writers = insert (insert empty 0 (id 0 1)) 5 (id 0 0)
+
+abbrev pub cut_rest : Parts
+cut_rest = record { base = record { last = cut_writers; marks = 2 ∷ 0 ∷ [] }; remain = [] ∷ (fence (By (id 0 1)) ∷ []) ∷ []; closed = false ∷ false ∷ []; limit = 4096 }
 
 -- a third session is silent
 abbrev pub silent_session : History

@@ -5,15 +5,14 @@ ghost use Rattle.order_check.specs.Explains.{MeetsAllReads};
 ghost use Rattle.order_check.specs.Verdict.{IsVerdict};
 ghost use Rattle.order_check.specs.Whole.{ExplainsWhole, IsVerdictWhole};
 ghost use Rattle.order_check.specs.Known.{Known, AreOpenChoices};
-ghost use Rattle.order_check.specs.Settled.{IsSettled};
+ghost use Rattle.order_check.specs.Settled.{IsSettled, IsLastSettled, IsCutAt, IsCutOf};
 ghost use Rattle.order_check.specs.StandsFor.{IsOpenSession};
-ghost use Rattle.order_check.specs.Rows.{id, fresh, nothing, not_a_writer, real_split, split_choice, silent_session, pending_in_front, reader_first, write_skew, session_order, pending, arrived, lost_update, gone_read, two_writers, two_writers_read, open_choice, first_cut, unordered_writers};
+ghost use Rattle.order_check.specs.Rows.{id, fresh, nothing, not_a_writer, real_split, split_choice, silent_session, pending_in_front, reader_first, write_skew, session_order, pending, arrived, lost_update, gone_read, two_writers, two_writers_read, open_choice, first_cut, cut_gone, cut_writers, cut_rest, unordered_writers};
 
 /// Nothing is explained by nothing.
 pub fn row_empty()
     ensures { IsVerdictWhole nothing Serial }
-{
-}
+{}
 
 /// A reader from the initial state comes before the writer.
 pub fn row_reader_first()
@@ -48,16 +47,14 @@ pub fn row_lost_update()
 /// A read from a transaction that doesn't write the key has no order.
 pub fn row_not_a_writer()
     ensures { IsVerdictWhole not_a_writer Violated }
-{
-}
+{}
 
 /// No order explains it, though nothing is known to come before itself.
 pub fn row_real_split()
     ensures verdict { IsVerdictWhole real_split Violated }
     ensures open_choices { AreOpenChoices (fresh real_split) [] (split_choice 4 1 0 1 ∷ split_choice 5 1 1 0 ∷ split_choice 6 2 2 3 ∷ split_choice 7 2 3 2 ∷ []) }
     ensures no_cycle { (one : TxnId) → ¬ Known (fresh real_split) [] one one }
-{
-}
+{}
 
 /// A read from a gone transaction that isn't the key's last gone writer has no order.
 pub fn row_gone_read()
@@ -71,9 +68,12 @@ pub fn row_open_choice()
     ensures none_open { AreOpenChoices (fresh two_writers_read) [] [] }
 {}
 
-/// A fence is settled once all sessions are past it.
+/// A fence is settled once all sessions are past it, and a cut at it takes out what stands in front.
 pub fn row_first_cut()
     ensures settled { IsSettled (fresh first_cut) (IsOpenSession (fresh first_cut)) (id 0 1) }
+    ensures last { IsLastSettled (fresh first_cut) (IsOpenSession (fresh first_cut)) (id 0 1) }
+    ensures cut { IsCutAt (fresh first_cut) (id 0 1) cut_gone cut_writers }
+    ensures rest { IsCutOf (fresh first_cut) cut_rest cut_gone cut_writers }
     ensures not_past { ¬ IsSettled (fresh first_cut) (IsOpenSession (fresh first_cut)) (id 1 0) }
 {}
 
@@ -85,12 +85,10 @@ pub fn row_unordered_writers()
 /// A fence isn't settled while an open session has nothing behind it.
 pub fn row_silent_session()
     ensures { ¬ IsSettled (fresh silent_session) (IsOpenSession (fresh silent_session)) (id 0 1) }
-{
-}
+{}
 
 /// A fence isn't settled while a read in front of it is pending.
 pub fn row_pending_in_front()
     ensures verdict { IsVerdictWhole pending_in_front Pending }
     ensures not_settled { ¬ IsSettled (fresh pending_in_front) (IsOpenSession (fresh pending_in_front)) (id 0 1) }
-{
-}
+{}

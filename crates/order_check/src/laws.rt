@@ -28,5 +28,4 @@ pub fn offer_keeps_stands_for()
 /// A history that no order explains stays so, whatever comes.
 pub fn violated_is_final()
     ensures { ViolatedIsFinal }
-{
-}
+{}

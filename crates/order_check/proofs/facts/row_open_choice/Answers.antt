@@ -1,12 +1,10 @@
-use Rattle.std.proofs.Common.{◌≡◌, Bool, true, ◌&&◌, ◌||◌, [], ◌∷◌, Contains, refl, sym, subst, lit<, arith, nat_eq, ◌⊎◌, inl, inr}
-use Rattle.std.proofs.lemmas.Bool.{false≢true, and_parts, or_cases, eqb-true}
+use Rattle.std.proofs.Common.{◌≡◌, true, ◌||◌, [], ◌∷◌, refl, sym, subst, lit<, arith, ◌⊎◌, inl, inr}
+use Rattle.std.proofs.lemmas.Bool.{or_cases}
 use Rattle.std.proofs.lemmas.List.Elements.{All-cons, All-nil}
 use Rattle.txn.specs.declared.choices.Choice.{Choice}
-use Rattle.txn.specs.Transactions.{same_id}
 use Rattle.order_check.specs.Known.{Known, IsOpen, by_session, forces_after, forces_before}
 use Rattle.order_check.specs.Rows.{id, fresh, two_writers, two_writers_read, open_choice}
-use Rattle.order_check.proofs.EachRemaining.{same_id_is}
-use Rattle.order_check.proofs.KnownPairs.{same_choice, same_choice_is, open_by_test, open_in, Pairs, Covers, known_has, choice_by_test, each_choice}
+use Rattle.order_check.proofs.KnownPairs.{same_choice, same_choice_is, open_by_test, open_in, Pairs, Covers, choice_by_test, each_choice}
 use Rattle.order_check.proofs.Fresh.{no_base, fresh_last}
 use Rattle.order_check.proofs.facts.row_open_choice.Goals as goal
 

@@ -1,4 +1,4 @@
-use Rattle.std.proofs.Common.{◌≡◌, ℕ, true, List, [], ◌∷◌, refl, lit<, arith, zero, suc}
+use Rattle.std.proofs.Common.{List, [], ◌∷◌, refl, lit<, arith, zero, suc}
 use Rattle.std.proofs.lemmas.List.Elements.{All-from_recursion}
 use Rattle.txn.specs.declared.choices.Choice.{Choice}
 use Rattle.txn.specs.Choices.{choice_below}

@@ -1,7 +1,5 @@
-use Rattle.std.proofs.Common.{◌≡◌, refl, sym, subst, lit<, not, nat_eq, true}
+use Rattle.std.proofs.Common.{◌≡◌, refl, subst, lit<, not, nat_eq, true}
 use Rattle.std.proofs.lemmas.Bool.{false≢true}
-use Rattle.txn.specs.declared.transactions.TxnId.{TxnId}
-use Rattle.order_check.specs.Based.{Remains}
 use Rattle.order_check.specs.Settled.{IsPast}
 use Rattle.order_check.specs.Rows.{id, fresh, silent_session}
 use Rattle.order_check.proofs.EachRemaining.{each_remains}
