@@ -62,7 +62,7 @@ arrived = (writes 5 ∷ []) ∷ (reads 5 (By (id 0 0)) ∷ []) ∷ []
 abbrev pub lost_update : History
 lost_update = (writes 5 ∷ reads_writes 5 (By (id 0 0)) 5 ∷ []) ∷ (reads_writes 5 (By (id 0 0)) 5 ∷ []) ∷ []
 
--- 0.0 reads from 1.0, a fence, what it doesn't write
+-- 0.0 reads from the fence 1.0 a key that 1.0 doesn't write
 abbrev pub not_a_writer : History
 not_a_writer = (reads 5 (By (id 1 0)) ∷ fence Init ∷ []) ∷ (fence (By (id 0 1)) ∷ []) ∷ []
 
@@ -116,13 +116,15 @@ split_choice reader key writer other = record { reader = id reader 0; key = key;
 abbrev pub first_cut : History
 first_cut = (writes 5 ∷ fence Init ∷ []) ∷ (fence (By (id 0 1)) ∷ []) ∷ []
 
--- what a cut at fence 0.1 of it takes out, the last writers there, and what it leaves
+-- what a cut at fence 0.1 of it takes out
 abbrev pub cut_gone : List TxnId
 cut_gone = id 0 0 ∷ id 0 1 ∷ []
 
+-- the last writers of the keys written there
 abbrev pub cut_writers : FinMap nat_cmp TxnId
 cut_writers = insert (insert empty 0 (id 0 1)) 5 (id 0 0)
 
+-- the parts that it leaves
 abbrev pub cut_rest : Parts
 cut_rest = record { base = record { last = cut_writers; marks = 2 ∷ 0 ∷ [] }; remain = [] ∷ (fence (By (id 0 1)) ∷ []) ∷ []; closed = false ∷ false ∷ []; limit = 4096 }
 

@@ -9,7 +9,7 @@ ghost use Rattle.order_check.specs.Settled.{IsSettled, IsLastSettled, IsCutAt, I
 ghost use Rattle.order_check.specs.StandsFor.{IsOpenSession};
 ghost use Rattle.order_check.specs.Rows.{id, fresh, nothing, not_a_writer, real_split, split_choice, silent_session, pending_in_front, reader_first, write_skew, session_order, pending, arrived, lost_update, gone_read, two_writers, two_writers_read, open_choice, first_cut, cut_gone, cut_writers, cut_rest, unordered_writers};
 
-/// Nothing is explained by nothing.
+/// A history with nothing in it is serial.
 pub fn row_empty()
     ensures { IsVerdictWhole nothing Serial }
 {}
