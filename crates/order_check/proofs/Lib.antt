@@ -1,7 +1,14 @@
+pub mod EachRemaining
 pub mod Extensions
+pub mod Fresh
+pub mod Grown
+pub mod KnownLaws
+pub mod KnownPairs
 pub mod Lengths
 pub mod MetReads
 pub mod OrderLaws
+pub mod OrderSearch
+pub mod OrderTest
 pub mod Orders
 pub mod PendingReads
 pub mod Places

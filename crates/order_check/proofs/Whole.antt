@@ -1,5 +1,5 @@
 -- Parts of which nothing is gone, and the whole history that they have.
-use Rattle.std.proofs.Common.{◌≡◌, ℕ, ◌<◌, ◌++◌, ◌↔◌, List, [], ◌∷◌, length, Some, None, Option, IsSome, ltb, slice_get, refl, sym, subst, ap, ◌∙◌, arith, zero, suc, set, nat_cmp, length-set, length-append, get_or-set_same, get_or-set_other, ◌+◌, ⊎_elim}
+use Rattle.std.proofs.Common.{◌≡◌, ℕ, ◌<◌, ◌++◌, ◌↔◌, List, [], ◌∷◌, length, Some, None, Option, IsSome, ltb, slice_get, refl, sym, subst, ap, ◌∙◌, arith, zero, suc, nat_cmp, length-set, length-append, get_or-set_same, get_or-set_other, ◌+◌, ⊎_elim}
 use Rattle.std.proofs.Math.Nat.{sub-zero}
 use Rattle.std.proofs.lemmas.Bool.{cond-false, le-ltb, cases_eq}
 use Rattle.std.proofs.lemmas.Option.{slice_get_within}
@@ -8,7 +8,6 @@ use Rattle.std.specs.FinMap.{get, get-empty}
 use Rattle.txn.specs.declared.transactions.TxnId.{TxnId}
 use Rattle.txn.specs.declared.transactions.Source.{Source}
 use Rattle.txn.specs.declared.transactions.Source.TheVariants.{Init, By}
-use Rattle.txn.specs.declared.transactions.Txn.{Txn}
 use Rattle.txn.specs.declared.transactions.Fragment.{Fragment}
 use Rattle.txn.specs.History.{History, Received, Reads, session_of, txn_at, ids_from, NoneWrites, IsLastWriter}
 use Rattle.order_check.specs.declared.remainder.Parts.{Parts}
@@ -25,7 +24,7 @@ use Rattle.order_check.specs.StandsFor.{StandsFor, parts_with, parts_then, histo
 at_same : (parts : Parts) → HasNoBase parts → (id : TxnId) → remaining_at parts id ≡ txn_at parts.remain id
 at_same parts bare id = rw (bare.marks id.session, sub-zero) (cond-false (ltb id.number 0) None (slice_get (remaining_of parts id.session) id.number) (le-ltb id.number 0 (omega arith)))
 
-look_ups_same : (parts : Parts) → HasNoBase parts → remaining_at parts ≡ txn_at parts.remain
+pub look_ups_same : (parts : Parts) → HasNoBase parts → remaining_at parts ≡ txn_at parts.remain
 look_ups_same parts bare = λ i id. at_same parts bare id i
 
 meets_whole : (parts : Parts) → HasNoBase parts → (front : List TxnId) (key : ℕ) (source : Source) → Meets parts front key source ↔ MeetsWhole parts.remain front key source
@@ -56,14 +55,14 @@ explains_whole parts order bare =
       },
     )
 
-some_within : {X : Type 0} (xs : List X) (n : ℕ) → IsSome (slice_get xs n) → n < length xs
+pub some_within : {X : Type 0} (xs : List X) (n : ℕ) → IsSome (slice_get xs n) → n < length xs
 some_within {X} xs n = go (slice_get xs n) refl
   where
     go : (o : Option X) → slice_get xs n ≡ o → IsSome o → n < length xs
     go None is some = absurd (cc)
     go (Some x) is some = slice_get_within xs n x is
 
-within_some : {X : Type 0} (xs : List X) (n : ℕ) → n < length xs → IsSome (slice_get xs n)
+pub within_some : {X : Type 0} (xs : List X) (n : ℕ) → n < length xs → IsSome (slice_get xs n)
 within_some (x ∷ xs) zero within = refl
 within_some (x ∷ xs) (suc n) within = within_some xs n (omega arith)
 within_some [] n within = absurd (omega arith)
@@ -75,14 +74,14 @@ received_whole parts bare id =
       λ some. let within = some_within (session_of parts.remain id.session) id.number some in omega arith,
     )
 
-pending_whole : (parts : Parts) → HasNoBase parts → HasPending parts ↔ HasPendingWhole parts.remain
+pub pending_whole : (parts : Parts) → HasNoBase parts → HasPending parts ↔ HasPendingWhole parts.remain
 pending_whole parts bare =
     let e = look_ups_same parts bare in (
       λ h. (h.0, h.1, h.2, subst (λ at. Reads at h.0 h.2 (By h.1)) e h.3, λ received. h.4 ((received_whole parts bare h.1).1 received)),
       λ h. (h.0, h.1, h.2, subst (λ at. Reads at h.0 h.2 (By h.1)) (sym e) h.3, λ received. h.4 ((received_whole parts bare h.1).0 received)),
     )
 
-has_order_whole : (parts : Parts) → HasNoBase parts → HasOrder parts ↔ HasOrderWhole parts.remain
+pub has_order_whole : (parts : Parts) → HasNoBase parts → HasOrder parts ↔ HasOrderWhole parts.remain
 has_order_whole parts bare =
     (λ h. (h.0, (explains_whole parts h.0 bare).0 h.1), λ h. (h.0, (explains_whole parts h.0 bare).1 h.1))
 
@@ -118,22 +117,24 @@ stands_bare parts bare = record {
 pub verdict_of_whole : (parts : Parts) (history : History) (kind : Kind) → StandsFor parts history → IsVerdictWhole history kind ↔ IsVerdict parts kind
 verdict_of_whole parts history kind stands = stands.future [] tt kind
 
--- a fragment adds to the sessions of both alike
-with_received : (mark : ℕ) (remain history : History) (place s : ℕ) (txns : List Txn) → place < length remain → length history ≡ length remain → ((t : ℕ) → t ≡ s → mark + length (session_of remain t) ≡ length (session_of history t)) → mark + length (session_of (set remain place (session_of remain place ++ txns)) s) ≡ length (session_of (set history place (session_of history place ++ txns)) s)
-with_received mark remain history place s txns within same received = ⊎_elim at_place elsewhere (cases_eq s place)
+-- a fragment adds as much to a session of the one as to that of the other
+with_received : (mark : ℕ) (remain history : History) (fragment : Fragment) (s : ℕ) → fragment.session < length remain → length history ≡ length remain → mark + length (session_of remain s) ≡ length (session_of history s) → mark + length (session_of (with_fragment remain fragment) s) ≡ length (session_of (with_fragment history fragment) s)
+with_received mark remain history fragment s within same received = ⊎_elim at_place elsewhere (cases_eq s fragment.session)
   where
-    at_place : s ≡ place → mark + length (session_of (set remain place (session_of remain place ++ txns)) s) ≡ length (session_of (set history place (session_of history place ++ txns)) s)
-    at_place here =
-        let before = received place (sym here) in
-        rw (here, get_or-set_same remain place (session_of remain place ++ txns) [] within, get_or-set_same history place (session_of history place ++ txns) [] (omega arith), length-append (session_of remain place) txns, length-append (session_of history place) txns) (omega arith)
+    place : ℕ
+    place = fragment.session
 
-    elsewhere : ¬ (s ≡ place) → mark + length (session_of (set remain place (session_of remain place ++ txns)) s) ≡ length (session_of (set history place (session_of history place ++ txns)) s)
-    elsewhere apart =
-        rw (get_or-set_other remain place s (session_of remain place ++ txns) [] apart, get_or-set_other history place s (session_of history place ++ txns) [] apart) (received s refl)
+    at_place : s ≡ place → mark + length (session_of (with_fragment remain fragment) s) ≡ length (session_of (with_fragment history fragment) s)
+    at_place here =
+        let before = rw here at received in
+        rw (here, get_or-set_same remain place (session_of remain place ++ fragment.txns) [] within, get_or-set_same history place (session_of history place ++ fragment.txns) [] (omega arith), length-append (session_of remain place) fragment.txns, length-append (session_of history place) fragment.txns) (omega arith)
+
+    elsewhere : ¬ (s ≡ place) → mark + length (session_of (with_fragment remain fragment) s) ≡ length (session_of (with_fragment history fragment) s)
+    elsewhere apart = rw (get_or-set_other remain place s (session_of remain place ++ fragment.txns) [] apart, get_or-set_other history place s (session_of history place ++ fragment.txns) [] apart) received
 
 pub stands_with : (parts : Parts) (history : History) (fragment : Fragment) → StandsFor parts history → IsNextFragment parts fragment → StandsFor (parts_with parts fragment) (with_fragment history fragment)
 stands_with parts history fragment stands next = record {
   sessions = length-set history fragment.session _ ∙ stands.sessions ∙ sym (length-set parts.remain fragment.session _);
-  received = λ s. with_received (mark_of parts s) parts.remain history fragment.session s fragment.txns next.session.0 stands.sessions (λ t is. ap (λ u. mark_of parts u + length (session_of parts.remain t)) (sym is) ∙ stands.received t);
+  received = λ s. with_received (mark_of parts s) parts.remain history fragment s next.session.0 stands.sessions (stands.received s);
   future = λ more come kind. stands.future (fragment ∷ more) (next, come) kind;
 }

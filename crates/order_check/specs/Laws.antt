@@ -5,11 +5,12 @@ use Rattle.txn.specs.declared.transactions.Fragment.{Fragment}
 use Rattle.txn.specs.History.{History}
 use Rattle.order_check.specs.declared.remainder.Parts.{Parts}
 use Rattle.order_check.specs.declared.remainder.Kind.{Kind}
+use Rattle.order_check.specs.declared.remainder.Kind.TheVariants.{Violated}
 use Rattle.order_check.specs.NoBase.{HasNoBase}
 use Rattle.order_check.specs.Explains.{Explains}
 use Rattle.order_check.specs.Verdict.{IsVerdict}
 use Rattle.order_check.specs.Whole.{ExplainsWhole, IsVerdictWhole}
-use Rattle.order_check.specs.StandsFor.{StandsFor, IsNextFragment, parts_with, with_fragment}
+use Rattle.order_check.specs.StandsFor.{StandsFor, IsNextFragment, parts_with, with_fragment, history_then}
 
 -- Where nothing is gone, an order explains the parts exactly where it explains the whole history that remains.
 abbrev pub SameOrdersAsWhole : Type 0
@@ -30,3 +31,7 @@ SameVerdictAsStoodFor = (parts : Parts) (history : History) (kind : Kind) → St
 -- Parts that stand for a history stand, with the next fragment, for the history with that fragment.
 abbrev pub OfferKeepsStandsFor : Type 0
 OfferKeepsStandsFor = (parts : Parts) (history : History) (fragment : Fragment) → StandsFor parts history → IsNextFragment parts fragment → StandsFor (parts_with parts fragment) (with_fragment history fragment)
+
+-- Violated is final: where no order explains a history, none explains it with more fragments.
+abbrev pub ViolatedIsFinal : Type 0
+ViolatedIsFinal = (history : History) (more : List Fragment) → IsVerdictWhole history Violated → IsVerdictWhole (history_then history more) Violated

@@ -9,6 +9,7 @@ pub mod Laws
 pub mod NoBase
 pub mod Precedes
 pub mod Replay
+pub mod Rows
 pub mod Rules
 pub mod Settled
 pub mod StandsFor

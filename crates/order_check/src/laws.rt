@@ -1,4 +1,4 @@
-ghost use Rattle.order_check.specs.Laws.{SameOrdersAsWhole, SameVerdictAsWhole, StandsForWhatRemains, SameVerdictAsStoodFor, OfferKeepsStandsFor};
+ghost use Rattle.order_check.specs.Laws.{SameOrdersAsWhole, SameVerdictAsWhole, StandsForWhatRemains, SameVerdictAsStoodFor, OfferKeepsStandsFor, ViolatedIsFinal};
 
 /// An order explains parts of which nothing is gone exactly where it explains the whole history that remains.
 pub fn orders_as_of_whole()
@@ -23,4 +23,9 @@ pub fn verdict_as_stood_for()
 /// The next fragment leaves parts standing for a history that has it too.
 pub fn offer_keeps_stands_for()
     ensures { OfferKeepsStandsFor }
+{}
+
+/// A history that no order explains stays so, whatever comes.
+pub fn violated_is_final()
+    ensures { ViolatedIsFinal }
 {}

@@ -2,6 +2,7 @@
 #![tactic(auto)]
 
 mod explaining;
+mod facts;
 mod known_laws;
 mod laws;
 mod lookups;
@@ -11,10 +12,15 @@ mod trial;
 mod waiting;
 
 pub use explaining::explains;
+pub use facts::{
+    row_empty, row_first_cut, row_gone_read, row_lost_update, row_not_a_writer, row_open_choice,
+    row_pending_arrives, row_pending_in_front, row_reader_first, row_real_split, row_session_order,
+    row_silent_session, row_unordered_writers, row_write_skew,
+};
 pub use known_laws::{cycle_leaves_no_order, every_order_keeps_known};
 pub use laws::{
     offer_keeps_stands_for, orders_as_of_whole, stands_for_what_remains, verdict_as_of_whole,
-    verdict_as_stood_for,
+    verdict_as_stood_for, violated_is_final,
 };
 pub use remainder::{Base, Kind, LastWriters, Parts};
 pub use trial::{brute, find_order};
