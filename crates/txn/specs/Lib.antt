@@ -1,3 +1,4 @@
+pub mod Arcs
 pub mod Choices
 pub mod History
 pub mod Refusals

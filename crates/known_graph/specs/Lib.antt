@@ -1,0 +1,4 @@
+pub mod Drops
+pub mod Graphs
+pub mod Nodes
+pub mod Reach

@@ -1,0 +1,4 @@
+//! A directed graph of transactions, with its reachability kept up to date.
+#![tactic(auto)]
+
+mod nodes;
