@@ -1,5 +1,5 @@
 -- Ids are told apart by their numbers, and lists of ids by tests.
-use Rattle.std.proofs.Common.{◌≡◌, ◌≢◌, ℕ, zero, suc, ◌<◌, Bool, true, false, ◌&&◌, ◌||◌, List, [], ◌∷◌, length, get_or, refl, sym, ap, ◌∙◌, arith, Contains}
+use Rattle.std.proofs.Common.{◌≡◌, ◌≢◌, ℕ, zero, suc, ◌<◌, Bool, true, false, not, ◌&&◌, ◌||◌, List, [], ◌∷◌, length, get_or, refl, sym, ap, ◌∙◌, arith, Contains}
 use Rattle.std.proofs.lemmas.Bool.{false≢true}
 use Rattle.std.proofs.lemmas.Bool.Decides.{nat_tests}
 use Rattle.std.specs.List.{list_any}
@@ -38,3 +38,14 @@ Contains-from_has_id (other ∷ ids) id found = by_test (same_id other id) refl 
     by_test : (b : Bool) → same_id other id ≡ b → (has_id ids id ≡ true → Contains ids id) → (b || has_id ids id) ≡ true → Contains (other ∷ ids) id
     by_test true is later _ = (0, omega arith, same_id-is other id is)
     by_test false _ later found = let there = later found in (suc there.0, omega (arith, there.1), there.2)
+
+pub same_id-from_not : (a b : TxnId) → not (same_id a b) ≡ false → same_id a b ≡ true
+same_id-from_not a b is = by_test (same_id a b) is
+  where
+    by_test : (t : Bool) → not t ≡ false → t ≡ true
+    by_test true _ = refl
+    by_test false is = absurd (false≢true (sym is))
+
+-- what a read past the end of a list of pairs would give
+abbrev pub no_pair : TxnId × TxnId
+no_pair = (record { session = 0; number = 0 }, record { session = 0; number = 0 })

@@ -1,2 +1,4 @@
 pub mod Ids
+pub mod Members
+pub mod Orders
 pub mod Slots

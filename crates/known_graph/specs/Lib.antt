@@ -1,4 +1,5 @@
 pub mod Drops
 pub mod Graphs
 pub mod Nodes
+pub mod Pairs
 pub mod Reach

@@ -1,4 +1,5 @@
 //! A directed graph of transactions, with its reachability kept up to date.
 #![tactic(auto)]
 
+mod closure;
 mod nodes;
