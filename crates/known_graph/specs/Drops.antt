@@ -10,6 +10,10 @@ use Rattle.txn.specs.Arcs.{start_of, end_of}
 abbrev pub has_id : List TxnId → TxnId → Bool
 has_id ids id = list_any (λ other. same_id other id) ids
 
--- whether both ends of the arc stay
-abbrev pub stays_without : List TxnId → Arc → Bool
-stays_without gone arc = not (has_id gone (start_of arc)) && not (has_id gone (end_of arc))
+-- whether neither of the two goes
+abbrev pub both_stay : List TxnId → TxnId → TxnId → Bool
+both_stay gone a b = not (has_id gone a) && not (has_id gone b)
+
+-- whether neither end of the arc goes
+abbrev pub arc_stays : List TxnId → Arc → Bool
+arc_stays gone arc = both_stay gone (start_of arc) (end_of arc)

@@ -1,5 +1,5 @@
 -- What a contract sees of a graph.
-use Rattle.std.specs.Prelude.{ℕ, List, IsTrue, refl}
+use Rattle.std.specs.Prelude.{ℕ, List, [], IsTrue, refl}
 use Rattle.std.specs.Coded.{Coded, code_by, coded×, coded_ℕ}
 use Rattle.std.specs.FinSet.{FinSet, code, contains}
 use Rattle.std.specs.Ordering.{nat_cmp, ordering_then}
@@ -11,7 +11,7 @@ use Rattle.txn.specs.declared.choices.Arc.{Arc}
 abbrev pub id_cmp : TxnId → TxnId → Ordering
 id_cmp a b = ordering_then (nat_cmp a.session b.session) (nat_cmp a.number b.number)
 
--- the transactions that are there, and the arcs between them as they were added
+-- the transactions that are there, and the arcs between them in the order in which they came
 pub record GraphState : Type 0 where
   pub nodes : FinSet id_cmp
   pub arcs : List Arc

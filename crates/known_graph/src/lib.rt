@@ -2,4 +2,9 @@
 #![tactic(auto)]
 
 mod closure;
+mod digraph;
+mod drops;
 mod nodes;
+mod paths;
+
+pub use digraph::{Addition, Graph};
