@@ -1,0 +1,138 @@
+ghost use Rattle.std.specs.Prelude.{◌≡◌, IfOk, map, codes, decimal};
+ghost use Rattle.log_text.specs.Replies.{line_of, text_of, HasKindOfOrder, numbers_text, id_text, list_text, kind_name};
+ghost use Rattle.log_text.specs.Texts.{IsWrittenAs};
+
+use order_check::Kind;
+use serde_json::{Value, json};
+use std::alloc::Global;
+use txn::{NoMemory, Refusal, Sequence, TxnId};
+
+/// What a line of a script is answered.
+#[derive(Drop, Debug)]
+pub enum Reply {
+    /// What was asked is done.
+    Done,
+    /// What was asked is refused.
+    No(Refusal),
+    /// A round ended with an order that explains the history.
+    Order {
+        round: u64,
+        kind: Kind,
+        counts: Sequence<u64>,
+        order: Sequence<TxnId>,
+    },
+    /// A round found that no order explains the history.
+    Violated {
+        round: u64,
+        counts: Sequence<u64>,
+    },
+    /// A round used its budget up.
+    Spent {
+        round: u64,
+        counts: Sequence<u64>,
+    },
+}
+
+fn kind_name(kind: Kind) -> &'static str
+    ensures { result.now ≡ kind_name kind }
+{
+    match kind {
+        Kind::Serial => "serial",
+        Kind::Pending => "pending",
+        Kind::Violated => "violated",
+        Kind::Spent => "spent",
+    }
+}
+
+fn numbers(alloc: Global, numbers: &[u64]) -> Result<Value, NoMemory>
+    ensures { IfOk result (λ value. IsWrittenAs value (numbers_text numbers.now)) }
+{
+    let mut items = Vec::with_capacity(alloc, numbers.len())?;
+    for number in numbers {
+        items.push(Value::from(*number))?;
+    }
+    Ok(Value::Array(items))
+}
+
+fn id(alloc: Global, id: TxnId) -> Result<Value, NoMemory>
+    ensures { IfOk result (λ value. IsWrittenAs value (id_text id)) }
+{
+    json!(in alloc; [id.session, id.number])
+}
+
+fn ids(alloc: Global, ids: &[TxnId]) -> Result<Value, NoMemory>
+    ensures { IfOk result (λ value. IsWrittenAs value (list_text (map id_text ids.now))) }
+{
+    let mut items = Vec::with_capacity(alloc, ids.len())?;
+    for each in ids {
+        items.push(id(alloc, *each)?)?;
+    }
+    Ok(Value::Array(items))
+}
+
+fn done(alloc: Global) -> Result<Value, NoMemory>
+    ensures { IfOk result (λ value. IsWrittenAs value (text_of Reply.Done)) }
+{
+    json!(in alloc; ["ok"])
+}
+
+fn refused(alloc: Global, refusal: Refusal) -> Result<Value, NoMemory>
+    ensures { IfOk result (λ value. IsWrittenAs value (text_of (Reply.No refusal))) }
+{
+    json!(in alloc; ["no", refusal.number(), refusal.name()])
+}
+
+fn ordered(
+    alloc: Global,
+    round: u64,
+    kind: Kind,
+    counts: &Sequence<u64>,
+    order: &Sequence<TxnId>,
+) -> Result<Value, NoMemory>
+    ensures { IfOk result (λ value. IsWrittenAs value (text_of (Reply.Order round kind counts.now order.now))) }
+{
+    let counts = numbers(alloc, counts.as_slice())?;
+    let order = ids(alloc, order.as_slice())?;
+    json!(in alloc; ["report", round, kind_name(kind), counts, order])
+}
+
+fn violated(alloc: Global, round: u64, counts: &Sequence<u64>) -> Result<Value, NoMemory>
+    ensures { IfOk result (λ value. IsWrittenAs value (text_of (Reply.Violated round counts.now))) }
+{
+    let counts = numbers(alloc, counts.as_slice())?;
+    json!(in alloc; ["report", round, kind_name(Kind::Violated), counts, []])
+}
+
+fn spent(alloc: Global, round: u64, counts: &Sequence<u64>) -> Result<Value, NoMemory>
+    ensures { IfOk result (λ value. IsWrittenAs value (text_of (Reply.Spent round counts.now))) }
+{
+    let counts = numbers(alloc, counts.as_slice())?;
+    json!(in alloc; ["report", round, kind_name(Kind::Spent), counts])
+}
+
+fn value_of(alloc: Global, reply: &Reply) -> Result<Value, NoMemory>
+    ensures { IfOk result (λ value. IsWrittenAs value (text_of reply.now)) }
+{
+    match reply {
+        Reply::Done => done(alloc),
+        Reply::No(refusal) => refused(alloc, *refusal),
+        Reply::Order {
+            round,
+            kind,
+            counts,
+            order,
+        } => ordered(alloc, *round, *kind, counts, order),
+        Reply::Violated { round, counts } => violated(alloc, *round, counts),
+        Reply::Spent { round, counts } => spent(alloc, *round, counts),
+    }
+}
+
+/// The reply's line: one JSON array with no space in it, and a line feed.
+pub fn write_reply(alloc: Global, reply: &Reply) -> Result<Vec<u8>, NoMemory>
+    requires { HasKindOfOrder reply.now }
+    ensures { IfOk result (λ bytes. bytes.items ≡ line_of reply.now) }
+{
+    let mut bytes = value_of(alloc, reply)?.to_vec(alloc)?;
+    bytes.push(b'\n')?;
+    Ok(bytes)
+}
