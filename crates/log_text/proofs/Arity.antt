@@ -4,6 +4,17 @@ use Rattle.serde_json.specs.Data.{Data, Items, no_items, item}
 use Rattle.serde_json.specs.View.{items_view}
 use Rattle.serde_json.specs.declared.value.Value.{Value}
 
+-- another number than none
+pub none_but_none : {X : Type 0} (form : Items → Option X) → ((a : Data) (rest : Items) → None ≡ form (item a rest)) → (vs : List Value) → length vs ≢ 0 → None ≡ form (items_view vs)
+none_but_none form one [] h = absurd (omega arith)
+none_but_none form one (a ∷ vs) h = one _ _
+
+-- another number than one
+pub none_but_one : {X : Type 0} (form : Items → Option X) → None ≡ form no_items → ((a b : Data) (rest : Items) → None ≡ form (item a (item b rest))) → (vs : List Value) → length vs ≢ 1 → None ≡ form (items_view vs)
+none_but_one form none two [] h = none
+none_but_one form none two (a ∷ []) h = absurd (omega arith)
+none_but_one form none two (a ∷ b ∷ vs) h = two _ _ _
+
 -- fewer than two
 pub none_of_few : {X : Type 0} (form : Items → Option X) → None ≡ form no_items → ((a : Data) → None ≡ form (item a no_items)) → (vs : List Value) → length vs < 2 → None ≡ form (items_view vs)
 none_of_few form none one [] h = none

@@ -8,7 +8,7 @@ use Rattle.txn.specs.declared.transactions.Txn.{Txn}
 use Rattle.txn.specs.declared.transactions.Fragment.{Fragment}
 use Rattle.log_text.specs.declared.commands.Command.{Command}
 use Rattle.log_text.specs.declared.commands.Effort.{Effort}
-use Rattle.log_text.specs.declared.commands.Command.TheVariants.{Start, Offer, Round}
+use Rattle.log_text.specs.declared.commands.Command.TheVariants.{Start, Offer, Close, Begin, Finish, Round, Show}
 use Rattle.log_text.specs.Numbers.{whole_number, number_within, list_of, with_both, with_three}
 
 -- the lines of a script name sessions up to 255
@@ -49,22 +49,40 @@ abbrev pub offer_in : Items → Option Command
 offer_in (item session (item first (item txns no_items))) = with_three (λ s f ts. Offer (record { session = s; first = f; txns = ts })) (session_of session) (whole_number first) (list_of txn_of txns)
 offer_in parts = None
 
+-- ["close",session]
+abbrev pub close_in : Items → Option Command
+close_in (item session no_items) = option_map Close (session_of session)
+close_in parts = None
+
 -- a budget from 1 to 2^32, a depth up to 6, and 1 to 16 workers
 abbrev pub effort_in : Items → Option Effort
 effort_in (item budget (item depth (item workers no_items))) = with_three (λ b d w. record { budget = b; depth = d; workers = w }) (number_within 1 (2 ^ 32) budget) (number_within 0 6 depth) (number_within 1 16 workers)
 effort_in parts = None
 
+-- ["finish",budget,depth,workers]
+abbrev pub finish_in : Items → Option Command
+finish_in parts = option_map (λ (effort : Effort). Finish effort.budget effort.depth effort.workers) (effort_in parts)
+
 -- ["round",budget,depth,workers]
 abbrev pub round_in : Items → Option Command
 round_in parts = option_map (λ (effort : Effort). Round effort.budget effort.depth effort.workers) (effort_in parts)
+
+-- ["begin"] and ["show"] have no parts
+abbrev pub alone : Command → Items → Option Command
+alone command no_items = Some command
+alone command parts = None
 
 -- the command of this name, with these parts
 abbrev pub command_named : List ℕ → Items → Option Command
 command_named name parts =
     if bytes_eq name (codes "open") then start_in parts
     else (if bytes_eq name (codes "offer") then offer_in parts
+    else (if bytes_eq name (codes "close") then close_in parts
+    else (if bytes_eq name (codes "begin") then alone Begin parts
+    else (if bytes_eq name (codes "finish") then finish_in parts
     else (if bytes_eq name (codes "round") then round_in parts
-    else None))
+    else (if bytes_eq name (codes "show") then alone Show parts
+    else None))))))
 
 -- the items are a command's name and its parts
 abbrev pub command_in : Items → Option Command

@@ -2,7 +2,7 @@ ghost use Rattle.std.specs.Prelude.{◌≡◌, ◌⊎◌, IfOk, IfErr, Some};
 ghost use Rattle.serde_json.specs.View.{view, items_view};
 ghost use Rattle.log_text.specs.declared.commands.Command.{Command};
 ghost use Rattle.log_text.specs.Numbers.{whole_number, number_within, list_of};
-ghost use Rattle.log_text.specs.Commands.{session_of, init_of, read_in, read_of, txn_in, txn_of, start_in, offer_in, effort_in, round_in, command_named, command_in, command_of, IsCommand};
+ghost use Rattle.log_text.specs.Commands.{session_of, init_of, read_in, read_of, txn_in, txn_of, start_in, offer_in, close_in, alone, effort_in, finish_in, round_in, command_named, command_in, command_of, IsCommand};
 
 use serde_json::Value;
 use std::alloc::Global;
@@ -19,12 +19,24 @@ pub enum Command {
     Start { sessions: u64, limit: u64 },
     /// To take a fragment.
     Offer(Fragment),
+    /// To close a session.
+    Close(u8),
+    /// To begin a round.
+    Begin,
+    /// To search, and finish the round that is open.
+    Finish {
+        budget: u64,
+        depth: u64,
+        workers: u64,
+    },
     /// To begin a round, search, and finish it.
     Round {
         budget: u64,
         depth: u64,
         workers: u64,
     },
+    /// To tell the state.
+    Show,
 }
 
 /// How much a search may cost.
@@ -134,6 +146,25 @@ fn start_in(parts: &[Value]) -> Option<Command>
     })
 }
 
+fn close_in(parts: &[Value]) -> Option<Command>
+    ensures { result ≡ close_in (items_view parts.now) }
+{
+    match parts {
+        [session] => Some(Command::Close(session_of(session)?)),
+        _ => None,
+    }
+}
+
+fn alone(command: Command, parts: &[Value]) -> Option<Command>
+    ensures { result ≡ alone command (items_view parts.now) }
+{
+    if parts.is_empty() {
+        Some(command)
+    } else {
+        None
+    }
+}
+
 fn effort_in(parts: &[Value]) -> Option<Effort>
     ensures { result ≡ effort_in (items_view parts.now) }
 {
@@ -145,6 +176,21 @@ fn effort_in(parts: &[Value]) -> Option<Effort>
         }),
         _ => None,
     }
+}
+
+fn finish_in(parts: &[Value]) -> Option<Command>
+    ensures { result ≡ finish_in (items_view parts.now) }
+{
+    let Effort {
+        budget,
+        depth,
+        workers,
+    } = effort_in(parts)?;
+    Some(Command::Finish {
+        budget,
+        depth,
+        workers,
+    })
 }
 
 fn round_in(parts: &[Value]) -> Option<Command>
@@ -231,7 +277,11 @@ fn command_named(
     match name {
         "open" => Ok(start_in(parts)),
         "offer" => offer_in(alloc, parts),
+        "close" => Ok(close_in(parts)),
+        "begin" => Ok(alone(Command::Begin, parts)),
+        "finish" => Ok(finish_in(parts)),
         "round" => Ok(round_in(parts)),
+        "show" => Ok(alone(Command::Show, parts)),
         _ => Ok(None),
     }
 }

@@ -6,5 +6,5 @@ mod replies;
 #[cfg(test)]
 mod tests;
 
-pub use commands::Command;
+pub use commands::{Command, read_line};
 pub use replies::{Reply, write_reply};
