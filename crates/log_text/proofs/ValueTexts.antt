@@ -1,8 +1,8 @@
 -- Values beside the texts that they are written as.
-use Rattle.std.proofs.Common.{◌≡◌, ℕ, List, [], ◌∷◌, ◌++◌, Vec, Global, true, false, codes, decimal, map, take, length, get_or, ◌+◌, ◌<◌, ◌≤◌, refl, sym, ap, subst, append_assoc}
+use Rattle.std.proofs.Common.{◌≡◌, ℕ, List, [], ◌∷◌, ◌++◌, Vec, Global, Bool, true, false, codes, decimal, map, take, length, get_or, ◌+◌, ◌<◌, ◌≤◌, refl, sym, ap, subst, append_assoc}
 use Rattle.std.proofs.lemmas.List.{take_all, map_more}
 use Rattle.std.specs.List.{join_with_byte}
-use Rattle.serde_json.specs.Data.{Data, number, string, array, unsigned, Items, no_items, item}
+use Rattle.serde_json.specs.Data.{Data, boolean, number, string, array, unsigned, Items, no_items, item}
 use Rattle.serde_json.specs.View.{view, items_view}
 use Rattle.serde_json.specs.Written.{compact_text, items_text, items_have_float}
 use Rattle.serde_json.specs.declared.value.Value.{Value, Array}
@@ -13,7 +13,7 @@ use Rattle.txn.specs.declared.refusals.Refusal.TheVariants as refusal
 use Rattle.order_check.specs.declared.remainder.Kind.{Kind}
 use Rattle.order_check.specs.declared.remainder.Kind.TheVariants as kind
 use Rattle.serde_json.proofs.OnLiterals.{serde_json_on_literals}
-use Rattle.log_text.specs.Replies.{list_text, word_text, kind_name}
+use Rattle.log_text.specs.Replies.{list_text, word_text, flag_text, kind_name}
 use Rattle.log_text.specs.Texts.{HasText, IsWrittenAs, HaveTexts}
 
 pub number_written : (n : ℕ) → HasText (number (unsigned n)) (decimal n)
@@ -66,6 +66,17 @@ no_written = word_written _ refl
 pub report_written : HasText (string (codes "report")) (word_text (codes "report"))
 unfolding serde_json_on_literals
 report_written = word_written _ refl
+
+pub show_written : HasText (string (codes "show")) (word_text (codes "show"))
+unfolding serde_json_on_literals
+show_written = word_written _ refl
+
+flag_written : (b : Bool) → HasText (boolean b) (flag_text b)
+flag_written true = record { no_float = refl; text_is = refl }
+flag_written false = record { no_float = refl; text_is = refl }
+
+pub flag_value_written : (v : Value) (b : Bool) → view v ≡ boolean b → IsWrittenAs v (flag_text b)
+flag_value_written v b e = subst (λ d. HasText d (flag_text b)) (sym e) (flag_written b)
 
 -- ---- lists
 

@@ -48,6 +48,7 @@ text_of (reply.No refusal) = list_text (word_text (codes "no") ∷ decimal (numb
 text_of (reply.Order round kind counts order) = report_text round kind (numbers_text counts ∷ list_text (map id_text order) ∷ [])
 text_of (reply.Violated round counts) = report_text round kind.Violated (numbers_text counts ∷ list_text [] ∷ [])
 text_of (reply.Spent round counts) = report_text round kind.Spent (numbers_text counts ∷ [])
+text_of (reply.Show marks received closed last remaining) = list_text (word_text (codes "show") ∷ numbers_text marks ∷ numbers_text received ∷ list_text (map flag_text closed) ∷ list_text (map writer_text last) ∷ decimal remaining ∷ [])
 
 -- the reply and a line feed
 abbrev pub line_of : Reply → List ℕ

@@ -9,14 +9,19 @@ use std::alloc::Global;
 use txn::{Fragment, NoMemory, Refusal, Sequence, Source, Txn, TxnId};
 
 const MOST_BUDGET: u64 = 1 << 32;
+
 const MOST_DEPTH: u64 = 6;
+
 const MOST_WORKERS: u64 = 16;
 
 /// What a line of a script asks for.
 #[derive(Drop, Debug)]
 pub enum Command {
     /// To open an engine.
-    Start { sessions: u64, limit: u64 },
+    Start {
+        sessions: u64,
+        limit: u64,
+    },
     /// To take a fragment.
     Offer(Fragment),
     /// To close a session.
@@ -267,11 +272,7 @@ fn offer_in(alloc: Global, parts: &[Value]) -> Result<Option<Command>, NoMemory>
     }
 }
 
-fn command_named(
-    alloc: Global,
-    name: &str,
-    parts: &[Value],
-) -> Result<Option<Command>, NoMemory>
+fn command_named(alloc: Global, name: &str, parts: &[Value]) -> Result<Option<Command>, NoMemory>
     ensures { IfOk result (λ command. command ≡ command_named name.now (items_view parts.now)) }
 {
     match name {

@@ -1,5 +1,5 @@
 ghost use Rattle.std.specs.Prelude.{◌≡◌, IfOk, map, codes, decimal};
-ghost use Rattle.log_text.specs.Replies.{line_of, text_of, HasKindOfOrder, numbers_text, id_text, list_text, kind_name};
+ghost use Rattle.log_text.specs.Replies.{line_of, text_of, HasKindOfOrder, numbers_text, id_text, writer_text, flag_text, list_text, kind_name};
 ghost use Rattle.log_text.specs.Texts.{IsWrittenAs};
 
 use order_check::Kind;
@@ -30,6 +30,14 @@ pub enum Reply {
     Spent {
         round: u64,
         counts: Sequence<u64>,
+    },
+    /// What the engine keeps: the first three have an item a session, `last` each key's last gone writer, keys rising.
+    Show {
+        marks: Sequence<u64>,
+        received: Sequence<u64>,
+        closed: Sequence<bool>,
+        last: Sequence<(u64, TxnId)>,
+        remaining: u64,
     },
 }
 
@@ -66,6 +74,32 @@ fn ids(alloc: Global, ids: &[TxnId]) -> Result<Value, NoMemory>
     let mut items = Vec::with_capacity(alloc, ids.len())?;
     for each in ids {
         items.push(id(alloc, *each)?)?;
+    }
+    Ok(Value::Array(items))
+}
+
+fn flags(alloc: Global, flags: &[bool]) -> Result<Value, NoMemory>
+    ensures { IfOk result (λ value. IsWrittenAs value (list_text (map flag_text flags.now))) }
+{
+    let mut items = Vec::with_capacity(alloc, flags.len())?;
+    for flag in flags {
+        items.push(Value::from(*flag))?;
+    }
+    Ok(Value::Array(items))
+}
+
+fn writer(alloc: Global, writer: (u64, TxnId)) -> Result<Value, NoMemory>
+    ensures { IfOk result (λ value. IsWrittenAs value (writer_text writer)) }
+{
+    json!(in alloc; [writer.0, writer.1.session, writer.1.number])
+}
+
+fn writers(alloc: Global, writers: &[(u64, TxnId)]) -> Result<Value, NoMemory>
+    ensures { IfOk result (λ value. IsWrittenAs value (list_text (map writer_text writers.now))) }
+{
+    let mut items = Vec::with_capacity(alloc, writers.len())?;
+    for each in writers {
+        items.push(writer(alloc, *each)?)?;
     }
     Ok(Value::Array(items))
 }
@@ -110,6 +144,23 @@ fn spent(alloc: Global, round: u64, counts: &Sequence<u64>) -> Result<Value, NoM
     json!(in alloc; ["report", round, kind_name(Kind::Spent), counts])
 }
 
+fn shown(
+    alloc: Global,
+    marks: &Sequence<u64>,
+    received: &Sequence<u64>,
+    closed: &Sequence<bool>,
+    last: &Sequence<(u64, TxnId)>,
+    remaining: u64,
+) -> Result<Value, NoMemory>
+    ensures { IfOk result (λ value. IsWrittenAs value (text_of (Reply.Show marks.now received.now closed.now last.now remaining))) }
+{
+    let marks = numbers(alloc, marks.as_slice())?;
+    let received = numbers(alloc, received.as_slice())?;
+    let closed = flags(alloc, closed.as_slice())?;
+    let last = writers(alloc, last.as_slice())?;
+    json!(in alloc; ["show", marks, received, closed, last, remaining])
+}
+
 fn value_of(alloc: Global, reply: &Reply) -> Result<Value, NoMemory>
     ensures { IfOk result (λ value. IsWrittenAs value (text_of reply.now)) }
 {
@@ -124,6 +175,13 @@ fn value_of(alloc: Global, reply: &Reply) -> Result<Value, NoMemory>
         } => ordered(alloc, *round, *kind, counts, order),
         Reply::Violated { round, counts } => violated(alloc, *round, counts),
         Reply::Spent { round, counts } => spent(alloc, *round, counts),
+        Reply::Show {
+            marks,
+            received,
+            closed,
+            last,
+            remaining,
+        } => shown(alloc, marks, received, closed, last, *remaining),
     }
 }
 

@@ -8,6 +8,6 @@ use Rattle.log_text.proofs.commands.start_in.Goals.{in_default-via-then-parts-lt
 pub returns-in_default : goal.returns-in_default
 returns-in_default c = none_but_two start_in refl (λ _. refl) (λ _ _ _ _. refl) c.args.parts.now
     (elim c.in_default.branch [
-      in_default-via-then-parts-lt2 w ↦ omega (arith, ltb-true _ _ w.if-parts-lt2-1.true)
-    | in_default-via-else-parts-lt2+else-parts-lt3 w ↦ omega (arith, ltb-false _ _ w.if-parts-lt3-1.false)
+      | in_default-via-then-parts-lt2 w ↦ omega (arith, ltb-true _ _ w.if-parts-lt2-1.true)
+      | in_default-via-else-parts-lt2+else-parts-lt3 w ↦ omega (arith, ltb-false _ _ w.if-parts-lt3-1.false)
     ])
