@@ -1,0 +1,3 @@
+pub mod Arity
+pub mod EachItem
+pub mod ValueTexts

@@ -1,0 +1,131 @@
+-- Values beside the texts that they are written as.
+use Rattle.std.proofs.Common.{◌≡◌, ℕ, List, [], ◌∷◌, ◌++◌, Vec, Global, Bool, true, false, codes, decimal, map, take, length, get_or, ◌+◌, ◌<◌, ◌≤◌, refl, sym, ap, subst, append_assoc}
+use Rattle.std.proofs.lemmas.List.{take_all, map_more}
+use Rattle.std.specs.List.{join_with_byte}
+use Rattle.serde_json.specs.Data.{Data, boolean, number, string, array, unsigned, Items, no_items, item}
+use Rattle.serde_json.specs.View.{view, items_view}
+use Rattle.serde_json.specs.Written.{compact_text, items_text, items_have_float}
+use Rattle.serde_json.specs.declared.value.Value.{Value, Array}
+use Rattle.serde_json.proofs.Views.{view-Array}
+use Rattle.txn.specs.Refusals.{name_of}
+use Rattle.txn.specs.declared.refusals.Refusal.{Refusal}
+use Rattle.txn.specs.declared.refusals.Refusal.TheVariants as refusal
+use Rattle.order_check.specs.declared.remainder.Kind.{Kind}
+use Rattle.order_check.specs.declared.remainder.Kind.TheVariants as kind
+use Rattle.serde_json.proofs.OnLiterals.{serde_json_on_literals}
+use Rattle.log_text.specs.Replies.{list_text, word_text, flag_text, kind_name}
+use Rattle.log_text.specs.Texts.{HasText, IsWrittenAs, HaveTexts}
+
+pub number_written : (n : ℕ) → HasText (number (unsigned n)) (decimal n)
+number_written n = record { no_float = refl; text_is = refl }
+
+pub number_value_written : (v : Value) (n : ℕ) → view v ≡ number (unsigned n) → IsWrittenAs v (decimal n)
+number_value_written v n e = subst (λ d. HasText d (decimal n)) (sym e) (number_written n)
+
+-- a word that needs no escape
+pub word_written : (word : List ℕ) → compact_text (string word) ≡ word_text word → HasText (string word) (word_text word)
+word_written word e = record { no_float = refl; text_is = e }
+
+pub name_written : (r : Refusal) → HasText (string (name_of r)) (word_text (name_of r))
+unfolding serde_json_on_literals
+name_written refusal.BadLine = word_written _ refl
+name_written refusal.BadSession = word_written _ refl
+name_written refusal.BadTxn = word_written _ refl
+name_written refusal.BadFence = word_written _ refl
+name_written refusal.Gap = word_written _ refl
+name_written refusal.Repeat = word_written _ refl
+name_written refusal.Closed = word_written _ refl
+name_written refusal.Backlog = word_written _ refl
+name_written refusal.TooLong = word_written _ refl
+name_written refusal.RoundOpen = word_written _ refl
+name_written refusal.NoRound = word_written _ refl
+name_written refusal.BadCertificate = word_written _ refl
+name_written refusal.NoCut = word_written _ refl
+name_written refusal.BadParts = word_written _ refl
+name_written refusal.Full = word_written _ refl
+name_written refusal.NoMemory = word_written _ refl
+name_written refusal.NotAnchored = word_written _ refl
+name_written refusal.Device = word_written _ refl
+
+pub kind_written : (k : Kind) → HasText (string (kind_name k)) (word_text (kind_name k))
+unfolding serde_json_on_literals
+kind_written kind.Serial = word_written _ refl
+kind_written kind.Pending = word_written _ refl
+kind_written kind.Violated = word_written _ refl
+kind_written kind.Spent = word_written _ refl
+
+-- the words that replies begin with
+pub ok_written : HasText (string (codes "ok")) (word_text (codes "ok"))
+unfolding serde_json_on_literals
+ok_written = word_written _ refl
+
+pub no_written : HasText (string (codes "no")) (word_text (codes "no"))
+unfolding serde_json_on_literals
+no_written = word_written _ refl
+
+pub report_written : HasText (string (codes "report")) (word_text (codes "report"))
+unfolding serde_json_on_literals
+report_written = word_written _ refl
+
+pub show_written : HasText (string (codes "show")) (word_text (codes "show"))
+unfolding serde_json_on_literals
+show_written = word_written _ refl
+
+flag_written : (b : Bool) → HasText (boolean b) (flag_text b)
+flag_written true = record { no_float = refl; text_is = refl }
+flag_written false = record { no_float = refl; text_is = refl }
+
+pub flag_value_written : (v : Value) (b : Bool) → view v ≡ boolean b → IsWrittenAs v (flag_text b)
+flag_value_written v b e = subst (λ d. HasText d (flag_text b)) (sym e) (flag_written b)
+
+-- ---- lists
+
+-- what stands behind the bracket, from an item on
+items_joined : (d : Data) (ds : Items) (t : List ℕ) (ts : List (List ℕ)) → compact_text d ≡ t → HaveTexts ds ts → compact_text d ++ items_text true ds ≡ join_with_byte 44 (t ∷ ts) ++ 93 ∷ []
+items_joined d no_items t [] e h = rw e refl
+items_joined d (item e ds) t (u ∷ us) is h =
+    rw (is, items_joined e ds u us h.0.text_is h.1) (sym (append_assoc t (44 ∷ join_with_byte 44 (u ∷ us)) (93 ∷ [])))
+items_joined d no_items t (u ∷ us) e h = absurd h
+items_joined d (item e ds) t [] is h = absurd h
+
+all_joined : (ds : Items) (ts : List (List ℕ)) → HaveTexts ds ts → items_text false ds ≡ join_with_byte 44 ts ++ 93 ∷ []
+all_joined no_items [] h = refl
+all_joined (item d ds) (t ∷ ts) h = items_joined d ds t ts h.0.text_is h.1
+all_joined no_items (t ∷ ts) h = absurd h
+all_joined (item d ds) [] h = absurd h
+
+no_floats : (ds : Items) (ts : List (List ℕ)) → HaveTexts ds ts → items_have_float ds ≡ false
+no_floats no_items [] h = refl
+no_floats (item d ds) (t ∷ ts) h = rw (h.0.no_float, no_floats ds ts h.1) refl
+no_floats no_items (t ∷ ts) h = absurd h
+no_floats (item d ds) [] h = absurd h
+
+-- items with texts are written as the list of the texts
+pub list_written : (ds : Items) (ts : List (List ℕ)) → HaveTexts ds ts → HasText (array ds) (list_text ts)
+list_written ds ts h = record { no_float = no_floats ds ts h; text_is = ap (λ s. 91 ∷ s) (all_joined ds ts h) }
+
+-- a vector of values with texts
+pub vec_written : (v : Vec Value Global) (ts : List (List ℕ)) → HaveTexts (items_view v.items) ts → IsWrittenAs (Array v) (list_text ts)
+vec_written v ts h = subst (λ d. HasText d (list_text ts)) (sym (view-Array v)) (list_written _ ts h)
+
+-- a vector of the values that were made one after another of all elements
+pub elements_written : {X : Type 0} (text : X → List ℕ) (v : Vec Value Global) (xs : List X) (i : ℕ) → HaveTexts (items_view v.items) (map text (take i xs)) → length xs ≤ i → IsWrittenAs (Array v) (list_text (map text xs))
+elements_written text v xs i h all = vec_written v (map text xs) (subst (λ ys. HaveTexts (items_view v.items) (map text ys)) (take_all i xs all) h)
+
+-- one more value
+pub HaveTexts-push : (vs : List Value) (v : Value) (ts : List (List ℕ)) (t : List ℕ) → HaveTexts (items_view vs) ts → IsWrittenAs v t → HaveTexts (items_view (vs ++ v ∷ [])) (ts ++ t ∷ [])
+HaveTexts-push [] v [] t h w = (w, tt)
+HaveTexts-push (u ∷ vs) v (s ∷ ts) t h w = (h.0, HaveTexts-push vs v ts t h.1 w)
+HaveTexts-push [] v (s ∷ ts) t h w = absurd h
+HaveTexts-push (u ∷ vs) v [] t h w = absurd h
+
+-- a value that is a list of items with texts
+pub value_written : (v : Value) (ds : Items) (ts : List (List ℕ)) → view v ≡ array ds → HaveTexts ds ts → IsWrittenAs v (list_text ts)
+value_written v ds ts e h = subst (λ d. HasText d (list_text ts)) (sym e) (list_written ds ts h)
+
+-- the value of one more element
+pub HaveTexts-more : {X : Type 0} (text : X → List ℕ) (vs ws : List Value) (v : Value) (xs : List X) (i : ℕ) (d : X) → HaveTexts (items_view vs) (map text (take i xs)) → i < length xs → ws ≡ vs ++ v ∷ []
+    → IsWrittenAs v (text (get_or xs i d)) → HaveTexts (items_view ws) (map text (take (i + 1) xs))
+HaveTexts-more text vs ws v xs i d h within is w =
+    let more = HaveTexts-push vs v (map text (take i xs)) (text (get_or xs i d)) h w in
+    subst (λ us. HaveTexts (items_view us) (map text (take (i + 1) xs))) (sym is) (subst (HaveTexts (items_view (vs ++ v ∷ []))) (sym (map_more text xs i d within)) more)

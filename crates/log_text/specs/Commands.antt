@@ -1,0 +1,101 @@
+-- Which lines of a script are commands: each is a JSON array, of a word and the command's parts.
+use Rattle.std.specs.Prelude.{◌≡◌, ℕ, ◌^◌, List, Option, Some, None, IsUtf8, bytes_eq, codes, option_map, if◌then◌else◌}
+use Rattle.serde_json.specs.Data.{Data, string, array, Items, no_items, item}
+use Rattle.serde_json.specs.Read.{read}
+use Rattle.txn.specs.declared.transactions.Source.{Source}
+use Rattle.txn.specs.declared.transactions.Source.TheVariants.{Init, By}
+use Rattle.txn.specs.declared.transactions.Txn.{Txn}
+use Rattle.txn.specs.declared.transactions.Fragment.{Fragment}
+use Rattle.log_text.specs.declared.commands.Command.{Command}
+use Rattle.log_text.specs.declared.commands.Effort.{Effort}
+use Rattle.log_text.specs.declared.commands.Command.TheVariants.{Start, Offer, Close, Begin, Finish, Round, Show}
+use Rattle.log_text.specs.Numbers.{whole_number, number_within, list_of, with_both, with_three}
+
+-- the lines of a script name sessions up to 255
+abbrev pub session_of : Data → Option ℕ
+session_of = number_within 0 255
+
+-- "init"
+abbrev pub init_of : Data → Option Source
+init_of (string word) = if bytes_eq word (codes "init") then Some Init else None
+init_of given = None
+
+-- a read: [key,"init"] or [key,session,number]
+abbrev pub read_in : Items → Option (ℕ × Source)
+read_in (item key (item source no_items)) = with_both (λ k s. (k, s)) (whole_number key) (init_of source)
+read_in (item key (item session (item place no_items))) = with_three (λ k s n. (k, By (record { session = s; number = n }))) (whole_number key) (session_of session) (whole_number place)
+read_in items = None
+
+abbrev pub read_of : Data → Option (ℕ × Source)
+read_of (array items) = read_in items
+read_of given = None
+
+-- a transaction: [[read,..],[key,..]]
+abbrev pub txn_in : Items → Option Txn
+txn_in (item reads (item writes no_items)) = with_both (λ r w. record { reads = r; writes = w }) (list_of read_of reads) (list_of whole_number writes)
+txn_in items = None
+
+abbrev pub txn_of : Data → Option Txn
+txn_of (array items) = txn_in items
+txn_of given = None
+
+-- ["open",sessions,limit]
+abbrev pub start_in : Items → Option Command
+start_in (item sessions (item limit no_items)) = with_both Start (whole_number sessions) (whole_number limit)
+start_in parts = None
+
+-- ["offer",session,first,[txn,..]]
+abbrev pub offer_in : Items → Option Command
+offer_in (item session (item first (item txns no_items))) = with_three (λ s f ts. Offer (record { session = s; first = f; txns = ts })) (session_of session) (whole_number first) (list_of txn_of txns)
+offer_in parts = None
+
+-- ["close",session]
+abbrev pub close_in : Items → Option Command
+close_in (item session no_items) = option_map Close (session_of session)
+close_in parts = None
+
+-- a budget from 1 to 2^32, a depth up to 6, and 1 to 16 workers
+abbrev pub effort_in : Items → Option Effort
+effort_in (item budget (item depth (item workers no_items))) = with_three (λ b d w. record { budget = b; depth = d; workers = w }) (number_within 1 (2 ^ 32) budget) (number_within 0 6 depth) (number_within 1 16 workers)
+effort_in parts = None
+
+-- ["finish",budget,depth,workers]
+abbrev pub finish_in : Items → Option Command
+finish_in parts = option_map (λ (effort : Effort). Finish effort.budget effort.depth effort.workers) (effort_in parts)
+
+-- ["round",budget,depth,workers]
+abbrev pub round_in : Items → Option Command
+round_in parts = option_map (λ (effort : Effort). Round effort.budget effort.depth effort.workers) (effort_in parts)
+
+-- ["begin"] and ["show"] have no parts
+abbrev pub alone : Command → Items → Option Command
+alone command no_items = Some command
+alone command parts = None
+
+-- the command of this name, with these parts
+abbrev pub command_named : List ℕ → Items → Option Command
+command_named name parts =
+    if bytes_eq name (codes "open") then start_in parts
+    else (if bytes_eq name (codes "offer") then offer_in parts
+    else (if bytes_eq name (codes "close") then close_in parts
+    else (if bytes_eq name (codes "begin") then alone Begin parts
+    else (if bytes_eq name (codes "finish") then finish_in parts
+    else (if bytes_eq name (codes "round") then round_in parts
+    else (if bytes_eq name (codes "show") then alone Show parts
+    else None))))))
+
+-- the items are a command's name and its parts
+abbrev pub command_in : Items → Option Command
+command_in (item (string name) parts) = command_named name parts
+command_in items = None
+
+abbrev pub command_of : Data → Option Command
+command_of (array items) = command_in items
+command_of given = None
+
+-- the line is a JSON text, and what it says is this command
+pub record IsCommand (line : List ℕ) (command : Command) : Type 0 where
+  pub utf8 : IsUtf8 line
+  pub said : Data
+  pub reads : read line ≡ Some said
+  pub is : command_of said ≡ Some command

@@ -1,0 +1,10 @@
+//! The text of a script's lines and of the replies to them, as JSON.
+#![tactic(auto)]
+
+mod commands;
+mod replies;
+#[cfg(test)]
+mod tests;
+
+pub use commands::{Command, read_line};
+pub use replies::{Reply, write_reply};

@@ -1,0 +1,304 @@
+ghost use Rattle.log_text.specs.Replies.{HasKindOfOrder};
+
+use crate::{Command, Reply, read_line, write_reply};
+use order_check::Kind;
+use std::alloc::Global;
+use std::test::Fail;
+use txn::{NoMemory, Refusal, Sequence, Source, TxnId};
+
+fn is_written_as(alloc: Global, reply: &Reply, line: &str) -> Result<bool, NoMemory>
+    requires { HasKindOfOrder reply.now }
+{
+    let bytes = write_reply(alloc, reply)?;
+    Ok(bytes.as_slice() == line.as_bytes())
+}
+
+fn numbers(alloc: Global, numbers: &[u64]) -> Result<Sequence<u64>, NoMemory> {
+    Ok(Sequence::new(numbers.to_vec(alloc)?))
+}
+
+fn ids(alloc: Global, ids: &[(u8, u64)]) -> Result<Sequence<TxnId>, NoMemory> {
+    let mut list = Sequence::new(Vec::new(alloc));
+    for (session, number) in ids {
+        list.push(TxnId {
+            session: *session,
+            number: *number,
+        })?;
+    }
+    Ok(list)
+}
+
+#[test]
+fn answers_without_a_report(rt: HostRuntime) -> Result<(), Fail> {
+    let alloc = rt.alloc();
+    assert!(rt; is_written_as(alloc, &Reply::Done, "[\"ok\"]\n")?);
+    for (refusal, line) in [
+        (Refusal::BadLine, "[\"no\",1,\"BadLine\"]\n"),
+        (Refusal::Gap, "[\"no\",5,\"Gap\"]\n"),
+        (Refusal::NoMemory, "[\"no\",16,\"NoMemory\"]\n"),
+        (Refusal::Device, "[\"no\",18,\"Device\"]\n"),
+    ] {
+        assert!(rt;
+            is_written_as(alloc, &Reply::No(refusal), line)?,
+            "at {line}"
+        );
+    }
+    Ok(())
+}
+
+#[test]
+fn reports(rt: HostRuntime) -> Result<(), Fail> {
+    let alloc = rt.alloc();
+    let reply = Reply::Order {
+        round: 1,
+        kind: Kind::Serial,
+        counts: numbers(alloc, &[2, 1])?,
+        order: ids(alloc, &[(0, 0), (0, 1), (1, 0)])?,
+    };
+    assert!(rt;
+        is_written_as(
+            alloc,
+            &reply,
+            "[\"report\",1,\"serial\",[2,1],[[0,0],[0,1],[1,0]]]\n"
+        )?
+    );
+    let reply = Reply::Order {
+        round: 281474976710655,
+        kind: Kind::Pending,
+        counts: numbers(alloc, &[0])?,
+        order: ids(alloc, &[])?,
+    };
+    assert!(rt;
+        is_written_as(
+            alloc,
+            &reply,
+            "[\"report\",281474976710655,\"pending\",[0],[]]\n"
+        )?
+    );
+    let reply = Reply::Violated {
+        round: 1,
+        counts: numbers(alloc, &[2])?,
+    };
+    assert!(rt; is_written_as(alloc, &reply, "[\"report\",1,\"violated\",[2],[]]\n")?);
+    let reply = Reply::Spent {
+        round: 1,
+        counts: numbers(alloc, &[2])?,
+    };
+    assert!(rt; is_written_as(alloc, &reply, "[\"report\",1,\"spent\",[2]]\n")?);
+    Ok(())
+}
+
+#[test]
+fn state(rt: HostRuntime) -> Result<(), Fail> {
+    let alloc = rt.alloc();
+    let key_0 = (
+        0,
+        TxnId {
+            session: 0,
+            number: 1,
+        },
+    );
+    let key_5 = (
+        5,
+        TxnId {
+            session: 0,
+            number: 0,
+        },
+    );
+    let reply = Reply::Show {
+        marks: numbers(alloc, &[2, 0])?,
+        received: numbers(alloc, &[2, 1])?,
+        closed: Sequence::new([false, true].to_vec(alloc)?),
+        last: Sequence::new([key_0, key_5].to_vec(alloc)?),
+        remaining: 1,
+    };
+    let line = "[\"show\",[2,0],[2,1],[false,true],[[0,0,1],[5,0,0]],1]\n";
+    assert!(rt; is_written_as(alloc, &reply, line)?);
+    let reply = Reply::Show {
+        marks: numbers(alloc, &[])?,
+        received: numbers(alloc, &[])?,
+        closed: Sequence::new(Vec::new(alloc)),
+        last: Sequence::new(Vec::new(alloc)),
+        remaining: 0,
+    };
+    assert!(rt; is_written_as(alloc, &reply, "[\"show\",[],[],[],[],0]\n")?);
+    Ok(())
+}
+
+// What a command says, for comparison; an offer's transactions are looked at apart.
+fn numbers_of(command: &Command) -> (&'static str, [u64; 3]) {
+    match command {
+        Command::Start { sessions, limit } => ("open", [*sessions, *limit, 0]),
+        Command::Offer(fragment) => (
+            "offer",
+            [
+                u64::from(fragment.session),
+                fragment.first,
+                fragment.txns.len() as u64,
+            ],
+        ),
+        Command::Close(session) => ("close", [u64::from(*session), 0, 0]),
+        Command::Begin => ("begin", [0, 0, 0]),
+        Command::Finish {
+            budget,
+            depth,
+            workers,
+        } => ("finish", [*budget, *depth, *workers]),
+        Command::Round {
+            budget,
+            depth,
+            workers,
+        } => ("round", [*budget, *depth, *workers]),
+        Command::Show => ("show", [0, 0, 0]),
+    }
+}
+
+#[test]
+fn commands(rt: HostRuntime) -> Result<(), Fail> {
+    let alloc = rt.alloc();
+    for (line, name, numbers) in [
+        ("[\"open\",2,16]", "open", [2, 16, 0]),
+        (
+            "[\"open\",0,18446744073709551615]",
+            "open",
+            [0, u64::MAX, 0],
+        ),
+        (" [ \"open\" ,\t2 , 16 ] ", "open", [2, 16, 0]),
+        ("[\"open\",2,16]\r", "open", [2, 16, 0]),
+        ("[\"offer\",0,0,[]]", "offer", [0, 0, 0]),
+        ("[\"offer\",255,7,[[[],[]],[[],[5]]]]", "offer", [255, 7, 2]),
+        (
+            "[\"offer\",0,281474976710656,[[[],[5,5]]]]",
+            "offer",
+            [0, 281474976710656, 1],
+        ),
+        ("[\"close\",255]", "close", [255, 0, 0]),
+        ("[\"begin\"]", "begin", [0, 0, 0]),
+        ("[\"finish\",1,0,1]", "finish", [1, 0, 1]),
+        ("[\"round\",4294967296,6,16]", "round", [4294967296, 6, 16]),
+        ("[\"show\"]", "show", [0, 0, 0]),
+        ("[\"\\u0073how\"]", "show", [0, 0, 0]),
+        ("\n[\"show\"]\n", "show", [0, 0, 0]),
+    ] {
+        let command = read_line(alloc, line.as_bytes())?;
+        let (found, with) = numbers_of(&command);
+        assert!(rt; found == name && with == numbers, "at {line}");
+    }
+    Ok(())
+}
+
+#[test]
+fn offered_transactions(rt: HostRuntime) -> Result<(), Fail> {
+    let alloc = rt.alloc();
+    let line = b"[\"offer\",3,4,[[[[0,\"init\"],[9,255,18446744073709551615]],[5,6]],[[],[]]]]";
+    let Command::Offer(fragment) = read_line(alloc, line)? else {
+        return Err(Fail::from("no offer"));
+    };
+    let by = Source::By(TxnId {
+        session: 255,
+        number: u64::MAX,
+    });
+    let txns = fragment.txns.as_slice();
+    assert!(rt; fragment.session == 3 && fragment.first == 4 && txns.len() == 2);
+    assert!(rt; txns[0].reads.as_slice() == &[(0, Source::Init), (9, by)]);
+    assert!(rt; txns[0].writes.as_slice() == &[5, 6]);
+    assert!(rt; txns[1].reads.is_empty() && txns[1].writes.is_empty());
+    Ok(())
+}
+
+#[test]
+fn bad_lines(rt: HostRuntime) -> Result<(), Fail> {
+    let alloc = rt.alloc();
+    for line in [
+        "",
+        " ",
+        "null",
+        "[]",
+        "{}",
+        "\"show\"",
+        "[[\"show\"]]",
+        "[show]",
+        "[\"show\",]",
+        "[\"show\"",
+        "[\"show\"]]",
+        "[\"show\"] 1",
+        "[\"Show\"]",
+        "[\"show \"]",
+        "[\"sho\"]",
+        "[\"show\",1]",
+        "[\"truncate\"]",
+        "[\"begin\",[]]",
+        "[\"close\"]",
+        "[\"close\",256]",
+        "[\"close\",0,0]",
+        "[\"close\",\"0\"]",
+        "[\"close\",-1]",
+        "[\"open\",2]",
+        "[\"open\",2,16,1]",
+        "[\"open\",-0,16]",
+        "[\"open\",1.0,16]",
+        "[\"open\",1e0,16]",
+        "[\"open\",\"1\",16]",
+        "[\"open\",01,16]",
+        "[\"open\",+1,16]",
+        "[\"open\",1,18446744073709551616]",
+        "[\"open\",1,1e400]",
+        "[\"offer\",0",
+        "[\"offer\",0,0]",
+        "[\"offer\",256,0,[]]",
+        "[\"offer\",0,0,{}]",
+        "[\"offer\",0,0,[],[]]",
+        "[\"offer\",0,0,[[]]]",
+        "[\"offer\",0,0,[[[]]]]",
+        "[\"offer\",0,0,[[[],[],[]]]]",
+        "[\"offer\",0,0,[[[],[5,null]]]]",
+        "[\"offer\",0,0,[[[],5]]]",
+        "[\"offer\",0,0,[[[[]],[]]]]",
+        "[\"offer\",0,0,[[[[5]],[]]]]",
+        "[\"offer\",0,0,[[[[5,0]],[]]]]",
+        "[\"offer\",0,0,[[[[5,\"Init\"]],[]]]]",
+        "[\"offer\",0,0,[[[[5,\"init\",0]],[]]]]",
+        "[\"offer\",0,0,[[[[5,256,0]],[]]]]",
+        "[\"offer\",0,0,[[[[5,0,0,0]],[]]]]",
+        "[\"offer\",0,0,[[[[5,0,1.0]],[]]]]",
+        "[\"offer\",0,0,[[[],[5]],[[],[-5]]]]",
+        "[\"finish\",0,0,1]",
+        "[\"finish\",1,0]",
+        "[\"round\",0,0,1]",
+        "[\"round\",4294967297,0,1]",
+        "[\"round\",1,7,1]",
+        "[\"round\",1,0,0]",
+        "[\"round\",1,0,17]",
+        "[\"round\",1,-0,1]",
+        "[\"round\",1,0,1,1]",
+    ] {
+        let refused = read_line(alloc, line.as_bytes());
+        assert!(rt; is_bad_line(refused), "at {line}");
+    }
+    Ok(())
+}
+
+fn is_bad_line(answer: Result<Command, Refusal>) -> bool {
+    match answer {
+        Ok(_) => false,
+        Err(refusal) => refusal == Refusal::BadLine,
+    }
+}
+
+#[test]
+fn lines_that_are_no_text(rt: HostRuntime) -> Result<(), Fail> {
+    let alloc = rt.alloc();
+    let mut deep = Vec::new(alloc);
+    for _ in 0..200 {
+        deep.push(b'[')?;
+    }
+    assert!(rt; is_bad_line(read_line(alloc, deep.as_slice())));
+    for _ in 0..200 {
+        deep.push(b']')?;
+    }
+    assert!(rt; is_bad_line(read_line(alloc, deep.as_slice())));
+    assert!(rt; is_bad_line(read_line(alloc, b"[\"show\xff\"]")));
+    assert!(rt; is_bad_line(read_line(alloc, b"\xef\xbb\xbf[\"show\"]")));
+    assert!(rt; is_bad_line(read_line(alloc, b"[\"show\"]\x00")));
+    Ok(())
+}
