@@ -1,0 +1,7 @@
+//! The commands of the auditor, over devices that give and take bytes.
+#![tactic(auto)]
+
+mod devices;
+mod faults;
+
+pub use devices::{ByteSink, ByteSource, DeviceFault, write_all};
