@@ -3,5 +3,7 @@
 
 mod devices;
 mod faults;
+mod memory;
 
 pub use devices::{ByteSink, ByteSource, DeviceFault, write_all};
+pub use memory::{MemorySink, MemorySource, Pace};
