@@ -4,6 +4,8 @@
 mod devices;
 mod faults;
 mod memory;
+mod standard;
 
 pub use devices::{ByteSink, ByteSource, DeviceFault, write_all};
 pub use memory::{MemorySink, MemorySource, Pace};
+pub use standard::{ReaderSource, StandardInput, StandardOutput, WriterSink};
