@@ -1,6 +1,7 @@
 ghost use Rattle.std.specs.Prelude.{◌≡◌, ◌≢◌, ℕ, ◌+◌, ◌<◌, ◌≤◌, Some, None, [], ◌∷◌, ◌++◌, length, take, drop, IfSome, IfNone, IfOk, IfErr, OnOk, OnErr};
 ghost use Rattle.std.specs.Option.{ForSome};
 ghost use Rattle.cobra.specs.Lines.{HasNoLf};
+ghost use Rattle.cobra.specs.declared.lines.LineError.TheVariants.{Device, NoMemory};
 
 use crate::block::{BLOCK, Block};
 use crate::devices::{ByteSource, DeviceFault};
@@ -29,6 +30,22 @@ pub enum LineError {
     NoMemory,
 }
 
+impl From<DeviceFault> for LineError {
+    ghost from_gives = { λ _ error. error ≡ Device };
+
+    fn from(_fault: DeviceFault) -> LineError {
+        LineError::Device
+    }
+}
+
+impl From<AllocError> for LineError {
+    ghost from_gives = { λ _ error. error ≡ NoMemory };
+
+    fn from(_error: AllocError) -> LineError {
+        LineError::NoMemory
+    }
+}
+
 /// Where the first LF stands.
 fn line_end(bytes: &[u8]) -> Option<usize>
     ensures some { IfSome result (λ end. (end < length bytes.now) × HasNoLf (take end bytes.now) × (bytes.now ≡ take end bytes.now ++ 10 ∷ drop (end + 1) bytes.now)) }
@@ -48,7 +65,7 @@ pub struct LineReader {
 }
 
 impl LineReader {
-    ghost use Rattle.cobra.specs.LineReaders.{limit_of, ahead, under_way, bytes_of, grown, IsHandedOut, IsLast};
+    ghost use Rattle.cobra.specs.LineReaders.{limit_of, ahead, under_way, grown, lines_ahead, lines_left, EndsAtLf, IsHandedOut, IsLast, IsNextOf, ReadsLine, StopsInLine};
 
     pub fn new(alloc: Global, limit: usize) -> Result<LineReader, NoMemory>
         ensures limit { IfOk result (λ reader. limit_of reader ≡ limit) }
@@ -81,5 +98,53 @@ impl LineReader {
         }
         self.block.consume(count);
         Ok(())
+    }
+
+    /// Hands the line under way out, and begins the next.
+    fn finish(&mut self) -> Next
+        ensures handed { IsHandedOut (under_way self.old) result }
+        ensures fresh { under_way self.new ≡ Some [] }
+        ensures ahead { ahead self.new ≡ ahead self.old }
+        ensures limit { limit_of self.new ≡ limit_of self.old }
+    {
+        match mem::replace(&mut self.line, Some(Vec::new(self.alloc))) {
+            Some(line) => Next::Line(line),
+            None => Next::TooLong,
+        }
+    }
+
+    /// The same at the end of input.
+    fn last(&mut self) -> Next
+        ensures handed { IsLast (under_way self.old) result }
+        ensures fresh { under_way self.new ≡ Some [] }
+        ensures ahead { ahead self.new ≡ ahead self.old }
+        ensures limit { limit_of self.new ≡ limit_of self.old }
+    {
+        match &self.line {
+            Some(line) if line.is_empty() => Next::End,
+            _ => self.finish(),
+        }
+    }
+
+    /// What comes next, where its LF was read already.
+    fn next_ahead(&mut self) -> Result<Option<Next>, NoMemory>
+        ensures limit { limit_of self.new ≡ limit_of self.old }
+        ensures some { IfOk result (λ found. IfSome found (λ next. EndsAtLf self.old self.new (ahead self.old) next × (under_way self.new ≡ Some []))) }
+        ensures none { IfOk result (λ found. IfNone found (StopsInLine self.old self.new (ahead self.old) × (ahead self.new ≡ []))) }
+        ensures err { OnErr result ((under_way self.new ≡ under_way self.old) × (ahead self.new ≡ ahead self.old)) }
+    {
+        let bytes = self.block.bytes();
+        let count = bytes.len();
+        match line_end(bytes) {
+            Some(end) => {
+                self.keep(end)?;
+                self.block.consume(1);
+                Ok(Some(self.finish()))
+            }
+            None => {
+                self.keep(count)?;
+                Ok(None)
+            }
+        }
     }
 }
