@@ -1,5 +1,6 @@
-ghost use Rattle.std.specs.Prelude.{◌≡◌, ◌≢◌, ℕ, ◌+◌, ◌<◌, ◌≤◌, Some, None, [], ◌∷◌, ◌++◌, length, take, drop, IfSome, IfNone, IfOk, IfErr, OnOk, OnErr};
+ghost use Rattle.std.specs.Prelude.{◌≡◌, ◌≢◌, ℕ, ◌+◌, ◌<◌, ◌≤◌, List, Some, None, [], ◌∷◌, ◌++◌, length, take, drop, IfSome, IfNone, IfOk, OnOk, OnErr, IsErrOf, Contains};
 ghost use Rattle.std.specs.Option.{ForSome};
+ghost use Rattle.std.specs.Io.KnownBytes.{Consumes};
 ghost use Rattle.cobra.specs.Lines.{HasNoLf};
 ghost use Rattle.cobra.specs.declared.lines.LineError.TheVariants.{Device, NoMemory};
 
@@ -144,6 +145,36 @@ impl LineReader {
             None => {
                 self.keep(count)?;
                 Ok(None)
+            }
+        }
+    }
+
+    /// Reads the next line, to its LF and no further, or to the end. An `Err` loses nothing: the line that was under way
+    /// stays so, and a later call goes on with it.
+    pub fn next_line<S: ByteSource>(&mut self, source: &mut S) -> Result<Next, LineError>
+        // Told what bytes were left, it hands out the first of their lines.
+        ensures next { under_way self.old ≡ Some [] → IfOk result (λ next. IsNextOf (limit_of self.old) (lines_ahead self.old (S.remaining source.old)) next (lines_ahead self.new (S.remaining source.new))) }
+
+        // Told or not, what it read becomes a line.
+        ensures line { IfOk result (λ next. (read : List ℕ) × Consumes (S.remaining source.old) (S.remaining source.new) read × ReadsLine self.old self.new (ahead self.old ++ read) (S.remaining source.new) next) }
+        ensures stopped { OnErr result ((read : List ℕ) × Consumes (S.remaining source.old) (S.remaining source.new) read × StopsInLine self.old self.new (ahead self.old ++ read)) }
+        ensures limit { limit_of self.new ≡ limit_of self.old }
+
+        // A line whose LF was read is handed out before anything more is asked for.
+        ensures at_once { Contains (ahead self.old) 10 → source.new ≡ source.old }
+        ensures all_used { IsErrOf result LineError.Device → ahead self.new ≡ [] }
+
+        ensures ok { OnOk result (S.faults source.new ≡ S.faults source.old) }
+        ensures device { IsErrOf result LineError.Device → S.faults source.old < S.faults source.new }
+        ensures memory { IsErrOf result LineError.NoMemory → S.faults source.new ≡ S.faults source.old }
+        ensures fewer { IfOk result (λ next. next ≢ Next.End → lines_left self.new (S.reads_left source.new) < lines_left self.old (S.reads_left source.old)) }
+    {
+        loop {
+            if let Some(next) = self.next_ahead()? {
+                return Ok(next);
+            }
+            if !self.block.refill(source)? {
+                return Ok(self.last());
             }
         }
     }
