@@ -1,0 +1,116 @@
+-- Steps of a reader of lines, one after another.
+use Rattle.std.proofs.Common.{◌≡◌, ◌≢◌, ℕ, ◌+◌, ◌*◌, ◌<◌, ◌≤◌, ◌⊎◌, List, [], ◌∷◌, ◌++◌, length, length-append, append_assoc, append-nil, Bool, true, false, cond, nat_le, Option, Some, None, Contains, refl, ap, sym, ◌∙◌, subst, arith, inl, inr}
+use Rattle.std.proofs.lemmas.List.Elements.{All-append, All-contains, Contains-append_left}
+use Rattle.std.proofs.lemmas.Bool.Decides.{nat_tests, leb_tells}
+use Rattle.std.specs.Option.{ForSome, option_map}
+use Rattle.std.specs.Global.{Vec}
+use Rattle.std.specs.Io.KnownBytes.{Consumes, IsAtEnd, Keeps}
+use Rattle.std.proofs.KnownBytes.{Consumes-trans, Consumes-kept}
+use Rattle.cobra.specs.declared.block.TheConstants.{BLOCK}
+use Rattle.cobra.specs.declared.lines.LineReader.{LineReader}
+use Rattle.cobra.specs.declared.lines.Next.{Next}
+use Rattle.cobra.specs.Lines.{lines, HasNoLf}
+use Rattle.cobra.specs.LineReaders.{limit_of, ahead, bytes_of, under_way, grown, lines_left, lines_of, EndsAtLf, EndsAtEnd, ReadsLine, StopsInLine, IsHandedOut, IsLast}
+
+-- how far a call has come within a line
+pub record IsMidway (old now : LineReader) (left_old left : Option (List ℕ)) : Type 0 where
+  pub read : List ℕ
+  pub consumes : Consumes left_old left read
+  pub stops : StopsInLine old now (ahead old ++ read)
+  pub limit : limit_of now ≡ limit_of old
+
+grown-append : (limit : ℕ) (line : Option (List ℕ)) (p q : List ℕ) → grown limit (grown limit line p) q ≡ grown limit line (p ++ q)
+grown-append limit None p q = refl
+grown-append limit (Some front) p q = grind (arith, nat_tests, append_assoc front p q, length-append front p, length-append front (p ++ q), length-append p q)
+
+-- the line under way, as it was before the call, and the whole piece that came since
+grown-midway : (old mid : LineReader) (a b : Option (List ℕ)) (m : IsMidway old mid a b) (piece : List ℕ) → grown (limit_of mid) (under_way mid) piece ≡ grown (limit_of old) (under_way old) (m.stops.piece ++ piece)
+grown-midway old mid a b m piece = rw (m.limit, m.stops.front) (grown-append (limit_of old) (under_way old) m.stops.piece piece)
+
+-- a piece more, of what was ahead
+pub midway-kept : (old mid new : LineReader) (a b : Option (List ℕ)) → IsMidway old mid a b → StopsInLine mid new (ahead mid) → limit_of new ≡ limit_of mid → IsMidway old new a b
+midway-kept old mid new a b m s same = record {
+  read = m.read;
+  consumes = m.consumes;
+  stops = record {
+    piece = m.stops.piece ++ s.piece;
+    no_lf = All-append (λ x. x ≢ 10) m.stops.piece s.piece m.stops.no_lf s.no_lf;
+    cut = m.stops.cut ∙ (ap (λ xs. m.stops.piece ++ xs) s.cut ∙ sym (append_assoc m.stops.piece s.piece (ahead new)));
+    front = s.front ∙ grown-midway old mid a b m s.piece;
+  };
+  limit = same ∙ m.limit;
+}
+
+-- where nothing is ahead, all that was read is part of the line
+all_used : (old mid : LineReader) (a b : Option (List ℕ)) (m : IsMidway old mid a b) → ahead mid ≡ [] → ahead old ++ m.read ≡ m.stops.piece
+all_used old mid a b m none = m.stops.cut ∙ (ap (λ xs. m.stops.piece ++ xs) none ∙ append-nil m.stops.piece)
+
+-- what was ahead is used up, and more is read
+pub midway-read : (old mid new : LineReader) (a b c : Option (List ℕ)) → IsMidway old mid a b → ahead mid ≡ [] → Consumes b c (ahead new) → under_way new ≡ under_way mid → limit_of new ≡ limit_of mid → IsMidway old new a c
+midway-read old mid new a b c m none more same_line same = record {
+  read = m.read ++ ahead new;
+  consumes = Consumes-trans a b c m.read (ahead new) m.consumes more;
+  stops = record {
+    piece = m.stops.piece;
+    no_lf = m.stops.no_lf;
+    cut = sym (append_assoc (ahead old) m.read (ahead new)) ∙ ap (λ xs. xs ++ ahead new) (all_used old mid a b m none);
+    front = same_line ∙ m.stops.front;
+  };
+  limit = same ∙ m.limit;
+}
+
+-- an LF comes among what was ahead
+pub midway-lf : (old mid new : LineReader) (a b : Option (List ℕ)) (next : Next) (m : IsMidway old mid a b) → EndsAtLf mid new (ahead mid) next → EndsAtLf old new (ahead old ++ m.read) next
+midway-lf old mid new a b next m e = record {
+  piece = m.stops.piece ++ e.piece;
+  no_lf = All-append (λ x. x ≢ 10) m.stops.piece e.piece m.stops.no_lf e.no_lf;
+  cut = m.stops.cut ∙ (ap (λ xs. m.stops.piece ++ xs) e.cut ∙ sym (append_assoc m.stops.piece e.piece (10 ∷ ahead new)));
+  handed = subst (λ line. IsHandedOut line next) (grown-midway old mid a b m e.piece) e.handed;
+}
+
+-- the end of input comes, and all was used up before
+pub midway-end : (old mid new : LineReader) (a b : Option (List ℕ)) (next : Next) (m : IsMidway old mid a b) → ahead mid ≡ [] → ahead new ≡ [] → IsAtEnd b → IsLast (under_way mid) next → EndsAtEnd old new (ahead old ++ m.read) b next
+midway-end old mid new a b next m none none_new at_end last =
+    let all = all_used old mid a b m none in record {
+      no_lf = subst HasNoLf (sym all) m.stops.no_lf;
+      used_up = none_new;
+      at_end = at_end;
+      handed = subst (λ line. IsLast line next) (m.stops.front ∙ ap (grown (limit_of old) (under_way old)) (sym all)) last;
+    }
+
+-- then no LF was ahead before
+pub midway-no_lf : (old mid : LineReader) (a b : Option (List ℕ)) → IsMidway old mid a b → ahead mid ≡ [] → Contains (ahead old) 10 → ⊥
+midway-no_lf old mid a b m none has =
+    All-contains (λ x. x ≢ 10) m.stops.piece 10 m.stops.no_lf (subst (λ xs. Contains xs 10) (all_used old mid a b m none) (Contains-append_left (ahead old) m.read 10 has)) refl
+
+pub Keeps-none : (a b : Option (List ℕ)) (read : List ℕ) → read ≡ [] → Consumes a b read → Keeps a b
+Keeps-none None b read none all = tt
+Keeps-none (Some xs) None read none all = absurd all
+Keeps-none (Some xs) (Some ys) read none all = sym (all ∙ ap (λ bs. bs ++ ys) none)
+
+-- nothing is read, and all else stays
+pub midway-same : (old mid new : LineReader) (a b c : Option (List ℕ)) → IsMidway old mid a b → Keeps b c → ahead new ≡ ahead mid → under_way new ≡ under_way mid → limit_of new ≡ limit_of mid → IsMidway old new a c
+midway-same old mid new a b c m kept same_ahead same_line same = record {
+  read = m.read;
+  consumes = Consumes-kept a b c m.read m.consumes kept;
+  stops = record {
+    piece = m.stops.piece;
+    no_lf = m.stops.no_lf;
+    cut = m.stops.cut ∙ ap (λ xs. m.stops.piece ++ xs) (sym same_ahead);
+    front = same_line ∙ m.stops.front;
+  };
+  limit = same ∙ m.limit;
+}
+
+-- a piece may turn a line into one that is too long, and no more than its bytes are lines
+pub lines_of-grown : (limit : ℕ) (line : Option (List ℕ)) (piece : List ℕ) → lines_of (grown limit line piece) ≤ lines_of line + length piece
+lines_of-grown limit None piece = omega arith
+lines_of-grown limit (Some front) piece = grind (arith, nat_tests, length-append front piece)
+
+-- a read that gave bytes makes no more lines than it may
+pub lines_left-read : (old mid : LineReader) (bytes : List ℕ) (reads reads_new : ℕ) → StopsInLine old mid (ahead old) → ahead mid ≡ [] → length bytes ≤ BLOCK → reads_new < reads → lines_of (under_way mid) + length bytes + BLOCK * reads_new ≤ lines_left old reads
+lines_left-read old mid bytes reads reads_new s none room fewer =
+    let grew : lines_of (under_way mid) ≤ lines_of (under_way old) + length s.piece =
+    subst (λ line. lines_of line ≤ lines_of (under_way old) + length s.piece) (sym s.front) (lines_of-grown (limit_of old) (under_way old) s.piece) in
+    let used : length (ahead old) ≡ length s.piece = ap length (s.cut ∙ (ap (λ xs. s.piece ++ xs) none ∙ append-nil s.piece)) in
+    omega arith
