@@ -103,3 +103,130 @@ pub fn brute(alloc: Global, parts: &Parts) -> Result<Kind, NoMemory>
         Ok(Kind::Serial)
     }
 }
+
+#[cfg(test)]
+mod tests {
+    use super::*;
+    use crate::remainder::{Base, LastWriters};
+    use txn::{Source, Txn};
+
+    /// What a transaction reads and writes.
+    type Logged = (&'static [(u64, Source)], &'static [u64]);
+
+    /// A name, the transactions of each session, and the verdict.
+    type Row = (&'static str, &'static [&'static [Logged]], Kind);
+
+    const INIT: Source = Source::Init;
+
+    const FIRST_OF_0: Source = Source::By(TxnId {
+        session: 0,
+        number: 0,
+    });
+
+    const FIRST_OF_1: Source = Source::By(TxnId {
+        session: 1,
+        number: 0,
+    });
+
+    const FIRST_OF_2: Source = Source::By(TxnId {
+        session: 2,
+        number: 0,
+    });
+
+    const FIRST_OF_3: Source = Source::By(TxnId {
+        session: 3,
+        number: 0,
+    });
+
+    const ROWS: [Row; 7] = [
+        ("empty", &[&[], &[]], Kind::Serial),
+        (
+            "reader first",
+            &[&[(&[], &[5])], &[(&[(5, INIT)], &[])]],
+            Kind::Serial,
+        ),
+        (
+            "pending",
+            &[&[], &[(&[(5, FIRST_OF_0)], &[])]],
+            Kind::Pending,
+        ),
+        (
+            "write skew",
+            &[&[(&[(5, INIT)], &[6])], &[(&[(6, INIT)], &[5])]],
+            Kind::Violated,
+        ),
+        (
+            "lost update",
+            &[
+                &[(&[], &[5]), (&[(5, FIRST_OF_0)], &[5])],
+                &[(&[(5, FIRST_OF_0)], &[5])],
+            ],
+            Kind::Violated,
+        ),
+        (
+            "session order",
+            &[
+                &[(&[], &[5])],
+                &[(&[(5, FIRST_OF_0)], &[]), (&[(5, INIT)], &[])],
+            ],
+            Kind::Violated,
+        ),
+        (
+            "no arc alone",
+            &[
+                &[(&[], &[1, 3])],
+                &[(&[], &[1, 4])],
+                &[(&[], &[2, 5])],
+                &[(&[], &[2, 6])],
+                &[(&[(1, FIRST_OF_0), (5, FIRST_OF_2), (6, FIRST_OF_3)], &[])],
+                &[(&[(1, FIRST_OF_1), (5, FIRST_OF_2), (6, FIRST_OF_3)], &[])],
+                &[(&[(2, FIRST_OF_2), (3, FIRST_OF_0), (4, FIRST_OF_1)], &[])],
+                &[(&[(2, FIRST_OF_3), (3, FIRST_OF_0), (4, FIRST_OF_1)], &[])],
+            ],
+            Kind::Violated,
+        ),
+    ];
+
+    fn session_of(alloc: Global, txns: &[Logged]) -> Result<Sequence<Txn>, NoMemory> {
+        let mut session = Vec::new(alloc);
+        for (reads, writes) in txns {
+            session.push(Txn {
+                reads: Sequence::new(Vec::from_slice(alloc, reads)?),
+                writes: Sequence::new(Vec::from_slice(alloc, writes)?),
+            })?;
+        }
+        Ok(Sequence::new(session))
+    }
+
+    fn parts_of(alloc: Global, sessions: &[&[Logged]]) -> Result<Parts, NoMemory> {
+        let mut remain = Vec::new(alloc);
+        let mut marks = Vec::new(alloc);
+        let mut closed = Vec::new(alloc);
+        for txns in sessions {
+            remain.push(session_of(alloc, txns)?)?;
+            marks.push(0)?;
+            closed.push(false)?;
+        }
+        Ok(Parts {
+            base: Base {
+                last: LastWriters::new(alloc),
+                marks: Sequence::new(marks),
+            },
+            remain: Sequence::new(remain),
+            closed: Sequence::new(closed),
+            limit: 16,
+        })
+    }
+
+    #[test]
+    fn histories_have_their_verdicts(rt: HostRuntime) -> Result<(), NoMemory> {
+        let alloc = rt.alloc();
+        for (name, sessions, kind) in ROWS {
+            let parts = parts_of(alloc, sessions)?;
+            assert!(rt; parts.is_good(), "{name}");
+            assert!(rt; parts.remaining_count() <= 8, "{name}");
+            assert_eq!(rt; brute(alloc, &parts)?, kind, "{name}");
+        }
+        Ok(())
+    }
+}
