@@ -65,6 +65,7 @@ IsClosureOf-push arcs arc pairs more members closure = record {
     reaches : (a b : TxnId) → IsOrHas pairs a b → IsOrReaches arcs a b
     reaches a b (inl same) = inl same
     reaches a b (inr there) = inr (closure.reached a b there)
+
     has : (a b : TxnId) → IsOrReaches arcs a b → IsOrHas pairs a b
     has a b (inl same) = inl same
     has a b (inr is) = inr (closure.all a b is)

@@ -33,6 +33,7 @@ module _ {X : Type 0} (p : X → Bool) where
     where
       more : Contains xs x × (p x ≡ true) → Contains (y ∷ xs) x × (p x ≡ true)
       more later = ((suc later.0.0, omega (arith, later.0.1), later.0.2), later.1)
+
       by_test : (b : Bool) → p y ≡ b → (Contains (filter p xs) x → Contains xs x × (p x ≡ true)) → Contains (cond b (y ∷ filter p xs) (filter p xs)) x → Contains (y ∷ xs) x × (p x ≡ true)
       by_test true passes later (zero, within, is) = ((0, omega arith, is), sym (ap p is) ∙ passes)
       by_test true passes later (suc k, within, is) = more (later (k, omega arith, is))

@@ -36,8 +36,7 @@ pub pair_searched : (pairs : List (TxnId × TxnId)) (p : TxnId × TxnId) (r : Re
 pair_searched pairs p (Ok i) ordered within found = (λ _. (i, within, pair_antisymmetric _ p (found p)), λ _. refl)
 pair_searched pairs p (Err i) ordered within found =
     let parted = found (searchable_from_sorted pair_total (λ (q : TxnId × TxnId). q) pairs p ordered) in
-    let tie = λ (k : ℕ) (is : get_or pairs k p ≡ p). ap (λ q. pair_cmp q p) is ∙ tied_itself pair_total p in
-    (
+    let tie = λ (k : ℕ) (is : get_or pairs k p ≡ p). ap (λ q. pair_cmp q p) is ∙ tied_itself pair_total p in (
       λ e. absurd (false≢true e),
       λ there. absurd (elim (cases_lt there.0 i) [
         | inl below ↦ let less = parted.0 there.0 p (omega arith) below in let equal = tie there.0 there.2 in cc

@@ -79,6 +79,7 @@ outside-fewer arcs tree goal arc next =
     kept_out : (a : Arc) (b : Bool) → begins_at tree (start_of a) ≡ b → not (begins_at (tree ++ arc ∷ []) (start_of a)) ≡ true → not b ≡ true
     kept_out a true was out = absurd (false≢true (sym (ap not (begins_at-grown tree arc (start_of a) was)) ∙ out))
     kept_out a false was out = refl
+
     was_out : (b : Bool) → begins_at tree (start_of arc) ≡ b → not b ≡ true
     was_out true was = absurd (next.outside was)
     was_out false was = refl
