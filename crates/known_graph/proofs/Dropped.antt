@@ -1,5 +1,5 @@
 -- What is left of the closure when transactions go that none that stays reaches.
-use Rattle.std.proofs.Common.{◌≡◌, ◌⊎◌, ◌↔◌, ℕ, zero, suc, ◌<◌, Bool, true, false, not, cond, ◌&&◌, List, Option, [], ◌∷◌, filter, length, get_or, refl, sym, ap, ◌∙◌, inl, inr, arith, Contains, All}
+use Rattle.std.proofs.Common.{◌≡◌, ◌↔◌, zero, suc, Bool, true, false, not, cond, ◌&&◌, List, Option, [], ◌∷◌, filter, get_or, refl, sym, ap, ◌∙◌, arith, Contains, All}
 use Rattle.std.proofs.lemmas.Bool.{false≢true}
 use Rattle.std.proofs.lemmas.List.Elements.{Contains-get_or, All-contains}
 use Rattle.std.proofs.lemmas.List.Sorted.{ranks_by}
