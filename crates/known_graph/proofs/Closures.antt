@@ -1,5 +1,5 @@
 -- How the closure changes with the arcs.
-use Rattle.std.proofs.Common.{◌≡◌, ◌⊎◌, ◌↔◌, ℕ, List, Option, [], ◌∷◌, ◌++◌, refl, sym, ap, ◌∙◌, inl, inr, Contains, All}
+use Rattle.std.proofs.Common.{◌≡◌, ◌⊎◌, ◌↔◌, List, Option, [], ◌∷◌, ◌++◌, sym, ap, inl, inr, Contains}
 use Rattle.std.proofs.lemmas.List.Elements.{Contains-append_left, Contains-push, Contains-push_cases, All-push}
 use Rattle.txn.specs.declared.transactions.TxnId.{TxnId}
 use Rattle.txn.specs.declared.choices.Arc.{Arc}
@@ -65,6 +65,7 @@ IsClosureOf-push arcs arc pairs more members closure = record {
     reaches : (a b : TxnId) → IsOrHas pairs a b → IsOrReaches arcs a b
     reaches a b (inl same) = inl same
     reaches a b (inr there) = inr (closure.reached a b there)
+
     has : (a b : TxnId) → IsOrReaches arcs a b → IsOrHas pairs a b
     has a b (inl same) = inl same
     has a b (inr is) = inr (closure.all a b is)

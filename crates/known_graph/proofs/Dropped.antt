@@ -1,5 +1,5 @@
 -- What is left of the closure when transactions go that none that stays reaches.
-use Rattle.std.proofs.Common.{◌≡◌, ◌⊎◌, ◌↔◌, ℕ, zero, suc, ◌<◌, Bool, true, false, not, cond, ◌&&◌, List, Option, [], ◌∷◌, filter, length, get_or, refl, sym, ap, ◌∙◌, inl, inr, arith, Contains, All}
+use Rattle.std.proofs.Common.{◌≡◌, ◌↔◌, zero, suc, Bool, true, false, not, cond, ◌&&◌, List, Option, [], ◌∷◌, filter, get_or, refl, sym, ap, ◌∙◌, arith, Contains, All}
 use Rattle.std.proofs.lemmas.Bool.{false≢true}
 use Rattle.std.proofs.lemmas.List.Elements.{Contains-get_or, All-contains}
 use Rattle.std.proofs.lemmas.List.Sorted.{ranks_by}
@@ -33,6 +33,7 @@ module _ {X : Type 0} (p : X → Bool) where
     where
       more : Contains xs x × (p x ≡ true) → Contains (y ∷ xs) x × (p x ≡ true)
       more later = ((suc later.0.0, omega (arith, later.0.1), later.0.2), later.1)
+
       by_test : (b : Bool) → p y ≡ b → (Contains (filter p xs) x → Contains xs x × (p x ≡ true)) → Contains (cond b (y ∷ filter p xs) (filter p xs)) x → Contains (y ∷ xs) x × (p x ≡ true)
       by_test true passes later (zero, within, is) = ((0, omega arith, is), sym (ap p is) ∙ passes)
       by_test true passes later (suc k, within, is) = more (later (k, omega arith, is))

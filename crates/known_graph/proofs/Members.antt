@@ -1,6 +1,6 @@
 -- What a list contains as a loop goes on.
-use Rattle.std.proofs.Common.{◌≡◌, ◌⊎◌, ◌↔◌, ℕ, ◌+◌, ◌<◌, List, [], ◌∷◌, ◌++◌, length, get_or, take, inl, inr, ap, sym, ◌∙◌, Contains, subst}
-use Rattle.std.proofs.lemmas.List.{take_more, get_or_default}
+use Rattle.std.proofs.Common.{◌≡◌, ◌⊎◌, ◌↔◌, ℕ, ◌+◌, ◌<◌, List, [], ◌∷◌, ◌++◌, length, get_or, take, inl, inr, ap, sym, ◌∙◌, Contains}
+use Rattle.std.proofs.lemmas.List.{take_more}
 use Rattle.std.proofs.lemmas.List.Elements.{Contains-append_left, Contains-push, Contains-push_cases}
 
 -- one more element of a front
@@ -20,17 +20,17 @@ module _ {X Y : Type 0} (f : X → Y) (Base : X → Type 0) where
   Collected-more apart ys xs i d x within is so_far = λ a. (
     λ there. elim (Contains-push_cases xs x a there) [
       | inl before ↦ elim ((so_far a).0 before) [
-          | inl base ↦ inl base
-          | inr has ↦ inr (Contains-more ys i d (f a) within (inl has))
-        ]
+        | inl base ↦ inl base
+        | inr has ↦ inr (Contains-more ys i d (f a) within (inl has))
+      ]
       | inr same ↦ inr (Contains-more ys i d (f a) within (inr (is ∙ ap f same)))
     ],
     λ is_there. elim is_there [
       | inl base ↦ Contains-append_left xs _ a ((so_far a).1 (inl base))
       | inr has ↦ elim (Contains-more_cases ys i d (f a) within has) [
-          | inl before ↦ Contains-append_left xs _ a ((so_far a).1 (inr before))
-          | inr same ↦ rw (apart a x (sym same ∙ is)) (Contains-push xs x)
-        ]
+        | inl before ↦ Contains-append_left xs _ a ((so_far a).1 (inr before))
+        | inr same ↦ rw (apart a x (sym same ∙ is)) (Contains-push xs x)
+      ]
     ],
   )
 
@@ -43,8 +43,8 @@ module _ {X Y : Type 0} (f : X → Y) (Base : X → Type 0) where
     λ is_there. elim is_there [
       | inl base ↦ (so_far a).1 (inl base)
       | inr has ↦ elim (Contains-more_cases ys i d (f a) within has) [
-          | inl before ↦ (so_far a).1 (inr before)
-          | inr same ↦ (so_far a).1 (inl (other a same))
-        ]
+        | inl before ↦ (so_far a).1 (inr before)
+        | inr same ↦ (so_far a).1 (inl (other a same))
+      ]
     ],
   )

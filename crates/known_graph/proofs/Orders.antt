@@ -1,9 +1,9 @@
 -- The orders of ids and of pairs, and a search in a list in order.
-use Rattle.std.proofs.Common.{◌≡◌, ◌≢◌, ℕ, ◌+◌, ◌<◌, ◌≤◌, ◌⊎◌, Bool, true, false, List, length, get_or, Result, Ok, Err, is_ok, Ordering, refl, sym, ap, ◌∙◌, inl, inr, ⊎_elim, arith, Contains, Decides}
+use Rattle.std.proofs.Common.{◌≡◌, ℕ, List, length, get_or, Result, Ok, Err, is_ok, Ordering, refl, ap, ◌∙◌, inl, inr, arith, Contains, Decides}
 use Rattle.std.proofs.lemmas.Bool.{false≢true, cases_lt}
 use Rattle.std.proofs.lemmas.List.Sorted.{searchable_from_sorted}
 use Rattle.std.specs.declared.cmp.Ordering.TheVariants.{Less, Equal, Greater}
-use Rattle.std.specs.Ordering.{ordering_then, nat_cmp}
+use Rattle.std.specs.Ordering.{ordering_then}
 use Rattle.std.specs.Cmp.{IsTotalOrder, nat_cmp_total, then_total, on_total, tied_itself}
 use Rattle.std.specs.FinMap.{IsAntisymmetric, nat_cmp-IsAntisymmetric}
 use Rattle.std.specs.List.Sorted.{IsBinarySearchResult, IsSearchInRange}
@@ -36,8 +36,7 @@ pub pair_searched : (pairs : List (TxnId × TxnId)) (p : TxnId × TxnId) (r : Re
 pair_searched pairs p (Ok i) ordered within found = (λ _. (i, within, pair_antisymmetric _ p (found p)), λ _. refl)
 pair_searched pairs p (Err i) ordered within found =
     let parted = found (searchable_from_sorted pair_total (λ (q : TxnId × TxnId). q) pairs p ordered) in
-    let tie = λ (k : ℕ) (is : get_or pairs k p ≡ p). ap (λ q. pair_cmp q p) is ∙ tied_itself pair_total p in
-    (
+    let tie = λ (k : ℕ) (is : get_or pairs k p ≡ p). ap (λ q. pair_cmp q p) is ∙ tied_itself pair_total p in (
       λ e. absurd (false≢true e),
       λ there. absurd (elim (cases_lt there.0 i) [
         | inl below ↦ let less = parted.0 there.0 p (omega arith) below in let equal = tie there.0 there.2 in cc

@@ -1,6 +1,6 @@
 -- What is left of the slots of a slab.
 use Rattle.std.proofs.Common.{◌≡◌, ℕ, zero, suc, ◌+◌, Bool, true, false, cond, not, MutBor, List, [], ◌∷◌, get_or, Option, Some, None, map, refl, sym, ap, subst, ◌∙◌}
-use Rattle.slab.specs.Slab.{CalledAt, RetainsFrom, IsSlotClone}
+use Rattle.slab.specs.Slab.{RetainsFrom, IsSlotClone}
 use Rattle.txn.specs.declared.transactions.TxnId.{TxnId}
 use Rattle.known_graph.specs.Drops.{has_id}
 

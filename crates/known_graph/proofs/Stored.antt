@@ -1,5 +1,5 @@
 -- The ids that have a key, and the ends of arcs among them.
-use Rattle.std.proofs.Common.{◌≡◌, ◌⊎◌, ◌↔◌, ℕ, List, [], Option, Some, None, sym, ap, ◌∙◌, inl, inr, arith, get_or}
+use Rattle.std.proofs.Common.{◌≡◌, ◌⊎◌, ◌↔◌, ℕ, List, [], Option, Some, None, sym, ap, ◌∙◌, inl, inr, arith}
 use Rattle.std.proofs.lemmas.Bool.{cases_eq}
 use Rattle.std.proofs.lemmas.List.Elements.{All-contains, All-weaker}
 use Rattle.slab.specs.Slab.{Slab, get, Updates}

@@ -1,6 +1,6 @@
 -- What a tree of arcs to a goal has, and how it grows.
 use Rattle.std.proofs.Common.{◌≡◌, ◌≢◌, ◌⊎◌, ℕ, zero, suc, ◌+◌, ◌<◌, ◌≤◌, Bool, true, false, not, cond, ◌||◌, List, [], ◌∷◌, ◌++◌, length, get_or, take, filter, refl, sym, ap, ◌∙◌, inl, inr, arith, Contains}
-use Rattle.std.proofs.lemmas.Bool.{false≢true, cases_lt, cases_eq}
+use Rattle.std.proofs.lemmas.Bool.{false≢true, cases_lt}
 use Rattle.std.proofs.lemmas.List.{take-append-le, take_at, get_or_append_left, get_or_push, length_push}
 use Rattle.std.proofs.lemmas.List.Folds.{list_any-append}
 use Rattle.txn.specs.declared.transactions.TxnId.{TxnId}
@@ -8,7 +8,7 @@ use Rattle.txn.specs.declared.choices.Arc.{Arc}
 use Rattle.txn.specs.declared.choices.Arc.TheVariants.{Session}
 use Rattle.txn.specs.Transactions.{same_id}
 use Rattle.txn.specs.Arcs.{start_of, end_of}
-use Rattle.known_graph.specs.Reach.{Reaches, by_arc, through, Leads, IsPathOf}
+use Rattle.known_graph.specs.Reach.{Reaches, by_arc, through, Leads}
 use Rattle.known_graph.specs.Trees.{begins_at, LeadsOn, IsTreeTo, IsWholeTree, IsNextOf}
 use Rattle.known_graph.proofs.Ids.{same_id-is, same_id-itself, same_id-from}
 use Rattle.known_graph.proofs.Members.{Contains-more_cases}
@@ -79,6 +79,7 @@ outside-fewer arcs tree goal arc next =
     kept_out : (a : Arc) (b : Bool) → begins_at tree (start_of a) ≡ b → not (begins_at (tree ++ arc ∷ []) (start_of a)) ≡ true → not b ≡ true
     kept_out a true was out = absurd (false≢true (sym (ap not (begins_at-grown tree arc (start_of a) was)) ∙ out))
     kept_out a false was out = refl
+
     was_out : (b : Bool) → begins_at tree (start_of arc) ≡ b → not b ≡ true
     was_out true was = absurd (next.outside was)
     was_out false was = refl

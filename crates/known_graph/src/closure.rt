@@ -14,11 +14,7 @@ pub(crate) fn has_pair(pairs: &[(TxnId, TxnId)], from: TxnId, to: TxnId) -> bool
 }
 
 /// The transaction itself, and each that is the first of a pair with it.
-fn sources_of(
-    alloc: Global,
-    pairs: &[(TxnId, TxnId)],
-    id: TxnId,
-) -> Result<Vec<TxnId>, NoMemory>
+fn sources_of(alloc: Global, pairs: &[(TxnId, TxnId)], id: TxnId) -> Result<Vec<TxnId>, NoMemory>
     ensures { IfOk result (λ ids. (a : TxnId) → Contains ids.items a ↔ IsOrHas pairs.now a id) }
 {
     let mut sources = Vec::new(alloc);
@@ -32,11 +28,7 @@ fn sources_of(
 }
 
 /// The transaction itself, and each that is the second of a pair with it.
-fn targets_of(
-    alloc: Global,
-    pairs: &[(TxnId, TxnId)],
-    id: TxnId,
-) -> Result<Vec<TxnId>, NoMemory>
+fn targets_of(alloc: Global, pairs: &[(TxnId, TxnId)], id: TxnId) -> Result<Vec<TxnId>, NoMemory>
     ensures { IfOk result (λ ids. (b : TxnId) → Contains ids.items b ↔ IsOrHas pairs.now id b) }
 {
     let mut targets = Vec::new(alloc);

@@ -8,3 +8,6 @@ mod nodes;
 mod paths;
 
 pub use digraph::{Addition, Graph};
+
+#[cfg(test)]
+mod tests;

@@ -45,12 +45,7 @@ fn tree_to(alloc: Global, arcs: &[Arc], goal: TxnId) -> Result<Vec<Arc>, NoMemor
 }
 
 /// The way from here to the goal along the tree, whose arcs are gone through from the last to the first.
-fn walk(
-    alloc: Global,
-    tree: &[Arc],
-    start: TxnId,
-    goal: TxnId,
-) -> Result<Sequence<Arc>, NoMemory>
+fn walk(alloc: Global, tree: &[Arc], start: TxnId, goal: TxnId) -> Result<Sequence<Arc>, NoMemory>
     requires tree { IsTreeTo goal tree.now }
     requires begins { begins_at tree.now start ≡ true }
     ensures { IfOk result (λ path. IsPathOf tree.now start path goal) }

@@ -1,4 +1,4 @@
-use Rattle.std.proofs.Common.{◌≡◌, ap, sym, ◌∙◌, inl, inr, get_or}
+use Rattle.std.proofs.Common.{◌∙◌, inl, inr}
 use Rattle.std.proofs.lemmas.List.{take_all}
 use Rattle.std.proofs.lemmas.List.Sorted.{Contains-permutation, IsPermutation-sym}
 use Rattle.txn.specs.declared.transactions.TxnId.{TxnId}
@@ -16,17 +16,17 @@ loop-source-preserved c =
     λ a b. (
       λ there. elim ((c.in_ok-push_row.ensures a b).0 there) [
         | inl before ↦ elim ((c.loop-source.invariant a b).0 before) [
-            | inl old ↦ inl old
-            | inr joined ↦ inr (Contains-more sources i no_id a c.loop-source-test.true (inl joined.0), joined.1)
-          ]
+          | inl old ↦ inl old
+          | inr joined ↦ inr (Contains-more sources i no_id a c.loop-source-test.true (inl joined.0), joined.1)
+        ]
         | inr new ↦ inr (Contains-more sources i no_id a c.loop-source-test.true (inr new.0), rw c.deref.ensures.value at new.1)
       ],
       λ is_there. elim is_there [
         | inl old ↦ (c.in_ok-push_row.ensures a b).1 (inl ((c.loop-source.invariant a b).1 (inl old)))
         | inr joined ↦ elim (Contains-more_cases sources i no_id a c.loop-source-test.true joined.0) [
-            | inl before ↦ (c.in_ok-push_row.ensures a b).1 (inl ((c.loop-source.invariant a b).1 (inr (before, joined.1))))
-            | inr new ↦ (c.in_ok-push_row.ensures a b).1 (inr (new, rw c.deref.ensures.value joined.1))
-          ]
+          | inl before ↦ (c.in_ok-push_row.ensures a b).1 (inl ((c.loop-source.invariant a b).1 (inr (before, joined.1))))
+          | inr new ↦ (c.in_ok-push_row.ensures a b).1 (inr (new, rw c.deref.ensures.value joined.1))
+        ]
       ],
     )
 

@@ -1,4 +1,4 @@
-use Rattle.std.proofs.Common.{◌≡◌, ◌⊎◌, ◌↔◌, take, Contains}
+use Rattle.std.proofs.Common.{◌⊎◌, ◌↔◌, take, Contains}
 use Rattle.txn.specs.declared.transactions.TxnId.{TxnId}
 use Rattle.known_graph.proofs.closure.closed_with.Given as goal
 

@@ -1,4 +1,4 @@
-use Rattle.std.proofs.Common.{◌≡◌, Bool, is_ok, Contains, Decides, sym, subst}
+use Rattle.std.proofs.Common.{Bool, Contains, Decides, sym, subst}
 use Rattle.known_graph.proofs.Orders.{pair_searched}
 use Rattle.known_graph.proofs.closure.has_pair.Goals as goal
 

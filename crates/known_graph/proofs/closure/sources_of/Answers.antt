@@ -21,10 +21,10 @@ loop-first-preserved c =
           (Collected-more with_id is_id (λ a b e. ap (λ p. p.0) e) pairs _ c.loop-first.first-index no_pair pair.0 c.loop-first-test.true (λ i. (pair.0, second i)) c.loop-first.invariant)
       | else-eq w ↦
           let other : (a : TxnId) → pair ≡ (a, id) → a ≡ id =
-              elim w.else-eq.branch [
-                | else-eq-via-then-eq+else-ne w' ↦ λ a e. sym (ap (λ p. p.0) e) ∙ same_id-is pair.0 id (same_id-from_not pair.0 id (sym w'.if-ne.ensures))
-                | else-eq-via-else-eq w' ↦ λ a e. absurd (false≢true (w'.if-eq.ensures ∙ same_id-from pair.1 id (ap (λ p. p.1) e)))
-              ] in
+          elim w.else-eq.branch [
+            | else-eq-via-then-eq+else-ne w' ↦ λ a e. sym (ap (λ p. p.0) e) ∙ same_id-is pair.0 id (same_id-from_not pair.0 id (sym w'.if-ne.ensures))
+            | else-eq-via-else-eq w' ↦ λ a e. absurd (false≢true (w'.if-eq.ensures ∙ same_id-from pair.1 id (ap (λ p. p.1) e)))
+          ] in
           rw w.sources-is (Collected-same with_id is_id pairs _ c.loop-first.first-index no_pair c.loop-first-test.true other c.loop-first.invariant)
     ]
 

@@ -21,10 +21,10 @@ loop-first-preserved c =
           (Collected-more with_id is_id (λ a b e. ap (λ p. p.1) e) pairs _ c.loop-first.first-index no_pair pair.1 c.loop-first-test.true (λ i. (first i, pair.1)) c.loop-first.invariant)
       | else-eq w ↦
           let other : (b : TxnId) → pair ≡ (id, b) → id ≡ b =
-              elim w.else-eq.branch [
-                | else-eq-via-then-eq+else-ne w' ↦ λ b e. sym (same_id-is pair.1 id (same_id-from_not pair.1 id (sym w'.if-ne.ensures))) ∙ ap (λ p. p.1) e
-                | else-eq-via-else-eq w' ↦ λ b e. absurd (false≢true (w'.if-eq.ensures ∙ same_id-from pair.0 id (ap (λ p. p.0) e)))
-              ] in
+          elim w.else-eq.branch [
+            | else-eq-via-then-eq+else-ne w' ↦ λ b e. sym (same_id-is pair.1 id (same_id-from_not pair.1 id (sym w'.if-ne.ensures))) ∙ ap (λ p. p.1) e
+            | else-eq-via-else-eq w' ↦ λ b e. absurd (false≢true (w'.if-eq.ensures ∙ same_id-from pair.0 id (ap (λ p. p.0) e)))
+          ] in
           rw w.targets-is (Collected-same with_id is_id pairs _ c.loop-first.first-index no_pair c.loop-first-test.true other c.loop-first.invariant)
     ]
 

@@ -1,4 +1,4 @@
-use Rattle.std.proofs.Common.{ap, inl, inr, ◌∙◌, sym}
+use Rattle.std.proofs.Common.{ap, inl, inr, ◌∙◌}
 use Rattle.std.proofs.lemmas.Bool.{false≢true}
 use Rattle.slab.proofs.SlabLemmas.{Contains-cons, Contains-cons_cases, Contains-entries}
 use Rattle.known_graph.proofs.Ids.{same_id-from}

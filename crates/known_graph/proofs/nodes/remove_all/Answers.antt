@@ -1,6 +1,5 @@
-use Rattle.std.proofs.Common.{◌≡◌, ◌∙◌, sym, ap, map, rules, get_or, None, ℕ}
-use Rattle.slab.specs.Slab.{get}
-use Rattle.known_graph.proofs.Slots.{retained, get_or-map_kept, kept-some, some-kept, kept}
+use Rattle.std.proofs.Common.{◌∙◌, sym, ap, rules, get_or, None, ℕ}
+use Rattle.known_graph.proofs.Slots.{retained, get_or-map_kept, kept-some, some-kept}
 use Rattle.known_graph.proofs.nodes.remove_all.Goals as goal
 
 pub returns : goal.returns

@@ -1,4 +1,4 @@
-use Rattle.std.proofs.Common.{◌≡◌, ap, sym, ◌∙◌, inl, refl}
+use Rattle.std.proofs.Common.{ap, ◌∙◌, inl, refl}
 use Rattle.std.proofs.lemmas.Bool.{false≢true}
 use Rattle.known_graph.specs.Trees.{begins_at}
 use Rattle.known_graph.proofs.Trees.{begins_at-from_Reaches, Leads-among, Reaches-from_Leads}

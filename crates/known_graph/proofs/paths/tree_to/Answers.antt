@@ -1,7 +1,7 @@
-use Rattle.std.proofs.Common.{◌≡◌, ap, sym, ◌∙◌, inl, inr, subst, Contains, ◌<◌, length}
+use Rattle.std.proofs.Common.{sym, inl, inr, subst, Contains, ◌<◌, length}
 use Rattle.std.proofs.lemmas.List.Elements.{Contains-push_cases}
 use Rattle.txn.specs.declared.choices.Arc.{Arc}
-use Rattle.known_graph.specs.Trees.{IsTreeTo, IsNextOf}
+use Rattle.known_graph.specs.Trees.{IsNextOf}
 use Rattle.known_graph.proofs.Trees.{IsTreeTo-push, outside, outside-fewer}
 use Rattle.known_graph.proofs.paths.tree_to.Goals as goal
 

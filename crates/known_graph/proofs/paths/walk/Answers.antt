@@ -1,10 +1,8 @@
-use Rattle.std.proofs.Common.{◌≡◌, ◌-◌, ◌<◌, ap, sym, ◌∙◌, subst, get_or, length, arith}
+use Rattle.std.proofs.Common.{◌≡◌, ◌-◌, ◌<◌, sym, ◌∙◌, subst, get_or, length, arith}
 use Rattle.std.proofs.lemmas.Bool.{false≢true}
 use Rattle.std.proofs.lemmas.List.Elements.{Contains-get_or}
-use Rattle.txn.specs.declared.transactions.TxnId.{TxnId}
 use Rattle.txn.specs.Arcs.{start_of, end_of}
 use Rattle.known_graph.specs.Reach.{Leads}
-use Rattle.known_graph.specs.Trees.{begins_at}
 use Rattle.known_graph.proofs.Ids.{same_id-is}
 use Rattle.known_graph.proofs.Trees.{no_arc, Leads-push, push≢nil, goes_on}
 use Rattle.known_graph.proofs.paths.walk.Goals as goal

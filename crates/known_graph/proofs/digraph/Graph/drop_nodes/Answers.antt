@@ -1,5 +1,4 @@
 use Rattle.std.proofs.Common.{◌≡◌, ◌↔◌, false, ap, ◌∙◌, filter, subst}
-use Rattle.txn.specs.declared.choices.Arc.{Arc}
 use Rattle.txn.specs.Arcs.{start_of, end_of}
 use Rattle.known_graph.specs.Drops.{has_id, arc_stays}
 use Rattle.known_graph.specs.Graphs.{GraphState, HasKey}

@@ -1,4 +1,3 @@
-use Rattle.std.proofs.Common.{[]}
 use Rattle.known_graph.proofs.Stored.{IsKept-nil}
 use Rattle.known_graph.proofs.digraph.Graph.new.Goals as goal
 

@@ -1,4 +1,4 @@
-use Rattle.std.proofs.Common.{ap, sym, subst}
+use Rattle.std.proofs.Common.{subst}
 use Rattle.known_graph.specs.Graphs.{GraphState, HasNode}
 use Rattle.known_graph.proofs.Stored.{Reaches-there}
 use Rattle.known_graph.proofs.digraph.Graph.reaches.Goals as goal

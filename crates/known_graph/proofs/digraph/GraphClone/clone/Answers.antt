@@ -1,6 +1,5 @@
-use Rattle.std.proofs.Common.{◌≡◌, ◌∙◌, rules, subst}
+use Rattle.std.proofs.Common.{◌≡◌, ◌∙◌, rules}
 use Rattle.std.proofs.lemmas.List.Elements.{same_from_all_zip}
-use Rattle.known_graph.specs.Graphs.{GraphState}
 use Rattle.known_graph.proofs.Slots.{same_slot}
 use Rattle.known_graph.proofs.digraph.GraphClone.clone.Goals as goal
 
