@@ -1,5 +1,5 @@
 -- How far each session has come, which fragment is next, and why another is refused.
-use Rattle.std.specs.Prelude.{◌≡◌, ℕ, ◌<◌, ◌≤◌, true, false, List, length, slice_index_or}
+use Rattle.std.specs.Prelude.{◌≡◌, ℕ, ◌+◌, ◌<◌, ◌≤◌, true, false, List, length, slice_index_or, slice_set}
 use Rattle.txn.specs.declared.transactions.Fragment.{Fragment}
 use Rattle.txn.specs.declared.refusals.Refusal.{Refusal}
 use Rattle.txn.specs.declared.refusals.Refusal.TheVariants.{BadSession, Closed, Gap, Repeat}
@@ -18,6 +18,14 @@ IsOpen marks s = (s < length marks) × ((mark_at marks s).closed ≡ false)
 
 abbrev pub IsClosed : List SessionMark → ℕ → Type 0
 IsClosed marks s = (s < length marks) × ((mark_at marks s).closed ≡ true)
+
+-- the marks after more of a session is received
+abbrev pub with_received : List SessionMark → ℕ → ℕ → List SessionMark
+with_received marks s count = let mark = mark_at marks s in slice_set marks s (record mark { received = mark.received + count })
+
+-- the marks after a session is closed
+abbrev pub with_closed : List SessionMark → ℕ → List SessionMark
+with_closed marks s = slice_set marks s (record (mark_at marks s) { closed = true })
 
 -- the fragment begins where its session, which is open, ends
 pub record IsNext (marks : List SessionMark) (fragment : Fragment) : Type 0 where

@@ -1,6 +1,6 @@
-ghost use Rattle.std.specs.Prelude.{◌≡◌, ◌↔◌, ◌+◌, ◌<◌, ◌≤◌, ◌^◌, true, length, replicate, slice_set, IsTrue, IfOk, OnOk, IfErr, MatchResult};
+ghost use Rattle.std.specs.Prelude.{◌≡◌, ◌↔◌, ◌+◌, ◌<◌, ◌≤◌, ◌^◌, length, replicate, IsTrue, IfOk, OnOk, IfErr, MatchResult};
 ghost use Rattle.txn.specs.Transactions.{IsWellFormedFragment};
-ghost use Rattle.session_marks.specs.Marks.{fresh, mark_at, IsOpen, IsNext, AdmitFault, CloseFault};
+ghost use Rattle.session_marks.specs.Marks.{fresh, mark_at, IsOpen, with_received, with_closed, IsNext, AdmitFault, CloseFault};
 
 use std::alloc::Global;
 use std::marker::Model;
@@ -101,7 +101,7 @@ impl Marks {
     pub fn receive(&mut self, session: u8, count: u64)
         requires there { session < length self.old }
         requires numbers { (mark_at self.old session).received + count ≤ 2 ^ 48 }
-        ensures { let mark = mark_at self.old session in self.new ≡ slice_set self.old session (record mark { received = mark.received + count }) }
+        ensures { self.new ≡ with_received self.old session count }
     {
         let sessions = &mut self.sessions;
         let mark = &mut sessions[session as usize];
@@ -110,7 +110,7 @@ impl Marks {
 
     /// Closes a session, unless there is none (BadSession) or it is closed already (Closed).
     pub fn close(&mut self, session: u8) -> Result<(), Refusal>
-        ensures ok { OnOk result (IsOpen self.old session × (self.new ≡ slice_set self.old session (record (mark_at self.old session) { closed = true }))) }
+        ensures ok { OnOk result (IsOpen self.old session × (self.new ≡ with_closed self.old session)) }
         ensures err { IfErr result (λ refusal. CloseFault self.old session refusal × (self.new ≡ self.old)) }
     {
         let place = session as usize;
