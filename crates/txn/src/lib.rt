@@ -5,6 +5,8 @@
 mod choices;
 mod refusals;
 mod sequences;
+#[cfg(test)]
+mod tests;
 mod transactions;
 mod well_formed;
 

@@ -19,7 +19,7 @@ impl<T> Sequence<T> {
     pub fn new(items: Vec<T>) -> Self
         ensures { result ≡ items.items }
     {
-        Sequence { items }
+        Self { items }
     }
 
     /// Where its memory comes from.

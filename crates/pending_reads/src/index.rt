@@ -1,0 +1,106 @@
+ghost use Rattle.std.specs.Prelude.{◌≡◌, ◌↔◌, [], ◌∷◌, Contains, All, Any, ◌++◌, IsTrue, OnOk, OnErr};
+ghost use Rattle.std.specs.Map.{lookup};
+ghost use Rattle.txn.specs.Transactions.{id_below, same_id, Rises};
+ghost use Rattle.pending_reads.specs.Waiting.{waiting_for, Waits, HasWaiting, HasWaitingIn, ChangesOnly, AreDistinct, HasReader};
+
+use std::alloc::Global;
+use std::collections::BTreeMap;
+use std::marker::Model;
+use txn::{NoMemory, Sequence, TxnId};
+
+/// The reads that wait, by the transaction that each waits for. Contracts see that list.
+#[derive(Clone, Drop, Debug)]
+pub struct PendingReads {
+    alloc: Global,
+    awaited: BTreeMap<TxnId, Sequence<(TxnId, u64)>>,
+}
+
+impl Model for PendingReads {
+    ghost use Rattle.pending_reads.specs.Waiting.{Index, IsKept};
+
+    ghost Value = { Index };
+
+    ghost view = { λ p. p.awaited.entries };
+
+    ghost invariant = { λ p. IsKept p.awaited.entries };
+}
+
+impl PendingReads {
+    pub fn new(alloc: Global) -> Self
+        ensures { result ≡ [] }
+    {
+        PendingReads {
+            alloc,
+            awaited: BTreeMap::new(alloc),
+        }
+    }
+
+    /// Adds a read that waits for the writer.
+    pub fn add(&mut self, reader: TxnId, key: u64, writer: TxnId) -> Result<(), NoMemory>
+        requires { ¬ Waits self.old reader key writer }
+        ensures ok { OnOk result (ChangesOnly self.old self.new writer (waiting_for self.old writer ++ (reader, key) ∷ [])) }
+        ensures err { OnErr result (self.new ≡ self.old) }
+    {
+        let read = (reader, key);
+        if let Some(reads) = self.awaited.get_mut(&writer) {
+            reads.push(read)?;
+            return Ok(());
+        }
+        let reads = vec![in self.alloc; read]?;
+        self.awaited.insert(writer, Sequence::new(reads))?;
+        Ok(())
+    }
+
+    /// Takes out the reads that wait for the writer, in the order in which they were added.
+    pub fn arrive(&mut self, writer: TxnId) -> Sequence<(TxnId, u64)>
+        ensures handed { result ≡ waiting_for self.old writer }
+        ensures once { AreDistinct result }
+        ensures after { ChangesOnly self.old self.new writer [] }
+    {
+        match self.awaited.remove(&writer) {
+            Some(reads) => reads,
+            None => Sequence::new(Vec::new(self.alloc)),
+        }
+    }
+
+    /// Whether any read waits.
+    pub fn any(&self) -> bool
+        ensures { IsTrue result ↔ HasWaiting self.now }
+    {
+        !self.awaited.is_empty()
+    }
+
+    /// Whether any read of these transactions waits.
+    pub fn any_in(&self, readers: &[TxnId]) -> bool
+        requires { Rises id_below readers.now }
+        ensures { IsTrue result ↔ HasWaitingIn self.now readers.now }
+    {
+        has_list_with(&self.awaited, readers)
+    }
+}
+
+/// Whether one of the lists has a read of one of these transactions.
+fn has_list_with(lists: &BTreeMap<TxnId, Sequence<(TxnId, u64)>>, readers: &[TxnId]) -> bool
+    requires { Rises id_below readers.now }
+    ensures answer { IsTrue result ↔ Any (λ list. HasReader list.1 readers.now) lists.now.entries }
+    ensures found { All (λ list. lookup (same_id list.0) lists.now.entries ≡ Some list.1) lists.now.entries }
+{
+    lists
+        .iter()
+        .any(|(_, reads)| has_reader(reads.as_slice(), readers))
+}
+
+fn is_among(id: TxnId, ids: &[TxnId]) -> bool
+    requires { Rises id_below ids.now }
+    ensures { IsTrue result ↔ Contains ids.now id }
+{
+    ids.binary_search(&id).is_ok()
+}
+
+/// Whether one of the reads is of one of these transactions.
+fn has_reader(reads: &[(TxnId, u64)], readers: &[TxnId]) -> bool
+    requires { Rises id_below readers.now }
+    ensures { IsTrue result ↔ HasReader reads.now readers.now }
+{
+    reads.iter().any(|read| is_among(read.0, readers))
+}

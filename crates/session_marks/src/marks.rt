@@ -1,0 +1,128 @@
+ghost use Rattle.std.specs.Prelude.{◌≡◌, ◌↔◌, ◌+◌, ◌<◌, ◌≤◌, ◌^◌, length, replicate, IsTrue, IfOk, OnOk, IfErr, MatchResult};
+ghost use Rattle.txn.specs.Transactions.{IsWellFormedFragment};
+ghost use Rattle.session_marks.specs.Marks.{fresh, mark_at, IsOpen, with_received, with_closed, IsNext, AdmitFault, CloseFault};
+
+use std::alloc::Global;
+use std::marker::Model;
+use txn::{Fragment, NoMemory, Refusal};
+
+/// How far a session has come.
+#[derive(Clone, Copy, Debug, PartialEq, Eq)]
+pub struct SessionMark {
+    /// How many of its transactions are gone.
+    pub gone: u64,
+    /// How many of its transactions were received, those that are gone included.
+    pub received: u64,
+    /// Whether it receives no more.
+    pub closed: bool,
+}
+
+const FRESH: SessionMark = SessionMark {
+    gone: 0,
+    received: 0,
+    closed: false,
+};
+
+/// The mark of each session. Contracts see the list of them.
+#[derive(Clone, Drop, Debug)]
+pub struct Marks {
+    sessions: Vec<SessionMark>,
+}
+
+impl Model for Marks {
+    ghost use Rattle.std.specs.Prelude.{List};
+    ghost use Rattle.session_marks.specs.declared.marks.SessionMark.{SessionMark};
+
+    ghost Value = { List SessionMark };
+
+    ghost view = { λ m. m.sessions.items };
+}
+
+impl Marks {
+    /// Sessions of which nothing was received, and that are open.
+    pub fn new(alloc: Global, sessions: usize) -> Result<Self, NoMemory>
+        ensures { IfOk result (λ marks. marks ≡ replicate sessions fresh) }
+    {
+        Ok(Marks {
+            sessions: vec![in alloc; FRESH; sessions]?,
+        })
+    }
+
+    /// How many sessions there are.
+    pub fn sessions(&self) -> usize
+        ensures { result ≡ length self.now }
+    {
+        self.sessions.len()
+    }
+
+    pub fn gone(&self, session: u8) -> u64
+        requires { session < length self.now }
+        ensures { result ≡ (mark_at self.now session).gone }
+    {
+        self.sessions[session as usize].gone
+    }
+
+    pub fn received(&self, session: u8) -> u64
+        requires { session < length self.now }
+        ensures { result ≡ (mark_at self.now session).received }
+    {
+        self.sessions[session as usize].received
+    }
+
+    pub fn is_open(&self, session: u8) -> bool
+        requires { session < length self.now }
+        ensures { IsTrue result ↔ IsOpen self.now session }
+    {
+        !self.sessions[session as usize].closed
+    }
+
+    /// Whether the fragment is next in its session; if not, the first of BadSession, Closed, Gap and Repeat.
+    pub fn admit(&self, fragment: &Fragment) -> Result<(), Refusal>
+        requires { IsWellFormedFragment fragment.now }
+        ensures { MatchResult result (λ _. IsNext self.now fragment.now) (AdmitFault self.now fragment.now) }
+    {
+        let session = fragment.session as usize;
+        if session >= self.sessions() {
+            return Err(Refusal::BadSession);
+        }
+        let mark = self.sessions[session];
+        if mark.closed {
+            Err(Refusal::Closed)
+        } else if mark.received < fragment.first {
+            Err(Refusal::Gap)
+        } else if fragment.first < mark.received {
+            Err(Refusal::Repeat)
+        } else {
+            Ok(())
+        }
+    }
+
+    /// Counts more transactions of a session as received.
+    pub fn receive(&mut self, session: u8, count: u64)
+        requires there { session < length self.old }
+        requires numbers { (mark_at self.old session).received + count ≤ 2 ^ 48 }
+        ensures { self.new ≡ with_received self.old session count }
+    {
+        let sessions = &mut self.sessions;
+        let mark = &mut sessions[session as usize];
+        mark.received += count;
+    }
+
+    /// Closes a session, unless there is none (BadSession) or it is closed already (Closed).
+    pub fn close(&mut self, session: u8) -> Result<(), Refusal>
+        ensures ok { OnOk result (IsOpen self.old session × (self.new ≡ with_closed self.old session)) }
+        ensures err { IfErr result (λ refusal. CloseFault self.old session refusal × (self.new ≡ self.old)) }
+    {
+        let place = session as usize;
+        if place >= self.sessions() {
+            return Err(Refusal::BadSession);
+        }
+        let sessions = &mut self.sessions;
+        let mark = &mut sessions[place];
+        if mark.closed {
+            return Err(Refusal::Closed);
+        }
+        mark.closed = true;
+        Ok(())
+    }
+}
