@@ -1,0 +1,4 @@
+//! What every order has to keep, kept up to date as transactions arrive, and the choices that it leaves open.
+#![tactic(auto)]
+
+mod listing;
