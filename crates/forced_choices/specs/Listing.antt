@@ -17,13 +17,14 @@ use Rattle.order_check.specs.Based.{remaining_ids, remaining_at, last_gone}
 abbrev pub all_ids : Parts → List TxnId
 all_ids parts = flat_map (remaining_ids parts) (range_with_len 0 (length parts.remain))
 
+-- the reads of a transaction, where there is one
+abbrev pub reads_in : Option Txn → List (ℕ × Source)
+reads_in None = []
+reads_in (Some txn) = txn.reads
+
 -- the reads of a remaining transaction
 abbrev pub reads_of : Parts → TxnId → List (ℕ × Source)
 reads_of parts id = reads_in (remaining_at parts id)
-  where
-    reads_in : Option Txn → List (ℕ × Source)
-    reads_in None = []
-    reads_in (Some txn) = txn.reads
 
 -- whether a remaining transaction writes the key
 abbrev pub writes_here : Parts → ℕ → TxnId → Bool
@@ -39,13 +40,14 @@ choices_with parts ids reader key writer =
     map (λ other. record { reader = reader; key = key; writer = writer; other = other })
     (filter (λ other. not (same_id other writer) && is_other parts reader key other) ids)
 
+-- the choices of a read of a key from a source
+abbrev pub choices_from : Parts → List TxnId → TxnId → ℕ → Source → List Choice
+choices_from parts ids reader key Init = []
+choices_from parts ids reader key (By writer) = if writes_here parts key writer then choices_with parts ids reader key writer else []
+
 -- the choices of a read
 abbrev pub choices_of_read : Parts → List TxnId → TxnId → ℕ × Source → List Choice
-choices_of_read parts ids reader read = by_source read.1
-  where
-    by_source : Source → List Choice
-    by_source Init = []
-    by_source (By writer) = if writes_here parts read.0 writer then choices_with parts ids reader read.0 writer else []
+choices_of_read parts ids reader read = choices_from parts ids reader read.0 read.1
 
 -- the choices of all reads of these readers
 abbrev pub choices_of : Parts → List TxnId → List TxnId → List Choice
@@ -66,23 +68,25 @@ session_arcs parts ids = flat_map (session_arc parts) ids
 abbrev pub base_arcs : Parts → List TxnId → TxnId → ℕ → List Arc
 base_arcs parts ids reader key = map (λ other. Base key reader other) (filter (is_other parts reader key) ids)
 
+-- whether the source is this last gone writer, or the initial state where there is none
+abbrev pub is_last : Option TxnId → Source → Bool
+is_last None Init = true
+is_last None (By writer) = false
+is_last (Some last) Init = false
+is_last (Some last) (By writer) = same_id last writer
+
 -- whether the source is what the base has for the key
 abbrev pub is_base_source : Parts → ℕ → Source → Bool
-is_base_source parts key source = by_last (last_gone parts key) source
-  where
-    by_last : Option TxnId → Source → Bool
-    by_last None Init = true
-    by_last None (By writer) = false
-    by_last (Some last) Init = false
-    by_last (Some last) (By writer) = same_id last writer
+is_base_source parts key source = is_last (last_gone parts key) source
+
+-- the arc to a reader of the key from the source
+abbrev pub writer_arcs : Parts → TxnId → ℕ → Source → List Arc
+writer_arcs parts reader key Init = []
+writer_arcs parts reader key (By writer) = if writes_here parts key writer then Read key writer reader ∷ [] else []
 
 -- the arc from the writer of a read
 abbrev pub arcs_from_writer : Parts → TxnId → ℕ × Source → List Arc
-arcs_from_writer parts reader read = by_source read.1
-  where
-    by_source : Source → List Arc
-    by_source Init = []
-    by_source (By writer) = if writes_here parts read.0 writer then Read read.0 writer reader ∷ [] else []
+arcs_from_writer parts reader read = writer_arcs parts reader read.0 read.1
 
 -- the arcs of a read
 abbrev pub arcs_of_read : Parts → List TxnId → TxnId → ℕ × Source → List Arc
