@@ -65,6 +65,7 @@ read_below_through a b c h k = by_parts (read_cases a b h) (read_cases b c k)
   where
     by_key : a.0 < c.0 → read_below a c ≡ true
     by_key l = ap (λ t. t || (nat_eq a.0 c.0 && source_below a.1 c.1)) (lt-ltb a.0 c.0 l)
+
     by_parts : (a.0 < b.0) ⊎ ((a.0 ≡ b.0) × (source_below a.1 b.1 ≡ true)) → (b.0 < c.0) ⊎ ((b.0 ≡ c.0) × (source_below b.1 c.1 ≡ true)) → read_below a c ≡ true
     by_parts (inl l) (inl m) = by_key (omega arith)
     by_parts (inl l) (inr (e, m)) = by_key (omega arith)
@@ -112,8 +113,10 @@ reads_apart parts ids reader x z a b below ha hb = by_part (read_cases x z below
   where
     fa : (a.reader ≡ reader) × (a.key ≡ x.0) × (By a.writer ≡ x.1)
     fa = from_read parts ids reader x.0 x.1 a ha
+
     fb : (b.reader ≡ reader) × (b.key ≡ z.0) × (By b.writer ≡ z.1)
     fb = from_read parts ids reader z.0 z.1 b hb
+
     by_part : (x.0 < z.0) ⊎ ((x.0 ≡ z.0) × (source_below x.1 z.1 ≡ true)) → choice_below a b ≡ true
     by_part (inl l) = let ka = fa.1 in let kb = fb.1 in below_by_key a b (fa.0 ∙ sym fb.0) (omega arith)
     by_part (inr (e, s)) = below_by_writer a b (fa.0 ∙ sym fb.0) (fa.1 ∙ e ∙ sym fb.1) (subst (λ v. source_below (By a.writer) v ≡ true) (sym fb.2) (subst (λ u. source_below u z.1 ≡ true) (sym fa.2) s))

@@ -3,3 +3,5 @@ pub mod Members
 pub mod ListedIds
 pub mod ListedChoices
 pub mod ChoicesAscend
+pub mod ListedArcs
+pub mod SaturationLaws

@@ -100,6 +100,7 @@ listed_is_choice parts readers choice h =
           not_writer = λ same. facts.3 (same ∙ facts.2);
           not_reader = λ same. facts.4 (same ∙ facts.0);
         }
+
     by_source : (reader : TxnId) (key : ℕ) (source : Source) → ReadsKey parts reader key source → In (choices_from parts (all_ids parts) reader key source) choice → IsChoice parts choice
     by_source reader key Init reads h = absurd h
     by_source reader key (By writer) reads h = by_writer reader key writer (writes_here parts key writer) refl reads h

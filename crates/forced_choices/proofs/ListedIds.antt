@@ -26,11 +26,14 @@ bounds_of parts id h = by_mark (nat_lt id.number mark) refl h
   where
     mark : ℕ
     mark = mark_of parts id.session
+
     txns : List Txn
     txns = remaining_of parts id.session
+
     by_found : (found : Option Txn) → slice_get txns (id.number - mark) ≡ found → IsSome found → id.number - mark < length txns
     by_found None e some = absurd (false≢true some)
     by_found (Some txn) e some = slice_get_within txns (id.number - mark) txn e
+
     by_mark : (t : Bool) → nat_lt id.number mark ≡ t → IsSome (cond t None (slice_get txns (id.number - mark))) → Bounds parts id
     by_mark true e some = absurd (false≢true some)
     by_mark false e some = record { low = ltb-false id.number mark e; high = by_found (slice_get txns (id.number - mark)) refl some }

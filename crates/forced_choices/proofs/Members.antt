@@ -98,6 +98,7 @@ ascends_append {X} below (x ∷ xs) ys hx hy across = (first, ascends_append bel
     by_part : (y : X) → In xs y ⊎ In ys y → below x y ≡ true
     by_part y (inl h) = hx.0 y h
     by_part y (inr h) = across x y (inl refl) h
+
     first : (y : X) → In (xs ++ ys) y → below x y ≡ true
     first y h = by_part y (in_either xs ys y h)
 
@@ -149,6 +150,7 @@ ascends_from_rises {X} below pass (x ∷ z ∷ xs) h = with_rest (ascends_from_r
       where
         step : below x z ≡ true
         step = h 0 x (omega arith)
+
         first : (y : X) → In (z ∷ xs) y → below x y ≡ true
         first y (inl e) = subst (λ w. below x w ≡ true) e step
         first y (inr hy) = pass x z y step (rest.0 y hy)

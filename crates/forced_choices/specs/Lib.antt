@@ -1,1 +1,4 @@
 pub mod Listing
+pub mod Reach
+pub mod Rules
+pub mod Saturates
