@@ -1,4 +1,14 @@
+pub mod Extensions
+pub mod Lengths
+pub mod MetReads
+pub mod OrderLaws
+pub mod Orders
+pub mod PendingReads
+pub mod Places
+pub mod Received
+pub mod Remaining
+pub mod Replayed
+pub mod RulesKept
+pub mod Sessions
 pub mod Whole
 pub mod Writers
-pub mod Places
-pub mod OrderLaws

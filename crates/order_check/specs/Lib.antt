@@ -2,12 +2,16 @@ pub mod Based
 pub mod Codes
 pub mod Cycles
 pub mod Explains
+pub mod Fronts
 pub mod Good
 pub mod Known
 pub mod Laws
 pub mod NoBase
 pub mod Precedes
+pub mod Replay
+pub mod Rules
 pub mod Settled
 pub mod StandsFor
 pub mod Verdict
+pub mod Waiting
 pub mod Whole

@@ -1,5 +1,6 @@
-ghost use Rattle.std.specs.Prelude.{◌≡◌, IfOk, OnOk, OnErr};
+ghost use Rattle.std.specs.Prelude.{◌≡◌, ◌↔◌, IfOk, OnOk, OnErr, IsTrue};
 ghost use Rattle.std.specs.FinMap as map;
+ghost use Rattle.order_check.specs.Rules.{IsBelowMark, AreBelowMarks};
 
 use std::alloc::Global;
 use std::collections::BTreeMap;
@@ -48,6 +49,24 @@ impl LastWriters {
     {
         self.entries.insert(key, writer)?;
         Ok(())
+    }
+
+    /// Whether each writer's number is below the mark of its session.
+    pub fn are_below(&self, marks: &[u64]) -> bool
+        ensures { IsTrue result ↔ AreBelowMarks marks.now self.now }
+    {
+        self.entries
+            .iter()
+            .all(|(_, writer)| is_below_mark(marks, *writer))
+    }
+}
+
+fn is_below_mark(marks: &[u64], id: TxnId) -> bool
+    ensures { IsTrue result ↔ IsBelowMark marks.now id }
+{
+    match marks.get(usize::from(id.session)) {
+        Some(mark) => id.number < *mark,
+        None => false,
     }
 }
 

@@ -12,4 +12,4 @@ pub use choices::{Arc, Choice, ForceStep, Side};
 pub use refusals::{NoMemory, Refusal};
 pub use sequences::Sequence;
 pub use transactions::{EPOCH, Fragment, Source, Txn, TxnId};
-pub use well_formed::check_fragment;
+pub use well_formed::{NUMBERS, check_fragment, is_short, is_well_formed};

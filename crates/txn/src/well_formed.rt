@@ -1,5 +1,5 @@
 ghost use Rattle.std.specs.Prelude.{◌≡◌, ◌↔◌, ◌≢◌, ℕ, IsTrue, All, MatchResult, Contains, nat_lt};
-ghost use Rattle.txn.specs.Transactions.{Rises, read_below, IsSourceFor, HasGoodLists, IsFence, SparesEpoch, IsWellFormed, HasGoodLengths, IsWellFormedFragment, FragmentFault, TxnFault};
+ghost use Rattle.txn.specs.Transactions.{Rises, read_below, IsSourceFor, HasGoodLists, IsFence, SparesEpoch, IsWellFormed, IsShort, HasGoodLengths, IsWellFormedFragment, FragmentFault, TxnFault};
 
 use crate::refusals::Refusal;
 use crate::transactions::{EPOCH, Fragment, Source, Txn, TxnId};
@@ -8,7 +8,7 @@ use crate::transactions::{EPOCH, Fragment, Source, Txn, TxnId};
 const SESSIONS: u8 = 64;
 
 /// Transactions of a session are numbered below this.
-const NUMBERS: u64 = 1 << 48;
+pub const NUMBERS: u64 = 1 << 48;
 
 /// How many transactions a fragment may have.
 const FRAGMENT_LENGTH: u64 = 256;
@@ -97,6 +97,20 @@ fn check_txn(id: TxnId, txn: &Txn) -> Result<(), Refusal>
     }
 }
 
+/// Whether the transaction is well formed as the one with this id.
+pub fn is_well_formed(id: TxnId, txn: &Txn) -> bool
+    ensures { IsTrue result ↔ IsWellFormed id txn.now }
+{
+    check_txn(id, txn).is_ok()
+}
+
+/// Whether no list of the transaction is too long.
+pub fn is_short(txn: &Txn) -> bool
+    ensures { IsTrue result ↔ IsShort txn.now }
+{
+    txn.reads.len() <= LIST_LENGTH && txn.writes.len() <= LIST_LENGTH
+}
+
 fn has_good_lengths(fragment: &Fragment) -> bool
     ensures { IsTrue result ↔ HasGoodLengths fragment.now }
 {
@@ -105,8 +119,7 @@ fn has_good_lengths(fragment: &Fragment) -> bool
         && count <= FRAGMENT_LENGTH
         && fragment.first <= NUMBERS
         && fragment.first + count <= NUMBERS
-        && fragment.txns.as_slice().iter().all(|txn| txn.reads.len() <= LIST_LENGTH
-            && txn.writes.len() <= LIST_LENGTH)
+        && fragment.txns.as_slice().iter().all(|txn| is_short(txn))
 }
 
 /// Whether the fragment is well formed; if not, its first fault: the session (BadSession), then the lengths (TooLong),
