@@ -1,3 +1,6 @@
+ghost use Rattle.std.specs.Prelude.{◌≡◌};
+ghost use Rattle.txn.specs.Arcs.{start_of, end_of};
+
 use crate::sequences::Sequence;
 use crate::transactions::TxnId;
 
@@ -31,6 +34,30 @@ pub enum Arc {
     Base { key: u64, from: TxnId, to: TxnId },
     /// It is the side taken of a choice.
     Taken { from: TxnId, to: TxnId },
+}
+
+impl Arc {
+    pub fn start(self) -> TxnId
+        ensures { result ≡ start_of self }
+    {
+        match self {
+            Arc::Session { from, .. }
+            | Arc::Read { from, .. }
+            | Arc::Base { from, .. }
+            | Arc::Taken { from, .. } => from,
+        }
+    }
+
+    pub fn end(self) -> TxnId
+        ensures { result ≡ end_of self }
+    {
+        match self {
+            Arc::Session { to, .. }
+            | Arc::Read { to, .. }
+            | Arc::Base { to, .. }
+            | Arc::Taken { to, .. } => to,
+        }
+    }
 }
 
 /// A choice with the side that it is forced to, and the cycle that the other side would close.

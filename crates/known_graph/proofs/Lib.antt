@@ -1,0 +1,8 @@
+pub mod Closures
+pub mod Dropped
+pub mod Ids
+pub mod Members
+pub mod Orders
+pub mod Slots
+pub mod Stored
+pub mod Trees
