@@ -15,8 +15,8 @@ use Rattle.order_check.specs.Based.{mark_of, remaining_of, Remains}
 use Rattle.order_check.specs.Known.{Known, IsChoice, by_session, by_read, by_base, by_taken, through, forces_after, forces_before}
 use Rattle.order_check.specs.Cycles.{Sides, IsArc, IsPath, IsCycle, side_taken, side_not_taken, IsForced, AreForced, sides_after, Links, IsFullLog}
 use Rattle.forced_choices.specs.declared.rules.Rule.{Rule}
-use Rattle.forced_choices.specs.Reach.{Reaches, Leads, IsPathOf}
-use Rattle.forced_choices.specs.Reach as reach
+use Rattle.known_graph.specs.Reach.{Reaches, Leads, IsPathOf}
+use Rattle.known_graph.specs.Reach as reach
 use Rattle.forced_choices.specs.Rules.{premise_of, arc_of_side, premise, conclusion, rules_of}
 use Rattle.forced_choices.specs.Saturates.{IsReady, IsReached, taken_arc, IsStepOf, Fires, there, forced, Saturates, ends, goes_on}
 use Rattle.forced_choices.specs.Listing.{all_ids, choices_of, one_before}
@@ -68,14 +68,14 @@ rules_have choices rule h = flat_map_in (λ choice. record { choice = choice; si
 
 pub so_far_first : (parts : Parts) → IsSoFar parts (plain_arcs parts) (rules_of (choices_of parts (all_ids parts) (all_ids parts))) []
 so_far_first parts = record {
-    right = plain_right parts;
-    known = λ arc h. plain_known parts arc (plain_right parts arc h);
-    plain = λ arc h. h;
-    sides = λ side h. absurd h;
-    steps = tt;
-    pending = λ rule is. inl (rules_have (choices_of parts (all_ids parts) (all_ids parts)) rule (choice_listed parts rule.choice is));
-    choices = λ rule h. listed_is_choice parts (all_ids parts) rule.choice (in_rules (choices_of parts (all_ids parts) (all_ids parts)) rule h);
-  }
+  right = plain_right parts;
+  known = λ arc h. plain_known parts arc (plain_right parts arc h);
+  plain = λ arc h. h;
+  sides = λ side h. absurd h;
+  steps = tt;
+  pending = λ rule is. inl (rules_have (choices_of parts (all_ids parts) (all_ids parts)) rule (choice_listed parts rule.choice is));
+  choices = λ rule h. listed_is_choice parts (all_ids parts) rule.choice (in_rules (choices_of parts (all_ids parts) (all_ids parts)) rule h);
+}
 
 -- what is reached is known
 pub reached_known : (parts : Parts) (arcs : List Arc) (a b : TxnId) → ((arc : Arc) → In arcs arc → Known parts [] (start_of arc) (end_of arc)) → Reaches arcs a b → Known parts [] a b
@@ -143,72 +143,90 @@ at_in (r ∷ rules) (suc place) rule h = inr (at_in rules place rule h)
 -- one more rule looked at keeps it so
 fired : (parts : Parts) (arcs between : List Arc) (rules : List Rule) (log then : List ForceStep) (place : ℕ) (rule : Rule) → slice_get rules place ≡ Some rule → IsReady arcs rule → IsSoFar parts arcs rules log → Fires arcs log rule between then → IsSoFar parts between (remove rules place) then
 fired parts arcs between rules log then place rule at ready so (there reached) = record {
-    right = so.right;
-    known = so.known;
-    plain = so.plain;
-    sides = so.sides;
-    steps = so.steps;
-    pending = λ other is. by_pending other (so.pending other is);
-    choices = λ other h. so.choices other (removed_in rules place other h);
-  }
+  right = so.right;
+  known = so.known;
+  plain = so.plain;
+  sides = so.sides;
+  steps = so.steps;
+  pending = λ other is. by_pending other (so.pending other is);
+  choices = λ other h. so.choices other (removed_in rules place other h);
+}
   where
     by_removed : (other : Rule) → (rule ≡ other) ⊎ In (remove rules place) other → In (remove rules place) other ⊎ IsReached arcs other
     by_removed other (inl e) = inr (subst (λ r. IsReached arcs r) e reached)
     by_removed other (inr h) = inl h
+
     by_pending : (other : Rule) → In rules other ⊎ IsReached arcs other → In (remove rules place) other ⊎ IsReached arcs other
     by_pending other (inl h) = by_removed other (in_removed rules place rule other at h)
     by_pending other (inr h) = inr h
 fired parts arcs between rules log then place rule at ready so (forced step is) = record {
-    right = λ arc h. by_arc arc (in_either arcs (taken_arc rule ∷ []) arc h);
-    known = λ arc h. arc_known arc (in_either arcs (taken_arc rule ∷ []) arc h);
-    plain = λ arc h. in_left arcs (taken_arc rule ∷ []) arc (so.plain arc h);
-    sides = λ side h. side_known side (subst (λ sides. In sides side) pushed h);
-    steps = are_forced_push parts [] log step so.steps (choice_right, cycle_right);
-    pending = λ other is. by_pending other (so.pending other is);
-    choices = λ other h. so.choices other (removed_in rules place other h);
-  }
+  right = λ arc h. by_arc arc (in_either arcs (taken_arc rule ∷ []) arc h);
+  known = λ arc h. arc_known arc (in_either arcs (taken_arc rule ∷ []) arc h);
+  plain = λ arc h. in_left arcs (taken_arc rule ∷ []) arc (so.plain arc h);
+  sides = λ side h. side_known side (subst (λ sides. In sides side) pushed h);
+  steps = are_forced_push parts [] log step so.steps (choice_right, cycle_right);
+  pending = λ other is. by_pending other (so.pending other is);
+  choices = λ other h. so.choices other (removed_in rules place other h);
+}
   where
     taken : Sides
     taken = sides_after [] log
+
     a_choice : IsChoice parts rule.choice
     a_choice = so.choices rule (at_in rules place rule at)
+
     choice_right : IsChoice parts step.choice
     choice_right = subst (λ c. IsChoice parts c) (sym is.choice) a_choice
+
     takes : side_taken step ≡ conclusion rule
     takes = step_takes step.choice step.side step.cycle ∙ ap (λ c. arc_of_side c step.side) is.choice ∙ ap (λ s. arc_of_side rule.choice s) is.side
+
     rules_out : side_not_taken step ≡ ((premise rule).1, (premise rule).0)
     rules_out = step_rules_out step.choice step.side step.cycle ∙ ap (λ c. ((premise_of c step.side).1, (premise_of c step.side).0)) is.choice ∙ ap (λ s. ((premise_of rule.choice s).1, (premise_of rule.choice s).0)) is.side
+
     pushed : sides_after [] (log ++ step ∷ []) ≡ conclusion rule ∷ taken
     pushed = sides_push [] log step ∙ ap (λ s. s ∷ taken) takes
+
     conclusion_known : Known parts [] (conclusion rule).0 (conclusion rule).1
     conclusion_known = forced_known parts rule.choice rule.side a_choice (reached_known parts arcs (premise rule).0 (premise rule).1 so.known ready)
+
     -- the cycle of the step
     not_taken : TxnId × TxnId
     not_taken = ((premise rule).1, (premise rule).0)
+
     right_here : (arc : Arc) → In arcs arc → IsArc parts (not_taken ∷ taken) arc
     right_here arc h = arc_more parts taken not_taken arc (so.right arc h)
+
     first_right : IsArc parts (not_taken ∷ taken) (Taken (premise rule).1 (premise rule).0)
     first_right = contains_from_in (not_taken ∷ taken) not_taken (inl refl)
+
     cycle_there : IsCycle parts (not_taken ∷ taken) (Taken (premise rule).1 (premise rule).0 ∷ is.path)
     cycle_there = (refl, first_right, leads_path parts (not_taken ∷ taken) arcs (premise rule).0 is.path (premise rule).1 right_here is.leads.leads)
+
     cycle_right : IsCycle parts (side_not_taken step ∷ taken) step.cycle
     cycle_right = subst (λ side. IsCycle parts (side ∷ taken) step.cycle) (sym rules_out) (subst (λ cycle. IsCycle parts (not_taken ∷ taken) cycle) (sym is.cycle) cycle_there)
+
     by_arc : (arc : Arc) → In arcs arc ⊎ In (taken_arc rule ∷ []) arc → IsArc parts (sides_after [] (log ++ step ∷ [])) arc
     by_arc arc (inl h) = subst (λ sides. IsArc parts sides arc) (sym pushed) (arc_more parts taken (conclusion rule) arc (so.right arc h))
     by_arc arc (inr (inl e)) = subst (λ sides. IsArc parts sides arc) (sym pushed) (subst (λ a. IsArc parts (conclusion rule ∷ taken) a) e (contains_from_in (conclusion rule ∷ taken) (conclusion rule) (inl refl)))
     by_arc arc (inr (inr h)) = absurd h
+
     arc_known : (arc : Arc) → In arcs arc ⊎ In (taken_arc rule ∷ []) arc → Known parts [] (start_of arc) (end_of arc)
     arc_known arc (inl h) = so.known arc h
     arc_known arc (inr (inl e)) = subst (λ a. Known parts [] (start_of a) (end_of a)) e conclusion_known
     arc_known arc (inr (inr h)) = absurd h
+
     side_known : (side : TxnId × TxnId) → In (conclusion rule ∷ taken) side → Known parts [] side.0 side.1
     side_known side (inl e) = subst (λ (s : TxnId × TxnId). Known parts [] s.0 s.1) e conclusion_known
     side_known side (inr h) = so.sides side h
+
     reached_now : IsReached (arcs ++ taken_arc rule ∷ []) rule
     reached_now = reaches_by (arcs ++ taken_arc rule ∷ []) (taken_arc rule) (in_right arcs (taken_arc rule ∷ []) (taken_arc rule) (inl refl))
+
     by_removed : (other : Rule) → (rule ≡ other) ⊎ In (remove rules place) other → In (remove rules place) other ⊎ IsReached (arcs ++ taken_arc rule ∷ []) other
     by_removed other (inl e) = inr (subst (λ r. IsReached (arcs ++ taken_arc rule ∷ []) r) e reached_now)
     by_removed other (inr h) = inl h
+
     by_pending : (other : Rule) → In rules other ⊎ IsReached arcs other → In (remove rules place) other ⊎ IsReached (arcs ++ taken_arc rule ∷ []) other
     by_pending other (inl h) = by_removed other (in_removed rules place rule other at h)
     by_pending other (inr h) = inr (reaches_more arcs (taken_arc rule) (conclusion other).0 (conclusion other).1 h)
@@ -277,6 +295,7 @@ path_known parts taken start (arc ∷ arcs) goal known (begins, right, rest) = i
   where
     first : Known parts [] start (end_of arc)
     first = subst (λ id. Known parts [] id (end_of arc)) begins (arc_is_known parts taken arc known right)
+
     by_rest : (end_of arc ≡ goal) ⊎ Known parts [] (end_of arc) goal → Known parts [] start goal
     by_rest (inl e) = subst (λ id. Known parts [] start id) e first
     by_rest (inr known) = through first known
@@ -286,6 +305,7 @@ links_known parts taken a b known (arc, arcs, begins, right, rest) = by_rest (pa
   where
     first : Known parts [] a (end_of arc)
     first = subst (λ id. Known parts [] id (end_of arc)) begins (arc_is_known parts taken arc known right)
+
     by_rest : (end_of arc ≡ b) ⊎ Known parts [] (end_of arc) b → Known parts [] a b
     by_rest (inl e) = subst (λ id. Known parts [] a id) e first
     by_rest (inr known) = through first known
@@ -305,10 +325,10 @@ reached_links parts taken arcs a b right (reach.through {b = m} first second) = 
 -- the log is right, and after it nothing more is forced
 pub full_log : (parts : Parts) (arcs : List Arc) (log : List ForceStep) → IsEnd parts arcs log → IsFullLog parts log
 full_log parts arcs log end = record {
-    forced = end.so_far.steps;
-    after = λ choice is links. linked choice.reader choice.other (forces_after choice is (links_known parts (sides_after [] log) choice.writer choice.other end.so_far.sides links));
-    before = λ choice is links. linked choice.other choice.writer (forces_before choice is (links_known parts (sides_after [] log) choice.other choice.reader end.so_far.sides links));
-  }
+  forced = end.so_far.steps;
+  after = λ choice is links. linked choice.reader choice.other (forces_after choice is (links_known parts (sides_after [] log) choice.writer choice.other end.so_far.sides links));
+  before = λ choice is links. linked choice.other choice.writer (forces_before choice is (links_known parts (sides_after [] log) choice.other choice.reader end.so_far.sides links));
+}
   where
     linked : (a b : TxnId) → Known parts [] a b → Links parts (sides_after [] log) a b
     linked a b known = reached_links parts (sides_after [] log) arcs a b end.so_far.right (known_reached parts arcs log a b end known)

@@ -1,4 +1,3 @@
 pub mod Listing
-pub mod Reach
 pub mod Rules
 pub mod Saturates

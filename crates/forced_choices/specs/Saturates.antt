@@ -5,12 +5,16 @@ use Rattle.txn.specs.declared.choices.Arc.{Arc}
 use Rattle.txn.specs.declared.choices.Arc.TheVariants.{Taken}
 use Rattle.txn.specs.declared.choices.ForceStep.{ForceStep}
 use Rattle.forced_choices.specs.declared.rules.Rule.{Rule}
-use Rattle.forced_choices.specs.Reach.{Reaches, IsPathOf}
+use Rattle.known_graph.specs.Reach.{Reaches, IsPathOf}
 use Rattle.forced_choices.specs.Rules.{premise, conclusion}
 
 -- the side is forced: what rules the other out is reached
 abbrev pub IsReady : List Arc → Rule → Type 0
 IsReady arcs rule = Reaches arcs (premise rule).0 (premise rule).1
+
+-- the rule at this place is ready
+abbrev pub IsReadyAt : List Arc → List Rule → ℕ → Type 0
+IsReadyAt arcs rules place = (rule : Rule) × (slice_get rules place ≡ Some rule) × IsReady arcs rule
 
 -- it is there already
 abbrev pub IsReached : List Arc → Rule → Type 0
