@@ -1,12 +1,11 @@
 -- How the closure changes with the arcs.
-use Rattle.std.proofs.Common.{◌≡◌, ◌⊎◌, ◌↔◌, ℕ, List, [], ◌∷◌, ◌++◌, refl, sym, ap, ◌∙◌, inl, inr, Contains, All}
+use Rattle.std.proofs.Common.{◌≡◌, ◌⊎◌, ◌↔◌, ℕ, List, Option, [], ◌∷◌, ◌++◌, refl, sym, ap, ◌∙◌, inl, inr, Contains, All}
 use Rattle.std.proofs.lemmas.List.Elements.{Contains-append_left, Contains-push, Contains-push_cases, All-push}
-use Rattle.slab.specs.Slab.{Slab}
 use Rattle.txn.specs.declared.transactions.TxnId.{TxnId}
 use Rattle.txn.specs.declared.choices.Arc.{Arc}
 use Rattle.txn.specs.Arcs.{start_of, end_of}
 use Rattle.known_graph.specs.Kept.{IsKept}
-use Rattle.known_graph.specs.Nodes.{IsStored}
+use Rattle.known_graph.specs.Graphs.{HasKey}
 use Rattle.known_graph.specs.Pairs.{AreInOrder, IsOrHas, IsClosureOf}
 use Rattle.known_graph.specs.Reach.{Reaches, by_arc, through}
 
@@ -71,12 +70,12 @@ IsClosureOf-push arcs arc pairs more members closure = record {
     has a b (inr is) = inr (closure.all a b is)
 
 -- a graph with one more arc
-pub IsKept-push : (nodes : Slab TxnId) (arcs : List Arc) (arc : Arc) (pairs more : List (TxnId × TxnId)) → IsStored nodes (start_of arc) → IsStored nodes (end_of arc) → AreInOrder more
+pub IsKept-push : (nodes : List (Option TxnId)) (arcs : List Arc) (arc : Arc) (pairs more : List (TxnId × TxnId)) → HasKey nodes (start_of arc) → HasKey nodes (end_of arc) → AreInOrder more
     → ((a b : TxnId) → Contains more (a, b) ↔ (Contains pairs (a, b) ⊎ (IsOrHas pairs a (start_of arc) × IsOrHas pairs (end_of arc) b)))
     → IsKept nodes arcs pairs → IsKept nodes (arcs ++ arc ∷ []) more
 IsKept-push nodes arcs arc pairs more start end ordered members kept = record {
-  starts = All-push (λ x. IsStored nodes (start_of x)) arcs arc kept.starts start;
-  ends = All-push (λ x. IsStored nodes (end_of x)) arcs arc kept.ends end;
+  starts = All-push (λ x. HasKey nodes (start_of x)) arcs arc kept.starts start;
+  ends = All-push (λ x. HasKey nodes (end_of x)) arcs arc kept.ends end;
   ordered = ordered;
   closure = IsClosureOf-push arcs arc pairs more members kept.closure;
 }

@@ -1,17 +1,16 @@
 -- What is left of the closure when transactions go that none that stays reaches.
-use Rattle.std.proofs.Common.{◌≡◌, ◌⊎◌, ◌↔◌, ℕ, zero, suc, ◌<◌, Bool, true, false, not, cond, ◌&&◌, List, [], ◌∷◌, filter, length, get_or, refl, sym, ap, ◌∙◌, inl, inr, arith, Contains, All}
+use Rattle.std.proofs.Common.{◌≡◌, ◌⊎◌, ◌↔◌, ℕ, zero, suc, ◌<◌, Bool, true, false, not, cond, ◌&&◌, List, Option, [], ◌∷◌, filter, length, get_or, refl, sym, ap, ◌∙◌, inl, inr, arith, Contains, All}
 use Rattle.std.proofs.lemmas.Bool.{false≢true}
 use Rattle.std.proofs.lemmas.List.Elements.{Contains-get_or, All-contains}
 use Rattle.std.proofs.lemmas.List.Sorted.{ranks_by}
 use Rattle.std.proofs.lemmas.List.Kept.{IsSortedBy-filter}
 use Rattle.std.specs.Ordering.{is_lt}
-use Rattle.slab.specs.Slab.{Slab}
 use Rattle.txn.specs.declared.transactions.TxnId.{TxnId}
 use Rattle.txn.specs.declared.choices.Arc.{Arc}
 use Rattle.txn.specs.Arcs.{start_of, end_of}
 use Rattle.known_graph.specs.Drops.{has_id, both_stay, arc_stays}
 use Rattle.known_graph.specs.Kept.{IsKept}
-use Rattle.known_graph.specs.Nodes.{IsStored}
+use Rattle.known_graph.specs.Graphs.{HasKey}
 use Rattle.known_graph.specs.Pairs.{pair_cmp, IsClosureOf}
 use Rattle.known_graph.specs.Reach.{Reaches, by_arc, through}
 use Rattle.known_graph.proofs.Closures.{Reaches-among}
@@ -96,14 +95,14 @@ module _ (gone : List TxnId) (arcs : List Arc) where
     }
 
     -- a graph without what goes
-    pub IsKept-left : (nodes rest : Slab TxnId) (pairs : List (TxnId × TxnId)) → ((id : TxnId) → IsStored rest id ↔ (IsStored nodes id × (has_id gone id ≡ false))) → IsKept nodes arcs pairs → IsKept rest left (filter (λ p. both_stay gone p.0 p.1) pairs)
+    pub IsKept-left : (nodes rest : List (Option TxnId)) (pairs : List (TxnId × TxnId)) → ((id : TxnId) → HasKey rest id ↔ (HasKey nodes id × (has_id gone id ≡ false))) → IsKept nodes arcs pairs → IsKept rest left (filter (λ p. both_stay gone p.0 p.1) pairs)
     IsKept-left nodes rest pairs there kept = record {
       starts = λ k d within.
           let was = Contains-from_filter (arc_stays gone) arcs (get_or left k d) (Contains-get_or left k d within) in
-          (there (start_of (get_or left k d))).1 (All-at (λ arc. IsStored nodes (start_of arc)) kept.starts was.0, (both_true _ _ was.1).0);
+          (there (start_of (get_or left k d))).1 (All-at (λ arc. HasKey nodes (start_of arc)) kept.starts was.0, (both_true _ _ was.1).0);
       ends = λ k d within.
           let was = Contains-from_filter (arc_stays gone) arcs (get_or left k d) (Contains-get_or left k d within) in
-          (there (end_of (get_or left k d))).1 (All-at (λ arc. IsStored nodes (end_of arc)) kept.ends was.0, (both_true _ _ was.1).1);
+          (there (end_of (get_or left k d))).1 (All-at (λ arc. HasKey nodes (end_of arc)) kept.ends was.0, (both_true _ _ was.1).1);
       ordered = IsSortedBy-filter (λ p q. is_lt (pair_cmp p q)) (ranks_by pair_total (λ (p : TxnId × TxnId). p)) (λ p. both_stay gone p.0 p.1) pairs kept.ordered;
       closure = IsClosureOf-left pairs kept.closure;
     }

@@ -1,6 +1,6 @@
 -- What is left of the slots of a slab.
 use Rattle.std.proofs.Common.{◌≡◌, ℕ, zero, suc, ◌+◌, Bool, true, false, cond, not, MutBor, List, [], ◌∷◌, get_or, Option, Some, None, map, refl, sym, ap, subst, ◌∙◌}
-use Rattle.slab.specs.Slab.{CalledAt, RetainsFrom}
+use Rattle.slab.specs.Slab.{CalledAt, RetainsFrom, IsSlotClone}
 use Rattle.txn.specs.declared.transactions.TxnId.{TxnId}
 use Rattle.known_graph.specs.Drops.{has_id}
 
@@ -42,3 +42,9 @@ kept-some gone (Some other) id found = by_test (has_id gone other) refl found
 
 pub some-kept : (gone : List TxnId) (slot : Option TxnId) (id : TxnId) → slot ≡ Some id → has_id gone id ≡ false → kept gone slot ≡ Some id
 some-kept gone slot id found stays = ap (kept gone) found ∙ ap (λ b. cond b None (Some id)) stays
+
+-- a clone of a slot whose clones are equal is that slot
+pub same_slot : (R : TxnId → TxnId → Type 0) → ((x y : TxnId) → R x y → y ≡ x) → (slot copy : Option TxnId) → IsSlotClone R slot copy → copy ≡ slot
+same_slot R same None copy is = is
+same_slot R same (Some id) None is = absurd is
+same_slot R same (Some id) (Some other) is = ap Some (same id other is)

@@ -2,7 +2,6 @@ pub mod Additions
 pub mod Drops
 pub mod Graphs
 pub mod Kept
-pub mod Nodes
 pub mod Pairs
 pub mod Reach
 pub mod Trees

@@ -1,12 +1,15 @@
 -- Lists of pairs of transactions, and what one more arc adds to a closure.
 use Rattle.std.specs.Prelude.{◌≡◌, ◌⊎◌, ◌↔◌, List, Contains}
-use Rattle.std.specs.Ordering.{ordering_then}
+use Rattle.std.specs.Ordering.{nat_cmp, ordering_then}
 use Rattle.std.specs.List.Sorted.{IsSorted}
 use Rattle.std.specs.declared.cmp.Ordering.{Ordering}
 use Rattle.txn.specs.declared.transactions.TxnId.{TxnId}
 use Rattle.txn.specs.declared.choices.Arc.{Arc}
-use Rattle.known_graph.specs.Graphs.{id_cmp}
 use Rattle.known_graph.specs.Reach.{Reaches}
+
+-- ids are ordered by session, then number
+abbrev pub id_cmp : TxnId → TxnId → Ordering
+id_cmp a b = ordering_then (nat_cmp a.session b.session) (nat_cmp a.number b.number)
 
 -- pairs are ordered by the first, then the second
 abbrev pub pair_cmp : TxnId × TxnId → TxnId × TxnId → Ordering

@@ -1,5 +1,4 @@
 ghost use Rattle.std.specs.Prelude.{◌≡◌, ◌≢◌, ◌⊎◌, ◌↔◌, List, [], ◌∷◌, ◌++◌, filter, IsTrue, IfOk, OnOk, OnErr, MatchOption, All, Contains};
-ghost use Rattle.std.specs.FinSet as set;
 ghost use Rattle.txn.specs.declared.transactions.TxnId.{TxnId};
 ghost use Rattle.txn.specs.declared.choices.Arc.{Arc};
 ghost use Rattle.txn.specs.Arcs.{start_of, end_of};
@@ -36,24 +35,20 @@ pub struct Graph {
 }
 
 impl Model for Graph {
-    ghost use Rattle.std.specs.Coded.{codes};
-    ghost use Rattle.known_graph.specs.Graphs.{GraphState, coded_nodes};
+    ghost use Rattle.known_graph.specs.Graphs.{GraphState};
+    ghost use Rattle.known_graph.specs.Kept.{IsKept};
 
     ghost Value = { GraphState };
 
-    ghost coded = { Prim.hlevel (codes, coded_nodes) };
+    ghost view = { λ graph. record { nodes = graph.nodes.slots; arcs = graph.arcs.items } };
 
-    ghost use Rattle.known_graph.specs.Kept.{ids_of, IsKept};
-
-    ghost view = { λ graph. record { nodes = ids_of graph.nodes; arcs = graph.arcs.items } };
-
-    ghost invariant = { λ graph. IsKept graph.nodes graph.arcs.items graph.pairs.items };
+    ghost invariant = { λ graph. IsKept graph.nodes.slots graph.arcs.items graph.pairs.items };
 }
 
 impl Graph {
     /// A graph with no transaction.
     pub fn new(alloc: Global) -> Self
-        ensures nodes { result.nodes ≡ set.empty }
+        ensures nodes { (id : TxnId) → ¬ HasNode result id }
         ensures arcs { result.arcs ≡ [] }
     {
         Graph {
@@ -128,6 +123,8 @@ impl Graph {
         requires before { (id other : TxnId) → ¬ Contains gone.now id → Contains gone.now other → ¬ Reaches self.old.arcs id other }
         ensures nodes { (id : TxnId) → HasNode self.new id ↔ (HasNode self.old id × ¬ Contains gone.now id) }
         ensures arcs { self.new.arcs ≡ filter (arc_stays gone.now) self.old.arcs }
+        ensures among { (arc : Arc) → Contains self.new.arcs arc
+            → Contains self.old.arcs arc × ¬ Contains gone.now (start_of arc) × ¬ Contains gone.now (end_of arc) }
         // Among the rest all stays as it was.
         ensures rest { (a b : TxnId) → Reaches self.new.arcs a b
             ↔ (Reaches self.old.arcs a b × ¬ Contains gone.now a × ¬ Contains gone.now b) }
