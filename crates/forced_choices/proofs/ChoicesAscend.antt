@@ -1,30 +1,29 @@
 -- The listed choices stand in order.
-use Rattle.std.proofs.Common.{◌≡◌, ◌≢◌, ℕ, ◌+◌, ◌-◌, ◌<◌, ◌≤◌, ◌⊎◌, Bool, true, false, cond, List, [], ◌∷◌, ◌++◌, length, refl, sym, ap, ◌∙◌, inl, inr, subst, arith, Option, Some, None, nat_lt, nat_eq, ◌||◌, ◌&&◌, not}
-use Rattle.std.specs.Prelude.{map, filter}
+use Rattle.std.proofs.Common.{◌≡◌, ℕ, ◌-◌, ◌<◌, ◌≤◌, ◌⊎◌, Bool, true, false, cond, List, [], refl, sym, ap, ◌∙◌, inl, inr, subst, arith, Option, Some, None, nat_lt, nat_eq, ◌||◌, ◌&&◌, not}
+use Rattle.std.specs.Prelude.{filter}
 use Rattle.std.specs.List.{flat_map, slice_get}
 use Rattle.std.proofs.lemmas.Bool.{false≢true, eq-eqb, ltb-true, ltb-false, lt-ltb, eqb-true}
-use Rattle.std.proofs.Math.Bool.{or-true}
 use Rattle.txn.specs.declared.transactions.TxnId.{TxnId}
 use Rattle.txn.specs.declared.transactions.Txn.{Txn}
 use Rattle.txn.specs.declared.transactions.Source.{Source}
 use Rattle.txn.specs.declared.transactions.Source.TheVariants.{Init, By}
 use Rattle.txn.specs.declared.choices.Choice.{Choice}
-use Rattle.txn.specs.Transactions.{id_below, same_id, read_below, source_below, Rises}
+use Rattle.txn.specs.Transactions.{id_below, same_id, read_below, source_below}
 use Rattle.txn.specs.Choices.{choice_below}
 use Rattle.order_check.specs.declared.remainder.Parts.{Parts}
 use Rattle.order_check.specs.Based.{mark_of, remaining_of, remaining_at}
 use Rattle.order_check.specs.Good.{IsGood}
 use Rattle.forced_choices.specs.Listing.{all_ids, reads_in, reads_of, writes_here, is_other, choices_with, choices_from, choices_of_read, choices_of}
-use Rattle.forced_choices.proofs.Members.{In, Ascends, in_flat_map, in_map, in_filter, ascends_flat_map, ascends_map, ascends_filter, ascends_of}
-use Rattle.forced_choices.proofs.ListedIds.{same_fields, listed_ascend}
-use Rattle.forced_choices.proofs.ListedChoices.{same_id_true, and_parts, and_both, same_from_test, either_true, below_by_reader, below_by_key, below_by_writer, below_by_other, in_choices_with}
+use Rattle.forced_choices.proofs.Members.{In, Ascends, in_flat_map, ascends_flat_map, ascends_map, ascends_filter, ascends_of}
+use Rattle.forced_choices.proofs.ListedIds.{listed_ascend}
+use Rattle.forced_choices.proofs.ListedChoices.{and_parts, and_both, either_true, below_by_reader, below_by_key, below_by_writer, below_by_other, in_choices_with}
 
 or_cases : (a b : Bool) → (a || b) ≡ true → (a ≡ true) ⊎ (b ≡ true)
 or_cases true b h = inl refl
 or_cases false b h = inr h
 
 -- ids in order: by session, or in one session by number
-id_cases : (a b : TxnId) → id_below a b ≡ true → (a.session < b.session) ⊎ ((a.session ≡ b.session) × (a.number < b.number))
+pub id_cases : (a b : TxnId) → id_below a b ≡ true → (a.session < b.session) ⊎ ((a.session ≡ b.session) × (a.number < b.number))
 id_cases a b h = by_part (or_cases (nat_lt a.session b.session) (nat_eq a.session b.session && nat_lt a.number b.number) h)
   where
     by_part : (nat_lt a.session b.session ≡ true) ⊎ ((nat_eq a.session b.session && nat_lt a.number b.number) ≡ true) → (a.session < b.session) ⊎ ((a.session ≡ b.session) × (a.number < b.number))

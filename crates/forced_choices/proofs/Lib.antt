@@ -5,3 +5,6 @@ pub mod ListedChoices
 pub mod ChoicesAscend
 pub mod ListedArcs
 pub mod SaturationLaws
+pub mod Distinct
+pub mod OpenSoFar
+pub mod Keeping

@@ -1,8 +1,8 @@
 -- The listed arcs are right, and none is left out.
-use Rattle.std.proofs.Common.{◌≡◌, ◌≢◌, ℕ, ◌+◌, ◌-◌, ◌<◌, ◌≤◌, ◌⊎◌, Bool, true, false, cond, List, [], ◌∷◌, ◌++◌, length, refl, sym, ap, ◌∙◌, inl, inr, subst, arith, Option, Some, None, IsSome, is_some, nat_lt, nat_eq, ◌||◌, ◌&&◌, not}
-use Rattle.std.specs.Prelude.{Contains, IsSomeAnd, map, filter}
+use Rattle.std.proofs.Common.{◌≡◌, ◌≢◌, ℕ, ◌+◌, ◌-◌, ◌<◌, ◌⊎◌, Bool, true, false, cond, [], ◌∷◌, refl, sym, ap, ◌∙◌, inl, inr, subst, arith, Option, Some, None, is_some, nat_lt, ◌&&◌, not}
+use Rattle.std.specs.Prelude.{Contains, IsSomeAnd, filter}
 use Rattle.std.specs.List.{flat_map}
-use Rattle.std.proofs.lemmas.Bool.{false≢true, eq-eqb, ltb-true, lt-ltb, eqb-true, not-true}
+use Rattle.std.proofs.lemmas.Bool.{false≢true, ltb-true, lt-ltb}
 use Rattle.txn.specs.declared.transactions.TxnId.{TxnId}
 use Rattle.txn.specs.declared.transactions.Txn.{Txn}
 use Rattle.txn.specs.declared.transactions.Source.{Source}
@@ -12,19 +12,16 @@ use Rattle.txn.specs.declared.choices.Arc.TheVariants.{Session, Read, Base, Take
 use Rattle.txn.specs.Transactions.{same_id, IsSourceFor}
 use Rattle.txn.specs.Arcs.{start_of, end_of}
 use Rattle.order_check.specs.declared.remainder.Parts.{Parts}
-use Rattle.order_check.specs.Based.{mark_of, remaining_of, remaining_at, Remains, last_gone}
+use Rattle.order_check.specs.Based.{mark_of, remaining_at, Remains, last_gone}
 use Rattle.order_check.specs.Good.{IsGood}
 use Rattle.order_check.specs.Known.{ReadsKey, WritesKey, ReadsBase, IsBaseSource}
-use Rattle.order_check.specs.Cycles.{Sides, IsArc}
-use Rattle.forced_choices.specs.Listing.{all_ids, reads_in, reads_of, writes_here, is_other, one_before, session_arc, session_arcs, base_arcs, is_last, is_base_source, writer_arcs, arcs_from_writer, arcs_of_read, arcs_of_reads}
-use Rattle.forced_choices.proofs.Members.{In, in_from_contains, contains_from_in, in_left, in_right, in_either, in_flat_map, flat_map_in, in_map, map_in, in_filter, filter_in}
-use Rattle.forced_choices.proofs.ListedIds.{same_fields, listed_remains, remaining_listed, Bounds, bounds_of, bounds_remain}
+use Rattle.order_check.specs.Cycles.{IsArc}
+use Rattle.forced_choices.specs.Listing.{all_ids, reads_of, writes_here, is_other, one_before, session_arc, session_arcs, base_arcs, is_last, is_base_source, writer_arcs, arcs_from_writer, arcs_of_read, arcs_of_reads}
+pub use Rattle.forced_choices.specs.Listing.{plain_arcs}
+use Rattle.forced_choices.proofs.Members.{In, in_left, in_right, in_either, in_flat_map, flat_map_in, in_map, map_in, in_filter, filter_in}
+use Rattle.forced_choices.proofs.ListedIds.{listed_remains, remaining_listed}
 use Rattle.forced_choices.proofs.ListedChoices.{same_id_true, and_parts, and_both, same_from_test, apart_from_test, apart_test, in_reads, reads_has, writer_remains, reader_remains}
 use Rattle.forced_choices.proofs.ChoicesAscend.{looked_up}
-
--- all arcs that are there from the start
-abbrev pub plain_arcs : Parts → List Arc
-plain_arcs parts = session_arcs parts (all_ids parts) ++ arcs_of_reads parts (all_ids parts) (all_ids parts)
 
 session_arc_right : (parts : Parts) (id : TxnId) (arc : Arc) → Remains parts id → In (session_arc parts id) arc → IsArc parts [] arc
 session_arc_right parts id arc remains h = by_test (nat_lt 0 id.number && is_some (remaining_at parts (one_before id))) refl h

@@ -1,24 +1,23 @@
 -- The listed choices are the choices, in order.
-use Rattle.std.proofs.Common.{◌≡◌, ◌≢◌, ℕ, ◌+◌, ◌<◌, ◌⊎◌, Bool, true, false, cond, List, [], ◌∷◌, ◌++◌, refl, sym, ap, ◌∙◌, inl, inr, subst, arith, Option, Some, None, IsSome, nat_lt, nat_eq, ◌||◌, ◌&&◌, not}
-use Rattle.std.specs.Prelude.{Contains, IsSomeAnd, map, filter}
+use Rattle.std.proofs.Common.{◌≡◌, ◌≢◌, ℕ, ◌<◌, Bool, true, false, cond, List, [], refl, sym, ap, ◌∙◌, subst, Option, Some, None, IsSome, nat_lt, nat_eq, ◌||◌, ◌&&◌, not}
+use Rattle.std.specs.Prelude.{Contains, IsSomeAnd, filter}
 use Rattle.std.specs.List.{flat_map}
-use Rattle.std.proofs.lemmas.Bool.{false≢true, eq-eqb, ltb-true, lt-ltb, eqb-true, not-true}
+use Rattle.std.proofs.lemmas.Bool.{false≢true, eq-eqb, lt-ltb, eqb-true, not-true}
 use Rattle.std.proofs.Math.Bool.{or-true}
 use Rattle.txn.specs.declared.transactions.TxnId.{TxnId}
 use Rattle.txn.specs.declared.transactions.Txn.{Txn}
 use Rattle.txn.specs.declared.transactions.Source.{Source}
 use Rattle.txn.specs.declared.transactions.Source.TheVariants.{Init, By}
 use Rattle.txn.specs.declared.choices.Choice.{Choice}
-use Rattle.txn.specs.Transactions.{id_below, same_id, read_below, source_below, IsWellFormed}
+use Rattle.txn.specs.Transactions.{id_below, same_id}
 use Rattle.txn.specs.Choices.{choice_below}
 use Rattle.txn.specs.History.{writes_key}
 use Rattle.order_check.specs.declared.remainder.Parts.{Parts}
 use Rattle.order_check.specs.Based.{remaining_at, Remains}
-use Rattle.order_check.specs.Good.{IsGood}
 use Rattle.order_check.specs.Known.{IsChoice, ReadsKey, WritesKey}
 use Rattle.forced_choices.specs.Listing.{all_ids, reads_in, reads_of, writes_here, is_other, choices_with, choices_from, choices_of_read, choices_of}
-use Rattle.forced_choices.proofs.Members.{In, Ascends, in_from_contains, contains_from_in, in_flat_map, flat_map_in, in_map, map_in, in_filter, filter_in, ascends_flat_map, ascends_map, ascends_filter, ascends_of}
-use Rattle.forced_choices.proofs.ListedIds.{same_fields, listed_remains, remaining_listed, listed_ascend}
+use Rattle.forced_choices.proofs.Members.{In, in_from_contains, contains_from_in, in_flat_map, flat_map_in, in_map, map_in, in_filter, filter_in}
+use Rattle.forced_choices.proofs.ListedIds.{same_fields, remaining_listed}
 
 -- tests on ids
 pub same_id_true : (a b : TxnId) → a ≡ b → same_id a b ≡ true

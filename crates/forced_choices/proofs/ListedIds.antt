@@ -1,7 +1,6 @@
 -- The listed ids are those that remain, in order.
-use Rattle.std.proofs.Common.{◌≡◌, ◌≢◌, ℕ, ◌+◌, ◌-◌, ◌<◌, ◌≤◌, ◌⊎◌, Bool, true, false, cond, List, [], ◌∷◌, ◌++◌, length, get_or, refl, sym, ap, ◌∙◌, inl, inr, subst, suc, zero, arith, Option, Some, None, IsSome, is_some, nat_lt, nat_eq, ◌||◌, ◌&&◌}
-use Rattle.std.specs.Prelude.{⊤}
-use Rattle.std.specs.List.{flat_map, slice_get, range_with_len}
+use Rattle.std.proofs.Common.{◌≡◌, ◌≢◌, ℕ, ◌+◌, ◌-◌, ◌<◌, ◌≤◌, ◌⊎◌, Bool, true, false, cond, List, [], ◌∷◌, length, get_or, refl, sym, ap, ◌∙◌, inl, inr, subst, suc, zero, arith, Option, Some, None, IsSome, is_some, nat_lt, nat_eq, ◌||◌, ◌&&◌}
+use Rattle.std.specs.List.{slice_get, range_with_len}
 use Rattle.std.proofs.lemmas.Bool.{false≢true, eq-eqb, ltb-false, ltb-true, lt-ltb, le-ltb, cases_lt}
 use Rattle.std.proofs.lemmas.Bool.Decides.{eqb_tells}
 use Rattle.std.proofs.lemmas.List.{get_or_past}
@@ -9,10 +8,10 @@ use Rattle.std.proofs.Math.Bool.{or-true}
 use Rattle.std.proofs.lemmas.Option.{slice_get_within, slice_get-get_or}
 use Rattle.txn.specs.declared.transactions.TxnId.{TxnId}
 use Rattle.txn.specs.declared.transactions.Txn.{Txn}
-use Rattle.txn.specs.Transactions.{id_below, same_id}
+use Rattle.txn.specs.Transactions.{id_below}
 use Rattle.txn.specs.History.{ids_from}
 use Rattle.order_check.specs.declared.remainder.Parts.{Parts}
-use Rattle.order_check.specs.Based.{mark_of, remaining_of, remaining_ids, remaining_at, Remains}
+use Rattle.order_check.specs.Based.{mark_of, remaining_of, remaining_ids, Remains}
 use Rattle.forced_choices.specs.Listing.{all_ids}
 use Rattle.forced_choices.proofs.Members.{In, Ascends, in_flat_map, flat_map_in, ascends_flat_map}
 

@@ -1,6 +1,5 @@
 -- Lists that are joined end to end, and what is in them.
-use Rattle.std.proofs.Common.{◌≡◌, ℕ, ◌+◌, ◌<◌, ◌⊎◌, Bool, true, false, cond, List, [], ◌∷◌, ◌++◌, length, get_or, refl, sym, ap, ◌∙◌, inl, inr, subst, suc, zero, arith, add-one, append_assoc, append-nil}
-use Rattle.std.specs.Prelude.{Contains, map, filter}
+use Rattle.std.proofs.Common.{◌≡◌, ℕ, ◌+◌, List, ◌++◌, sym, ap, ◌∙◌, suc, zero, arith, add-one, append_assoc, append-nil}
 use Rattle.std.specs.List.{flat_map, range_with_len}
 
 -- one more number at the end of a range

@@ -1,14 +1,10 @@
 -- What is in a list, by cases on the list, and lists that ascend.
-use Rattle.std.proofs.Common.{◌≡◌, ◌≢◌, ℕ, ◌+◌, ◌<◌, ◌≤◌, ◌⊎◌, Bool, true, false, cond, List, [], ◌∷◌, ◌++◌, length, get_or, refl, sym, ap, ◌∙◌, inl, inr, subst, suc, zero, arith, add-one}
-use Rattle.std.specs.Prelude.{Contains, map, filter, ⊤}
-use Rattle.std.specs.List.{flat_map, slice_get, AllAdjacentBelow}
+use Rattle.std.proofs.Common.{◌≡◌, ℕ, ◌<◌, ◌⊎◌, Bool, true, false, cond, List, [], ◌∷◌, ◌++◌, length, get_or, refl, sym, ap, ◌∙◌, inl, inr, subst, suc, zero, arith, add-one}
+use Rattle.std.specs.Prelude.{Contains, map, filter}
+use Rattle.std.specs.List.{flat_map}
 use Rattle.std.proofs.lemmas.Bool.{false≢true}
 use Rattle.txn.specs.Transactions.{Rises}
-
--- the list has it
-abbrev pub In : {X : Type 0} → List X → X → Type 0
-In [] y = ⊥
-In (x ∷ xs) y = (x ≡ y) ⊎ In xs y
+pub use Rattle.forced_choices.specs.Ascending.{In, Ascends}
 
 pub in_from_contains : {X : Type 0} (xs : List X) (y : X) → Contains xs y → In xs y
 in_from_contains [] y (k, within, is) = absurd (omega arith)
@@ -86,11 +82,6 @@ map_in f [] x h = absurd h
 map_in f (z ∷ xs) x (inl e) = inl (ap f e)
 map_in f (z ∷ xs) x (inr h) = inr (map_in f xs x h)
 
--- each element is below all that follow
-abbrev pub Ascends : {X : Type 0} → (X → X → Bool) → List X → Type 0
-Ascends below [] = ⊤
-Ascends {X} below (x ∷ xs) = ((y : X) → In xs y → below x y ≡ true) × Ascends below xs
-
 pub ascends_append : {X : Type 0} (below : X → X → Bool) (xs ys : List X) → Ascends below xs → Ascends below ys → ((x y : X) → In xs x → In ys y → below x y ≡ true) → Ascends below (xs ++ ys)
 ascends_append below [] ys hx hy across = hy
 ascends_append {X} below (x ∷ xs) ys hx hy across = (first, ascends_append below xs ys hx.1 hy (λ a b ha hb. across a b (inr ha) hb))
@@ -157,3 +148,14 @@ ascends_from_rises {X} below pass (x ∷ z ∷ xs) h = with_rest (ascends_from_r
 
 pub ascends_of : {X : Type 0} (below : X → X → Bool) → ((a b c : X) → below a b ≡ true → below b c ≡ true → below a c ≡ true) → (xs : List X) → Rises below xs → Ascends below xs
 ascends_of below pass xs h = ascends_from_rises below pass xs (λ k d within. rw add-one at (h k d (omega arith)))
+
+-- a front of what ascends does
+pub ascends_front : {X : Type 0} (below : X → X → Bool) (xs ys : List X) → Ascends below (xs ++ ys) → Ascends below xs
+ascends_front below [] ys h = tt
+ascends_front below (x ∷ xs) ys h = ((λ y hy. h.0 y (in_left xs ys y hy)), ascends_front below xs ys h.1)
+
+-- and its elements are below the last
+pub ascends_across : {X : Type 0} (below : X → X → Bool) (xs : List X) (last : X) → Ascends below (xs ++ last ∷ []) → (x : X) → In xs x → below x last ≡ true
+ascends_across below [] last h x there = absurd there
+ascends_across below (z ∷ xs) last h x (inl e) = subst (λ w. below w last ≡ true) e (h.0 last (in_right xs (last ∷ []) last (inl refl)))
+ascends_across below (z ∷ xs) last h x (inr there) = ascends_across below xs last h.1 x there

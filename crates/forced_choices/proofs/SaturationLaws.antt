@@ -1,7 +1,7 @@
 -- What saturation leads to is the known relation, and its log is right.
-use Rattle.std.proofs.Common.{◌≡◌, ◌≢◌, ℕ, ◌+◌, ◌-◌, ◌<◌, ◌≤◌, ◌⊎◌, List, [], ◌∷◌, ◌++◌, length, get_or, take, drop, refl, sym, ap, ◌∙◌, inl, inr, subst, suc, zero, arith, Some, None}
+use Rattle.std.proofs.Common.{◌≡◌, ℕ, ◌+◌, ◌-◌, ◌≤◌, ◌⊎◌, List, [], ◌∷◌, ◌++◌, refl, sym, ap, ◌∙◌, inl, inr, subst, suc, zero, arith, Some}
 use Rattle.std.specs.Prelude.{Contains, All, remove, ◌↔◌}
-use Rattle.std.specs.List.{flat_map, slice_get}
+use Rattle.std.specs.List.{slice_get}
 use Rattle.txn.specs.declared.transactions.TxnId.{TxnId}
 use Rattle.txn.specs.declared.choices.Choice.{Choice}
 use Rattle.txn.specs.declared.choices.Arc.{Arc}
@@ -11,17 +11,17 @@ use Rattle.txn.specs.declared.choices.Side.TheVariants.{First, Second}
 use Rattle.txn.specs.declared.choices.ForceStep.{ForceStep}
 use Rattle.txn.specs.Arcs.{start_of, end_of}
 use Rattle.order_check.specs.declared.remainder.Parts.{Parts}
-use Rattle.order_check.specs.Based.{mark_of, remaining_of, Remains}
+use Rattle.order_check.specs.Based.{mark_of, Remains}
 use Rattle.order_check.specs.Known.{Known, IsChoice, by_session, by_read, by_base, by_taken, through, forces_after, forces_before}
 use Rattle.order_check.specs.Cycles.{Sides, IsArc, IsPath, IsCycle, side_taken, side_not_taken, IsForced, AreForced, sides_after, Links, IsFullLog}
 use Rattle.forced_choices.specs.declared.rules.Rule.{Rule}
 use Rattle.known_graph.specs.Reach.{Reaches, Leads, IsPathOf}
 use Rattle.known_graph.specs.Reach as reach
 use Rattle.forced_choices.specs.Rules.{premise_of, arc_of_side, premise, conclusion, rules_of}
-use Rattle.forced_choices.specs.Saturates.{IsReady, IsReached, taken_arc, IsStepOf, Fires, there, forced, Saturates, ends, goes_on}
+use Rattle.forced_choices.specs.Saturates.{IsReady, IsReached, taken_arc, Fires, there, forced, Saturates, ends, goes_on}
 use Rattle.forced_choices.specs.Listing.{all_ids, choices_of, one_before}
 use Rattle.forced_choices.proofs.Members.{In, in_from_contains, contains_from_in, in_left, in_right, in_either, in_flat_map, flat_map_in}
-use Rattle.forced_choices.proofs.ListedIds.{same_fields, Bounds, bounds_of, bounds_remain}
+use Rattle.forced_choices.proofs.ListedIds.{same_fields, bounds_of, bounds_remain}
 use Rattle.forced_choices.proofs.ListedChoices.{listed_is_choice, choice_listed}
 use Rattle.forced_choices.proofs.ListedArcs.{plain_arcs, plain_right, next_listed, read_listed, base_listed}
 
@@ -51,7 +51,7 @@ plain_known parts (Base key from to) right = by_base key right.0 right.1 right.2
 plain_known parts (Taken from to) right = by_taken right
 
 -- both sides of a choice are among the rules, and nothing else is
-in_rules : (choices : List Choice) (rule : Rule) → In (rules_of choices) rule → In choices rule.choice
+pub in_rules : (choices : List Choice) (rule : Rule) → In (rules_of choices) rule → In choices rule.choice
 in_rules choices rule h = by_found (in_flat_map (λ choice. record { choice = choice; side = Second } ∷ record { choice = choice; side = First } ∷ []) choices rule h)
   where
     by_found : (choice : Choice) × In choices choice × In (record { choice = choice; side = Second } ∷ record { choice = choice; side = First } ∷ []) rule → In choices rule.choice
@@ -128,7 +128,7 @@ in_removed (r ∷ rules) (suc place) rule other at (inr h) = more (in_removed ru
     more (inl e) = inl e
     more (inr h) = inr (inr h)
 
-removed_in : (rules : List Rule) (place : ℕ) (other : Rule) → In (remove rules place) other → In rules other
+pub removed_in : (rules : List Rule) (place : ℕ) (other : Rule) → In (remove rules place) other → In rules other
 removed_in [] zero other h = h
 removed_in [] (suc place) other h = h
 removed_in (r ∷ rules) zero other h = inr h

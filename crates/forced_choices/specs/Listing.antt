@@ -1,5 +1,5 @@
 -- The ids, arcs and choices of parts, listed in order.
-use Rattle.std.specs.Prelude.{ℕ, ◌-◌, nat_lt, is_some, Bool, true, false, ◌&&◌, not, List, [], ◌∷◌, ◌++◌, length, filter, map, Some, None, Option, nat_eq, if◌then◌else◌}
+use Rattle.std.specs.Prelude.{ℕ, ◌-◌, nat_lt, is_some, Bool, true, false, ◌&&◌, not, List, [], ◌∷◌, ◌++◌, length, filter, map, Some, None, Option, if◌then◌else◌}
 use Rattle.std.specs.List.{flat_map, range_with_len}
 use Rattle.txn.specs.declared.transactions.TxnId.{TxnId}
 use Rattle.txn.specs.declared.transactions.Txn.{Txn}
@@ -95,3 +95,7 @@ arcs_of_read parts ids reader read = arcs_from_writer parts reader read ++ (if i
 -- the arcs of all reads of these readers
 abbrev pub arcs_of_reads : Parts → List TxnId → List TxnId → List Arc
 arcs_of_reads parts ids readers = flat_map (λ reader. flat_map (arcs_of_read parts ids reader) (reads_of parts reader)) readers
+
+-- all arcs that are there from the start
+abbrev pub plain_arcs : Parts → List Arc
+plain_arcs parts = session_arcs parts (all_ids parts) ++ arcs_of_reads parts (all_ids parts) (all_ids parts)

@@ -1,10 +1,10 @@
 -- What forcing sides, one after another, leads to.
-use Rattle.std.specs.Prelude.{◌≡◌, ◌<◌, ℕ, List, [], ◌∷◌, ◌++◌, length, remove, slice_get, Some, All}
-use Rattle.txn.specs.declared.transactions.TxnId.{TxnId}
+use Rattle.std.specs.Prelude.{◌≡◌, ◌≢◌, ℕ, List, [], ◌∷◌, ◌++◌, remove, slice_get, Some, All}
 use Rattle.txn.specs.declared.choices.Arc.{Arc}
 use Rattle.txn.specs.declared.choices.Arc.TheVariants.{Taken}
 use Rattle.txn.specs.declared.choices.ForceStep.{ForceStep}
 use Rattle.forced_choices.specs.declared.rules.Rule.{Rule}
+use Rattle.known_graph.specs.Graphs.{GraphState, HasNode}
 use Rattle.known_graph.specs.Reach.{Reaches, IsPathOf}
 use Rattle.forced_choices.specs.Rules.{premise, conclusion}
 
@@ -23,6 +23,15 @@ IsReached arcs rule = Reaches arcs (conclusion rule).0 (conclusion rule).1
 -- the arc that it takes
 abbrev pub taken_arc : Rule → Arc
 taken_arc rule = Taken (conclusion rule).0 (conclusion rule).1
+
+-- both ends of its arc are nodes of the graph, and differ
+pub record IsOn (graph : GraphState) (rule : Rule) : Type 0 where
+  pub start : HasNode graph (conclusion rule).0
+  pub end : HasNode graph (conclusion rule).1
+  pub apart : (conclusion rule).0 ≢ (conclusion rule).1
+
+abbrev pub AreOn : GraphState → List Rule → Type 0
+AreOn graph rules = All (IsOn graph) rules
 
 -- the step that logs it: the arc of the other side closes a cycle with a path
 pub record IsStepOf (arcs : List Arc) (rule : Rule) (step : ForceStep) : Type 0 where

@@ -1,4 +1,4 @@
-use Rattle.std.proofs.Common.{◌≡◌, ◌++◌, ◌+◌, ◌≤◌, ◌^◌, drop, length}
+use Rattle.std.proofs.Common.{◌≡◌, ◌++◌, ◌+◌, drop}
 use Rattle.txn.specs.History.{ids_from}
 use Rattle.order_check.specs.Based.{mark_of, remaining_of, remaining_ids}
 use Rattle.forced_choices.proofs.listing.push_ids.Given as goal

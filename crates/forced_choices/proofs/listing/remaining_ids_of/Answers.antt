@@ -1,4 +1,4 @@
-use Rattle.std.proofs.Common.{◌≡◌, ◌++◌, ◌∙◌, sym, ap}
+use Rattle.std.proofs.Common.{◌++◌, ◌∙◌, sym, ap}
 use Rattle.order_check.specs.Based.{remaining_ids}
 use Rattle.forced_choices.proofs.Lists.{flat_map-range_more}
 use Rattle.forced_choices.proofs.listing.remaining_ids_of.Goals as goal

@@ -1,4 +1,4 @@
-use Rattle.std.proofs.Common.{◌≡◌, map}
+use Rattle.std.proofs.Common.{◌≡◌}
 use Rattle.std.specs.List.{flat_map, range_with_len}
 use Rattle.order_check.specs.Based.{remaining_ids}
 use Rattle.forced_choices.proofs.listing.remaining_ids_of.Given as goal
