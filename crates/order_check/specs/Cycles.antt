@@ -4,6 +4,7 @@ use Rattle.txn.specs.declared.transactions.TxnId.{TxnId}
 use Rattle.txn.specs.declared.transactions.Source.TheVariants.{By}
 use Rattle.txn.specs.declared.choices.Arc.{Arc}
 use Rattle.txn.specs.declared.choices.Arc.TheVariants.{Session, Read, Base, Taken}
+use Rattle.txn.specs.declared.choices.Choice.{Choice}
 use Rattle.txn.specs.declared.choices.Side.{Side}
 use Rattle.txn.specs.declared.choices.Side.TheVariants.{First, Second}
 use Rattle.txn.specs.declared.choices.ForceStep.{ForceStep}
@@ -64,3 +65,14 @@ AreForced parts taken (step ∷ steps) = IsForced parts taken step × AreForced 
 abbrev pub sides_after : Sides → List ForceStep → Sides
 sides_after taken [] = taken
 sides_after taken (step ∷ steps) = sides_after (side_taken step ∷ taken) steps
+
+-- one or more right arcs lead from the one to the other
+abbrev pub Links : Parts → Sides → TxnId → TxnId → Type 0
+Links parts taken a b = (arc : Arc) × (arcs : List Arc) × (start_of arc ≡ a) × IsArc parts taken arc × IsPath parts taken (end_of arc) arcs b
+
+-- Steps that are forced, one after another, after which nothing more is forced: where the other side of a choice is ruled
+-- out, arcs lead along this side.
+pub record IsFullLog (parts : Parts) (steps : List ForceStep) : Type 0 where
+  pub forced : AreForced parts [] steps
+  pub after : (choice : Choice) → IsChoice parts choice → Links parts (sides_after [] steps) choice.writer choice.other → Links parts (sides_after [] steps) choice.reader choice.other
+  pub before : (choice : Choice) → IsChoice parts choice → Links parts (sides_after [] steps) choice.other choice.reader → Links parts (sides_after [] steps) choice.other choice.writer

@@ -1,0 +1,10 @@
+pub mod Lists
+pub mod Members
+pub mod ListedIds
+pub mod ListedChoices
+pub mod ChoicesAscend
+pub mod ListedArcs
+pub mod SaturationLaws
+pub mod Distinct
+pub mod OpenSoFar
+pub mod Keeping

@@ -1,0 +1,12 @@
+-- What is in a list, and lists that ascend, by cases on the list.
+use Rattle.std.specs.Prelude.{◌≡◌, ◌⊎◌, ⊤, Bool, true, List, [], ◌∷◌}
+
+-- the list has it
+abbrev pub In : {X : Type 0} → List X → X → Type 0
+In [] y = ⊥
+In (x ∷ xs) y = (x ≡ y) ⊎ In xs y
+
+-- each element is below all that follow
+abbrev pub Ascends : {X : Type 0} → (X → X → Bool) → List X → Type 0
+Ascends below [] = ⊤
+Ascends {X} below (x ∷ xs) = ((y : X) → In xs y → below x y ≡ true) × Ascends below xs

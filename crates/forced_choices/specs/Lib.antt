@@ -1,0 +1,10 @@
+pub mod Ascending
+pub mod Between
+pub mod Cuts
+pub mod Kept
+pub mod Listing
+pub mod Rules
+pub mod SaturatedState
+pub mod Saturates
+pub mod Saturation
+pub mod Undecided

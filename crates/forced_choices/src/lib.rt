@@ -1,0 +1,10 @@
+//! What every order has to keep, kept up to date as transactions arrive, and the choices that it leaves open.
+#![tactic(auto)]
+
+mod building;
+mod listing;
+mod rules;
+mod saturated;
+mod saturation;
+
+pub use saturated::Saturated;

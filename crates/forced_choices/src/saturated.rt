@@ -1,0 +1,227 @@
+ghost use Rattle.std.specs.Prelude.{◌≡◌, ◌↔◌, ◌<◌, [], ◌∷◌, ◌++◌, length, Contains, All, IfOk, OnOk, OnErr, IsTrue};
+ghost use Rattle.txn.specs.declared.transactions.TxnId.{TxnId};
+ghost use Rattle.known_graph.specs.Graphs.{HasNode};
+ghost use Rattle.forced_choices.specs.Kept.{IsKept};
+ghost use Rattle.forced_choices.specs.Rules.{rules_of};
+ghost use Rattle.order_check.specs.Based.{received_count};
+ghost use Rattle.order_check.specs.Cycles.{IsFullLog};
+ghost use Rattle.order_check.specs.Good.{IsGood};
+ghost use Rattle.order_check.specs.Known.{Known, AreOpenChoices};
+ghost use Rattle.order_check.specs.StandsFor.{parts_with};
+ghost use Rattle.forced_choices.specs.Cuts.{IsCutOff};
+ghost use Rattle.forced_choices.specs.Listing.{all_ids, plain_arcs, choices_of};
+ghost use Rattle.forced_choices.specs.Saturation.{IsSaturationOf};
+ghost use Rattle.forced_choices.specs.SaturatedState.{fragment_of};
+ghost use Rattle.forced_choices.specs.Undecided.{IsUndecided, AreUndecided};
+
+use crate::building::{add_arcs, graph_of_nodes};
+use crate::listing::{arcs_among, choices_among, remaining_ids_of};
+use crate::rules::{Rule, rules_of};
+use crate::saturation::saturate;
+use known_graph::Graph;
+use order_check::Parts;
+use std::alloc::Global;
+use std::marker::Model;
+use txn::{Choice, ForceStep, NoMemory, Sequence, Txn, TxnId};
+
+/// The known relation of parts: what every order that explains them has to keep. Contracts see the parts, and the steps
+/// by which sides of choices were forced.
+#[derive(Drop, Debug)]
+pub struct Saturated {
+    parts: Parts,
+    graph: Graph,
+    log: Sequence<ForceStep>,
+}
+
+impl Model for Saturated {
+    ghost use Rattle.std.specs.Coded.{codes};
+    ghost use Rattle.order_check.specs.Codes.{coded_last};
+    ghost use Rattle.forced_choices.specs.SaturatedState.{SaturatedState};
+    ghost use Rattle.forced_choices.specs.Kept.{IsKept};
+
+    ghost Value = { SaturatedState };
+
+    ghost coded = { Prim.hlevel (codes, coded_last) };
+
+    ghost view = { λ s. record { parts = s.parts; log = s.log } };
+
+    ghost invariant = { λ s. IsKept s.parts s.graph s.log };
+}
+
+/// The graph of the arcs that are there from the start.
+#[tactic(auto, using(crate::proofs::Keeping::ids_distinct))]
+fn plain_graph(alloc: Global, parts: &Parts, ids: &[TxnId]) -> Result<Graph, NoMemory>
+    requires good { IsGood parts.now }
+    requires listed { ids.now ≡ all_ids parts.now }
+    ensures nodes { IfOk result (λ graph. (id : TxnId) → HasNode graph id ↔ Contains (all_ids parts.now) id) }
+    ensures arcs { IfOk result (λ graph. graph.arcs ≡ plain_arcs parts.now) }
+{
+    let arcs = arcs_among(alloc, parts, ids)?;
+    let mut graph = graph_of_nodes(alloc, ids)?;
+    add_arcs(alloc, &mut graph, arcs.as_slice())?;
+    Ok(graph)
+}
+
+/// The rules of all choices.
+fn rules_among(alloc: Global, parts: &Parts, ids: &[TxnId]) -> Result<Vec<Rule>, NoMemory>
+    ensures { IfOk result (λ rules. rules.items ≡ rules_of (choices_of parts.now ids.now ids.now)) }
+{
+    let choices = choices_among(alloc, parts, ids)?;
+    rules_of(alloc, choices.as_slice())
+}
+
+/// The graph of the known relation, and the steps that were forced.
+fn saturation_of(alloc: Global, parts: &Parts) -> Result<(Graph, Vec<ForceStep>), NoMemory>
+    requires { IsGood parts.now }
+    ensures { IfOk result (λ made. IsSaturationOf parts.now made.0 made.1.items) }
+{
+    let ids = remaining_ids_of(alloc, parts)?;
+    let rules = rules_among(alloc, parts, ids.as_slice())?;
+    let mut graph = plain_graph(alloc, parts, ids.as_slice())?;
+    let mut log = Vec::new(alloc);
+    saturate(alloc, &mut graph, &mut log, rules)?;
+    Ok((graph, log))
+}
+
+/// A whole copy.
+fn copy_of_parts(parts: &Parts) -> Result<Parts, NoMemory>
+    ensures { IfOk result (λ copy. copy ≡ parts.now) }
+{
+    parts.clone()
+}
+
+/// A whole copy.
+fn copy_of_graph(graph: &Graph) -> Result<Graph, NoMemory>
+    ensures { IfOk result (λ copy. copy ≡ graph.now) }
+{
+    graph.clone()
+}
+
+/// A whole copy.
+fn copy_of_log(log: &Sequence<ForceStep>) -> Result<Sequence<ForceStep>, NoMemory>
+    ensures { IfOk result (λ copy. copy ≡ log.now) }
+{
+    log.clone()
+}
+
+fn saturated_from(parts: Parts, graph: Graph, log: Sequence<ForceStep>) -> Saturated
+    requires { IsKept parts graph log }
+    ensures parts { result.parts ≡ parts }
+    ensures log { result.log ≡ log }
+{
+    Saturated { parts, graph, log }
+}
+
+fn is_undecided(graph: &Graph, choice: Choice) -> bool
+    ensures { IsTrue result ↔ IsUndecided graph.now.arcs choice }
+{
+    !graph.reaches(choice.writer, choice.other)
+        && !graph.reaches(choice.other, choice.reader)
+        && !graph.reaches(choice.other, choice.writer)
+        && !graph.reaches(choice.reader, choice.other)
+}
+
+/// The choices that the graph leaves undecided.
+fn undecided_among(
+    alloc: Global,
+    graph: &Graph,
+    choices: &[Choice],
+) -> Result<Vec<Choice>, NoMemory>
+    ensures { IfOk result (λ found. AreUndecided graph.now.arcs choices.now found.items) }
+{
+    let mut undecided = Vec::new(alloc);
+    for choice in choices {
+        if is_undecided(graph, *choice) {
+            undecided.push(*choice)?;
+        }
+    }
+    Ok(undecided)
+}
+
+impl Saturated {
+    /// The known relation of the parts, which are copied.
+    #[tactic(auto, using(crate::proofs::Keeping::kept_of))]
+    pub fn of(alloc: Global, parts: &Parts) -> Result<Saturated, NoMemory>
+        requires { IsGood parts.now }
+        ensures { IfOk result (λ saturated. saturated.parts ≡ parts.now) }
+    {
+        let copy = copy_of_parts(parts)?;
+        let (graph, log) = saturation_of(alloc, &copy)?;
+        Ok(saturated_from(copy, graph, Sequence::new(log)))
+    }
+
+    pub fn parts(&self) -> &Parts
+        ensures value { result.now ≡ self.now.parts }
+        ensures good { IsGood result.now }
+    {
+        &self.parts
+    }
+
+    /// Whether every order that explains the parts is known to have the one before the other. Where the relation has a
+    /// cycle, each transaction on it comes before itself. It takes no memory.
+    pub fn reaches(&self, earlier: TxnId, later: TxnId) -> bool
+        ensures { IsTrue result ↔ Known self.now.parts [] earlier later }
+    {
+        self.graph.reaches(earlier, later)
+    }
+
+    /// The open choices, in order of reader, key, writer, other writer.
+    pub fn open_choices(&self, alloc: Global) -> Result<Sequence<Choice>, NoMemory>
+        ensures { IfOk result (AreOpenChoices self.now.parts []) }
+    {
+        let ids = remaining_ids_of(alloc, &self.parts)?;
+        let choices = choices_among(alloc, &self.parts, ids.as_slice())?;
+        let undecided = undecided_among(alloc, &self.graph, choices.as_slice())?;
+        Ok(Sequence::new(undecided))
+    }
+
+    /// The sides that were forced, one after another, each with the cycle that the other side would close.
+    pub fn log(&self) -> &[ForceStep]
+        ensures value { result.now ≡ self.now.log }
+        ensures full { IsFullLog self.now.parts result.now }
+    {
+        self.log.as_slice()
+    }
+
+    /// Adds the next transaction of a session.
+    pub fn add(&mut self, alloc: Global, id: TxnId, txn: &Txn) -> Result<(), NoMemory>
+        requires session { id.session < length self.old.parts.remain }
+        requires next { id.number ≡ received_count self.old.parts id.session }
+        requires good { IsGood (parts_with self.old.parts (fragment_of id txn.now)) }
+        ensures ok { OnOk result (self.new.parts ≡ parts_with self.old.parts (fragment_of id txn.now)) }
+        ensures err { OnErr result (self.new ≡ self.old) }
+    {
+        let mut txns = Vec::with_capacity(alloc, 1)?;
+        txns.push(txn.clone()?)?;
+        let mut parts = self.parts.clone()?;
+        parts
+            .remain
+            .append_at(usize::from(id.session), Sequence::new(txns))?;
+        *self = Saturated::of(alloc, &parts)?;
+        Ok(())
+    }
+
+    /// Goes on with the parts that a cut leaves.
+    pub fn cut(&mut self, alloc: Global, gone: &[TxnId], parts: &Parts) -> Result<(), NoMemory>
+        requires good { IsGood parts.now }
+        requires cut_off { IsCutOff self.old.parts gone.now parts.now }
+        ensures ok { OnOk result (self.new.parts ≡ parts.now) }
+        ensures err { OnErr result (self.new ≡ self.old) }
+    {
+        *self = Saturated::of(alloc, parts)?;
+        Ok(())
+    }
+}
+
+impl Clone for Saturated {
+    ghost use Rattle.std.specs.Prelude.{◌≡◌};
+
+    ghost is_clone = { λ old new. new ≡ old };
+
+    fn clone(&self) -> Result<Self, NoMemory> {
+        let parts = copy_of_parts(&self.parts)?;
+        let graph = copy_of_graph(&self.graph)?;
+        let log = copy_of_log(&self.log)?;
+        Ok(saturated_from(parts, graph, log))
+    }
+}
