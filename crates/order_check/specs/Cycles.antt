@@ -52,7 +52,7 @@ side_not_taken step = other_arc step.side
     other_arc First = second_side step.choice
     other_arc Second = first_side step.choice
 
--- a step is forced: the side that it doesn't take would close the cycle
+-- a step is forced: with the arc of the side that it doesn't take there is the cycle
 abbrev pub IsForced : Parts → Sides → ForceStep → Type 0
 IsForced parts taken step = IsChoice parts step.choice × IsCycle parts (side_not_taken step ∷ taken) step.cycle
 

@@ -1,4 +1,4 @@
--- What every order that explains the parts has to keep, and the choices that it leaves open.
+-- What every order that explains good parts has to keep, and the choices that it leaves open.
 use Rattle.std.specs.Prelude.{◌≡◌, ◌≢◌, ℕ, ◌<◌, List, Some, None, All, Contains}
 use Rattle.txn.specs.declared.transactions.TxnId.{TxnId}
 use Rattle.txn.specs.declared.transactions.Source.{Source}
@@ -18,7 +18,7 @@ ReadsKey parts id key source = Reads (remaining_at parts) id key source
 abbrev pub WritesKey : Parts → TxnId → ℕ → Type 0
 WritesKey parts id key = Writes (remaining_at parts) id key
 
--- a reader, the remaining writer that it reads the key from, and another remaining writer of the key
+-- a reader, the remaining writer that it reads the key from, and a remaining writer of the key that is neither
 pub record IsChoice (parts : Parts) (choice : Choice) : Type 0 where
   pub reads : ReadsKey parts choice.reader choice.key (By choice.writer)
   pub written : WritesKey parts choice.writer choice.key

@@ -10,7 +10,7 @@ use Rattle.order_check.specs.declared.remainder.Parts.{Parts}
 use Rattle.order_check.specs.Based.{mark_of, remaining_at, Remains, IsReceived}
 use Rattle.order_check.specs.Known.{Known, ReadsKey, WritesKey}
 
--- every order that explains the parts has the one before the other
+-- the one is known to come before the other
 abbrev pub IsBefore : Parts → TxnId → TxnId → Type 0
 IsBefore parts a b = Known parts [] a b
 
