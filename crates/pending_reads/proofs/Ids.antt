@@ -1,6 +1,5 @@
 -- The order of ids by which a map finds them.
-use Rattle.std.proofs.Common.{◌≡◌, ◌≢◌, ℕ, ◌+◌, true, false, ◌&&◌, refl, sym, ap, ◌∙◌, nat_eq, arith}
-use Rattle.std.proofs.Common.{inl, inr, List, length, get_or}
+use Rattle.std.proofs.Common.{◌≡◌, ◌≢◌, ℕ, ◌+◌, true, false, ◌&&◌, refl, sym, ap, ◌∙◌, inl, inr, nat_eq, List, length, get_or, arith}
 use Rattle.std.proofs.lemmas.Bool.{false≢true, ltb-true, eqb-true, eq-eqb, and_parts, and_from, or_cases, cases_lt}
 use Rattle.std.specs.declared.cmp.Ordering.{Ordering}
 use Rattle.std.specs.declared.cmp.Ordering.TheVariants.{Less, Equal}

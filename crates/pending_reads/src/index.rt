@@ -70,7 +70,7 @@ impl PendingReads {
         !self.awaited.is_empty()
     }
 
-    /// Whether any read of these transactions waits.
+    /// Whether any read of these transactions waits. They are given in ascending order.
     pub fn any_in(&self, readers: &[TxnId]) -> bool
         requires { Rises id_below readers.now }
         ensures { IsTrue result ↔ HasWaitingIn self.now readers.now }
