@@ -1,0 +1,17 @@
+use Rattle.std.proofs.Common.{None, ap}
+use Rattle.order_check.specs.declared.remainder.Parts.{Parts}
+use Rattle.round_state.specs.EngineState.{EngineState}
+use Rattle.round_state.proofs.Keeping.{kept_fresh, fresh_holds}
+use Rattle.round_state.proofs.state.Engine.open.Goals as goal
+
+pub invariant_of-result : goal.invariant_of-result
+invariant_of-result c =
+    kept_fresh c.args.sessions c.args.limit c.in_ok-empty_parts.field-0 c.in_ok-empty_parts.ensures (c.if-sessions-lt1.false, c.if-sessions-gt-GREATEST_SESSIONS.false) (c.if-limit-lt1.false, c.if-limit-gt-GREATEST_LIMIT.false)
+
+-- a fresh engine with these parts
+abbrev engine_of : Parts → EngineState
+engine_of parts = record { parts = parts; asked = None; rounds = 0 }
+
+pub returns-clause-holds : goal.returns-clause-holds
+returns-clause-holds c =
+    fresh_holds c.args.sessions c.args.limit (engine_of c.in_ok-empty_parts.field-0) c.stands_for_what_remains.ensures (ap engine_of c.in_ok-empty_parts.ensures)

@@ -1,0 +1,151 @@
+-- Which replies to a step are legal, and what they lead to. The state has whole histories beside the engine: what is said
+-- of a verdict is said of them.
+use Rattle.std.specs.Prelude.{◌≡◌, ℕ, ◌+◌, ◌-◌, ◌<◌, ◌≤◌, ◌^◌, ◌⊎◌, ⊤, true, List, [], ◌∷◌, length, map, slice_get, Some, None, IsSome, IsSomeAnd, sum_by}
+use Rattle.txn.specs.declared.transactions.Fragment.{Fragment}
+use Rattle.txn.specs.declared.refusals.Refusal.{Refusal}
+use Rattle.txn.specs.declared.refusals.Refusal.TheVariants.{BadSession, Closed, Gap, Repeat, Backlog, TooLong, RoundOpen, NoRound, BadCertificate, NoMemory}
+use Rattle.txn.specs.Transactions.{IsWellFormedFragment, FragmentFault}
+use Rattle.txn.specs.History.{History}
+use Rattle.order_check.specs.declared.remainder.Parts.{Parts}
+use Rattle.order_check.specs.declared.remainder.Kind.{Kind}
+use Rattle.order_check.specs.declared.remainder.Kind.TheVariants as kinds
+use Rattle.order_check.specs.Based.{received_count}
+use Rattle.order_check.specs.Explains.{Explains}
+use Rattle.order_check.specs.StandsFor.{IsOpenSession, IsNextFragment, parts_with, with_fragment}
+use Rattle.order_check.specs.Verdict.{HasOrder}
+use Rattle.order_check.specs.Whole.{IsVerdictWhole}
+use Rattle.round_state.specs.EngineState.{EngineState}
+use Rattle.round_state.specs.Solving.{MayBeSpent, IsWrong}
+use Rattle.round_state.specs.declared.solving.Answer.{Answer}
+use Rattle.round_state.specs.declared.reports.Certificate.{Certificate}
+use Rattle.round_state.specs.declared.reports.Certificate.TheVariants.{Order, Refuted, Nothing}
+use Rattle.round_state.specs.declared.reports.Report.{Report}
+use Rattle.round_state.specs.declared.steps.Step.{Step}
+use Rattle.round_state.specs.declared.steps.Step.TheVariants.{Offer, Begin, Finish, Abandon}
+use Rattle.round_state.specs.declared.steps.StepReply.{StepReply}
+use Rattle.round_state.specs.declared.steps.StepReply.TheVariants as reply
+
+-- an engine, the whole history that it has received, and the one that it had received when the open round began
+pub record State : Type 0 where
+  pub engine : EngineState
+  pub whole : History
+  pub asked : History
+
+-- Why a well-formed fragment is refused: each case stands behind the ones above it.
+abbrev pub IntakeFault : Parts → Fragment → Refusal → Type 0
+IntakeFault parts fragment BadSession = length parts.remain ≤ fragment.session
+IntakeFault parts fragment Closed = (fragment.session < length parts.remain) × (slice_get parts.closed fragment.session ≡ Some true)
+IntakeFault parts fragment Gap = IsOpenSession parts fragment.session × (received_count parts fragment.session < fragment.first)
+IntakeFault parts fragment Repeat = IsOpenSession parts fragment.session × (fragment.first < received_count parts fragment.session)
+IntakeFault parts fragment Backlog = IsOpenSession parts fragment.session × (fragment.first ≡ received_count parts fragment.session) × (parts.limit < sum_by length parts.remain + length fragment.txns)
+IntakeFault parts fragment refusal = ⊥
+
+-- a fragment that is taken in, unless memory is wanting: it is next in an open session, and there is room for it
+pub record IsAdmitted (parts : Parts) (fragment : Fragment) : Type 0 where
+  pub next : IsNextFragment parts fragment
+  pub room : sum_by length parts.remain + length fragment.txns ≤ parts.limit
+
+-- Why an offer is refused: what is wrong with the fragment comes first, and memory is asked for last.
+abbrev pub IsOfferRefusal : Parts → Fragment → Refusal → Type 0
+IsOfferRefusal parts fragment NoMemory = IsAdmitted parts fragment
+IsOfferRefusal parts fragment refusal = FragmentFault fragment refusal ⊎ (IsWellFormedFragment fragment × IntakeFault parts fragment refusal)
+
+-- a round may begin: none is open, and its number is below 2^48
+pub record MayBegin (engine : EngineState) : Type 0 where
+  pub none_open : engine.asked ≡ None
+  pub number : engine.rounds < 2 ^ 48 - 1
+
+-- Why a begin is refused: memory is asked for last.
+abbrev pub IsBeginRefusal : EngineState → Refusal → Type 0
+IsBeginRefusal engine RoundOpen = IsSome engine.asked
+IsBeginRefusal engine TooLong = (engine.asked ≡ None) × (2 ^ 48 - 1 ≤ engine.rounds)
+IsBeginRefusal engine NoMemory = MayBegin engine
+IsBeginRefusal engine refusal = ⊥
+
+-- Why a finish by this answer is refused: a wrong answer is, and where a round is open memory may be wanting.
+abbrev pub IsFinishRefusal : EngineState → Answer → Refusal → Type 0
+IsFinishRefusal engine answer NoRound = engine.asked ≡ None
+IsFinishRefusal engine answer BadCertificate = IsSomeAnd engine.asked (λ parts. IsWrong parts answer)
+IsFinishRefusal engine answer NoMemory = IsSome engine.asked
+IsFinishRefusal engine answer refusal = ⊥
+
+-- why a finish by a solver's answer is refused: a solver's answer is never wrong
+abbrev pub IsSolvedRefusal : EngineState → Refusal → Type 0
+IsSolvedRefusal engine NoRound = engine.asked ≡ None
+IsSolvedRefusal engine NoMemory = IsSome engine.asked
+IsSolvedRefusal engine refusal = ⊥
+
+-- why an abandon is refused
+abbrev pub IsAbandonRefusal : EngineState → Refusal → Type 0
+IsAbandonRefusal engine NoRound = engine.asked ≡ None
+IsAbandonRefusal engine refusal = ⊥
+
+-- The engine after each call that is answered ok.
+
+abbrev pub engine_offered : EngineState → Fragment → EngineState
+engine_offered old fragment = record old { parts = parts_with old.parts fragment }
+
+abbrev pub engine_begun : EngineState → EngineState
+engine_begun old = record old { asked = Some old.parts }
+
+abbrev pub engine_finished : EngineState → EngineState
+engine_finished old = record { parts = old.parts; asked = None; rounds = old.rounds + 1 }
+
+abbrev pub engine_abandoned : EngineState → EngineState
+engine_abandoned old = record old { asked = None }
+
+-- The state after each step that is answered ok.
+
+abbrev pub offered : State → Fragment → State
+offered old fragment = record { engine = engine_offered old.engine fragment; whole = with_fragment old.whole fragment; asked = old.asked }
+
+abbrev pub begun : State → State
+begun old = record { engine = engine_begun old.engine; whole = old.whole; asked = old.whole }
+
+abbrev pub finished : State → State
+finished old = record old { engine = engine_finished old.engine }
+
+abbrev pub abandoned : State → State
+abandoned old = record old { engine = engine_abandoned old.engine }
+
+-- A kind other than spent is the verdict of the whole history.
+abbrev pub IsTrueOf : History → Kind → Type 0
+IsTrueOf whole kinds.Spent = ⊤
+IsTrueOf whole kind = IsVerdictWhole whole kind
+
+-- The certificate shows the kind over the snapshot: an order that explains it, that there is none, or that the search of
+-- this budget and depth may be spent.
+abbrev pub Shows : Parts → ℕ → ℕ → Kind → Certificate → Type 0
+Shows parts budget depth kinds.Serial (Order order) = Explains parts order
+Shows parts budget depth kinds.Pending (Order order) = Explains parts order
+Shows parts budget depth kinds.Violated Refuted = ¬ HasOrder parts
+Shows parts budget depth kinds.Spent Nothing = MayBeSpent parts budget depth
+Shows parts budget depth kind certificate = ⊥
+
+-- The report of a round whose snapshot are these parts.
+pub record IsRightReport (old : State) (parts : Parts) (budget depth : ℕ) (report : Report) : Type 0 where
+  pub number : report.round ≡ old.engine.rounds + 1
+  -- how many had been received of each session when the round began
+  pub counts : report.counts ≡ map length old.asked
+  -- the kind is the verdict of all that had been received then
+  pub true_of : IsTrueOf old.asked report.kind
+  pub shown : Shows parts budget depth report.kind report.certificate
+
+-- From the old state, this reply to the step is legal, and leads to the new state.
+abbrev pub Legal : State → Step → StepReply → State → Type 0
+Legal old (Offer fragment) reply.Done new = IsAdmitted old.engine.parts fragment × (new ≡ offered old fragment)
+Legal old (Offer fragment) (reply.Refused refusal) new = IsOfferRefusal old.engine.parts fragment refusal × (new ≡ old)
+Legal old Begin reply.Done new = MayBegin old.engine × (new ≡ begun old)
+Legal old Begin (reply.Refused refusal) new = IsBeginRefusal old.engine refusal × (new ≡ old)
+Legal old (Finish budget depth workers) (reply.Report report) new = IsSomeAnd old.engine.asked (λ parts. IsRightReport old parts budget depth report) × (new ≡ finished old)
+Legal old (Finish budget depth workers) (reply.Refused refusal) new = IsSolvedRefusal old.engine refusal × (new ≡ old)
+Legal old Abandon reply.Done new = IsSome old.engine.asked × (new ≡ abandoned old)
+Legal old Abandon (reply.Refused refusal) new = IsAbandonRefusal old.engine refusal × (new ≡ old)
+Legal old step other new = ⊥
+
+-- Step after step, each reply is legal.
+abbrev pub LegalRun : State → List Step → List StepReply → State → Type 0
+LegalRun old [] [] new = new ≡ old
+LegalRun old (step ∷ steps) (reply ∷ replies) new = (between : State) × Legal old step reply between × LegalRun between steps replies new
+LegalRun old [] (reply ∷ replies) new = ⊥
+LegalRun old (step ∷ steps) [] new = ⊥

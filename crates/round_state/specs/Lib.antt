@@ -1,0 +1,7 @@
+pub mod EngineState
+pub mod Kept
+pub mod Legal
+pub mod Opening
+pub mod Runs
+pub mod Solving
+pub mod Trial

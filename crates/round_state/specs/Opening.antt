@@ -1,0 +1,46 @@
+-- A fresh engine: what it is, and when none is given.
+use Rattle.std.specs.Prelude.{ℕ, ◌≤◌, [], None, false, replicate}
+use Rattle.std.specs.FinMap as map
+use Rattle.txn.specs.declared.refusals.Refusal.{Refusal}
+use Rattle.txn.specs.declared.refusals.Refusal.TheVariants.{BadSession, TooLong, NoMemory}
+use Rattle.txn.specs.History.{History}
+use Rattle.order_check.specs.declared.remainder.Parts.{Parts}
+use Rattle.round_state.specs.EngineState.{EngineState}
+use Rattle.round_state.specs.Legal.{State}
+use Rattle.round_state.specs.declared.state.TheConstants.{GREATEST_SESSIONS, GREATEST_LIMIT}
+
+-- so many sessions in which nothing was received
+abbrev pub no_history : ℕ → History
+no_history sessions = replicate sessions []
+
+-- parts of which nothing is gone and nothing remains, with so many sessions, all of them open, and this limit
+abbrev pub empty_parts : ℕ → ℕ → Parts
+empty_parts sessions limit = record {
+  base = record { last = map.empty; marks = replicate sessions 0 };
+  remain = no_history sessions;
+  closed = replicate sessions false;
+  limit = limit;
+}
+
+-- a fresh engine: it has empty parts, no round is open, and none was finished
+abbrev pub fresh : ℕ → ℕ → EngineState
+fresh sessions limit = record { parts = empty_parts sessions limit; asked = None; rounds = 0 }
+
+-- the state of a fresh engine: nothing has been received
+abbrev pub fresh_state : ℕ → ℕ → State
+fresh_state sessions limit = record { engine = fresh sessions limit; whole = no_history sessions; asked = no_history sessions }
+
+-- there may be so many sessions
+abbrev pub IsSessions : ℕ → Type 0
+IsSessions sessions = (1 ≤ sessions) × (sessions ≤ GREATEST_SESSIONS)
+
+-- so many transactions may be let remain
+abbrev pub IsLimit : ℕ → Type 0
+IsLimit limit = (1 ≤ limit) × (limit ≤ GREATEST_LIMIT)
+
+-- Why no engine is given: the number of sessions is judged before the limit, and memory is asked for last.
+abbrev pub IsOpenRefusal : ℕ → ℕ → Refusal → Type 0
+IsOpenRefusal sessions limit BadSession = ¬ IsSessions sessions
+IsOpenRefusal sessions limit TooLong = IsSessions sessions × (¬ IsLimit limit)
+IsOpenRefusal sessions limit NoMemory = IsSessions sessions × IsLimit limit
+IsOpenRefusal sessions limit refusal = ⊥

@@ -1,0 +1,15 @@
+//! The engine of an audit: it takes in fragments, and answers in rounds what all that was received is: serial, pending or
+//! violated.
+#![tactic(auto)]
+
+mod problems;
+mod reports;
+mod solving;
+mod state;
+mod steps;
+
+pub use problems::Problem;
+pub use reports::{Certificate, Report};
+pub use solving::{Answer, Solver, TrialSolver};
+pub use state::Engine;
+pub use steps::{Step, StepReply};

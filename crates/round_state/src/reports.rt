@@ -1,0 +1,100 @@
+ghost use Rattle.std.specs.Prelude.{◌≡◌, IfOk, IfErr, MatchResult};
+ghost use Rattle.order_check.specs.Based.{received_counts};
+ghost use Rattle.order_check.specs.Good.{IsGood};
+ghost use Rattle.order_check.specs.Verdict.{HasOrder, IsVerdict};
+ghost use Rattle.round_state.specs.Solving.{IsRight, IsReportOn, IsReportRefusal};
+ghost use Rattle.round_state.specs.Trial.{CanBeTried};
+
+use crate::solving::Answer;
+use order_check::{Kind, Parts, explains, find_order};
+use std::alloc::Global;
+use txn::{NoMemory, Refusal, Sequence, TxnId};
+
+/// What shows that a report's kind is right.
+#[derive(Drop, Debug)]
+pub enum Certificate {
+    /// The order explains the snapshot.
+    Order(Sequence<TxnId>),
+    /// No order explains the snapshot.
+    Refuted,
+    /// The round was spent: nothing is shown.
+    Nothing,
+}
+
+/// What a round found.
+#[derive(Drop, Debug)]
+pub struct Report {
+    /// The round's number; the first is 1.
+    pub round: u64,
+    pub kind: Kind,
+    /// How many transactions of each session had been received when the round began.
+    pub counts: Sequence<u64>,
+    pub certificate: Certificate,
+}
+
+#[tactic(auto, using(crate::proofs::Counts::counts_more, crate::proofs::Counts::counts_all))]
+fn received_counts(alloc: Global, parts: &Parts) -> Result<Sequence<u64>, NoMemory>
+    requires { IsGood parts.now }
+    ensures { IfOk result (λ counts. counts ≡ received_counts parts.now) }
+{
+    let mut counts = Vec::with_capacity(alloc, parts.sessions())?;
+    for session in 0..parts.sessions() as u8 {
+        counts.push(parts.received_count(session))?;
+    }
+    Ok(Sequence::new(counts))
+}
+
+/// The kind of parts that some order explains.
+fn kind_of_explained(parts: &Parts) -> Kind
+    requires { IsGood parts.now }
+    ensures { HasOrder parts.now → IsVerdict parts.now result }
+{
+    if parts.has_pending() {
+        Kind::Pending
+    } else {
+        Kind::Serial
+    }
+}
+
+/// Checks the answer. A right one earns its kind and its certificate.
+fn judge(alloc: Global, parts: &Parts, answer: Answer) -> Result<(Kind, Certificate), Refusal>
+    requires { CanBeTried parts.now }
+    ensures { MatchResult result (λ judged. IsRight parts.now answer judged.0 judged.1) (IsReportRefusal parts.now answer) }
+{
+    match answer {
+        Answer::Yes(order) => {
+            if !explains(alloc, parts, order.as_slice())? {
+                return Err(Refusal::BadCertificate);
+            }
+            Ok((kind_of_explained(parts), Certificate::Order(order)))
+        }
+        Answer::No => {
+            if find_order(alloc, parts)?.is_some() {
+                return Err(Refusal::BadCertificate);
+            }
+            Ok((Kind::Violated, Certificate::Refuted))
+        }
+        Answer::Spent => Ok((Kind::Spent, Certificate::Nothing)),
+        Answer::NoMemory => Err(Refusal::NoMemory),
+    }
+}
+
+/// The report on the snapshot that the answer earns.
+pub(crate) fn report_on(
+    alloc: Global,
+    parts: &Parts,
+    round: u64,
+    answer: Answer,
+) -> Result<Report, Refusal>
+    requires { CanBeTried parts.now }
+    ensures { MatchResult result (IsReportOn parts.now round answer) (IsReportRefusal parts.now answer) }
+{
+    let counts = received_counts(alloc, parts)?;
+    let (kind, certificate) = judge(alloc, parts, answer)?;
+    Ok(Report {
+        round,
+        kind,
+        counts,
+        certificate,
+    })
+}

@@ -1,0 +1,214 @@
+ghost use Rattle.std.specs.Prelude.{◌≡◌, ◌+◌, false, replicate, length, sum_by, Some, IfOk, IfErr, OnOk, MatchResult, IsSome, IsSomeAnd};
+ghost use Rattle.txn.specs.Transactions.{IsWellFormedFragment};
+ghost use Rattle.order_check.specs.Good.{IsGood};
+ghost use Rattle.round_state.specs.Trial.{CanBeTried};
+ghost use Rattle.round_state.specs.Opening.{IsSessions, IsLimit, IsOpenRefusal, no_history, empty_parts, fresh, fresh_state};
+ghost use Rattle.round_state.specs.Legal.{IsAdmitted, IntakeFault, IsOfferRefusal, MayBegin, IsBeginRefusal, IsFinishRefusal, IsSolvedRefusal, IsAbandonRefusal, engine_offered, engine_begun, engine_finished, engine_abandoned};
+ghost use Rattle.round_state.specs.Runs.{Holds};
+ghost use Rattle.round_state.specs.Solving.{IsReportOn};
+
+use crate::problems::Problem;
+use crate::reports::{Report, report_on};
+use crate::solving::Answer;
+use order_check::{Base, LastWriters, Parts, stands_for_what_remains};
+use std::alloc::Global;
+use std::marker::Model;
+use txn::{Fragment, NoMemory, Refusal, Sequence, Txn, check_fragment};
+
+/// The greatest number of sessions.
+const GREATEST_SESSIONS: u64 = 64;
+
+/// The greatest number of transactions that may remain: as many as a trial of all orders can take.
+const GREATEST_LIMIT: u64 = 8;
+
+/// The number of the last round.
+const LAST_ROUND: u64 = (1 << 48) - 1;
+
+/// Takes in fragments, and checks in rounds all that was received. Fragments may be taken in while a round is open: it
+/// is about what had been received when it began.
+#[derive(Drop, Debug)]
+pub struct Engine {
+    parts: Parts,
+    asked: Option<Parts>,
+    round: u64,
+}
+
+impl Model for Engine {
+    ghost use Rattle.std.specs.Coded.{codes};
+    ghost use Rattle.order_check.specs.Codes.{coded_last};
+    ghost use Rattle.round_state.specs.EngineState.{EngineState};
+    ghost use Rattle.round_state.specs.Kept.{IsKept};
+
+    ghost Value = { EngineState };
+
+    ghost coded = { Prim.hlevel (codes, coded_last) };
+
+    ghost view = { λ e. record { parts = e.parts; asked = e.asked; rounds = e.round } };
+
+    ghost invariant = { λ e. IsKept e.parts e.asked e.round };
+}
+
+fn no_sessions(alloc: Global, count: usize) -> Result<Sequence<Sequence<Txn>>, NoMemory>
+    ensures { IfOk result (λ sessions. sessions ≡ no_history count) }
+{
+    let mut remain = Vec::with_capacity(alloc, count)?;
+    for session in 0..count {
+        remain.push(Sequence::new(Vec::new(alloc)))?;
+    }
+    Ok(Sequence::new(remain))
+}
+
+fn no_marks(alloc: Global, count: usize) -> Result<Sequence<u64>, NoMemory>
+    ensures { IfOk result (λ marks. marks ≡ replicate count 0) }
+{
+    Ok(Sequence::new(vec![in alloc; 0u64; count]?))
+}
+
+fn none_closed(alloc: Global, count: usize) -> Result<Sequence<bool>, NoMemory>
+    ensures { IfOk result (λ closed. closed ≡ replicate count false) }
+{
+    Ok(Sequence::new(vec![in alloc; false; count]?))
+}
+
+fn empty_parts(alloc: Global, sessions: u64, limit: u64) -> Result<Parts, NoMemory>
+    ensures { IfOk result (λ parts. parts ≡ empty_parts sessions limit) }
+{
+    let count = sessions as usize;
+    let base = Base {
+        last: LastWriters::new(alloc),
+        marks: no_marks(alloc, count)?,
+    };
+    Ok(Parts {
+        base,
+        remain: no_sessions(alloc, count)?,
+        closed: none_closed(alloc, count)?,
+        limit,
+    })
+}
+
+/// Whether a well-formed fragment is next in an open session and finds room; if not, why.
+fn admit(parts: &Parts, fragment: &Fragment) -> Result<(), Refusal>
+    requires good { IsGood parts.now }
+    requires well_formed { IsWellFormedFragment fragment.now }
+    ensures { MatchResult result (λ _. IsAdmitted parts.now fragment.now) (IntakeFault parts.now fragment.now) }
+{
+    if usize::from(fragment.session) >= parts.sessions() {
+        return Err(Refusal::BadSession);
+    }
+    if parts.is_closed(fragment.session) {
+        return Err(Refusal::Closed);
+    }
+    let received = parts.received_count(fragment.session);
+    if fragment.first > received {
+        return Err(Refusal::Gap);
+    }
+    if fragment.first < received {
+        return Err(Refusal::Repeat);
+    }
+    if (parts.remaining_count() + fragment.txns.len()) as u64 > parts.limit {
+        return Err(Refusal::Backlog);
+    }
+    Ok(())
+}
+
+impl Engine {
+    /// A fresh engine of so many sessions, which lets at most so many transactions remain.
+    pub fn open(alloc: Global, sessions: u64, limit: u64) -> Result<Engine, Refusal>
+        ensures ok { IfOk result (λ engine. engine ≡ fresh sessions limit) }
+        ensures holds { IfOk result (λ engine. Holds engine (fresh_state sessions limit)) }
+        ensures numbers { OnOk result (IsSessions sessions × IsLimit limit) }
+        ensures err { IfErr result (IsOpenRefusal sessions limit) }
+    {
+        if sessions < 1 || sessions > GREATEST_SESSIONS {
+            return Err(Refusal::BadSession);
+        }
+        if limit < 1 || limit > GREATEST_LIMIT {
+            return Err(Refusal::TooLong);
+        }
+        stands_for_what_remains();
+        Ok(Engine {
+            parts: empty_parts(alloc, sessions, limit)?,
+            asked: None,
+            round: 0,
+        })
+    }
+
+    /// How many transactions remain.
+    pub fn remaining(&self) -> usize
+        ensures { result ≡ sum_by length self.now.parts.remain }
+    {
+        self.parts.remaining_count()
+    }
+
+    pub fn parts(&self) -> &Parts
+        ensures value { result.now ≡ self.now.parts }
+        ensures fit { CanBeTried result.now }
+    {
+        &self.parts
+    }
+
+    /// Takes a fragment in, whether or not a round is open.
+    pub fn offer(&mut self, alloc: Global, fragment: Fragment) -> Result<(), Refusal>
+        ensures ok { OnOk result (IsAdmitted self.old.parts fragment × (self.new ≡ engine_offered self.old fragment)) }
+        ensures err { IfErr result (λ refusal. IsOfferRefusal self.old.parts fragment refusal × (self.new ≡ self.old)) }
+    {
+        check_fragment(&fragment)?;
+        admit(&self.parts, &fragment)?;
+        let Fragment { session, txns, .. } = fragment;
+        self.parts.remain.append_at(usize::from(session), txns)?;
+        Ok(())
+    }
+
+    /// Opens a round on what has been received, and gives the problem that an answer finishes it by.
+    pub fn begin(&mut self, alloc: Global) -> Result<Problem, Refusal>
+        ensures ok { IfOk result (λ problem. MayBegin self.old × (problem ≡ self.old.parts) × (self.new ≡ engine_begun self.old)) }
+        ensures err { IfErr result (λ refusal. IsBeginRefusal self.old refusal × (self.new ≡ self.old)) }
+    {
+        if self.asked.is_some() {
+            return Err(Refusal::RoundOpen);
+        }
+        if self.round >= LAST_ROUND {
+            return Err(Refusal::TooLong);
+        }
+        let problem = Problem::of(alloc, &self.parts)?;
+        self.asked = Some(self.parts.clone()?);
+        Ok(problem)
+    }
+
+    /// Finishes the open round by an answer, which is checked here. A wrong answer and want of memory leave it open.
+    pub fn finish(&mut self, alloc: Global, answer: Answer) -> Result<Report, Refusal>
+        ensures ok { IfOk result (λ report. IsSomeAnd self.old.asked (λ parts. IsReportOn parts (self.old.rounds + 1) answer report) × (self.new ≡ engine_finished self.old)) }
+        ensures err { IfErr result (λ refusal. IsFinishRefusal self.old answer refusal × (self.new ≡ self.old)) }
+    {
+        let Some(parts) = &self.asked else {
+            return Err(Refusal::NoRound);
+        };
+        let report = report_on(alloc, parts, self.round + 1, answer)?;
+        self.asked = None;
+        self.round += 1;
+        Ok(report)
+    }
+
+    /// The open round's problem, made anew.
+    pub(crate) fn problem(&self, alloc: Global) -> Result<Problem, Refusal>
+        ensures ok { IfOk result (λ problem. (self.now.asked ≡ Some problem) × IsGood problem) }
+        ensures err { IfErr result (IsSolvedRefusal self.now) }
+    {
+        let Some(parts) = &self.asked else {
+            return Err(Refusal::NoRound);
+        };
+        Ok(Problem::of(alloc, parts)?)
+    }
+
+    /// Ends the open round without a report; its number isn't used up.
+    pub fn abandon(&mut self) -> Result<(), Refusal>
+        ensures ok { OnOk result (IsSome self.old.asked × (self.new ≡ engine_abandoned self.old)) }
+        ensures err { IfErr result (λ refusal. IsAbandonRefusal self.old refusal × (self.new ≡ self.old)) }
+    {
+        if self.asked.is_none() {
+            return Err(Refusal::NoRound);
+        }
+        self.asked = None;
+        Ok(())
+    }
+}
