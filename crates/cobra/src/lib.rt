@@ -9,6 +9,6 @@ mod memory;
 mod standard;
 
 pub use devices::{ByteSink, ByteSource, DeviceFault, write_all};
-pub use lines::{LineError, LineReader, Next};
+pub use lines::{LONGEST_LINE, LineError, LineReader, Next};
 pub use memory::{MemorySink, MemorySource, Pace};
 pub use standard::{ReaderSource, StandardInput, StandardOutput, WriterSink};

@@ -12,6 +12,9 @@ use std::mem;
 use thiserror::Error;
 use txn::NoMemory;
 
+/// The longest line of a script, in bytes.
+pub const LONGEST_LINE: usize = 8_388_608;
+
 const LF: u8 = b'\n';
 
 /// What comes next on the input.
@@ -179,3 +182,6 @@ impl LineReader {
         }
     }
 }
+
+#[cfg(test)]
+mod tests;

@@ -6,8 +6,10 @@ use crate::faults::FaultCount;
 /// How the calls of a device over memory go.
 #[derive(Drop)]
 pub struct Pace {
-    most: usize,
-    fails_in: u64,
+    /// At most so many bytes go in a call.
+    pub most: usize,
+    /// Which of the calls to come fails, the next one being 1; at 0 none does.
+    pub fails_in: u64,
     faults: FaultCount,
     ghost moves: { 0 < most },
 }
@@ -15,7 +17,6 @@ pub struct Pace {
 impl Pace {
     ghost use Rattle.cobra.specs.Memory.{faults_of, IsPaceAfter};
 
-    /// Each call moves at most so many bytes, and the one of this number fails, the first being 1; at 0 none does.
     pub fn new(most: usize, fails_at: u64) -> Pace
         requires { 0 < most }
         ensures most { result.most ≡ most }
@@ -128,5 +129,32 @@ impl ByteSink for MemorySink {
 
     fn write(&mut self, bytes: &[u8]) -> Result<usize, DeviceFault> {
         self.keep(bytes)
+    }
+}
+
+#[cfg(test)]
+mod tests {
+    use super::*;
+    use crate::devices::write_all;
+    use std::test::Fail;
+
+    #[test]
+    fn writes_all_by_pieces_or_a_front(rt: HostRuntime) -> Result<(), Fail> {
+        let cases = [
+            (0, "abcdefgh", Ok(())),
+            (1, "", Err(DeviceFault)),
+            (2, "abc", Err(DeviceFault)),
+            (3, "abcdef", Err(DeviceFault)),
+            (4, "abcdefgh", Ok(())),
+        ];
+        for (fails_at, want, outcome) in cases {
+            let mut sink = MemorySink {
+                bytes: Vec::new(rt.alloc()),
+                pace: Pace::new(3, fails_at),
+            };
+            assert_eq!(rt; write_all(&mut sink, b"abcdefgh"), outcome, "at {fails_at}");
+            assert_eq!(rt; sink.bytes.as_slice(), want.as_bytes(), "at {fails_at}");
+        }
+        Ok(())
     }
 }

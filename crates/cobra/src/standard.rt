@@ -20,6 +20,7 @@ impl<R: Read> ReaderSource<R> {
     pub fn new(reader: R) -> ReaderSource<R>
         ensures bytes { ⟦<ReaderSource<R> as ByteSource>⟧.remaining result ≡ R.remaining reader }
         ensures faults { ⟦<ReaderSource<R> as ByteSource>⟧.faults result ≡ 0 }
+        ensures reads { ⟦<ReaderSource<R> as ByteSource>⟧.reads_left result ≡ u64.MAX }
     {
         ReaderSource {
             reader,
@@ -91,5 +92,50 @@ impl<W: Write> ByteSink for WriterSink<W> {
         }
         self.faults.add();
         Err(DeviceFault)
+    }
+}
+
+#[cfg(test)]
+mod tests {
+    use super::*;
+    use std::io;
+    use std::test::Fail;
+
+    /// Is interrupted, gives a byte, and then fails.
+    #[derive(Drop)]
+    struct Flaky {
+        calls: u8,
+    }
+
+    impl Read for Flaky {
+        fn read(&mut self, buf: &mut [u8]) -> io::Result<usize> {
+            self.calls = self.calls.saturating_add(1);
+            match self.calls {
+                1 => Err(io::Error::from(ErrorKind::Interrupted)),
+                2 if !buf.is_empty() => {
+                    buf[0] = b'x';
+                    Ok(1)
+                }
+                _ => Err(io::Error::from(ErrorKind::Other)),
+            }
+        }
+    }
+
+    #[test]
+    fn an_interrupted_read_is_no_failure(rt: HostRuntime) {
+        let mut source = ReaderSource::new(Flaky { calls: 0 });
+        let mut buffer = [0; 4];
+        assert_eq!(rt; source.read(&mut buffer), Ok(1));
+        assert_eq!(rt; buffer[0], b'x');
+        assert_eq!(rt; source.read(&mut buffer), Err(DeviceFault));
+    }
+
+    #[test]
+    fn writes_what_a_writer_takes(rt: HostRuntime) -> Result<(), Fail> {
+        let mut sink = WriterSink::new(Vec::new(rt.alloc()));
+        assert_eq!(rt; sink.write(b"ab"), Ok(2));
+        assert_eq!(rt; sink.write(b""), Ok(0));
+        assert_eq!(rt; sink.writer.as_slice(), b"ab".as_slice());
+        Ok(())
     }
 }
