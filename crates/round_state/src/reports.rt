@@ -2,7 +2,7 @@ ghost use Rattle.std.specs.Prelude.{◌≡◌, IfOk, IfErr, MatchResult};
 ghost use Rattle.order_check.specs.Based.{received_counts};
 ghost use Rattle.order_check.specs.Good.{IsGood};
 ghost use Rattle.order_check.specs.Verdict.{HasOrder, IsVerdict};
-ghost use Rattle.round_state.specs.Solving.{IsRight, IsReportOn, IsReportRefusal};
+ghost use Rattle.round_state.specs.Solving.{IsRight, IsReportRefusal};
 ghost use Rattle.round_state.specs.Trial.{CanBeTried};
 
 use crate::solving::Answer;
@@ -32,8 +32,9 @@ pub struct Report {
     pub certificate: Certificate,
 }
 
+/// How many were received of each session.
 #[tactic(auto, using(crate::proofs::Counts::counts_more, crate::proofs::Counts::counts_all))]
-fn received_counts(alloc: Global, parts: &Parts) -> Result<Sequence<u64>, NoMemory>
+pub fn received_counts(alloc: Global, parts: &Parts) -> Result<Sequence<u64>, NoMemory>
     requires { IsGood parts.now }
     ensures { IfOk result (λ counts. counts ≡ received_counts parts.now) }
 {
@@ -57,7 +58,11 @@ fn kind_of_explained(parts: &Parts) -> Kind
 }
 
 /// Checks the answer. A right one earns its kind and its certificate.
-fn judge(alloc: Global, parts: &Parts, answer: Answer) -> Result<(Kind, Certificate), Refusal>
+pub(crate) fn judge(
+    alloc: Global,
+    parts: &Parts,
+    answer: Answer,
+) -> Result<(Kind, Certificate), Refusal>
     requires { CanBeTried parts.now }
     ensures { MatchResult result (λ judged. IsRight parts.now answer judged.0 judged.1) (IsReportRefusal parts.now answer) }
 {
@@ -77,24 +82,4 @@ fn judge(alloc: Global, parts: &Parts, answer: Answer) -> Result<(Kind, Certific
         Answer::Spent => Ok((Kind::Spent, Certificate::Nothing)),
         Answer::NoMemory => Err(Refusal::NoMemory),
     }
-}
-
-/// The report on the snapshot that the answer earns.
-pub(crate) fn report_on(
-    alloc: Global,
-    parts: &Parts,
-    round: u64,
-    answer: Answer,
-) -> Result<Report, Refusal>
-    requires { CanBeTried parts.now }
-    ensures { MatchResult result (IsReportOn parts.now round answer) (IsReportRefusal parts.now answer) }
-{
-    let counts = received_counts(alloc, parts)?;
-    let (kind, certificate) = judge(alloc, parts, answer)?;
-    Ok(Report {
-        round,
-        kind,
-        counts,
-        certificate,
-    })
 }

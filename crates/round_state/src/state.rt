@@ -1,4 +1,4 @@
-ghost use Rattle.std.specs.Prelude.{◌≡◌, ◌+◌, false, replicate, length, sum_by, Some, IfOk, IfErr, OnOk, MatchResult, IsSome, IsSomeAnd};
+ghost use Rattle.std.specs.Prelude.{◌≡◌, ◌↔◌, ◌+◌, IsTrue, false, replicate, length, sum_by, Some, IfOk, IfErr, OnOk, MatchResult, IsSome, IsSomeAnd};
 ghost use Rattle.txn.specs.Transactions.{IsWellFormedFragment};
 ghost use Rattle.order_check.specs.Good.{IsGood};
 ghost use Rattle.round_state.specs.Trial.{CanBeTried};
@@ -8,7 +8,7 @@ ghost use Rattle.round_state.specs.Runs.{Holds};
 ghost use Rattle.round_state.specs.Solving.{IsReportOn};
 
 use crate::problems::Problem;
-use crate::reports::{Report, report_on};
+use crate::reports::{Report, judge, received_counts};
 use crate::solving::Answer;
 use order_check::{Base, LastWriters, Parts, stands_for_what_remains};
 use std::alloc::Global;
@@ -48,7 +48,19 @@ impl Model for Engine {
     ghost invariant = { λ e. IsKept e.parts e.asked e.round };
 }
 
-fn no_sessions(alloc: Global, count: usize) -> Result<Sequence<Sequence<Txn>>, NoMemory>
+fn is_sessions(sessions: u64) -> bool
+    ensures { IsTrue result ↔ IsSessions sessions }
+{
+    1 <= sessions && sessions <= GREATEST_SESSIONS
+}
+
+fn is_limit(limit: u64) -> bool
+    ensures { IsTrue result ↔ IsLimit limit }
+{
+    1 <= limit && limit <= GREATEST_LIMIT
+}
+
+fn empty_sessions(alloc: Global, count: usize) -> Result<Sequence<Sequence<Txn>>, NoMemory>
     ensures { IfOk result (λ sessions. sessions ≡ no_history count) }
 {
     let mut remain = Vec::with_capacity(alloc, count)?;
@@ -58,13 +70,13 @@ fn no_sessions(alloc: Global, count: usize) -> Result<Sequence<Sequence<Txn>>, N
     Ok(Sequence::new(remain))
 }
 
-fn no_marks(alloc: Global, count: usize) -> Result<Sequence<u64>, NoMemory>
+fn zero_marks(alloc: Global, count: usize) -> Result<Sequence<u64>, NoMemory>
     ensures { IfOk result (λ marks. marks ≡ replicate count 0) }
 {
     Ok(Sequence::new(vec![in alloc; 0u64; count]?))
 }
 
-fn none_closed(alloc: Global, count: usize) -> Result<Sequence<bool>, NoMemory>
+fn open_flags(alloc: Global, count: usize) -> Result<Sequence<bool>, NoMemory>
     ensures { IfOk result (λ closed. closed ≡ replicate count false) }
 {
     Ok(Sequence::new(vec![in alloc; false; count]?))
@@ -76,12 +88,12 @@ fn empty_parts(alloc: Global, sessions: u64, limit: u64) -> Result<Parts, NoMemo
     let count = sessions as usize;
     let base = Base {
         last: LastWriters::new(alloc),
-        marks: no_marks(alloc, count)?,
+        marks: zero_marks(alloc, count)?,
     };
     Ok(Parts {
         base,
-        remain: no_sessions(alloc, count)?,
-        closed: none_closed(alloc, count)?,
+        remain: empty_sessions(alloc, count)?,
+        closed: open_flags(alloc, count)?,
         limit,
     })
 }
@@ -119,10 +131,10 @@ impl Engine {
         ensures numbers { OnOk result (IsSessions sessions × IsLimit limit) }
         ensures err { IfErr result (IsOpenRefusal sessions limit) }
     {
-        if sessions < 1 || sessions > GREATEST_SESSIONS {
+        if !is_sessions(sessions) {
             return Err(Refusal::BadSession);
         }
-        if limit < 1 || limit > GREATEST_LIMIT {
+        if !is_limit(limit) {
             return Err(Refusal::TooLong);
         }
         stands_for_what_remains();
@@ -183,10 +195,16 @@ impl Engine {
         let Some(parts) = &self.asked else {
             return Err(Refusal::NoRound);
         };
-        let report = report_on(alloc, parts, self.round + 1, answer)?;
+        let counts = received_counts(alloc, parts)?;
+        let (kind, certificate) = judge(alloc, parts, answer)?;
         self.asked = None;
         self.round += 1;
-        Ok(report)
+        Ok(Report {
+            round: self.round,
+            kind,
+            counts,
+            certificate,
+        })
     }
 
     /// The open round's problem, made anew.
@@ -194,10 +212,10 @@ impl Engine {
         ensures ok { IfOk result (λ problem. (self.now.asked ≡ Some problem) × IsGood problem) }
         ensures err { IfErr result (IsSolvedRefusal self.now) }
     {
-        let Some(parts) = &self.asked else {
-            return Err(Refusal::NoRound);
-        };
-        Ok(Problem::of(alloc, parts)?)
+        match &self.asked {
+            Some(parts) => Ok(Problem::of(alloc, parts)?),
+            None => Err(Refusal::NoRound),
+        }
     }
 
     /// Ends the open round without a report; its number isn't used up.

@@ -1,4 +1,7 @@
 use Rattle.round_state.proofs.state.Engine.finish.Goals as goal
 
-pub report_on-requires : goal.report_on-requires
-report_on-requires c = c.self.invariant.asked_fit c.in-Some.parts c.in-Some.is
+pub received_counts-requires : goal.received_counts-requires
+received_counts-requires c = assumption (c.self.invariant.asked_fit c.in-Some.parts c.in-Some.is)
+
+pub judge-requires : goal.judge-requires
+judge-requires c = assumption (c.self.invariant.asked_fit c.in-Some.parts c.in-Some.is)

@@ -1,4 +1,4 @@
-use Rattle.std.proofs.Common.{None, ap}
+use Rattle.std.proofs.Common.{None, refl, ap}
 use Rattle.order_check.specs.declared.remainder.Parts.{Parts}
 use Rattle.round_state.specs.EngineState.{EngineState}
 use Rattle.round_state.proofs.Keeping.{kept_fresh, fresh_holds}
@@ -6,7 +6,7 @@ use Rattle.round_state.proofs.state.Engine.open.Goals as goal
 
 pub invariant_of-result : goal.invariant_of-result
 invariant_of-result c =
-    kept_fresh c.args.sessions c.args.limit c.in_ok-empty_parts.field-0 c.in_ok-empty_parts.ensures (c.if-sessions-lt1.false, c.if-sessions-gt-GREATEST_SESSIONS.false) (c.if-limit-lt1.false, c.if-limit-gt-GREATEST_LIMIT.false)
+    kept_fresh c.args.sessions c.args.limit c.in_ok-empty_parts.field-0 c.in_ok-empty_parts.ensures (c.if-not-is_sessions.ensures.0 refl) (c.if-not-is_limit.ensures.0 refl)
 
 -- a fresh engine with these parts
 abbrev engine_of : Parts → EngineState
