@@ -4,7 +4,7 @@ use Rattle.std.proofs.lemmas.List.Elements.{All-head, All-tail}
 use Rattle.std.proofs.lemmas.Bool.Decides.{nat_tests}
 use Rattle.cobra.specs.Lines.{lines, onto_first, HasNoLf}
 
-not_lf : (byte : ℕ) → byte ≢ 10 → nat_eq byte 10 ≡ false
+pub not_lf : (byte : ℕ) → byte ≢ 10 → nat_eq byte 10 ≡ false
 not_lf byte h = grind (arith, nat_tests)
 
 -- a line that an LF ends, and the lines after it

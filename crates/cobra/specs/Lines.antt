@@ -1,5 +1,5 @@
 -- Lines of bytes.
-use Rattle.std.specs.Prelude.{◌≢◌, ℕ, List, [], ◌∷◌, ◌==◌, if◌then◌else◌, All}
+use Rattle.std.specs.Prelude.{◌≢◌, ℕ, List, [], ◌∷◌, ◌==◌, if◌then◌else◌, All, count_by}
 
 -- a byte before the first of the lines
 abbrev pub onto_first : ℕ → List (List ℕ) → List (List ℕ)
@@ -10,6 +10,10 @@ onto_first byte (line ∷ lines) = (byte ∷ line) ∷ lines
 abbrev pub lines : List ℕ → List (List ℕ)
 lines [] = []
 lines (byte ∷ bytes) = if byte == 10 then [] ∷ lines bytes else onto_first byte (lines bytes)
+
+-- how many LFs there are
+abbrev pub lf_count : List ℕ → ℕ
+lf_count bytes = count_by (λ byte. byte == 10) bytes
 
 abbrev pub HasNoLf : List ℕ → Type 0
 HasNoLf bytes = All (λ byte. byte ≢ 10) bytes

@@ -1,3 +1,4 @@
 pub mod Arity
+pub mod CommandLimits
 pub mod EachItem
 pub mod ValueTexts

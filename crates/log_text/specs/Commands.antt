@@ -1,5 +1,5 @@
 -- Which lines of a script are commands: each is a JSON array, of a word and the command's parts.
-use Rattle.std.specs.Prelude.{◌≡◌, ℕ, ◌^◌, List, Option, Some, None, IsUtf8, bytes_eq, codes, option_map, if◌then◌else◌}
+use Rattle.std.specs.Prelude.{◌≡◌, ℕ, ◌≤◌, ◌^◌, ⊤, List, Option, Some, None, IsUtf8, bytes_eq, codes, option_map, if◌then◌else◌}
 use Rattle.serde_json.specs.Data.{Data, string, array, Items, no_items, item}
 use Rattle.serde_json.specs.Read.{read}
 use Rattle.txn.specs.declared.transactions.Source.{Source}
@@ -91,6 +91,20 @@ command_in items = None
 abbrev pub command_of : Data → Option Command
 command_of (array items) = command_in items
 command_of given = None
+
+-- the numbers of a search are within their limits
+pub record IsEffort (budget depth workers : ℕ) : Type 0 where
+  pub some_budget : 1 ≤ budget
+  pub low_budget : budget ≤ 2 ^ 32
+  pub low_depth : depth ≤ 6
+  pub some_workers : 1 ≤ workers
+  pub few_workers : workers ≤ 16
+
+-- those that a command has
+abbrev pub HasLimits : Command → Type 0
+HasLimits (Finish budget depth workers) = IsEffort budget depth workers
+HasLimits (Round budget depth workers) = IsEffort budget depth workers
+HasLimits command = ⊤
 
 -- the line is a JSON text, and what it says is this command
 pub record IsCommand (line : List ℕ) (command : Command) : Type 0 where

@@ -2,7 +2,7 @@ ghost use Rattle.std.specs.Prelude.{◌≡◌, ◌⊎◌, IfOk, IfErr, Some};
 ghost use Rattle.serde_json.specs.View.{view, items_view};
 ghost use Rattle.log_text.specs.declared.commands.Command.{Command};
 ghost use Rattle.log_text.specs.Numbers.{whole_number, number_within, list_of};
-ghost use Rattle.log_text.specs.Commands.{session_of, init_of, read_in, read_of, txn_in, txn_of, start_in, offer_in, close_in, alone, effort_in, finish_in, round_in, command_named, command_in, command_of, IsCommand};
+ghost use Rattle.log_text.specs.Commands.{session_of, init_of, read_in, read_of, txn_in, txn_of, start_in, offer_in, close_in, alone, effort_in, finish_in, round_in, command_named, command_in, command_of, IsCommand, HasLimits};
 
 use serde_json::Value;
 use std::alloc::Global;
@@ -311,6 +311,7 @@ fn command_of(alloc: Global, value: &Value) -> Result<Option<Command>, NoMemory>
 /// The command that a line is, without its line feed; BadLine where it is none.
 pub fn read_line(alloc: Global, line: &[u8]) -> Result<Command, Refusal>
     ensures ok { IfOk result (IsCommand line.now) }
+    ensures limits { IfOk result HasLimits }
     ensures err { IfErr result (λ refusal. (refusal ≡ Refusal.NoMemory)
         ⊎ ((refusal ≡ Refusal.BadLine) × ((command : Command) → ¬ IsCommand line.now command))) }
 {

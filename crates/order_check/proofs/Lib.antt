@@ -18,4 +18,5 @@ pub mod Replayed
 pub mod RulesKept
 pub mod Sessions
 pub mod Whole
+pub mod WriterEntries
 pub mod Writers

@@ -51,6 +51,18 @@ impl LastWriters {
         Ok(())
     }
 
+    /// Each key with its last writer, keys rising.
+    pub fn entries(&self, alloc: Global) -> Result<Sequence<(u64, TxnId)>, NoMemory>
+        ensures { IfOk result (λ entries. entries ≡ map.entries self.now) }
+    {
+        let entries = self
+            .entries
+            .iter()
+            .map(|(key, writer)| (*key, *writer))
+            .collect(alloc)?;
+        Ok(Sequence::new(entries))
+    }
+
     /// Whether each writer's number is below the mark of its session.
     pub fn are_below(&self, marks: &[u64]) -> bool
         ensures { IsTrue result ↔ AreBelowMarks marks.now self.now }

@@ -1,0 +1,235 @@
+-- A script under way: the lines that were answered, and those that are still to come.
+use Rattle.std.proofs.Common.{◌≡◌, ◌≢◌, ℕ, ◌+◌, ◌≤◌, ◌<◌, ◌⊎◌, List, [], ◌∷◌, ◌++◌, length, take, append_assoc, append-nil, length-append, Option, Some, None, IfSome, refl, ap, sym, ◌∙◌, subst, arith, ⊎_elim}
+use Rattle.std.specs.Prelude.{slice_get}
+use Rattle.std.specs.List.{concat}
+use Rattle.std.specs.Io.KnownBytes.{Consumes, IsAtEnd}
+use Rattle.std.proofs.lemmas.List.{take_at, length_push}
+use Rattle.round_state.specs.EngineState.{EngineState}
+use Rattle.round_state.specs.Legal.{State}
+use Rattle.cobra.specs.declared.lines.TheConstants.{LONGEST_LINE}
+use Rattle.cobra.specs.declared.lines.LineReader.{LineReader}
+use Rattle.cobra.specs.declared.lines.Next.{Next}
+use Rattle.cobra.specs.declared.lines.Next.TheVariants.{Line, TooLong, End}
+use Rattle.cobra.specs.LineReaders.{ahead, limit_of, lines_ahead, IsNextOf, ReadsLine, EndsAtLf, EndsAtEnd, StopsInLine}
+use Rattle.cobra.specs.Lines.{lines, lf_count}
+use Rattle.cobra.specs.Outputs.{Replies, RepliesAll, IsOutputOf, IsOutput, lines_read, AnswersFront, StopsForMemory, StopsReading, StopsWriting, IsTold, RepliesLegally}
+use Rattle.cobra.specs.Scripts.{HoldsScript}
+use Rattle.cobra.proofs.LineCounts.{lf_count-append, lf_count-le-lines, no_lines, lf_count-line, lf_count-last, lf_count-stopped}
+
+pub if_told : (told : Option (List ℕ)) (P : List ℕ → Type 0) → ((bytes : List ℕ) → told ≡ Some bytes → P bytes) → IfSome told P
+if_told None P h = tt
+if_told (Some bytes) P h = h bytes refl
+
+-- one more line is answered
+
+answers_more : (old mid new : Option State) (asked texts : List (List ℕ)) (line text : List ℕ) → RepliesAll old asked texts mid → Replies mid line text new → RepliesAll old (asked ++ line ∷ []) (texts ++ text ∷ []) new
+answers_more old mid new [] [] line text all one = (new, subst (λ (state : Option State). Replies state line text new) all one, refl)
+answers_more old mid new (a ∷ asked) (t ∷ texts) line text all one = (all.0, all.1, answers_more all.0 mid new asked texts line text all.2 one)
+answers_more old mid new [] (t ∷ texts) line text all one = absurd all
+answers_more old mid new (a ∷ asked) [] line text all one = absurd all
+
+concat-push : (texts : List (List ℕ)) (text : List ℕ) → concat (texts ++ text ∷ []) ≡ concat texts ++ text
+concat-push [] text = append-nil text
+concat-push (t ∷ texts) text = ap (λ bytes. t ++ bytes) (concat-push texts text) ∙ sym (append_assoc t (concat texts) text)
+
+output_more : (asked : List (List ℕ)) (output line text : List ℕ) (mid new : Option State) → IsOutputOf asked output mid → Replies mid line text new → IsOutputOf (asked ++ line ∷ []) (output ++ text) new
+output_more asked output line text mid new before one = (
+  before.0 ++ text ∷ [],
+  answers_more None mid new asked before.0 line text before.1 one,
+  ap (λ bytes. bytes ++ text) before.2 ∙ sym (concat-push before.0 text),
+)
+
+-- While the input is served: what is left of it, what was read, the lines that were asked and answered, and those that
+-- were taken and aren't answered yet. A line is taken before more is read, so the lines whose end was read are those and
+-- the ones that are ahead.
+pub record IsServing (input : List ℕ) (reader : LineReader) (left : Option (List ℕ)) (output : List ℕ) (engine : Option EngineState) (taken : List (List ℕ)) : Type 0 where
+  pub rest : List ℕ
+  pub left_is : left ≡ Some rest
+  pub read : List ℕ
+  pub input_is : input ≡ read ++ rest
+  pub asked : List (List ℕ)
+  pub split : lines input ≡ asked ++ (taken ++ lines (ahead reader ++ rest))
+  pub no_more : lf_count read ≤ length asked + length taken + lf_count (ahead reader)
+  pub no_fewer : length asked + length taken + lf_count (ahead reader) ≤ lines_read read rest
+  pub state : Option State
+  pub answers : IsOutputOf asked output state
+  pub holds : HoldsScript engine state
+
+pub serving_first : (input : List ℕ) (reader : LineReader) (left : Option (List ℕ)) (engine : Option EngineState) → left ≡ Some input → ahead reader ≡ [] → engine ≡ None → IsServing input reader left [] engine []
+serving_first input reader left engine told none first = record {
+  rest = input;
+  left_is = told;
+  read = [];
+  input_is = refl;
+  asked = [];
+  split = ap (λ bytes. lines (bytes ++ input)) (sym none);
+  no_more = omega arith;
+  no_fewer = rw none (omega arith);
+  state = None;
+  answers = ([], refl, refl);
+  holds = subst (λ (e : Option EngineState). HoldsScript e None) (sym first) tt;
+}
+
+-- what was read before some bytes that are left was read to the ends of its lines, and no further
+lines_read-more : (read more : List ℕ) (byte : ℕ) (rest : List ℕ) → lines_read read (more ++ byte ∷ rest) ≡ lf_count read
+lines_read-more read [] byte rest = refl
+lines_read-more read (b ∷ more) byte rest = refl
+
+-- where more was read, and so many lines of the input are counted, each was read to its end
+count_read : (input read more rest : List ℕ) (before count : ℕ) → input ≡ (read ++ more) ++ rest → before ≤ lines_read read (more ++ rest) → count ≤ length (lines input) → ((0 < length rest) → count ≤ before + lf_count more) → count ≤ lines_read (read ++ more) rest
+count_read input read more [] before count all had lt more_of = subst (λ bytes. count ≤ length (lines bytes)) (all ∙ append-nil (read ++ more)) lt
+count_read input read more (byte ∷ rest) before count all had lt more_of =
+    omega (arith, lf_count-append read more, lines_read-more read more byte rest, had, more_of (omega arith))
+
+-- the next line, where there is one
+taken_line : (limit : ℕ) (all after : List (List ℕ)) (next : Next) → limit ≡ LONGEST_LINE → IsNextOf limit (Some all) next (Some after) → next ≢ End → (line : List ℕ) × IsTold line next × (all ≡ line ∷ after)
+taken_line limit all after (Line bytes) is h some =
+    let same : after ≡ h.0 = cc in
+    (bytes.items, (refl, subst (λ n. length bytes.items ≤ n) is h.3), h.2 ∙ ap (λ rest. bytes.items ∷ rest) (sym same))
+taken_line limit all after TooLong is h some =
+    let same : after ≡ h.0 = cc in
+    (h.1, subst (λ n. n < length h.1) is h.4, h.3 ∙ ap (λ rest. h.1 ∷ rest) (sym same))
+taken_line limit all after End is h some = absurd (some refl)
+
+-- a line is read
+pub serving_read : (input : List ℕ) (old new : LineReader) (a b : Option (List ℕ)) (output : List ℕ) (engine : Option EngineState) (more : List ℕ) (next : Next) → IsServing input old a output engine [] → Consumes a b more → ReadsLine old new (ahead old ++ more) b next → limit_of old ≡ LONGEST_LINE → IsNextOf (limit_of old) (lines_ahead old a) next (lines_ahead new b) → next ≢ End → (line : List ℕ) × IsTold line next × IsServing input new b output engine (line ∷ [])
+serving_read input old new a None output engine more next s gone line limit is some = absurd (subst (λ (o : Option (List ℕ)). Consumes o None more) s.left_is gone)
+serving_read input old new a (Some rest) output engine more next s gone line limit is some =
+    let left : s.rest ≡ more ++ rest = subst (λ (o : Option (List ℕ)). Consumes o (Some rest) more) s.left_is gone in
+    let found = taken_line (limit_of old) (lines (ahead old ++ s.rest)) (lines (ahead new ++ rest)) next limit (subst (λ (o : Option (List ℕ)). IsNextOf (limit_of old) (lines_ahead old o) next (Some (lines (ahead new ++ rest)))) s.left_is is) some in
+    let all : input ≡ (s.read ++ more) ++ rest = s.input_is ∙ (ap (λ bytes. s.read ++ bytes) left ∙ sym (append_assoc s.read more rest)) in
+    let split : lines input ≡ s.asked ++ (found.0 ∷ lines (ahead new ++ rest)) = s.split ∙ ap (λ ls. s.asked ++ ls) found.2 in
+    let had : length s.asked + lf_count (ahead old) ≤ lines_read s.read (more ++ rest) = subst (λ bytes. length s.asked + lf_count (ahead old) ≤ lines_read s.read bytes) left (omega (arith, s.no_fewer)) in
+    let many : length s.asked + 1 + lf_count (ahead new) ≤ length (lines input) = omega (arith, ap (λ (ls : List (List ℕ)). length ls) split, length-append s.asked (found.0 ∷ lines (ahead new ++ rest)), length-append (ahead new) rest, lf_count-append (ahead new) rest, lf_count-le-lines (ahead new ++ rest)) in
+    let Counts : Type 0 = (lf_count (ahead old) + lf_count more ≤ 1 + lf_count (ahead new)) × ((0 < length rest) → 1 + lf_count (ahead new) ≤ lf_count (ahead old) + lf_count more) in
+    let at_lf : EndsAtLf old new (ahead old ++ more) next → Counts = λ e. let n = lf_count-line old new more next e in (omega (arith, n), λ some_left. omega (arith, n)) in
+    let at_end : EndsAtEnd old new (ahead old ++ more) (Some rest) next → Counts = λ e. let n = lf_count-last old new more (Some rest) next e in (omega (arith, n), λ some_left. absurd (omega (arith, ap (λ (bytes : List ℕ). length bytes) e.at_end))) in
+    let counts : Counts = ⊎_elim at_lf at_end line.ends in (
+      found.0,
+      found.1,
+      record {
+        rest = rest;
+        left_is = refl;
+        read = s.read ++ more;
+        input_is = all;
+        asked = s.asked;
+        split = split;
+        no_more = omega (arith, lf_count-append s.read more, s.no_more, counts.0);
+        no_fewer = count_read input s.read more rest (length s.asked + lf_count (ahead old)) (length s.asked + 1 + lf_count (ahead new)) all had many (λ some_left. omega (arith, counts.1 some_left));
+        state = s.state;
+        answers = s.answers;
+        holds = s.holds;
+      },
+    )
+
+-- the line is answered
+pub serving_answered : (input : List ℕ) (reader : LineReader) (left : Option (List ℕ)) (output : List ℕ) (engine new : Option EngineState) (line text : List ℕ) (next : Next) → IsServing input reader left output engine (line ∷ []) → IsTold line next → RepliesLegally engine next text new → IsServing input reader left (output ++ text) new []
+serving_answered input reader left output engine new line text next s told legal =
+    let after = legal line told s.state s.holds in
+    let long = length_push s.asked line in
+    record {
+      rest = s.rest;
+      left_is = s.left_is;
+      read = s.read;
+      input_is = s.input_is;
+      asked = s.asked ++ line ∷ [];
+      split = s.split ∙ sym (append_assoc s.asked (line ∷ []) (lines (ahead reader ++ s.rest)));
+      no_more = omega (arith, s.no_more, long);
+      no_fewer = omega (arith, s.no_fewer, long);
+      state = after.0;
+      answers = output_more s.asked output line text s.state after.0 s.answers after.1;
+      holds = after.2;
+    }
+
+-- what was answered so far answers a front of the lines
+pub answered_front : (input output : List ℕ) (asked rest : List (List ℕ)) (state : Option State) → lines input ≡ asked ++ rest → IsOutputOf asked output state → IsOutputOf (take (length asked) (lines input)) output state
+answered_front input output asked rest state split answers =
+    subst (λ ls. IsOutputOf ls output state) (sym (ap (take (length asked)) split ∙ take_at asked rest (length asked) refl)) answers
+
+-- it stops where a line was read
+abbrev pub stops_at_line : (input : List ℕ) (reader : LineReader) (left : Option (List ℕ)) (output : List ℕ) (engine : Option EngineState) (taken : List (List ℕ)) → (s : IsServing input reader left output engine taken) → AnswersFront input left output (length s.asked) s.state
+stops_at_line input reader left output engine taken s = record {
+  read = s.read;
+  rest = s.rest;
+  left_is = s.left_is;
+  input_is = s.input_is;
+  were_read = omega (arith, s.no_fewer);
+  answers = answered_front input output s.asked (taken ++ lines (ahead reader ++ s.rest)) s.state s.split s.answers;
+}
+
+-- it stops within the next line
+stops_within : (input : List ℕ) (reader : LineReader) (a b : Option (List ℕ)) (output : List ℕ) (engine : Option EngineState) (more : List ℕ) → (s : IsServing input reader a output engine []) → Consumes a b more → (front : AnswersFront input b output (length s.asked) s.state) × (front.read ≡ s.read ++ more)
+stops_within input reader a None output engine more s gone = absurd (subst (λ (o : Option (List ℕ)). Consumes o None more) s.left_is gone)
+stops_within input reader a (Some rest) output engine more s gone =
+    let left : s.rest ≡ more ++ rest = subst (λ (o : Option (List ℕ)). Consumes o (Some rest) more) s.left_is gone in
+    let all : input ≡ (s.read ++ more) ++ rest = s.input_is ∙ (ap (λ bytes. s.read ++ bytes) left ∙ sym (append_assoc s.read more rest)) in
+    let had : length s.asked ≤ lines_read s.read (more ++ rest) = subst (λ bytes. length s.asked ≤ lines_read s.read bytes) left (omega (arith, s.no_fewer)) in
+    let many : length s.asked ≤ length (lines input) = omega (arith, ap (λ (ls : List (List ℕ)). length ls) s.split, length-append s.asked (lines (ahead reader ++ s.rest))) in (
+      record {
+        read = s.read ++ more;
+        rest = rest;
+        left_is = refl;
+        input_is = all;
+        were_read = count_read input s.read more rest (length s.asked) (length s.asked) all had many (λ some_left. omega arith);
+        answers = answered_front input output s.asked (lines (ahead reader ++ s.rest)) s.state s.split s.answers;
+      },
+      refl,
+    )
+
+pub stops_for_memory : (input : List ℕ) (reader : LineReader) (a b : Option (List ℕ)) (output : List ℕ) (engine : Option EngineState) (more : List ℕ) → IsServing input reader a output engine [] → Consumes a b more → StopsForMemory input b output
+stops_for_memory input reader a b output engine more s gone = (length s.asked, s.state, (stops_within input reader a b output engine more s gone).0)
+
+pub stops_reading : (input : List ℕ) (old new : LineReader) (a b : Option (List ℕ)) (output : List ℕ) (engine : Option EngineState) (more : List ℕ) → IsServing input old a output engine [] → Consumes a b more → StopsInLine old new (ahead old ++ more) → ahead new ≡ [] → StopsReading input b output
+stops_reading input old new a b output engine more s gone stops none =
+    let within = stops_within input old a b output engine more s gone in
+    let none_left = lf_count-stopped old new more stops none in
+    (length s.asked, s.state, within.0, subst (λ bytes. lf_count bytes ≤ length s.asked) (sym within.1) (omega (arith, lf_count-append s.read more, s.no_more, none_left)))
+
+-- where no line could be asked for yet
+pub stops_first : (input : List ℕ) (left : Option (List ℕ)) → left ≡ Some input → StopsForMemory input left []
+stops_first input left told = (0, None, record {
+  read = [];
+  rest = input;
+  left_is = told;
+  input_is = refl;
+  were_read = omega arith;
+  answers = ([], refl, refl);
+})
+
+slice_get-middle : (xs ys : List (List ℕ)) (y : List ℕ) → slice_get (xs ++ y ∷ ys) (length xs) ≡ Some y
+slice_get-middle [] ys y = refl
+slice_get-middle (x ∷ xs) ys y = slice_get-middle xs ys y
+
+pub stops_writing : (input : List ℕ) (reader : LineReader) (left : Option (List ℕ)) (output : List ℕ) (engine new : Option EngineState) (line text : List ℕ) (next : Next) (n : ℕ) → IsServing input reader left output engine (line ∷ []) → IsTold line next → RepliesLegally engine next text new → n < length text → StopsWriting input left (output ++ take n text)
+stops_writing input reader left output engine new line text next n s told legal short =
+    let after = legal line told s.state s.holds in
+    record {
+      count = length s.asked;
+      state = s.state;
+      whole = output;
+      front = stops_at_line input reader left output engine (line ∷ []) s;
+      line = line;
+      line_is = ap (λ (ls : List (List ℕ)). slice_get ls (length s.asked)) s.split ∙ slice_get-middle s.asked (lines (ahead reader ++ s.rest)) line;
+      line_read = omega (arith, s.no_fewer);
+      text = text;
+      after = after.0;
+      reply = after.1;
+      written = n;
+      part = short;
+      output_is = refl;
+    }
+
+no_end : (xs ys : List ℕ) → xs ++ ys ≡ [] → ys ≡ []
+no_end [] ys e = e
+no_end (x ∷ xs) ys e = cc
+
+-- all lines are answered
+pub ends_whole : (input : List ℕ) (old new : LineReader) (a b : Option (List ℕ)) (output : List ℕ) (engine : Option EngineState) (more : List ℕ) → IsServing input old a output engine [] → Consumes a b more → IsNextOf (limit_of old) (lines_ahead old a) End (lines_ahead new b) → (b ≡ Some []) × IsOutput input output
+ends_whole input old new a None output engine more s gone is = absurd (subst (λ (o : Option (List ℕ)). Consumes o None more) s.left_is gone)
+ends_whole input old new a (Some rest) output engine more s gone is =
+    let none = subst (λ (o : Option (List ℕ)). IsNextOf (limit_of old) (lines_ahead old o) End (Some (lines (ahead new ++ rest)))) s.left_is is in
+    let used : lines (ahead new ++ rest) ≡ [] = cc in
+    let all : lines input ≡ s.asked = s.split ∙ (ap (λ ls. s.asked ++ ls) none.1 ∙ append-nil s.asked) in (
+      ap Some (no_end (ahead new) rest (no_lines (ahead new ++ rest) used)),
+      (s.state, subst (λ ls. IsOutputOf ls output s.state) (sym all) s.answers),
+    )

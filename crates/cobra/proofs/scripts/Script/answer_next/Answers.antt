@@ -1,0 +1,14 @@
+use Rattle.std.proofs.lemmas.Result.{IfOk-weaker}
+use Rattle.cobra.specs.Outputs.{AnswersLineLegally}
+use Rattle.cobra.specs.Scripts.{AnswersLegally}
+use Rattle.cobra.proofs.AskedLines.{answers_asked, answers_none}
+use Rattle.cobra.proofs.scripts.Script.answer_next.Goals as goal
+
+pub returns-in-Some-clause-answers : goal.returns-in-Some-clause-answers
+returns-in-Some-clause-answers g c =
+    let asks = rw c.in-Some.is at c.in_ok-command.ensures.some in
+    IfOk-weaker c.answer.result (λ answer. AnswersLegally c.args.self.now.engine c.in-Some.command answer c.answer.new.self.engine) (λ answer. AnswersLineLegally c.args.self.now.engine c.args.next.now answer c.answer.new.self.engine)
+    (λ answer. answers_asked c.args.self.now.engine c.answer.new.self.engine c.args.next.now c.in-Some.command answer asks) c.answer.ensures
+
+pub returns-in-None-clause-answers : goal.returns-in-None-clause-answers
+returns-in-None-clause-answers g c = answers_none c.args.self.now.engine c.args.next.now (rw c.in-None.is at c.in_ok-command.ensures.none)

@@ -1,0 +1,22 @@
+-- How the replies to an engine's steps are told.
+use Rattle.log_text.specs.declared.replies.Reply.{Reply}
+use Rattle.log_text.specs.declared.replies.Reply.TheVariants as told
+use Rattle.round_state.specs.declared.reports.Certificate.{Certificate}
+use Rattle.round_state.specs.declared.reports.Certificate.TheVariants.{Order, Refuted, Nothing}
+use Rattle.round_state.specs.declared.reports.Report.{Report}
+use Rattle.round_state.specs.declared.steps.StepReply.{StepReply}
+use Rattle.round_state.specs.declared.steps.StepReply.TheVariants as reply
+
+-- a report with this certificate
+abbrev pub certified : Report → Certificate → Reply
+certified report (Order order) = told.Order report.round report.kind report.counts order
+certified report Refuted = told.Violated report.round report.counts
+certified report Nothing = told.Spent report.round report.counts
+
+abbrev pub report_of : Report → Reply
+report_of report = certified report report.certificate
+
+abbrev pub reply_of : StepReply → Reply
+reply_of reply.Done = told.Done
+reply_of (reply.Refused refusal) = told.No refusal
+reply_of (reply.Report report) = report_of report
