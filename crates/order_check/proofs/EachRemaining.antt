@@ -1,7 +1,7 @@
 -- A test of each remaining transaction, and what its answer says of ids.
-use Rattle.std.proofs.Common.{◌≡◌, ◌≢◌, ℕ, ◌+◌, ◌-◌, ◌<◌, Bool, true, false, ◌&&◌, cond, List, [], ◌∷◌, length, Option, Some, None, Contains, IsSome, IsSomeAnd, nat_lt, nat_eq, refl, sym, ◌∙◌, subst, inl, inr, zero, suc, add-zero, eqb, arith}
+use Rattle.std.proofs.Common.{◌≡◌, ◌≢◌, ℕ, ◌+◌, ◌-◌, ◌<◌, Bool, true, false, ◌&&◌, List, [], ◌∷◌, length, Option, Some, None, Contains, IsSome, IsSomeAnd, nat_eq, refl, sym, ◌∙◌, subst, inl, inr, zero, suc, add-zero, eqb, arith}
 use Rattle.std.specs.List.{slice_get, list_any, list_all}
-use Rattle.std.proofs.lemmas.Bool.{and_parts, and_from, false≢true, ltb-false, eqb-true, eq-eqb, cases_eq, cases_lt}
+use Rattle.std.proofs.lemmas.Bool.{and_parts, and_from, false≢true, eqb-true, eq-eqb, cases_eq, cases_lt}
 use Rattle.std.proofs.lemmas.Option.{same_Some}
 use Rattle.std.proofs.lemmas.List.{get_or_past}
 use Rattle.std.proofs.lemmas.List.Sums.{AllPass-from_list_all}
@@ -14,6 +14,7 @@ use Rattle.txn.specs.History.{writes_key}
 use Rattle.order_check.specs.declared.remainder.Parts.{Parts}
 use Rattle.order_check.specs.Based.{mark_of, remaining_of, remaining_at, Remains}
 use Rattle.order_check.specs.Known.{ReadsKey, WritesKey}
+use Rattle.order_check.proofs.Remaining.{remaining_place}
 
 -- the test passes at each transaction of a session, the first with this number
 abbrev pub each_from : (TxnId → Txn → Bool) → ℕ → ℕ → List Txn → Bool
@@ -46,18 +47,13 @@ each_below_at test parts (suc n) s all within = elim (cases_eq s n) [ inl here �
     both : (each_from test n (mark_of parts n) (remaining_of parts n) ≡ true) × (each_below test parts n ≡ true)
     both = and_parts (each_from test n (mark_of parts n) (remaining_of parts n)) (each_below test parts n) all
 
-pub not_skipped : {X : Type 0} (skip : Bool) (at : Option X) (x : X) → cond skip None at ≡ Some x → (skip ≡ false) × (at ≡ Some x)
-not_skipped true at x e = cc
-not_skipped false at x e = (refl, e)
-
 -- what passes at each that remains passes at this one
 pub each_at : (test : TxnId → Txn → Bool) (parts : Parts) → each test parts ≡ true → (id : TxnId) (txn : Txn) → remaining_at parts id ≡ Some txn → test id txn ≡ true
 each_at test parts all id txn at =
     let mark = mark_of parts id.session in
-    let kept = not_skipped (nat_lt id.number mark) (slice_get (remaining_of parts id.session) (id.number - mark)) txn at in
-    let above = ltb-false id.number mark kept.0 in
+    let (above, here) = remaining_place parts id txn at in
     let place : mark + (id.number - mark) ≡ id.number = omega arith in
-    subst (λ n. test (record { session = id.session; number = n }) txn ≡ true) place (each_from_at test id.session mark (remaining_of parts id.session) (session kept.1) (id.number - mark) txn kept.1)
+    subst (λ n. test (record { session = id.session; number = n }) txn ≡ true) place (each_from_at test id.session mark (remaining_of parts id.session) (session here) (id.number - mark) txn here)
   where
     session : slice_get (remaining_of parts id.session) (id.number - mark_of parts id.session) ≡ Some txn → each_from test id.session (mark_of parts id.session) (remaining_of parts id.session) ≡ true
     session is = elim (cases_lt id.session (length parts.remain)) [ inl within ↦ each_below_at test parts (length parts.remain) id.session all within | inr past ↦ rw (get_or_past parts.remain id.session [] past) refl ]

@@ -1,33 +1,21 @@
 -- What may follow a front of an order that explains parts.
-use Rattle.std.proofs.Common.{◌≡◌, ℕ, ◌+◌, ◌<◌, ◌≤◌, inl, inr, suc, zero, Bool, true, false, nat_eq, List, [], ◌∷◌, ◌++◌, length, filter, count_by, sum_by, take, Some, None, IsTrue, ◌↔◌, refl, subst, ap, ◌∙◌, arith, add-zero, append_assoc, length-append}
+use Rattle.std.proofs.Common.{◌≡◌, ℕ, ◌+◌, ◌<◌, ◌≤◌, inl, inr, Bool, true, false, nat_eq, List, [], ◌∷◌, ◌++◌, length, filter, count_by, sum_by, take, Some, None, IsTrue, ◌↔◌, refl, subst, ap, ◌∙◌, arith, append_assoc, length-append}
 use Rattle.std.specs.List.{slice_get}
 use Rattle.std.proofs.lemmas.Bool.{cases_lt, eq-eqb}
 use Rattle.std.proofs.lemmas.List.{append-nil}
 use Rattle.std.proofs.Math.Seq.{take-append_seam}
 use Rattle.std.proofs.lemmas.List.Elements.{filter-append}
 use Rattle.std.proofs.lemmas.List.Sums.{length-filter}
-use Rattle.std.proofs.lemmas.Option.{slice_get_within, slice_get_past}
+use Rattle.std.proofs.lemmas.Option.{slice_get_within}
 use Rattle.txn.specs.declared.transactions.TxnId.{TxnId}
-use Rattle.txn.specs.declared.transactions.Txn.{Txn}
-use Rattle.txn.specs.History.{in_session, ids_from}
+use Rattle.txn.specs.History.{in_session}
 use Rattle.order_check.specs.declared.remainder.Parts.{Parts}
 use Rattle.order_check.specs.Based.{remaining_ids}
 use Rattle.order_check.specs.Explains.{KeepsSessions, Explains}
 use Rattle.order_check.specs.Fronts.{HasOrderFrom, HasOrderInto, next_of, Tells}
-use Rattle.order_check.proofs.Lengths.{length_ids_from, length_kept}
+use Rattle.order_check.proofs.Lengths.{length_kept}
+use Rattle.order_check.proofs.SessionIds.{length_ids_from}
 use Rattle.order_check.proofs.Remaining.{session_past}
-
--- the id at a place of a session
-pub ids_from_at : (s m : ℕ) (txns : List Txn) (n : ℕ) → n < length txns → slice_get (ids_from s m txns) n ≡ Some (record { session = s; number = m + n })
-ids_from_at s m [] n within = absurd (omega arith)
-ids_from_at s m (txn ∷ txns) zero within = rw add-zero refl
-ids_from_at s m (txn ∷ txns) (suc n) within =
-    let moved : m + 1 + n ≡ m + suc n = omega arith in
-    rw (← moved) (ids_from_at s (m + 1) txns n (omega arith))
-
--- no id past the end of a session
-pub ids_from_past : (s m : ℕ) (txns : List Txn) (n : ℕ) → length txns ≤ n → slice_get (ids_from s m txns) n ≡ None
-ids_from_past s m txns n past = slice_get_past (ids_from s m txns) n (rw length_ids_from past)
 
 slice_get_behind : {X : Type 0} (xs : List X) (y : X) (ys : List X) → slice_get (xs ++ y ∷ ys) (length xs) ≡ Some y
 slice_get_behind [] y ys = refl

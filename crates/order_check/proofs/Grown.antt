@@ -1,5 +1,5 @@
 -- An order of a history that has grown, and the order of what the history had before.
-use Rattle.std.proofs.Common.{◌≡◌, ℕ, ◌+◌, ◌<◌, ◌≤◌, Bool, true, false, cond, List, [], ◌∷◌, ◌++◌, length, filter, Option, Some, None, IsSome, nat_lt, slice_get, refl, sym, subst, ap, ◌∙◌, arith, zero, suc, inl, inr, append-nil, get_or-set_same, get_or-set_other, ◌⊎◌}
+use Rattle.std.proofs.Common.{◌≡◌, ℕ, ◌+◌, ◌<◌, ◌≤◌, Bool, true, false, cond, List, [], ◌∷◌, ◌++◌, length, filter, Option, Some, None, IsSome, nat_lt, refl, sym, subst, ap, ◌∙◌, arith, inl, inr, append-nil, get_or-set_same, get_or-set_other, ◌⊎◌}
 use Rattle.std.proofs.lemmas.Bool.{cases_lt, cases_eq, lt-ltb, le-ltb, false≢true}
 use Rattle.std.proofs.lemmas.List.{set_past}
 use Rattle.std.proofs.lemmas.List.Elements.{All-weaker, All-filter, filter-append}
@@ -11,7 +11,8 @@ use Rattle.txn.specs.declared.transactions.Fragment.{Fragment}
 use Rattle.txn.specs.History.{History, Received, session_of, txn_at, in_session, ids_from, writes_key, NoneWrites}
 use Rattle.order_check.specs.Whole.{MeetsWhole, ExplainsWhole, HasOrderWhole}
 use Rattle.order_check.specs.StandsFor.{with_fragment, history_then}
-use Rattle.order_check.proofs.Whole.{some_within}
+use Rattle.order_check.proofs.Places.{place_left}
+use Rattle.order_check.proofs.Received.{some_within}
 
 -- each session has what it had, and maybe more behind it
 abbrev Grows : History → History → Type 0
@@ -21,13 +22,8 @@ Grows old new = (s : ℕ) → (more : List Txn) × (session_of new s ≡ session
 abbrev had : History → TxnId → Bool
 had history id = nat_lt id.number (length (session_of history id.session))
 
-slice_get_front : {X : Type 0} (xs ys : List X) (k : ℕ) (x : X) → slice_get xs k ≡ Some x → slice_get (xs ++ ys) k ≡ Some x
-slice_get_front [] ys k x at = absurd (cc)
-slice_get_front (y ∷ xs) ys zero x at = at
-slice_get_front (y ∷ xs) ys (suc k) x at = slice_get_front xs ys k x at
-
 still_at : (old new : History) → Grows old new → (id : TxnId) (txn : Txn) → txn_at old id ≡ Some txn → txn_at new id ≡ Some txn
-still_at old new grows id txn at = let (more, is) = grows id.session in rw is (slice_get_front (session_of old id.session) more id.number txn at)
+still_at old new grows id txn at = let (more, is) = grows id.session in rw is (place_left (session_of old id.session) more id.number txn at)
 
 -- what the history has, it has as before
 same_at : (old new : History) → Grows old new → (id : TxnId) → Received old id → txn_at new id ≡ txn_at old id

@@ -5,10 +5,10 @@ use Rattle.std.proofs.lemmas.Bool.Decides.{eqb_tells}
 use Rattle.std.proofs.lemmas.List.Filters.{length-filter_both}
 use Rattle.std.proofs.lemmas.List.Sums.{sum_by-cons}
 use Rattle.txn.specs.declared.transactions.TxnId.{TxnId}
-use Rattle.txn.specs.declared.transactions.Txn.{Txn}
-use Rattle.txn.specs.History.{in_session, ids_from, session_of}
+use Rattle.txn.specs.History.{in_session, session_of}
 use Rattle.order_check.specs.declared.remainder.Parts.{Parts}
 use Rattle.order_check.specs.Explains.{KeepsSessions}
+use Rattle.order_check.proofs.SessionIds.{length_ids_from}
 
 -- the ids of a session
 abbrev pub ids_in : ℕ → List TxnId → List TxnId
@@ -32,10 +32,6 @@ none_outside k [] = refl
 none_outside k (id ∷ order) =
     let none : ids_in k (ids_outside k order) ≡ [] = none_outside k order in
     elim (eqb_tells k id.session) [ inl here ↦ rw here.0 none | inr there ↦ rw (there.0, there.0) none ]
-
-pub length_ids_from : (s m : ℕ) (txns : List Txn) → length (ids_from s m txns) ≡ length txns
-length_ids_from s m [] = refl
-length_ids_from s m (txn ∷ txns) = ap suc (length_ids_from s (m + 1) txns)
 
 -- where these are all sessions from k on, the order has as many ids as they have transactions
 total : {X : Type 0} (sessions : List (List X)) (k : ℕ) (order : List TxnId) → ((s : ℕ) → s < k → ids_in s order ≡ []) → ((i : ℕ) → length (ids_in (k + i) order) ≡ length (session_of sessions i)) → length order ≡ sum_by length sessions

@@ -16,6 +16,7 @@ pub mod Received
 pub mod Remaining
 pub mod Replayed
 pub mod RulesKept
+pub mod SessionIds
 pub mod Sessions
 pub mod Whole
 pub mod WriterEntries

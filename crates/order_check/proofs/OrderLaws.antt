@@ -17,23 +17,10 @@ use Rattle.order_check.specs.Explains.{Explains, Meets}
 use Rattle.order_check.specs.Known.{Known, IsChoice, ReadsKey, WritesKey, ReadsBase, IsBaseSource, by_session, by_read, by_base, by_taken, through, forces_after, forces_before}
 use Rattle.order_check.specs.Precedes.{Precedes}
 use Rattle.order_check.proofs.Places.{IsAt, filtered_at, precedes_filtered, precedes_filter, place_in, place_left, place_right, split_at}
-
--- the ids of a session stand at their numbers
-pub id_place : (s number : ℕ) (txns : List Txn) (k : ℕ) → k < length txns → slice_get (ids_from s number txns) k ≡ Some (record { session = s; number = number + k })
-id_place s number [] k h = absurd (omega arith)
-id_place s number (txn ∷ txns) zero h = let e : number ≡ number + 0 = omega arith in ap (λ n. Some (record { session = s; number = n })) e
-id_place s number (txn ∷ txns) (suc k) h = let e : number + 1 + k ≡ number + suc k = omega arith in id_place s (number + 1) txns k (omega arith) ∙ ap (λ n. Some (record { session = s; number = n })) e
-
-pub id_at_place : (s number : ℕ) (txns : List Txn) (k : ℕ) (id : TxnId) → slice_get (ids_from s number txns) k ≡ Some id → (k < length txns) × (id.session ≡ s) × (id.number ≡ number + k)
-id_at_place s number [] k id h = absurd cc
-id_at_place s number (txn ∷ txns) zero id h = let e : record { session = s; number = number } ≡ id = cc in (omega arith, ap (λ (x : TxnId). x.session) (sym e), ap (λ (x : TxnId). x.number) (sym e) ∙ omega arith)
-id_at_place s number (txn ∷ txns) (suc k) id h = more (id_at_place s (number + 1) txns k id h)
-  where
-    more : (k < length txns) × (id.session ≡ s) × (id.number ≡ number + 1 + k) → (suc k < suc (length txns)) × (id.session ≡ s) × (id.number ≡ number + suc k)
-    more (within, session, place) = (omega arith, session, omega arith)
+use Rattle.order_check.proofs.SessionIds.{ids_from_at, id_at_place}
 
 -- an id is in its session
-in_own_session : (id : TxnId) → in_session id.session id ≡ true
+pub in_own_session : (id : TxnId) → in_session id.session id ≡ true
 in_own_session id = eq-eqb id.session id.session refl
 
 -- what remains stands among its session's ids, at its place there
@@ -50,7 +37,7 @@ remains_place parts id h = by_mark (nat_lt id.number mark) refl h
     by_found None e some above = absurd (false≢true some)
     by_found (Some txn) e some above =
         let n : mark + (id.number - mark) ≡ id.number = omega arith in
-        id_place id.session mark txns (id.number - mark) (slice_get_within txns (id.number - mark) txn e) ∙ ap (λ n. Some (record { session = id.session; number = n })) n
+        ids_from_at id.session mark txns (id.number - mark) (slice_get_within txns (id.number - mark) txn e) ∙ ap (λ n. Some (record { session = id.session; number = n })) n
 
     by_mark : (t : Bool) → nat_lt id.number mark ≡ t → IsSome (cond t None (slice_get txns (id.number - mark))) → (mark ≤ id.number) × (slice_get (ids_from id.session mark txns) (id.number - mark) ≡ Some id)
     by_mark true e some = absurd (false≢true some)

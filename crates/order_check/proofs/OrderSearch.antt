@@ -1,7 +1,7 @@
 -- A search through all orders. Where it finds none, no order explains the parts.
 use Rattle.std.proofs.Common.{◌≡◌, ℕ, ◌+◌, ◌-◌, ◌<◌, ◌≤◌, Bool, true, false, not, ◌&&◌, ◌||◌, cond, List, [], ◌∷◌, ◌++◌, length, Option, Some, None, All, IsSome, is_some, is_none, nat_lt, refl, sym, ap, ◌∙◌, subst, inl, inr, zero, suc, add-zero, arith, append_assoc, append-nil, filter}
 use Rattle.std.specs.List.{list_all}
-use Rattle.std.proofs.lemmas.Bool.{and_from, or_right, or_left, false≢true, ltb-true, le-ltb, eq-eqb, cases_lt, cases_eq, not_from_false}
+use Rattle.std.proofs.lemmas.Bool.{and_from, or_right, or_left, false≢true, ltb-true, le-ltb, cases_lt, cases_eq, not_from_false}
 use Rattle.std.proofs.lemmas.Option.{slice_get_past}
 use Rattle.std.proofs.lemmas.List.{get_or_past}
 use Rattle.std.proofs.lemmas.List.Sums.{list_all-from_AllPass}
@@ -17,7 +17,9 @@ use Rattle.order_check.specs.Based.{mark_of, remaining_of, remaining_at, remaini
 use Rattle.order_check.specs.Explains.{Meets, Explains}
 use Rattle.order_check.specs.Verdict.{HasOrder}
 use Rattle.order_check.proofs.EachRemaining.{same_id_itself}
-use Rattle.order_check.proofs.Whole.{within_some}
+use Rattle.order_check.proofs.OrderLaws.{in_own_session}
+use Rattle.order_check.proofs.Received.{within_some}
+use Rattle.order_check.proofs.SessionIds.{length_ids_from}
 
 abbrev pub none_writes : Parts → ℕ → List TxnId → Bool
 none_writes parts key ids = list_all (λ id. not (writes_key (remaining_at parts id) key)) ids
@@ -103,13 +105,6 @@ place_of s number (txn ∷ txns) (x ∷ before) after id is =
     let place : number + suc (length before) ≡ number + 1 + length before = omega arith in
     (rw place here, omega arith)
 
-length_ids : (s number : ℕ) (txns : List Txn) → length (ids_from s number txns) ≡ length txns
-length_ids s number [] = refl
-length_ids s number (txn ∷ txns) = ap suc (length_ids s (number + 1) txns)
-
-in_own_session : (id : TxnId) → in_session id.session id ≡ true
-in_own_session id = eq-eqb id.session id.session refl
-
 -- what stands of a session in front of an id of it, and behind
 around : (parts : Parts) (front back : List TxnId) (id : TxnId) → Explains parts (front ++ id ∷ back) → filter (in_session id.session) front ++ id ∷ filter (in_session id.session) back ≡ remaining_ids parts id.session
 around parts front back id explains =
@@ -134,7 +129,7 @@ session_within parts s n within = elim (cases_lt s (length parts.remain)) [ inl 
 -- behind a whole order nothing comes
 ended : (parts : Parts) (front : List TxnId) → Explains parts front → (s : ℕ) → is_none (remaining_at parts (next_of parts front s)) ≡ true
 ended parts front explains s =
-    let filtered : length (filter (in_session s) front) ≡ length (remaining_of parts s) = ap length (explains.sessions s) ∙ length_ids s (mark_of parts s) (remaining_of parts s) in
+    let filtered : length (filter (in_session s) front) ≡ length (remaining_of parts s) = ap length (explains.sessions s) ∙ length_ids_from s (mark_of parts s) (remaining_of parts s) in
     let kept : nat_lt (mark_of parts s + length (filter (in_session s) front)) (mark_of parts s) ≡ false = le-ltb (mark_of parts s + length (filter (in_session s) front)) (mark_of parts s) (omega arith) in
     rw (kept, slice_get_past (remaining_of parts s) (mark_of parts s + length (filter (in_session s) front) - mark_of parts s) (omega arith)) refl
 

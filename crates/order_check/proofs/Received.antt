@@ -23,10 +23,11 @@ gone_received parts id gone = omega arith
 pub gone_past : (parts : Parts) (id : TxnId) → IsGone parts id → Remains parts id → ⊥
 gone_past parts id gone remains = let none = gone_none parts id gone in let some : is_some (remaining_at parts id) ≡ true = remains in cc
 
-some_within : {X : Type 0} (xs : List X) (i : ℕ) → is_some (slice_get xs i) ≡ true → i < length xs
+-- something stands at the places within, and there alone
+pub some_within : {X : Type 0} (xs : List X) (i : ℕ) → is_some (slice_get xs i) ≡ true → i < length xs
 some_within xs i some = elim (slice_get_cases xs i).1 as (λ _. i < length xs) [ inl w ↦ w.1 | inr w ↦ let none = w.1 in cc ]
 
-within_some : {X : Type 0} (xs : List X) (i : ℕ) → i < length xs → is_some (slice_get xs i) ≡ true
+pub within_some : {X : Type 0} (xs : List X) (i : ℕ) → i < length xs → is_some (slice_get xs i) ≡ true
 within_some xs i within = elim (slice_get_cases xs i).1 as (λ _. is_some (slice_get xs i) ≡ true) [ inl w ↦ ap is_some w.2 | inr w ↦ absurd (omega arith) ]
 
 pub remains_received : (parts : Parts) (id : TxnId) → Remains parts id → IsReceived parts id

@@ -1,5 +1,5 @@
 -- Orders session by session.
-use Rattle.std.proofs.Common.{◌≡◌, ℕ, ◌+◌, ◌<◌, ◌≤◌, cond, zero, suc, refl, sym, ap, subst, ◌∙◌, inl, inr, arith, List, [], ◌∷◌, ◌++◌, length, set, take, drop, filter, slice_index, replicate, eq-eqb}
+use Rattle.std.proofs.Common.{◌≡◌, ℕ, ◌+◌, ◌<◌, ◌≤◌, cond, refl, sym, ap, subst, ◌∙◌, inl, inr, arith, List, [], ◌∷◌, ◌++◌, length, set, take, drop, filter, slice_index, replicate, eq-eqb}
 use Rattle.std.proofs.lemmas.Bool.{cases_eq, cases_lt, ne_eqb}
 use Rattle.std.proofs.lemmas.List.{take_all, take_more, get_or_at, get_or_past, get_or-replicate, get_or-set_same, get_or-set_other, length-set, length-take-le, length-append, length-replicate, append-nil}
 use Rattle.std.proofs.lemmas.List.Elements.{filter-append}
@@ -10,7 +10,9 @@ use Rattle.order_check.specs.declared.remainder.Parts.{Parts}
 use Rattle.order_check.specs.Based.{mark_of, remaining_of, remaining_ids}
 use Rattle.order_check.specs.Explains.{KeepsSessions}
 use Rattle.order_check.specs.Replay.{IsNext, AreAllTaken}
+use Rattle.std.proofs.lemmas.Option.{get_or_from_slice_get}
 use Rattle.order_check.proofs.Orders.{first_id, id_at, split_at}
+use Rattle.order_check.proofs.SessionIds.{length_ids_from, ids_from_at}
 
 -- So many of each session were taken: the ids of a session are the first ones that remain.
 pub record HaveCome (parts : Parts) (ids : List TxnId) (taken : List ℕ) : Type 0 where
@@ -18,14 +20,8 @@ pub record HaveCome (parts : Parts) (ids : List TxnId) (taken : List ℕ) : Type
   pub most : (s : ℕ) → slice_index taken s ≤ length (remaining_of parts s)
   pub come : (s : ℕ) → filter (in_session s) ids ≡ take (slice_index taken s) (remaining_ids parts s)
 
-length-ids_from : (s number : ℕ) (txns : List Txn) → length (ids_from s number txns) ≡ length txns
-length-ids_from s number [] = refl
-length-ids_from s number (txn ∷ txns) = omega (arith, length-ids_from s (number + 1) txns)
-
-ids_from_at : (s number : ℕ) (txns : List Txn) (k : ℕ) → k < length txns → id_at (ids_from s number txns) k ≡ record { session = s; number = number + k }
-ids_from_at s number [] k within = absurd (omega arith)
-ids_from_at s number (txn ∷ txns) zero within = ap (λ n. record { session = s; number = n }) (omega arith)
-ids_from_at s number (txn ∷ txns) (suc k) within = ids_from_at s (number + 1) txns k (omega arith) ∙ ap (λ n. record { session = s; number = n }) (omega arith)
+id_at_place : (s number : ℕ) (txns : List Txn) (k : ℕ) → k < length txns → id_at (ids_from s number txns) k ≡ record { session = s; number = number + k }
+id_at_place s number txns k within = get_or_from_slice_get (ids_from s number txns) k _ first_id (ids_from_at s number txns k within)
 
 zeros : (n s : ℕ) → slice_index (replicate n 0) s ≡ 0
 zeros n s = elim (cases_lt s n) as (λ _. slice_index (replicate n 0) s ≡ 0) [ inl within ↦ get_or-replicate n s 0 0 within | inr past ↦ get_or_past (replicate n 0) s 0 (omega (arith, length-replicate {A = ℕ} n 0)) ]
@@ -44,8 +40,8 @@ come_here parts ids taken id come next =
     let s = id.session in
     let t = slice_index taken s in
     let rest = remaining_ids parts s in
-    let within : t < length rest = omega (arith, next.remains, length-ids_from s (mark_of parts s) (remaining_of parts s)) in
-    let at : id_at rest t ≡ id = ids_from_at s (mark_of parts s) (remaining_of parts s) t next.remains ∙ ap (λ n. record { session = s; number = n }) (sym next.number) in
+    let within : t < length rest = omega (arith, next.remains, length_ids_from s (mark_of parts s) (remaining_of parts s)) in
+    let at : id_at rest t ≡ id = id_at_place s (mark_of parts s) (remaining_of parts s) t next.remains ∙ ap (λ n. record { session = s; number = n }) (sym next.number) in
     filter-append (in_session s) ids (id ∷ []) ∙ ap (λ b. filter (in_session s) ids ++ cond b (id ∷ []) []) (eq-eqb s s refl)
     ∙ ap (λ xs. xs ++ id ∷ []) (come.come s) ∙ ap (λ x. take t rest ++ x ∷ []) (sym at) ∙ sym (take_more rest t first_id within)
 
@@ -95,7 +91,7 @@ is_next parts order k taken come keeps within =
     let t = slice_index taken s in
     let rest = remaining_ids parts s in
     let back = filter (in_session s) (drop (k + 1) order) in
-    let long : length rest ≡ length (remaining_of parts s) = length-ids_from s (mark_of parts s) (remaining_of parts s) in
+    let long : length rest ≡ length (remaining_of parts s) = length_ids_from s (mark_of parts s) (remaining_of parts s) in
     let split : rest ≡ take t rest ++ id ∷ back =
     sym (keeps s) ∙ ap (filter (in_session s)) (split_at order k within) ∙ filter-append (in_session s) (take k order) (id ∷ drop (k + 1) order)
     ∙ ap (λ b. filter (in_session s) (take k order) ++ cond b (id ∷ back) back) (eq-eqb s s refl)
@@ -103,18 +99,18 @@ is_next parts order k taken come keeps within =
     let taken_all : length (take t rest) ≡ t = length-take-le t rest (omega (arith, come.most s, long)) in
     let room : t < length (remaining_of parts s) = omega (arith, long, taken_all, ap length split, length-append (take t rest) (id ∷ back)) in
     let here : id ≡ id_at rest t = sym (get_or_at (take t rest) id back first_id t taken_all) ∙ ap (λ xs. id_at xs t) (sym split) in
-    let at : id_at rest t ≡ record { session = s; number = mark_of parts s + t } = ids_from_at s (mark_of parts s) (remaining_of parts s) t room in
+    let at : id_at rest t ≡ record { session = s; number = mark_of parts s + t } = id_at_place s (mark_of parts s) (remaining_of parts s) t room in
     record { remains = room; number = ap (λ (x : TxnId). x.number) (here ∙ at) }
 
 pub all_come : (parts : Parts) (order : List TxnId) (taken : List ℕ) → HaveCome parts order taken → AreAllTaken parts taken → KeepsSessions parts order
 all_come parts order taken come all = λ s.
     let rest = remaining_ids parts s in
-    let long : length rest ≡ length (remaining_of parts s) = length-ids_from s (mark_of parts s) (remaining_of parts s) in
+    let long : length rest ≡ length (remaining_of parts s) = length_ids_from s (mark_of parts s) (remaining_of parts s) in
     come.come s ∙ take_all (slice_index taken s) rest (omega (arith, all s, long))
 
 pub come_all : (parts : Parts) (order : List TxnId) (taken : List ℕ) → HaveCome parts order taken → KeepsSessions parts order → AreAllTaken parts taken
 come_all parts order taken come keeps = λ s.
     let rest = remaining_ids parts s in
-    let long : length rest ≡ length (remaining_of parts s) = length-ids_from s (mark_of parts s) (remaining_of parts s) in
+    let long : length rest ≡ length (remaining_of parts s) = length_ids_from s (mark_of parts s) (remaining_of parts s) in
     let whole : take (slice_index taken s) rest ≡ rest = sym (come.come s) ∙ keeps s in
     omega (arith, long, come.most s, ap length whole, length-take-le (slice_index taken s) rest (omega (arith, come.most s, long)))

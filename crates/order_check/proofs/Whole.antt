@@ -1,8 +1,7 @@
 -- Parts of which nothing is gone, and the whole history that they have.
-use Rattle.std.proofs.Common.{◌≡◌, ℕ, ◌<◌, ◌++◌, ◌↔◌, List, [], ◌∷◌, length, Some, None, Option, IsSome, ltb, slice_get, refl, sym, subst, ap, ◌∙◌, arith, zero, suc, nat_cmp, length-set, length-append, get_or-set_same, get_or-set_other, ◌+◌, ⊎_elim}
+use Rattle.std.proofs.Common.{◌≡◌, ℕ, ◌<◌, ◌++◌, ◌↔◌, List, [], ◌∷◌, length, None, IsSome, ltb, slice_get, refl, sym, subst, ap, ◌∙◌, arith, nat_cmp, length-set, length-append, get_or-set_same, get_or-set_other, ◌+◌, ⊎_elim}
 use Rattle.std.proofs.Math.Nat.{sub-zero}
 use Rattle.std.proofs.lemmas.Bool.{cond-false, le-ltb, cases_eq}
-use Rattle.std.proofs.lemmas.Option.{slice_get_within}
 use Rattle.std.proofs.lemmas.List.Elements.{All-weaker}
 use Rattle.std.specs.FinMap.{get, get-empty}
 use Rattle.txn.specs.declared.transactions.TxnId.{TxnId}
@@ -18,6 +17,7 @@ use Rattle.order_check.specs.NoBase.{HasNoBase}
 use Rattle.order_check.specs.Explains.{Explains, Meets}
 use Rattle.order_check.specs.Verdict.{HasOrder, IsVerdict}
 use Rattle.order_check.specs.Whole.{MeetsWhole, ExplainsWhole, HasOrderWhole, HasPendingWhole, IsVerdictWhole}
+use Rattle.order_check.proofs.Received.{some_within, within_some}
 use Rattle.order_check.specs.StandsFor.{StandsFor, parts_with, parts_then, history_then, IsNextFragment, with_fragment}
 
 -- what remains is what the whole history has
@@ -54,18 +54,6 @@ explains_whole parts order bare =
         reads = λ front back id is txn at. All-weaker (λ read. MeetsWhole parts.remain front read.0 read.1) (λ read. Meets parts front read.0 read.1) (λ read. (meets_whole parts bare front read.0 read.1).1) txn.reads (h.reads front back id is txn (sym (at_same parts bare id) ∙ at));
       },
     )
-
-pub some_within : {X : Type 0} (xs : List X) (n : ℕ) → IsSome (slice_get xs n) → n < length xs
-some_within {X} xs n = go (slice_get xs n) refl
-  where
-    go : (o : Option X) → slice_get xs n ≡ o → IsSome o → n < length xs
-    go None is some = absurd (cc)
-    go (Some x) is some = slice_get_within xs n x is
-
-pub within_some : {X : Type 0} (xs : List X) (n : ℕ) → n < length xs → IsSome (slice_get xs n)
-within_some (x ∷ xs) zero within = refl
-within_some (x ∷ xs) (suc n) within = within_some xs n (omega arith)
-within_some [] n within = absurd (omega arith)
 
 received_whole : (parts : Parts) → HasNoBase parts → (id : TxnId) → IsReceived parts id ↔ Received parts.remain id
 received_whole parts bare id =

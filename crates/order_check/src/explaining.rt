@@ -1,5 +1,4 @@
-ghost use Rattle.std.specs.Prelude.{◌≡◌, ◌↔◌, ℕ, ◌+◌, length, All, IfOk, OnOk, OnErr, IsTrue, nat_eq, slice_index, slice_set, if◌then◌else◌, Some};
-ghost use Rattle.std.specs.List.{list_any};
+ghost use Rattle.std.specs.Prelude.{◌≡◌, ◌↔◌, ℕ, ◌+◌, length, IfOk, OnOk, IsTrue, slice_index, slice_set, Some};
 ghost use Rattle.std.specs.FinMap as map;
 ghost use Rattle.order_check.specs.Based.{remaining_at};
 ghost use Rattle.order_check.specs.Good.{IsGood};

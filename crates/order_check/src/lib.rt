@@ -24,3 +24,6 @@ pub use laws::{
 };
 pub use remainder::{Base, Kind, LastWriters, Parts};
 pub use trial::{brute, find_order};
+
+#[cfg(test)]
+mod tests;

@@ -1,7 +1,7 @@
 use Rattle.std.proofs.Common.{◌≡◌, count_by, sym, rules}
 use Rattle.txn.specs.History.{in_session}
 use Rattle.order_check.specs.Based.{mark_of, remaining_of}
-use Rattle.order_check.proofs.Extensions.{ids_from_at, ids_from_past}
+use Rattle.order_check.proofs.SessionIds.{ids_from_at, ids_from_past}
 use Rattle.order_check.proofs.trial.next_of.Goals as goal
 
 pub returns-then-place-remaining_of : goal.returns-then-place-remaining_of

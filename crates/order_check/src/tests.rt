@@ -1,0 +1,5 @@
+mod fixtures;
+mod histories;
+mod lookups;
+mod refused_memory;
+mod rules;
