@@ -5,7 +5,6 @@ use Rattle.serde_json.specs.Read.{read}
 use Rattle.txn.specs.declared.transactions.Source.{Source}
 use Rattle.txn.specs.declared.transactions.Source.TheVariants.{Init, By}
 use Rattle.txn.specs.declared.transactions.Txn.{Txn}
-use Rattle.txn.specs.declared.transactions.Fragment.{Fragment}
 use Rattle.log_text.specs.declared.commands.Command.{Command}
 use Rattle.log_text.specs.declared.commands.Effort.{Effort}
 use Rattle.log_text.specs.declared.commands.Command.TheVariants.{Start, Offer, Close, Begin, Finish, Round, Show}

@@ -47,7 +47,7 @@ fn answers_without_a_report(rt: HostRuntime) -> Result<(), Fail> {
 }
 
 #[test]
-fn reports(rt: HostRuntime) -> Result<(), Fail> {
+fn serial_report(rt: HostRuntime) -> Result<(), Fail> {
     let alloc = rt.alloc();
     let reply = Reply::Order {
         round: 1,
@@ -55,73 +55,62 @@ fn reports(rt: HostRuntime) -> Result<(), Fail> {
         counts: numbers(alloc, &[2, 1])?,
         order: ids(alloc, &[(0, 0), (0, 1), (1, 0)])?,
     };
-    assert!(rt;
-        is_written_as(
-            alloc,
-            &reply,
-            "[\"report\",1,\"serial\",[2,1],[[0,0],[0,1],[1,0]]]\n"
-        )?
-    );
+    let line = "[\"report\",1,\"serial\",[2,1],[[0,0],[0,1],[1,0]]]\n";
+    assert!(rt; is_written_as(alloc, &reply, line)?);
+    Ok(())
+}
+
+#[test]
+fn pending_report(rt: HostRuntime) -> Result<(), Fail> {
+    let alloc = rt.alloc();
     let reply = Reply::Order {
         round: 281474976710655,
         kind: Kind::Pending,
         counts: numbers(alloc, &[0])?,
         order: ids(alloc, &[])?,
     };
-    assert!(rt;
-        is_written_as(
-            alloc,
-            &reply,
-            "[\"report\",281474976710655,\"pending\",[0],[]]\n"
-        )?
-    );
-    let reply = Reply::Violated {
-        round: 1,
-        counts: numbers(alloc, &[2])?,
-    };
-    assert!(rt; is_written_as(alloc, &reply, "[\"report\",1,\"violated\",[2],[]]\n")?);
-    let reply = Reply::Spent {
-        round: 1,
-        counts: numbers(alloc, &[2])?,
-    };
-    assert!(rt; is_written_as(alloc, &reply, "[\"report\",1,\"spent\",[2]]\n")?);
+    let line = "[\"report\",281474976710655,\"pending\",[0],[]]\n";
+    assert!(rt; is_written_as(alloc, &reply, line)?);
     Ok(())
 }
 
 #[test]
-fn state(rt: HostRuntime) -> Result<(), Fail> {
+fn violated_report(rt: HostRuntime) -> Result<(), Fail> {
     let alloc = rt.alloc();
-    let key_0 = (
-        0,
-        TxnId {
-            session: 0,
-            number: 1,
-        },
-    );
-    let key_5 = (
-        5,
-        TxnId {
-            session: 0,
-            number: 0,
-        },
-    );
+    let reply = Reply::Violated {
+        round: 1,
+        counts: numbers(alloc, &[2])?,
+    };
+    let line = "[\"report\",1,\"violated\",[2],[]]\n";
+    assert!(rt; is_written_as(alloc, &reply, line)?);
+    Ok(())
+}
+
+#[test]
+fn spent_report(rt: HostRuntime) -> Result<(), Fail> {
+    let alloc = rt.alloc();
+    let reply = Reply::Spent {
+        round: 1,
+        counts: numbers(alloc, &[2])?,
+    };
+    let line = "[\"report\",1,\"spent\",[2]]\n";
+    assert!(rt; is_written_as(alloc, &reply, line)?);
+    Ok(())
+}
+
+#[test]
+fn shown_state(rt: HostRuntime) -> Result<(), Fail> {
+    let alloc = rt.alloc();
+    let by = |number| TxnId { session: 0, number };
     let reply = Reply::Show {
         marks: numbers(alloc, &[2, 0])?,
         received: numbers(alloc, &[2, 1])?,
         closed: Sequence::new([false, true].to_vec(alloc)?),
-        last: Sequence::new([key_0, key_5].to_vec(alloc)?),
+        last: Sequence::new([(0, by(1)), (5, by(0))].to_vec(alloc)?),
         remaining: 1,
     };
     let line = "[\"show\",[2,0],[2,1],[false,true],[[0,0,1],[5,0,0]],1]\n";
     assert!(rt; is_written_as(alloc, &reply, line)?);
-    let reply = Reply::Show {
-        marks: numbers(alloc, &[])?,
-        received: numbers(alloc, &[])?,
-        closed: Sequence::new(Vec::new(alloc)),
-        last: Sequence::new(Vec::new(alloc)),
-        remaining: 0,
-    };
-    assert!(rt; is_written_as(alloc, &reply, "[\"show\",[],[],[],[],0]\n")?);
     Ok(())
 }
 
@@ -200,8 +189,8 @@ fn offered_transactions(rt: HostRuntime) -> Result<(), Fail> {
     });
     let txns = fragment.txns.as_slice();
     assert!(rt; fragment.session == 3 && fragment.first == 4 && txns.len() == 2);
-    assert!(rt; txns[0].reads.as_slice() == &[(0, Source::Init), (9, by)]);
-    assert!(rt; txns[0].writes.as_slice() == &[5, 6]);
+    assert!(rt; txns[0].reads.as_slice() == [(0, Source::Init), (9, by)].as_slice());
+    assert!(rt; txns[0].writes.as_slice() == [5, 6].as_slice());
     assert!(rt; txns[1].reads.is_empty() && txns[1].writes.is_empty());
     Ok(())
 }
@@ -272,16 +261,17 @@ fn bad_lines(rt: HostRuntime) -> Result<(), Fail> {
         "[\"round\",1,-0,1]",
         "[\"round\",1,0,1,1]",
     ] {
-        let refused = read_line(alloc, line.as_bytes());
-        assert!(rt; is_bad_line(refused), "at {line}");
+        assert!(rt; is_bad_line(alloc, line.as_bytes())?, "at {line}");
     }
     Ok(())
 }
 
-fn is_bad_line(answer: Result<Command, Refusal>) -> bool {
-    match answer {
-        Ok(_) => false,
-        Err(refusal) => refusal == Refusal::BadLine,
+// Another refusal is handed on, as that of memory.
+fn is_bad_line(alloc: Global, line: &[u8]) -> Result<bool, Refusal> {
+    match read_line(alloc, line) {
+        Ok(_) => Ok(false),
+        Err(Refusal::BadLine) => Ok(true),
+        Err(other) => Err(other),
     }
 }
 
@@ -292,13 +282,13 @@ fn lines_that_are_no_text(rt: HostRuntime) -> Result<(), Fail> {
     for _ in 0..200 {
         deep.push(b'[')?;
     }
-    assert!(rt; is_bad_line(read_line(alloc, deep.as_slice())));
+    assert!(rt; is_bad_line(alloc, deep.as_slice())?);
     for _ in 0..200 {
         deep.push(b']')?;
     }
-    assert!(rt; is_bad_line(read_line(alloc, deep.as_slice())));
-    assert!(rt; is_bad_line(read_line(alloc, b"[\"show\xff\"]")));
-    assert!(rt; is_bad_line(read_line(alloc, b"\xef\xbb\xbf[\"show\"]")));
-    assert!(rt; is_bad_line(read_line(alloc, b"[\"show\"]\x00")));
+    assert!(rt; is_bad_line(alloc, deep.as_slice())?);
+    assert!(rt; is_bad_line(alloc, b"[\"show\xff\"]")?);
+    assert!(rt; is_bad_line(alloc, b"\xef\xbb\xbf[\"show\"]")?);
+    assert!(rt; is_bad_line(alloc, b"[\"show\"]\x00")?);
     Ok(())
 }
