@@ -106,3 +106,6 @@ pub fn demo<W: ByteSink>(alloc: Global, sink: &mut W) -> Result<(), LineError>
     write_all(sink, &line)?;
     Ok(())
 }
+
+#[cfg(test)]
+mod tests;
