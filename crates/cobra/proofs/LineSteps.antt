@@ -1,16 +1,14 @@
 -- Steps of a reader of lines, one after another.
-use Rattle.std.proofs.Common.{◌≡◌, ◌≢◌, ℕ, ◌+◌, ◌*◌, ◌<◌, ◌≤◌, ◌⊎◌, List, [], ◌∷◌, ◌++◌, length, length-append, append_assoc, append-nil, Bool, true, false, cond, nat_le, Option, Some, None, Contains, refl, ap, sym, ◌∙◌, subst, arith, inl, inr}
+use Rattle.std.proofs.Common.{◌≡◌, ◌≢◌, ℕ, ◌+◌, ◌*◌, ◌<◌, ◌≤◌, List, [], ◌∷◌, ◌++◌, length, length-append, append_assoc, append-nil, Option, Some, None, Contains, refl, ap, sym, ◌∙◌, subst, arith}
 use Rattle.std.proofs.lemmas.List.Elements.{All-append, All-contains, Contains-append_left}
-use Rattle.std.proofs.lemmas.Bool.Decides.{nat_tests, leb_tells}
-use Rattle.std.specs.Option.{ForSome, option_map}
-use Rattle.std.specs.Global.{Vec}
+use Rattle.std.proofs.lemmas.Bool.Decides.{nat_tests}
 use Rattle.std.specs.Io.KnownBytes.{Consumes, IsAtEnd, Keeps}
 use Rattle.std.proofs.KnownBytes.{Consumes-trans, Consumes-kept}
 use Rattle.cobra.specs.declared.block.TheConstants.{BLOCK}
 use Rattle.cobra.specs.declared.lines.LineReader.{LineReader}
 use Rattle.cobra.specs.declared.lines.Next.{Next}
-use Rattle.cobra.specs.Lines.{lines, HasNoLf}
-use Rattle.cobra.specs.LineReaders.{limit_of, ahead, bytes_of, under_way, grown, lines_left, lines_of, EndsAtLf, EndsAtEnd, ReadsLine, StopsInLine, IsHandedOut, IsLast}
+use Rattle.cobra.specs.Lines.{HasNoLf}
+use Rattle.cobra.specs.LineReaders.{limit_of, ahead, under_way, grown, lines_left, lines_of, EndsAtLf, EndsAtEnd, StopsInLine, IsHandedOut, IsLast}
 
 -- how far a call has come within a line
 pub record IsMidway (old now : LineReader) (left_old left : Option (List ℕ)) : Type 0 where

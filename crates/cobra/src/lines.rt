@@ -152,7 +152,7 @@ impl LineReader {
         }
     }
 
-    /// Reads the next line, to its LF and no further, or to the end. An `Err` loses nothing: the line that was under way
+    /// Reads on to the end of the next line, by no more reads than that takes. An `Err` loses nothing: the line that was under way
     /// stays so, and a later call goes on with it.
     pub fn next_line<S: ByteSource>(&mut self, source: &mut S) -> Result<Next, LineError>
         // Told what bytes were left, it hands out the first of their lines.

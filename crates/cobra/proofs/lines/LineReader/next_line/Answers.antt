@@ -1,9 +1,7 @@
-use Rattle.std.proofs.Common.{◌≡◌, ◌≤◌, ◌+◌, ◌*◌, ◌++◌, ℕ, List, refl, sym, ◌∙◌, inl, inr, le_trans}
-use Rattle.std.specs.Io.KnownBytes.{Consumes, IsAtEnd, Keeps}
+use Rattle.std.proofs.Common.{refl, sym, ◌∙◌, inl, inr, le_trans}
 use Rattle.std.proofs.lemmas.Result.{err_from_is_err_and}
-use Rattle.cobra.specs.LineReaders.{ahead, under_way, limit_of, ReadsLine, EndsAtLf, StopsInLine}
 use Rattle.cobra.proofs.LineNext.{reads-next}
-use Rattle.cobra.proofs.LineSteps.{IsMidway, Keeps-none, midway-kept, midway-read, midway-same, midway-lf, midway-end, midway-no_lf, lines_left-read}
+use Rattle.cobra.proofs.LineSteps.{Keeps-none, midway-kept, midway-read, midway-same, midway-lf, midway-end, midway-no_lf, lines_left-read}
 use Rattle.cobra.proofs.lines.LineReader.next_line.Goals as goal
 
 pub returns-in-Some-clause-line : goal.returns-in-Some-clause-line

@@ -1,7 +1,6 @@
 use Rattle.std.proofs.Common.{◌≡◌, ◌≤◌, Contains}
 use Rattle.cobra.specs.LineReaders.{ahead, lines_left}
 use Rattle.cobra.proofs.LineSteps.{IsMidway}
-use Rattle.cobra.proofs.LineNext.{reads-next}
 use Rattle.cobra.proofs.lines.LineReader.next_line.Given as goal
 
 abbrev pub invariant-loop-next : goal.invariant-loop-next
