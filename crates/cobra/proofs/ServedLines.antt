@@ -9,8 +9,8 @@ use Rattle.round_state.specs.EngineState.{EngineState}
 use Rattle.round_state.specs.Legal.{State}
 use Rattle.cobra.specs.declared.lines.TheConstants.{LONGEST_LINE}
 use Rattle.cobra.specs.declared.lines.LineReader.{LineReader}
-use Rattle.cobra.specs.declared.lines.LineError.{LineError}
-use Rattle.cobra.specs.declared.lines.LineError.TheVariants.{Device, NoMemory}
+use Rattle.cobra.specs.declared.failures.Failure.{Failure}
+use Rattle.cobra.specs.declared.failures.Failure.TheVariants.{Device, NoMemory}
 use Rattle.cobra.specs.declared.lines.Next.{Next}
 use Rattle.cobra.specs.declared.lines.Next.TheVariants.{Line, TooLong, End}
 use Rattle.cobra.specs.LineReaders.{ahead, limit_of, lines_ahead, IsNextOf, ReadsLine, EndsAtLf, EndsAtEnd, StopsInLine}
@@ -28,7 +28,7 @@ pub where_told : (Says : List ℕ → Option (List ℕ) → List ℕ → Type 0)
 where_told Says a b old new h = if_told a (λ input. (output : List ℕ) × Says input b output × Appends old new output) h
 
 -- a failure that isn't want of memory
-pub is_device : (error : LineError) → (error ≡ NoMemory → ⊥) → error ≡ Device
+pub is_device : (error : Failure) → (error ≡ NoMemory → ⊥) → error ≡ Device
 is_device Device not = refl
 is_device NoMemory not = absurd (not refl)
 
@@ -211,14 +211,18 @@ stops_reading input old new a b output engine more s gone stops none =
 
 -- where no line could be asked for yet
 pub stops_first : (input : List ℕ) (left : Option (List ℕ)) → left ≡ Some input → StopsForMemory input left []
-stops_first input left told = (0, None, record {
-  read = [];
-  rest = input;
-  left_is = told;
-  input_is = refl;
-  were_read = omega arith;
-  answers = ([], refl, refl);
-})
+stops_first input left told = (
+  0,
+  None,
+  record {
+    read = [];
+    rest = input;
+    left_is = told;
+    input_is = refl;
+    were_read = omega arith;
+    answers = ([], refl, refl);
+  },
+)
 
 slice_get-middle : (xs ys : List (List ℕ)) (y : List ℕ) → slice_get (xs ++ y ∷ ys) (length xs) ≡ Some y
 slice_get-middle [] ys y = refl

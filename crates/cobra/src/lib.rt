@@ -4,6 +4,7 @@
 mod block;
 mod demonstration;
 mod devices;
+mod failures;
 mod faults;
 mod lines;
 mod memory;
@@ -15,7 +16,8 @@ mod standard;
 
 pub use demonstration::demo;
 pub use devices::{ByteSink, ByteSource, DeviceFault, write_all};
-pub use lines::{LONGEST_LINE, LineError, LineReader, Next};
+pub use failures::Failure;
+pub use lines::{LONGEST_LINE, LineReader, Next};
 pub use memory::{MemorySink, MemorySource, Pace};
 pub use serving::serve;
 pub use standard::{ReaderSource, StandardInput, StandardOutput, WriterSink};

@@ -11,8 +11,16 @@ fn first_run(rt: HostRuntime) -> Result<(), Fail> {
             pace: Pace::new(most, fails_at),
         };
         let end = demo(rt.alloc(), &mut sink);
-        assert_eq!(rt; end.is_ok(), fails_at == 0, "by {most}, failing at {fails_at}");
-        assert_eq!(rt; sink.bytes.as_slice(), &line[..count], "by {most}, failing at {fails_at}");
+        assert_eq!(rt;
+            end.is_ok(),
+            fails_at == 0,
+            "by {most}, failing at {fails_at}"
+        );
+        assert_eq!(rt;
+            sink.bytes.as_slice(),
+            &line[..count],
+            "by {most}, failing at {fails_at}"
+        );
     }
     Ok(())
 }

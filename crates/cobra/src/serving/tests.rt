@@ -181,7 +181,7 @@ fn served(
     most: usize,
     failing_read: u64,
     failing_write: u64,
-) -> (Result<(), LineError>, Vec<u8>)
+) -> (Result<(), Failure>, Vec<u8>)
     requires { 0 < most }
 {
     let mut source = MemorySource {
@@ -237,10 +237,16 @@ fn fails_in_turn(rt: &(impl AllocGlobal + Abort), most: usize, is_read: bool) ->
         if end == Ok(()) {
             return call;
         }
-        assert_eq!(rt; end, Err(LineError::Device), "at call {call} by {most}");
-        assert!(rt; replies.as_bytes().starts_with(&written), "at call {call} by {most}");
+        assert_eq!(rt; end, Err(Failure::Device), "at call {call} by {most}");
+        assert!(rt;
+            replies.as_bytes().starts_with(&written),
+            "at call {call} by {most}"
+        );
         let lines = line_count(&written);
-        assert!(rt; !is_read || written.as_slice() == first_lines(replies.as_bytes(), lines), "at call {call} by {most}");
+        assert!(rt;
+            !is_read || written.as_slice() == first_lines(replies.as_bytes(), lines),
+            "at call {call} by {most}"
+        );
     }
     0
 }
@@ -272,7 +278,11 @@ fn input_cut_at_every_byte(rt: HostRuntime) -> Result<(), Fail> {
         if begins {
             assert_eq!(rt; rest, b"", "at {cut}");
         } else if script[cut] == b'\n' {
-            assert_eq!(rt; written.as_slice(), first_lines(replies, whole + 1), "at {cut}");
+            assert_eq!(rt;
+                written.as_slice(),
+                first_lines(replies, whole + 1),
+                "at {cut}"
+            );
         } else {
             assert_eq!(rt; rest, BAD_LINE, "at {cut}");
         }

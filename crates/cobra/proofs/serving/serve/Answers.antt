@@ -1,8 +1,8 @@
 use Rattle.std.proofs.Common.{◌≡◌, ◌<◌, ◌⊎◌, ℕ, List, [], ◌++◌, take, Some, Err, refl, sym, ap, ◌∙◌, inl, inr, arith}
 use Rattle.std.proofs.KnownBytes.{Appends-nil, Appends-trans}
 use Rattle.std.proofs.lemmas.Result.{err_from_is_err_and}
-use Rattle.cobra.specs.declared.lines.LineError.{LineError}
-use Rattle.cobra.specs.declared.lines.LineError.TheVariants.{Device, NoMemory}
+use Rattle.cobra.specs.declared.failures.Failure.{Failure}
+use Rattle.cobra.specs.declared.failures.Failure.TheVariants.{Device, NoMemory}
 use Rattle.cobra.specs.Outputs.{IsOutput, StopsForMemory, StopsReading, StopsWriting}
 use Rattle.cobra.proofs.ServedLines.{where_told, is_device, under_way_first, serving_first, serving_read, serving_on, stops_first, stops_for_memory, stops_for_memory_at_line, stops_reading, stops_writing, ends_whole}
 use Rattle.cobra.proofs.serving.serve.Goals as goal
@@ -23,27 +23,27 @@ loop-script-init g c = record {
 
 pub returns-in_err-next-clause-stops_reading : goal.returns-in_err-next-clause-stops_reading
 returns-in_err-next-clause-stops_reading g c = λ failed.
-    let error : LineError = c.in_err-next.field-0.0 in
-    let device : error ≡ Device = is_device error (λ memory. absurd (omega (arith, failed, c.in_err-next.ensures.memory (ap (λ (e : LineError). Err e) memory), c.loop-script.invariant.read))) in
+    let error : Failure = c.in_err-next.field-0.0 in
+    let device : error ≡ Device = is_device error (λ memory. absurd (omega (arith, failed, c.in_err-next.ensures.memory (ap (λ (e : Failure). Err e) memory), c.loop-script.invariant.read))) in
     let stopped = c.in_err-next.ensures.stopped in
     where_told StopsReading _ _ _ _ (λ input told.
-      let front = c.loop-script.invariant.told input told in
-      (front.0, stops_reading input c.loop-script.reader c.next_line.new.self _ _ front.0 c.loop-script.script.engine stopped.0 front.2 stopped.1 stopped.2 (c.in_err-next.ensures.all_used (ap (λ (e : LineError). Err e) device)), front.1))
+    let front = c.loop-script.invariant.told input told in
+    (front.0, stops_reading input c.loop-script.reader c.next_line.new.self _ _ front.0 c.loop-script.script.engine stopped.0 front.2 stopped.1 stopped.2 (c.in_err-next.ensures.all_used (ap (λ (e : Failure). Err e) device)), front.1))
 
 pub returns-in_err-next-clause-stops_for_memory : goal.returns-in_err-next-clause-stops_for_memory
 returns-in_err-next-clause-stops_for_memory g c = λ memory.
     let stopped = c.in_err-next.ensures.stopped in
     where_told StopsForMemory _ _ _ _ (λ input told.
-      let front = c.loop-script.invariant.told input told in
-      (front.0, stops_for_memory input c.loop-script.reader _ _ front.0 c.loop-script.script.engine stopped.0 front.2 stopped.1, front.1))
+    let front = c.loop-script.invariant.told input told in
+    (front.0, stops_for_memory input c.loop-script.reader _ _ front.0 c.loop-script.script.engine stopped.0 front.2 stopped.1, front.1))
 
 pub returns-in-End-clause-whole : goal.returns-in-End-clause-whole
 returns-in-End-clause-whole g c =
     let line = c.in_ok-next.ensures.line in
     let next = rw c.in-End.is at (c.in_ok-next.ensures.next c.loop-script.invariant.fresh) in
     where_told (λ input left output. IsOutput input output) _ (g.R.ByteSource.remaining c.next_line.new.source) _ _ (λ input told.
-      let front = c.loop-script.invariant.told input told in
-      (front.0, (ends_whole input c.loop-script.reader c.next_line.new.self _ _ front.0 c.loop-script.script.engine line.0 front.2 line.1 next).1, front.1))
+    let front = c.loop-script.invariant.told input told in
+    (front.0, (ends_whole input c.loop-script.reader c.next_line.new.self _ _ front.0 c.loop-script.script.engine line.0 front.2 line.1 next).1, front.1))
 
 pub returns-in_err-text : goal.returns-in_err-text
 returns-in_err-text g c =
@@ -57,9 +57,9 @@ returns-in_err-text g c =
       stops_reading = λ failed. absurd (omega (arith, failed, read));
       stops_writing = λ failed. absurd (omega (arith, failed, c.loop-script.invariant.written));
       stops_for_memory = λ memory. where_told StopsForMemory _ _ _ _ (λ input told.
-        let front = c.loop-script.invariant.told input told in
-        let taken = serving_read input c.loop-script.reader c.next_line.new.self _ _ front.0 c.loop-script.script.engine line.0 c.in_ok-next.next front.2 line.1 line.2 c.loop-script.invariant.limit next c.in_default.not-End in
-        (front.0, stops_for_memory_at_line input c.next_line.new.self _ front.0 c.loop-script.script.engine _ taken.2, front.1));
+          let front = c.loop-script.invariant.told input told in
+          let taken = serving_read input c.loop-script.reader c.next_line.new.self _ _ front.0 c.loop-script.script.engine line.0 c.in_ok-next.next front.2 line.1 line.2 c.loop-script.invariant.limit next c.in_default.not-End in
+          (front.0, stops_for_memory_at_line input c.next_line.new.self _ front.0 c.loop-script.script.engine _ taken.2, front.1));
       device = λ e. cc;
       none_failed = λ not. (read, c.loop-script.invariant.written);
     }
@@ -76,12 +76,12 @@ returns-in_err-write_all g c =
       whole = tt;
       stops_reading = λ failed. absurd (omega (arith, failed, read));
       stops_writing = λ failed. where_told StopsWriting _ _ _ _ (λ input told.
-        let front = c.loop-script.invariant.told input told in
-        let taken = serving_read input c.loop-script.reader c.next_line.new.self _ _ front.0 c.loop-script.script.engine line.0 c.in_ok-next.next front.2 line.1 line.2 c.loop-script.invariant.limit next c.in_default.not-End in (
-          front.0 ++ take part.0 c.in_ok-text.text.items,
-          stops_writing input c.next_line.new.self _ front.0 c.loop-script.script.engine c.answer_line.new.self.engine taken.0 c.in_ok-text.text.items c.in_ok-next.next part.0 taken.2 taken.1 c.in_ok-text.ensures.replies part.1,
-          Appends-trans _ _ _ _ _ front.1 part.2,
-        ));
+          let front = c.loop-script.invariant.told input told in
+          let taken = serving_read input c.loop-script.reader c.next_line.new.self _ _ front.0 c.loop-script.script.engine line.0 c.in_ok-next.next front.2 line.1 line.2 c.loop-script.invariant.limit next c.in_default.not-End in (
+            front.0 ++ take part.0 c.in_ok-text.text.items,
+            stops_writing input c.next_line.new.self _ front.0 c.loop-script.script.engine c.answer_line.new.self.engine taken.0 c.in_ok-text.text.items c.in_ok-next.next part.0 taken.2 taken.1 c.in_ok-text.ensures.replies part.1,
+            Appends-trans _ _ _ _ _ front.1 part.2,
+          ));
       stops_for_memory = λ memory. cc;
       device = λ e. inr (read, omega (arith, c.in_err-write_all.ensures.failed, c.loop-script.invariant.written));
       none_failed = λ not. absurd (not refl);
@@ -97,8 +97,8 @@ loop-script-preserved-in_ok-write_all g c =
       fresh = line.2.fresh;
       limit = c.in_ok-next.ensures.limit ∙ c.loop-script.invariant.limit;
       told = λ input told.
-      let front = c.loop-script.invariant.told input told in
-      serving_on input c.loop-script.reader c.next_line.new.self _ _ _ _ _ front.0 c.loop-script.script.engine c.answer_line.new.self.engine line.0 c.in_ok-next.next c.in_ok-text.text.items front.2 line.1 line.2 c.loop-script.invariant.limit next c.in_default.not-End c.in_ok-text.ensures.replies front.1 written;
+          let front = c.loop-script.invariant.told input told in
+          serving_on input c.loop-script.reader c.next_line.new.self _ _ _ _ _ front.0 c.loop-script.script.engine c.answer_line.new.self.engine line.0 c.in_ok-next.next c.in_ok-text.text.items front.2 line.1 line.2 c.loop-script.invariant.limit next c.in_default.not-End c.in_ok-text.ensures.replies front.1 written;
       read = c.in_ok-next.ensures.ok ∙ c.loop-script.invariant.read;
       written = c.in_ok-write_all.ensures.ok ∙ c.loop-script.invariant.written;
     }
@@ -113,8 +113,8 @@ loop-script-preserved g c =
       fresh = line.2.fresh;
       limit = c.in_ok-next.ensures.limit ∙ c.loop-script.invariant.limit;
       told = λ input told.
-      let front = c.loop-script.invariant.told input told in
-      serving_on input c.loop-script.reader c.next_line.new.self _ _ _ _ _ front.0 c.loop-script.script.engine c.answer_line.new.self.engine line.0 c.in_ok-next.next c.in_ok-text.text.items front.2 line.1 line.2 c.loop-script.invariant.limit next c.in_default.not-End c.in_ok-text.ensures.replies front.1 written;
+          let front = c.loop-script.invariant.told input told in
+          serving_on input c.loop-script.reader c.next_line.new.self _ _ _ _ _ front.0 c.loop-script.script.engine c.answer_line.new.self.engine line.0 c.in_ok-next.next c.in_ok-text.text.items front.2 line.1 line.2 c.loop-script.invariant.limit next c.in_default.not-End c.in_ok-text.ensures.replies front.1 written;
       read = c.in_ok-next.ensures.ok ∙ c.loop-script.invariant.read;
       written = c.in_ok-write_all.ensures.ok ∙ c.loop-script.invariant.written;
     }
