@@ -1,6 +1,7 @@
 use super::*;
 use crate::memory::{MemorySink, MemorySource, Pace};
 use round_state::TrialSolver;
+use std::process::Abort;
 use std::test::Fail;
 
 /// Scripts and the replies to them, as in the folder `examples`.
@@ -276,7 +277,7 @@ fn input_cut_at_every_byte(rt: HostRuntime) -> Result<(), Fail> {
         };
         let begins = cut == 0 || script[cut - 1] == b'\n';
         if begins {
-            assert_eq!(rt; rest, b"", "at {cut}");
+            assert!(rt; rest.is_empty(), "at {cut}");
         } else if script[cut] == b'\n' {
             assert_eq!(rt;
                 written.as_slice(),
