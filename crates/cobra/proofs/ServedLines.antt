@@ -2,23 +2,35 @@
 use Rattle.std.proofs.Common.{◌≡◌, ◌≢◌, ℕ, ◌+◌, ◌≤◌, ◌<◌, ◌⊎◌, List, [], ◌∷◌, ◌++◌, length, take, append_assoc, append-nil, length-append, Option, Some, None, IfSome, refl, ap, sym, ◌∙◌, subst, arith, ⊎_elim}
 use Rattle.std.specs.Prelude.{slice_get}
 use Rattle.std.specs.List.{concat}
-use Rattle.std.specs.Io.KnownBytes.{Consumes, IsAtEnd}
+use Rattle.std.specs.Io.KnownBytes.{Appends, Consumes, IsAtEnd}
+use Rattle.std.proofs.KnownBytes.{Appends-trans}
 use Rattle.std.proofs.lemmas.List.{take_at, length_push}
 use Rattle.round_state.specs.EngineState.{EngineState}
 use Rattle.round_state.specs.Legal.{State}
 use Rattle.cobra.specs.declared.lines.TheConstants.{LONGEST_LINE}
 use Rattle.cobra.specs.declared.lines.LineReader.{LineReader}
+use Rattle.cobra.specs.declared.failures.Failure.{Failure}
+use Rattle.cobra.specs.declared.failures.Failure.TheVariants.{Device, NoMemory}
 use Rattle.cobra.specs.declared.lines.Next.{Next}
 use Rattle.cobra.specs.declared.lines.Next.TheVariants.{Line, TooLong, End}
 use Rattle.cobra.specs.LineReaders.{ahead, limit_of, lines_ahead, IsNextOf, ReadsLine, EndsAtLf, EndsAtEnd, StopsInLine}
 use Rattle.cobra.specs.Lines.{lines, lf_count}
 use Rattle.cobra.specs.Outputs.{Replies, RepliesAll, IsOutputOf, IsOutput, lines_read, AnswersFront, StopsForMemory, StopsReading, StopsWriting, IsTold, RepliesLegally}
-use Rattle.cobra.specs.Scripts.{HoldsScript}
+use Rattle.cobra.specs.Scripts.{HoldsScript, IsUnderWay}
 use Rattle.cobra.proofs.LineCounts.{lf_count-append, lf_count-le-lines, no_lines, lf_count-line, lf_count-last, lf_count-stopped}
 
-pub if_told : (told : Option (List ℕ)) (P : List ℕ → Type 0) → ((bytes : List ℕ) → told ≡ Some bytes → P bytes) → IfSome told P
+if_told : (told : Option (List ℕ)) (P : List ℕ → Type 0) → ((bytes : List ℕ) → told ≡ Some bytes → P bytes) → IfSome told P
 if_told None P h = tt
 if_told (Some bytes) P h = h bytes refl
+
+-- what is said of the input where that is told
+pub where_told : (Says : List ℕ → Option (List ℕ) → List ℕ → Type 0) (a b old new : Option (List ℕ)) → ((input : List ℕ) → a ≡ Some input → (output : List ℕ) × Says input b output × Appends old new output) → IfSome a (λ input. (output : List ℕ) × Says input b output × Appends old new output)
+where_told Says a b old new h = if_told a (λ input. (output : List ℕ) × Says input b output × Appends old new output) h
+
+-- a failure that isn't want of memory
+pub is_device : (error : Failure) → (error ≡ NoMemory → ⊥) → error ≡ Device
+is_device Device not = refl
+is_device NoMemory not = absurd (not refl)
 
 -- one more line is answered
 
@@ -54,6 +66,9 @@ pub record IsServing (input : List ℕ) (reader : LineReader) (left : Option (Li
   pub state : Option State
   pub answers : IsOutputOf asked output state
   pub holds : HoldsScript engine state
+
+pub under_way_first : (engine : Option EngineState) → engine ≡ None → IsUnderWay engine
+under_way_first engine first = (None, subst (λ (e : Option EngineState). HoldsScript e None) (sym first) tt)
 
 pub serving_first : (input : List ℕ) (reader : LineReader) (left : Option (List ℕ)) (engine : Option EngineState) → left ≡ Some input → ahead reader ≡ [] → engine ≡ None → IsServing input reader left [] engine []
 serving_first input reader left engine told none first = record {
@@ -141,6 +156,12 @@ serving_answered input reader left output engine new line text next s told legal
       holds = after.2;
     }
 
+-- a line is read and answered
+pub serving_on : (input : List ℕ) (old new : LineReader) (a b first then_held now : Option (List ℕ)) (output : List ℕ) (engine after : Option EngineState) (more : List ℕ) (next : Next) (text : List ℕ) → IsServing input old a output engine [] → Consumes a b more → ReadsLine old new (ahead old ++ more) b next → limit_of old ≡ LONGEST_LINE → IsNextOf (limit_of old) (lines_ahead old a) next (lines_ahead new b) → next ≢ End → RepliesLegally engine next text after → Appends first then_held output → Appends then_held now text → (all : List ℕ) × Appends first now all × IsServing input new b all after []
+serving_on input old new a b first then_held now output engine after more next text s gone line limit is some legal before one =
+    let taken = serving_read input old new a b output engine more next s gone line limit is some in
+    (output ++ text, Appends-trans first then_held now output text before one, serving_answered input new b output engine after taken.0 text next taken.2 taken.1 legal)
+
 -- what was answered so far answers a front of the lines
 pub answered_front : (input output : List ℕ) (asked rest : List (List ℕ)) (state : Option State) → lines input ≡ asked ++ rest → IsOutputOf asked output state → IsOutputOf (take (length asked) (lines input)) output state
 answered_front input output asked rest state split answers =
@@ -156,6 +177,9 @@ stops_at_line input reader left output engine taken s = record {
   were_read = omega (arith, s.no_fewer);
   answers = answered_front input output s.asked (taken ++ lines (ahead reader ++ s.rest)) s.state s.split s.answers;
 }
+
+pub stops_for_memory_at_line : (input : List ℕ) (reader : LineReader) (left : Option (List ℕ)) (output : List ℕ) (engine : Option EngineState) (taken : List (List ℕ)) → IsServing input reader left output engine taken → StopsForMemory input left output
+stops_for_memory_at_line input reader left output engine taken s = (length s.asked, s.state, stops_at_line input reader left output engine taken s)
 
 -- it stops within the next line
 stops_within : (input : List ℕ) (reader : LineReader) (a b : Option (List ℕ)) (output : List ℕ) (engine : Option EngineState) (more : List ℕ) → (s : IsServing input reader a output engine []) → Consumes a b more → (front : AnswersFront input b output (length s.asked) s.state) × (front.read ≡ s.read ++ more)
@@ -187,14 +211,18 @@ stops_reading input old new a b output engine more s gone stops none =
 
 -- where no line could be asked for yet
 pub stops_first : (input : List ℕ) (left : Option (List ℕ)) → left ≡ Some input → StopsForMemory input left []
-stops_first input left told = (0, None, record {
-  read = [];
-  rest = input;
-  left_is = told;
-  input_is = refl;
-  were_read = omega arith;
-  answers = ([], refl, refl);
-})
+stops_first input left told = (
+  0,
+  None,
+  record {
+    read = [];
+    rest = input;
+    left_is = told;
+    input_is = refl;
+    were_read = omega arith;
+    answers = ([], refl, refl);
+  },
+)
 
 slice_get-middle : (xs ys : List (List ℕ)) (y : List ℕ) → slice_get (xs ++ y ∷ ys) (length xs) ≡ Some y
 slice_get-middle [] ys y = refl

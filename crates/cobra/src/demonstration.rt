@@ -3,7 +3,7 @@ ghost use Rattle.std.specs.Io.KnownBytes.{Appends, Keeps};
 ghost use Rattle.cobra.specs.Demonstration.{shown_txns, shown_fragment, shown_steps, IsShownReport, IsShownLine};
 
 use crate::devices::{ByteSink, write_all};
-use crate::lines::LineError;
+use crate::failures::Failure;
 use crate::replies::reply_of;
 use log_text::write_reply;
 use round_state::{Engine, Report, Step, StepReply, TrialSolver};
@@ -91,18 +91,21 @@ fn shown_line(alloc: Global) -> Result<Vec<u8>, NoMemory>
 }
 
 /// Shows an engine at work: it takes one fragment in, and the report of one round is written.
-pub fn demo<W: ByteSink>(alloc: Global, sink: &mut W) -> Result<(), LineError>
+pub fn demo<W: ByteSink>(alloc: Global, sink: &mut W) -> Result<(), Failure>
     ensures written { OnOk result ((line : List ℕ) × IsShownLine line × Appends (W.contents sink.old) (W.contents sink.new) line) }
     ensures ok { OnOk result (W.faults sink.new ≡ W.faults sink.old) }
 
     // A proper front of the line is written.
-    ensures front { IsErrOf result LineError.Device → ((line : List ℕ) × (n : ℕ) × IsShownLine line × (n < length line) × Appends (W.contents sink.old) (W.contents sink.new) (take n line)) }
-    ensures failed { IsErrOf result LineError.Device → W.faults sink.old < W.faults sink.new }
+    ensures front { IsErrOf result Failure.Device → ((line : List ℕ) × (n : ℕ) × IsShownLine line × (n < length line) × Appends (W.contents sink.old) (W.contents sink.new) (take n line)) }
+    ensures failed { IsErrOf result Failure.Device → W.faults sink.old < W.faults sink.new }
 
-    ensures unwritten { IsErrOf result LineError.NoMemory → Keeps (W.contents sink.old) (W.contents sink.new) }
-    ensures unfailed { IsErrOf result LineError.NoMemory → W.faults sink.new ≡ W.faults sink.old }
+    ensures unwritten { IsErrOf result Failure.NoMemory → Keeps (W.contents sink.old) (W.contents sink.new) }
+    ensures unfailed { IsErrOf result Failure.NoMemory → W.faults sink.new ≡ W.faults sink.old }
 {
     let line = shown_line(alloc)?;
     write_all(sink, &line)?;
     Ok(())
 }
+
+#[cfg(test)]
+mod tests;

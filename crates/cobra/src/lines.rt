@@ -2,14 +2,13 @@ ghost use Rattle.std.specs.Prelude.{◌≡◌, ◌≢◌, ℕ, ◌+◌, ◌<◌,
 ghost use Rattle.std.specs.Option.{ForSome};
 ghost use Rattle.std.specs.Io.KnownBytes.{Consumes};
 ghost use Rattle.cobra.specs.Lines.{HasNoLf};
-ghost use Rattle.cobra.specs.declared.lines.LineError.TheVariants.{Device, NoMemory};
 
 use crate::block::{BLOCK, Block};
-use crate::devices::{ByteSource, DeviceFault};
+use crate::devices::ByteSource;
+use crate::failures::Failure;
 use memchr::memchr;
-use std::alloc::{AllocError, Global};
+use std::alloc::Global;
 use std::mem;
-use thiserror::Error;
 use txn::NoMemory;
 
 /// The longest line of a script, in bytes.
@@ -23,31 +22,6 @@ pub enum Next {
     Line(Vec<u8>),
     TooLong,
     End,
-}
-
-/// Why a line can't be read.
-#[derive(Clone, Copy, Debug, PartialEq, Eq, Error)]
-pub enum LineError {
-    #[error("device failed")]
-    Device,
-    #[error("out of memory")]
-    NoMemory,
-}
-
-impl From<DeviceFault> for LineError {
-    ghost from_gives = { λ _ error. error ≡ Device };
-
-    fn from(_fault: DeviceFault) -> LineError {
-        LineError::Device
-    }
-}
-
-impl From<AllocError> for LineError {
-    ghost from_gives = { λ _ error. error ≡ NoMemory };
-
-    fn from(_error: AllocError) -> LineError {
-        LineError::NoMemory
-    }
 }
 
 /// Where the first LF stands.
@@ -154,7 +128,7 @@ impl LineReader {
 
     /// Reads on to the end of the next line, by no more reads than that takes. An `Err` loses nothing: the line that was under way
     /// stays so, and a later call goes on with it.
-    pub fn next_line<S: ByteSource>(&mut self, source: &mut S) -> Result<Next, LineError>
+    pub fn next_line<S: ByteSource>(&mut self, source: &mut S) -> Result<Next, Failure>
         // Told what bytes were left, it hands out the first of their lines.
         ensures next { under_way self.old ≡ Some [] → IfOk result (λ next. IsNextOf (limit_of self.old) (lines_ahead self.old (S.remaining source.old)) next (lines_ahead self.new (S.remaining source.new))) }
 
@@ -165,11 +139,11 @@ impl LineReader {
 
         // A line whose LF was read is handed out before anything more is asked for.
         ensures at_once { Contains (ahead self.old) 10 → source.new ≡ source.old }
-        ensures all_used { IsErrOf result LineError.Device → ahead self.new ≡ [] }
+        ensures all_used { IsErrOf result Failure.Device → ahead self.new ≡ [] }
 
         ensures ok { OnOk result (S.faults source.new ≡ S.faults source.old) }
-        ensures device { IsErrOf result LineError.Device → S.faults source.old < S.faults source.new }
-        ensures memory { IsErrOf result LineError.NoMemory → S.faults source.new ≡ S.faults source.old }
+        ensures device { IsErrOf result Failure.Device → S.faults source.old < S.faults source.new }
+        ensures memory { IsErrOf result Failure.NoMemory → S.faults source.new ≡ S.faults source.old }
         ensures fewer { IfOk result (λ next. next ≢ Next.End → lines_left self.new (S.reads_left source.new) < lines_left self.old (S.reads_left source.old)) }
     {
         loop {

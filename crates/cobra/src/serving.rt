@@ -1,0 +1,46 @@
+ghost use Rattle.std.specs.Prelude.{◌≡◌, ℕ, ◌<◌, ◌⊎◌, List, [], Some, IfSome, OnOk, IsErrOf};
+ghost use Rattle.std.specs.Io.KnownBytes.{Appends};
+ghost use Rattle.cobra.specs.Outputs.{IsOutput, StopsForMemory, StopsReading, StopsWriting};
+
+use crate::devices::{ByteSink, ByteSource, write_all};
+use crate::failures::Failure;
+use crate::lines::{LONGEST_LINE, LineReader, Next};
+use crate::scripts::Script;
+use round_state::Solver;
+use std::alloc::Global;
+
+/// Reads a script to the end of input, and writes the reply to each line before it reads on. What a failure of a device or
+/// want of memory leaves half done isn't tried again.
+pub fn serve<R: ByteSource, W: ByteSink, S: Solver>(
+    alloc: Global,
+    source: &mut R,
+    sink: &mut W,
+    solver: &S,
+) -> Result<(), Failure>
+    // All of the input is read, and an output of it is written.
+    ensures at_end { OnOk result (IfSome (R.remaining source.old) (λ input. R.remaining source.new ≡ Some [])) }
+    ensures whole { OnOk result (IfSome (R.remaining source.old) (λ input. (output : List ℕ) × IsOutput input output × Appends (W.contents sink.old) (W.contents sink.new) output)) }
+
+    // A front of an output is written.
+    ensures stops_reading { R.faults source.old < R.faults source.new → IfSome (R.remaining source.old) (λ input. (output : List ℕ) × StopsReading input (R.remaining source.new) output × Appends (W.contents sink.old) (W.contents sink.new) output) }
+    ensures stops_writing { W.faults sink.old < W.faults sink.new → IfSome (R.remaining source.old) (λ input. (output : List ℕ) × StopsWriting input (R.remaining source.new) output × Appends (W.contents sink.old) (W.contents sink.new) output) }
+    ensures stops_for_memory { IsErrOf result Failure.NoMemory → IfSome (R.remaining source.old) (λ input. (output : List ℕ) × StopsForMemory input (R.remaining source.new) output × Appends (W.contents sink.old) (W.contents sink.new) output) }
+
+    // One of the devices failed, where that is the answer, and else none did.
+    ensures device { IsErrOf result Failure.Device → ((R.faults source.old < R.faults source.new) × (W.faults sink.new ≡ W.faults sink.old)) ⊎ ((R.faults source.new ≡ R.faults source.old) × (W.faults sink.old < W.faults sink.new)) }
+    ensures none_failed { ¬ IsErrOf result Failure.Device → (R.faults source.new ≡ R.faults source.old) × (W.faults sink.new ≡ W.faults sink.old) }
+{
+    let mut reader = LineReader::new(alloc, LONGEST_LINE)?;
+    let mut script = Script::new();
+    loop {
+        let next = reader.next_line(source)?;
+        if let Next::End = next {
+            return Ok(());
+        }
+        let text = script.answer_line(alloc, &next, solver)?;
+        write_all(sink, &text)?;
+    }
+}
+
+#[cfg(test)]
+mod tests;
