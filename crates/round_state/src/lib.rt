@@ -9,7 +9,7 @@ mod state;
 mod steps;
 
 pub use problems::Problem;
-pub use reports::{Certificate, Report};
+pub use reports::{Certificate, Report, received_counts};
 pub use solving::{Answer, Solver, TrialSolver};
 pub use state::Engine;
 pub use steps::{Step, StepReply};

@@ -34,7 +34,7 @@ pub struct Report {
 
 /// How many were received of each session.
 #[tactic(auto, using(crate::proofs::Counts::counts_more, crate::proofs::Counts::counts_all))]
-pub(crate) fn received_counts(alloc: Global, parts: &Parts) -> Result<Sequence<u64>, NoMemory>
+pub fn received_counts(alloc: Global, parts: &Parts) -> Result<Sequence<u64>, NoMemory>
     requires { IsGood parts.now }
     ensures { IfOk result (λ counts. counts ≡ received_counts parts.now) }
 {
