@@ -41,6 +41,3 @@ pub fn serve<R: ByteSource, W: ByteSink, S: Solver>(
         write_all(sink, &text)?;
     }
 }
-
-#[cfg(test)]
-mod tests;
