@@ -41,3 +41,6 @@ pub fn serve<R: ByteSource, W: ByteSink, S: Solver>(
         write_all(sink, &text)?;
     }
 }
+
+#[cfg(test)]
+mod tests;
