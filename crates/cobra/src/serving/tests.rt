@@ -1,3 +1,5 @@
+ghost use Rattle.std.specs.Prelude.{◌<◌};
+
 use super::*;
 use crate::memory::{MemorySink, MemorySource, Pace};
 use round_state::TrialSolver;
@@ -281,7 +283,7 @@ fn input_cut_at_every_byte(rt: HostRuntime) -> Result<(), Fail> {
         } else if script[cut] == b'\n' {
             assert_eq!(rt;
                 written.as_slice(),
-                first_lines(replies, whole + 1),
+                first_lines(replies, whole.wrapping_add(1)),
                 "at {cut}"
             );
         } else {
