@@ -1,3 +1,4 @@
+pub mod Closing
 pub mod EachRemaining
 pub mod Extensions
 pub mod Fresh

@@ -1,5 +1,5 @@
 -- Laws that the definitions keep.
-use Rattle.std.specs.Prelude.{◌↔◌, List}
+use Rattle.std.specs.Prelude.{ℕ, ◌↔◌, List}
 use Rattle.txn.specs.declared.transactions.TxnId.{TxnId}
 use Rattle.txn.specs.declared.transactions.Fragment.{Fragment}
 use Rattle.txn.specs.History.{History}
@@ -10,7 +10,7 @@ use Rattle.order_check.specs.NoBase.{HasNoBase}
 use Rattle.order_check.specs.Explains.{Explains}
 use Rattle.order_check.specs.Verdict.{IsVerdict}
 use Rattle.order_check.specs.Whole.{ExplainsWhole, IsVerdictWhole}
-use Rattle.order_check.specs.StandsFor.{StandsFor, IsNextFragment, parts_with, with_fragment, history_then}
+use Rattle.order_check.specs.StandsFor.{StandsFor, IsNextFragment, parts_with, parts_closed, with_fragment, history_then}
 
 -- Where nothing is gone, an order explains the parts exactly where it explains the whole history that remains.
 abbrev pub SameOrdersAsWhole : Type 0
@@ -31,6 +31,10 @@ SameVerdictAsStoodFor = (parts : Parts) (history : History) (kind : Kind) → St
 -- Parts that stand for a history stand, with the next fragment, for the history with that fragment.
 abbrev pub OfferKeepsStandsFor : Type 0
 OfferKeepsStandsFor = (parts : Parts) (history : History) (fragment : Fragment) → StandsFor parts history → IsNextFragment parts fragment → StandsFor (parts_with parts fragment) (with_fragment history fragment)
+
+-- Parts that stand for a history stand for it with a session closed: less may come.
+abbrev pub CloseKeepsStandsFor : Type 0
+CloseKeepsStandsFor = (parts : Parts) (history : History) (s : ℕ) → StandsFor parts history → StandsFor (parts_closed parts s) history
 
 -- Violated is final: where no order explains a history, none explains it with more fragments.
 abbrev pub ViolatedIsFinal : Type 0

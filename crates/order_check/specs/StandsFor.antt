@@ -17,6 +17,10 @@ with_fragment history fragment = slice_set history fragment.session (session_of 
 abbrev pub parts_with : Parts → Fragment → Parts
 parts_with parts fragment = record parts { remain = with_fragment parts.remain fragment }
 
+-- parts with this session closed
+abbrev pub parts_closed : Parts → ℕ → Parts
+parts_closed parts s = record parts { closed = slice_set parts.closed s true }
+
 -- a history with fragment after fragment
 abbrev pub history_then : History → List Fragment → History
 history_then history [] = history

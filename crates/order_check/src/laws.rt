@@ -1,4 +1,4 @@
-ghost use Rattle.order_check.specs.Laws.{SameOrdersAsWhole, SameVerdictAsWhole, StandsForWhatRemains, SameVerdictAsStoodFor, OfferKeepsStandsFor, ViolatedIsFinal};
+ghost use Rattle.order_check.specs.Laws.{SameOrdersAsWhole, SameVerdictAsWhole, StandsForWhatRemains, SameVerdictAsStoodFor, OfferKeepsStandsFor, CloseKeepsStandsFor, ViolatedIsFinal};
 
 /// An order explains parts of which nothing is gone exactly where it explains the whole history that remains.
 pub fn orders_as_of_whole()
@@ -23,6 +23,11 @@ pub fn verdict_as_stood_for()
 /// The next fragment leaves parts standing for a history that has it too.
 pub fn offer_keeps_stands_for()
     ensures { OfferKeepsStandsFor }
+{}
+
+/// A session's closing leaves parts standing for the same history.
+pub fn close_keeps_stands_for()
+    ensures { CloseKeepsStandsFor }
 {}
 
 /// A history that no order explains stays so, whatever comes.
