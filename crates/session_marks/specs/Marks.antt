@@ -1,5 +1,6 @@
 -- How far each session has come, which fragment is next, and why another is refused.
-use Rattle.std.specs.Prelude.{◌≡◌, ℕ, ◌+◌, ◌<◌, ◌≤◌, true, false, List, length, slice_index_or, slice_set}
+use Rattle.std.specs.Prelude.{◌≡◌, ℕ, ◌+◌, ◌<◌, ◌≤◌, true, false, List, length, map, slice_index_or, slice_set}
+use Rattle.txn.specs.declared.transactions.TxnId.{TxnId}
 use Rattle.txn.specs.declared.transactions.Fragment.{Fragment}
 use Rattle.txn.specs.declared.refusals.Refusal.{Refusal}
 use Rattle.txn.specs.declared.refusals.Refusal.TheVariants.{BadSession, Closed, Gap, Repeat}
@@ -18,6 +19,14 @@ IsOpen marks s = (s < length marks) × ((mark_at marks s).closed ≡ false)
 
 abbrev pub IsClosed : List SessionMark → ℕ → Type 0
 IsClosed marks s = (s < length marks) × ((mark_at marks s).closed ≡ true)
+
+-- the transaction with this id was received
+abbrev pub IsReceived : List SessionMark → TxnId → Type 0
+IsReceived marks id = id.number < (mark_at marks id.session).received
+
+-- how many transactions of each session were received
+abbrev pub received_counts : List SessionMark → List ℕ
+received_counts marks = map (λ mark. mark.received) marks
 
 -- the marks after more of a session is received
 abbrev pub with_received : List SessionMark → ℕ → ℕ → List SessionMark

@@ -1,10 +1,10 @@
 ghost use Rattle.std.specs.Prelude.{◌≡◌, ◌↔◌, ◌+◌, ◌<◌, ◌≤◌, ◌^◌, length, replicate, IsTrue, IfOk, OnOk, IfErr, MatchResult};
 ghost use Rattle.txn.specs.Transactions.{IsWellFormedFragment};
-ghost use Rattle.session_marks.specs.Marks.{fresh, mark_at, IsOpen, with_received, with_closed, IsNext, AdmitFault, CloseFault};
+ghost use Rattle.session_marks.specs.Marks.{fresh, mark_at, IsOpen, with_received, with_closed, IsReceived, received_counts, IsNext, AdmitFault, CloseFault};
 
 use std::alloc::Global;
 use std::marker::Model;
-use txn::{Fragment, NoMemory, Refusal};
+use txn::{Fragment, NoMemory, Refusal, Sequence, TxnId};
 
 /// How far a session has come.
 #[derive(Clone, Copy, Debug, PartialEq, Eq)]
@@ -74,6 +74,24 @@ impl Marks {
         ensures { IsTrue result ↔ IsOpen self.now session }
     {
         !self.sessions[session as usize].closed
+    }
+
+    /// Whether the transaction with this id was received; none was of a session that isn't there.
+    pub fn is_received(&self, id: TxnId) -> bool
+        ensures { IsTrue result ↔ IsReceived self.now id }
+    {
+        match self.sessions.get(usize::from(id.session)) {
+            Some(mark) => id.number < mark.received,
+            None => false,
+        }
+    }
+
+    /// How many transactions of each session were received.
+    pub fn received_counts(&self, alloc: Global) -> Result<Sequence<u64>, NoMemory>
+        ensures { IfOk result (λ counts. counts ≡ received_counts self.now) }
+    {
+        let counts = self.sessions.iter().map(|mark| mark.received);
+        Ok(Sequence::new(counts.collect(alloc)?))
     }
 
     /// Whether the fragment is next in its session; if not, the first of BadSession, Closed, Gap and Repeat.

@@ -1,7 +1,7 @@
 use super::*;
 use std::alloc::Global;
 use std::test::*;
-use txn::{Fragment, NoMemory, Refusal, Sequence, Txn, check_fragment};
+use txn::{Fragment, NoMemory, Refusal, Sequence, Txn, TxnId, check_fragment};
 
 /// A fragment of transactions that do nothing.
 fn fragment(alloc: Global, session: u8, first: u64, count: u64) -> Result<Fragment, NoMemory> {
@@ -60,5 +60,11 @@ fn tells_how_far_sessions_are(rt: HostRuntime) -> Result<(), Fail> {
         (0, 0, true)
     );
     assert!(rt; copy.is_open(1));
+    assert_eq!(rt; marks.received_counts(rt.alloc())?.as_slice(), [0, 3].as_slice());
+    let received = [(1, 2, true), (1, 3, false), (0, 0, false), (2, 0, false)];
+    for (session, number, wanted) in received {
+        let id = TxnId { session, number };
+        assert_eq!(rt; marks.is_received(id), wanted, "{session}.{number}");
+    }
     Ok(())
 }

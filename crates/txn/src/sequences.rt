@@ -1,4 +1,5 @@
-ghost use Rattle.std.specs.Prelude.{◌≡◌, ◌<◌, ◌↔◌, List, [], ◌∷◌, ◌++◌, length, OnOk, OnErr, IfOk, IfErr, IsTrue, slice_set, slice_index_or};
+ghost use Rattle.std.specs.Prelude.{◌≡◌, ◌<◌, ◌↔◌, List, [], ◌∷◌, ◌++◌, length, OnOk, OnErr, IfOk, IfErr, IsTrue, IsSome, slice_set, slice_index_or, take};
+ghost use Rattle.std.specs.Option.{option_to_list};
 
 use std::alloc::{AllocError, AllocFailed, Global};
 use std::marker::Model;
@@ -60,6 +61,14 @@ impl<T> Sequence<T> {
     {
         self.items.push(item)
     }
+
+    /// Takes off the last item, where there is one.
+    pub fn pop(&mut self) -> Option<T>
+        ensures last { self.old ≡ self.new ++ option_to_list result }
+        ensures none { ¬ IsSome result → self.old ≡ [] }
+    {
+        self.items.pop()
+    }
 }
 
 impl<T: Drop> Sequence<T> {
@@ -71,6 +80,15 @@ impl<T: Drop> Sequence<T> {
         let mut more = more.into_vec();
         self.items.append(&mut more)?;
         Ok(())
+    }
+
+    /// Puts another item in this place.
+    pub fn set(&mut self, place: usize, item: T)
+        requires { place < length self.old }
+        ensures { self.new ≡ slice_set self.old place item }
+    {
+        let items = &mut self.items;
+        items[place] = item;
     }
 }
 
@@ -84,5 +102,15 @@ impl<T: Drop> Sequence<Sequence<T>> {
         let items = &mut self.items;
         let list = &mut items[place];
         list.append(more)
+    }
+
+    /// Leaves so many of the first items of one of the lists.
+    pub fn truncate_at(&mut self, place: usize, len: usize)
+        requires { place < length self.old }
+        ensures { self.new ≡ slice_set self.old place (take len (slice_index_or self.old place [])) }
+    {
+        let lists = &mut self.items;
+        let list = &mut lists[place];
+        list.items.truncate(len);
     }
 }
