@@ -86,6 +86,10 @@ kept_add {old = old} {writer = writer} {read = read} added kept apart =
 pub kept_none : {old new : Index} {writer : TxnId} → Finds old new writer None → IsKept old → IsKept new
 kept_none f kept = kept_after f kept (λ reads e. absurd (none-some reads e))
 
+-- fewer of the reads that waited for the writer wait
+pub kept_less : {old new : Index} {writer : TxnId} {reads : Reads} → Finds old new writer (Some reads) → IsKept old → IsGood reads → IsKept new
+kept_less {reads = reads} f kept good = kept_after f kept (λ found e. subst IsGood (ap (λ o. unwrap_or o []) e) good)
+
 -- a value that is put where it is found changes nothing
 pub set_value-found : {K X : Type 0} (test : K → Bool) (es : List (K × X)) (x : X) → lookup test es ≡ Some x → set_value test es x ≡ es
 set_value-found test [] x found = refl

@@ -1,9 +1,10 @@
 -- Reads that wait for the transaction that they read from.
-use Rattle.std.specs.Prelude.{◌≡◌, ◌≢◌, ℕ, List, [], Some, Contains, unwrap_or}
+use Rattle.std.specs.Prelude.{◌≡◌, ◌≢◌, ℕ, ◌-◌, ◌↔◌, ◌⊎◌, List, [], ◌∷◌, ◌++◌, length, take, All, Some, Contains, unwrap_or, if◌then◌else◌}
 use Rattle.std.specs.List.{AllPairs, Any}
 use Rattle.std.specs.Map.{lookup}
 use Rattle.txn.specs.declared.transactions.TxnId.{TxnId}
 use Rattle.txn.specs.Transactions.{same_id}
+use Rattle.pending_reads.specs.declared.index.PendingRead.{PendingRead}
 
 -- for each awaited transaction the reads that wait for it, as their readers and keys
 abbrev pub Index : Type 0
@@ -29,6 +30,32 @@ HasWaitingIn index readers = (reader writer : TxnId) × (key : ℕ) × Contains 
 pub record ChangesOnly (old new : Index) (writer : TxnId) (reads : List (TxnId × ℕ)) : Type 0 where
   pub changed : waiting_for new writer ≡ reads
   pub others : (other : TxnId) → other ≢ writer → waiting_for new other ≡ waiting_for old other
+
+-- of these reads, those that wait for the writer, as their readers and keys
+abbrev pub waiting_among : List PendingRead → TxnId → List (TxnId × ℕ)
+waiting_among [] writer = []
+waiting_among (read ∷ more) writer = if same_id read.writer writer then (read.reader, read.key) ∷ waiting_among more writer else waiting_among more writer
+
+-- Now these reads wait too, each behind those that waited before.
+abbrev pub HasAlso : Index → Index → List PendingRead → Type 0
+HasAlso old new reads = (writer : TxnId) → waiting_for new writer ≡ waiting_for old writer ++ waiting_among reads writer
+
+-- A read waits now exactly where it waited before or is one of these.
+abbrev pub WaitsAlso : Index → Index → List PendingRead → Type 0
+WaitsAlso old new reads = (reader writer : TxnId) (key : ℕ) → Waits new reader key writer ↔ (Waits old reader key writer ⊎ Contains reads (record { reader = reader; key = key; writer = writer }))
+
+-- the same reads wait, in the same order
+abbrev pub WaitsAsBefore : Index → Index → Type 0
+WaitsAsBefore old new = (writer : TxnId) → waiting_for new writer ≡ waiting_for old writer
+
+-- none of these reads waits yet, and none stands twice
+pub record AreNew (index : Index) (reads : List PendingRead) : Type 0 where
+  pub new : All (λ read. ¬ Waits index read.reader read.key read.writer) reads
+  pub once : AllPairs (λ earlier later. earlier ≢ later) reads
+
+-- a list without its last element
+abbrev pub all_but_last : {X : Type 0} → List X → List X
+all_but_last xs = take (length xs - 1) xs
 
 -- no read stands twice
 abbrev pub AreDistinct : List (TxnId × ℕ) → Type 0

@@ -1,12 +1,20 @@
-ghost use Rattle.std.specs.Prelude.{◌≡◌, ◌↔◌, [], ◌∷◌, Contains, All, Any, ◌++◌, IsTrue, OnOk, OnErr};
+ghost use Rattle.std.specs.Prelude.{◌≡◌, ◌↔◌, [], ◌∷◌, Contains, All, Any, ◌++◌, ◌<◌, length, IsTrue, OnOk, OnErr};
 ghost use Rattle.std.specs.Map.{lookup};
 ghost use Rattle.txn.specs.Transactions.{id_below, same_id, Rises};
-ghost use Rattle.pending_reads.specs.Waiting.{waiting_for, Waits, HasWaiting, HasWaitingIn, ChangesOnly, AreDistinct, HasReader};
+ghost use Rattle.pending_reads.specs.Waiting.{Index, waiting_for, Waits, HasWaiting, HasWaitingIn, ChangesOnly, AreNew, HasAlso, WaitsAlso, WaitsAsBefore, all_but_last, AreDistinct, HasReader};
 
 use std::alloc::Global;
 use std::collections::BTreeMap;
 use std::marker::Model;
 use txn::{NoMemory, Sequence, TxnId};
+
+/// A read that waits for the transaction that it reads from.
+#[derive(Clone, Copy, Debug, PartialEq, Eq)]
+pub struct PendingRead {
+    pub reader: TxnId,
+    pub key: u64,
+    pub writer: TxnId,
+}
 
 /// The reads that wait, by the transaction that each waits for. Contracts see that list.
 #[derive(Clone, Drop, Debug)]
@@ -49,6 +57,56 @@ impl PendingReads {
         let reads = vec![in self.alloc; read]?;
         self.awaited.insert(writer, Sequence::new(reads))?;
         Ok(())
+    }
+
+    /// Adds reads that wait: all of them, or none.
+    pub fn add_all(&mut self, reads: &[PendingRead]) -> Result<(), NoMemory>
+        requires { AreNew self.old reads.now }
+        ensures ok { OnOk result (HasAlso self.old self.new reads.now × WaitsAlso self.old self.new reads.now) }
+        ensures err { OnErr result (WaitsAsBefore self.old self.new) }
+    {
+        for place in 0..reads.len() {
+            let read = reads[place];
+            if let Err(refused) = self.add(read.reader, read.key, read.writer) {
+                self.take_back_all(&reads[..place]);
+                return Err(refused);
+            }
+        }
+        Ok(())
+    }
+
+    /// Takes out reads that were added last.
+    fn take_back_all(&mut self, reads: &[PendingRead])
+        ensures { (before : Index) → HasAlso before self.old reads.now → WaitsAsBefore before self.new }
+    {
+        let mut left = reads.len();
+        while left > 0 {
+            left -= 1;
+            self.take_back(reads[left].writer);
+        }
+    }
+
+    /// Takes out the read that was added last of those that wait for the writer. It takes no memory.
+    fn take_back(&mut self, writer: TxnId)
+        ensures { ChangesOnly self.old self.new writer (all_but_last (waiting_for self.old writer)) }
+    {
+        if !self.has_several(writer) {
+            self.awaited.remove(&writer);
+            return;
+        }
+        let Some(reads) = self.awaited.get_mut(&writer) else {
+            return;
+        };
+        reads.pop();
+    }
+
+    fn has_several(&self, writer: TxnId) -> bool
+        ensures { IsTrue result ↔ (1 < length (waiting_for self.now writer)) }
+    {
+        match self.awaited.get(&writer) {
+            Some(reads) => reads.len() > 1,
+            None => false,
+        }
     }
 
     /// Takes out the reads that wait for the writer, in the order in which they were added.

@@ -5,4 +5,4 @@ mod index;
 #[cfg(test)]
 mod tests;
 
-pub use index::PendingReads;
+pub use index::{PendingRead, PendingReads};

@@ -30,3 +30,30 @@ fn waits_until_the_writer_arrives(rt: HostRuntime) -> Result<(), Fail> {
     assert!(rt; !pending.any() && copy.any_in(&[id(1, 0)]));
     Ok(())
 }
+
+#[test]
+fn adds_all_that_wait(rt: HostRuntime) -> Result<(), Fail> {
+    let mut pending = PendingReads::new(rt.alloc());
+    let reads = [
+        PendingRead {
+            reader: id(1, 0),
+            key: 5,
+            writer: id(0, 3),
+        },
+        PendingRead {
+            reader: id(1, 0),
+            key: 6,
+            writer: id(0, 4),
+        },
+        PendingRead {
+            reader: id(1, 1),
+            key: 5,
+            writer: id(0, 3),
+        },
+    ];
+    pending.add_all(&reads)?;
+    let reads = pending.arrive(id(0, 3));
+    assert_eq!(rt; reads.as_slice(), [(id(1, 0), 5), (id(1, 1), 5)].as_slice());
+    assert!(rt; pending.any_in(&[id(1, 0)]) && !pending.any_in(&[id(1, 1)]));
+    Ok(())
+}

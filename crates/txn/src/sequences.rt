@@ -1,4 +1,4 @@
-ghost use Rattle.std.specs.Prelude.{◌≡◌, ◌<◌, ◌↔◌, List, [], ◌∷◌, ◌++◌, length, OnOk, OnErr, IfOk, IfErr, IsTrue, IsSome, slice_set, slice_index_or, take};
+ghost use Rattle.std.specs.Prelude.{◌≡◌, ◌-◌, ◌<◌, ◌↔◌, List, [], ◌∷◌, ◌++◌, length, OnOk, OnErr, IfOk, IfErr, IsTrue, slice_set, slice_index_or, take};
 ghost use Rattle.std.specs.Option.{option_to_list};
 
 use std::alloc::{AllocError, AllocFailed, Global};
@@ -65,7 +65,7 @@ impl<T> Sequence<T> {
     /// Takes off the last item, where there is one.
     pub fn pop(&mut self) -> Option<T>
         ensures last { self.old ≡ self.new ++ option_to_list result }
-        ensures none { ¬ IsSome result → self.old ≡ [] }
+        ensures rest { self.new ≡ take (length self.old - 1) self.old }
     {
         self.items.pop()
     }
