@@ -9,16 +9,16 @@ use Rattle.order_check.specs.Based.{received_count, received_counts}
 use Rattle.order_check.specs.Good.{IsGood}
 
 -- parts with these marks, of which this remains
-abbrev plain : List ℕ → List (List Txn) → Parts
+abbrev pub plain : List ℕ → List (List Txn) → Parts
 plain marks remain = record { base = record { last = finite.empty; marks = marks }; remain = remain; closed = []; limit = 0 }
 
-counts_length : (marks : List ℕ) (remain : List (List Txn)) → length marks ≡ length remain → length (received_counts (plain marks remain)) ≡ length remain
+pub counts_length : (marks : List ℕ) (remain : List (List Txn)) → length marks ≡ length remain → length (received_counts (plain marks remain)) ≡ length remain
 counts_length [] [] e = refl
 counts_length [] (txns ∷ remain) e = absurd (omega arith)
 counts_length (mark ∷ marks) [] e = absurd (omega arith)
 counts_length (mark ∷ marks) (txns ∷ remain) e = let e' : length marks ≡ length remain = omega arith in ap suc (counts_length marks remain e')
 
-counts_at : (marks : List ℕ) (remain : List (List Txn)) (s : ℕ) → length marks ≡ length remain → get_or (received_counts (plain marks remain)) s 0 ≡ received_count (plain marks remain) s
+pub counts_at : (marks : List ℕ) (remain : List (List Txn)) (s : ℕ) → length marks ≡ length remain → get_or (received_counts (plain marks remain)) s 0 ≡ received_count (plain marks remain) s
 counts_at [] [] s e = refl
 counts_at [] (txns ∷ remain) s e = absurd (omega arith)
 counts_at (mark ∷ marks) [] s e = absurd (omega arith)

@@ -1,5 +1,5 @@
 -- Parts with a fragment keep the rules.
-use Rattle.std.proofs.Common.{◌≡◌, ℕ, zero, suc, ◌+◌, ◌^◌, ◌<◌, ◌≤◌, ◌⊎◌, List, [], ◌∷◌, ◌++◌, length, Some, sym, ap, ◌∙◌, subst, inl, inr, arith, length-append, length-set, get_or-set_same, get_or-set_other}
+use Rattle.std.proofs.Common.{◌≡◌, ℕ, zero, suc, ◌+◌, ◌^◌, ◌<◌, ◌≤◌, ◌⊎◌, true, List, [], ◌∷◌, ◌++◌, length, Some, sym, ap, ◌∙◌, subst, inl, inr, arith, length-append, length-set, get_or-set_same, get_or-set_other}
 use Rattle.std.specs.Prelude.{slice_get}
 use Rattle.std.proofs.lemmas.Bool.{cases_eq}
 use Rattle.std.proofs.lemmas.List.Elements.{All-get_or}
@@ -12,11 +12,11 @@ use Rattle.txn.specs.Transactions.{IsWellFormed, IsShort}
 use Rattle.order_check.specs.declared.remainder.Parts.{Parts}
 use Rattle.order_check.specs.Based.{mark_of, remaining_of, received_count}
 use Rattle.order_check.specs.Good.{IsGood}
-use Rattle.order_check.specs.StandsFor.{parts_with, with_fragment}
+use Rattle.order_check.specs.StandsFor.{parts_with, parts_closed, with_fragment}
 use Rattle.round_state.specs.Legal.{IsAdmitted}
 
 -- an element of two lists is one of the first or one of the second
-get_either : {X : Type 0} (xs ys : List X) (n : ℕ) (x : X) → slice_get (xs ++ ys) n ≡ Some x → (slice_get xs n ≡ Some x) ⊎ ((m : ℕ) × (n ≡ length xs + m) × (slice_get ys m ≡ Some x))
+pub get_either : {X : Type 0} (xs ys : List X) (n : ℕ) (x : X) → slice_get (xs ++ ys) n ≡ Some x → (slice_get xs n ≡ Some x) ⊎ ((m : ℕ) × (n ≡ length xs + m) × (slice_get ys m ≡ Some x))
 get_either [] ys n x h = let e : n ≡ 0 + n = omega arith in inr (n, e, h)
 get_either (y ∷ xs) ys zero x h = inl h
 get_either (y ∷ xs) ys (suc n) x h = elim (get_either xs ys n x h) [
@@ -78,3 +78,19 @@ good_with parts f good fits =
           subst IsShort (get_or_from_slice_get f.txns n txn txn h) (All-get_or IsShort f.txns n txn (slice_get_within f.txns n txn h) fits.next.well_formed.lengths.each));
       base = good.base;
     }
+
+-- and with a session closed
+pub good_closed : (parts : Parts) (s : ℕ) → IsGood parts → IsGood (parts_closed parts s)
+good_closed parts s good = record {
+  some_sessions = good.some_sessions;
+  few_sessions = good.few_sessions;
+  marks = good.marks;
+  closed = length-set parts.closed s true ∙ good.closed;
+  some_limit = good.some_limit;
+  low_limit = good.low_limit;
+  room = good.room;
+  numbers = good.numbers;
+  well_formed = good.well_formed;
+  short = good.short;
+  base = good.base;
+}

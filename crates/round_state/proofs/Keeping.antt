@@ -1,16 +1,24 @@
 -- What an engine keeps is kept by its calls.
-use Rattle.std.proofs.Common.{◌≡◌, ℕ, ◌≤◌, List, [], length, Option, Some, None, refl, sym, ap, ◌∙◌, subst, inl, inr, arith, get_or}
-use Rattle.std.specs.Prelude.{replicate, slice_get}
+use Rattle.std.proofs.Common.{◌≡◌, ℕ, zero, suc, ◌-◌, ◌<◌, ◌≤◌, ◌∷◌, ◌++◌, take, Bool, true, false, cond, nat_lt, List, [], length, Option, Some, None, refl, sym, ap, ◌∙◌, subst, inl, inr, arith, get_or}
+use Rattle.std.specs.Prelude.{replicate, slice_get, slice_set, Contains, IsSomeAnd}
 use Rattle.std.specs.FinMap as map
 use Rattle.std.specs.Ordering.{nat_cmp}
 use Rattle.std.proofs.lemmas.Bool.{cases_lt}
 use Rattle.std.proofs.lemmas.List.{length-replicate, get_or-replicate, get_or_past}
+use Rattle.std.proofs.Math.Seq.{take-append_seam}
 use Rattle.std.proofs.lemmas.List.Folds.{sum_by-replicate}
 use Rattle.txn.specs.declared.transactions.TxnId.{TxnId}
 use Rattle.txn.specs.declared.transactions.Txn.{Txn}
 use Rattle.txn.specs.declared.transactions.Fragment.{Fragment}
+use Rattle.txn.specs.declared.transactions.Source.TheVariants.{By}
+use Rattle.txn.specs.History.{Reads, session_of}
+use Rattle.session_marks.specs.declared.marks.SessionMark.{SessionMark}
+use Rattle.session_marks.specs.Marks.{mark_at, with_received, with_closed}
+use Rattle.session_marks.specs.Marks.{fresh as fresh_mark}
+use Rattle.pending_reads.specs.declared.index.PendingRead.{PendingRead}
+use Rattle.pending_reads.specs.Waiting.{Index, WaitsAlso, WaitsAsBefore}
 use Rattle.order_check.specs.declared.remainder.Parts.{Parts}
-use Rattle.order_check.specs.Based.{remaining_of}
+use Rattle.order_check.specs.Based.{mark_of, remaining_of, remaining_at}
 use Rattle.order_check.specs.Good.{IsGood}
 use Rattle.order_check.specs.StandsFor.{parts_with, with_fragment}
 use Rattle.order_check.specs.Laws.{StandsForWhatRemains}
@@ -21,20 +29,66 @@ use Rattle.round_state.specs.Kept.{IsKept}
 use Rattle.round_state.specs.Legal.{IsAdmitted}
 use Rattle.round_state.specs.Opening.{IsSessions, IsLimit, empty_parts, fresh, fresh_state}
 use Rattle.round_state.specs.Trial.{CanBeTried}
-use Rattle.round_state.proofs.Grown.{good_with}
+use Rattle.round_state.specs.Awaiting.{awaited_from, HaveArrived}
+use Rattle.round_state.specs.Tracked.{AreMarksOf, IsIndexOf}
+use Rattle.round_state.proofs.Grown.{good_with, good_closed}
+use Rattle.round_state.proofs.Indexed.{index_with, index_as_before}
+use Rattle.round_state.proofs.Marked.{marks_with, marks_closed}
 
 -- another list of sessions in the parts
-pub kept_along : (parts : Parts) (asked : Option Parts) (rounds : ℕ) (remain : List (List Txn)) → remain ≡ parts.remain → IsKept parts asked rounds → IsKept (record parts { remain = remain }) asked rounds
-kept_along parts asked rounds remain e kept = subst (λ (sessions : List (List Txn)). IsKept (record parts { remain = sessions }) asked rounds) (sym e) kept
+pub kept_along : (parts : Parts) (marks : List SessionMark) (waits : Index) (asked : Option Parts) (rounds : ℕ) (remain : List (List Txn)) → remain ≡ parts.remain → IsKept parts marks waits asked rounds → IsKept (record parts { remain = remain }) marks waits asked rounds
+kept_along parts marks waits asked rounds remain e kept = subst (λ (sessions : List (List Txn)). IsKept (record parts { remain = sessions }) marks waits asked rounds) (sym e) kept
 
-pub kept_with : (parts : Parts) (asked : Option Parts) (rounds : ℕ) (f : Fragment) (remain : List (List Txn)) → remain ≡ with_fragment parts.remain f → IsKept parts asked rounds → IsAdmitted parts f → IsKept (record parts { remain = remain }) asked rounds
-kept_with parts asked rounds f remain e kept fits =
-    kept_along (parts_with parts f) asked rounds remain e (record {
+-- an index in which the same reads wait
+pub kept_index : (parts : Parts) (marks : List SessionMark) (old new : Index) (asked : Option Parts) (rounds : ℕ) → WaitsAsBefore old new → IsKept parts marks old asked rounds → IsKept parts marks new asked rounds
+kept_index parts marks old new asked rounds same kept = record {
+  parts_fit = kept.parts_fit;
+  marks_fit = kept.marks_fit;
+  waits_fit = index_as_before parts old new kept.waits_fit same;
+  numbers = kept.numbers;
+  number = kept.number;
+}
+
+-- a fragment that was admitted, with the marks and the index that follow from it
+pub kept_with : (parts : Parts) (marks : List SessionMark) (old mid new : Index) (asked : Option Parts) (rounds : ℕ) (f : Fragment) (remain : List (List Txn)) → remain ≡ with_fragment parts.remain f → IsKept parts marks old asked rounds → IsAdmitted parts f → WaitsAlso old mid (awaited_from marks f.session f.first f.txns) → HaveArrived mid new f.session f.first (length f.txns) → IsKept (record parts { remain = remain }) (with_received marks f.session (length f.txns)) new asked rounds
+kept_with parts marks old mid new asked rounds f remain e kept fits also come =
+    kept_along (parts_with parts f) (with_received marks f.session (length f.txns)) new asked rounds remain e (record {
       parts_fit = record { good = good_with parts f kept.parts_fit.good fits; low_limit = kept.parts_fit.low_limit };
-      asked_fit = kept.asked_fit;
+      marks_fit = marks_with marks parts f kept.marks_fit fits.next.session.0;
+      waits_fit = index_with marks parts old mid new f kept.marks_fit kept.waits_fit fits also come;
       numbers = kept.numbers;
       number = kept.number;
     })
+
+-- the same, as an offer gives it
+pub kept_offered : (parts : Parts) (marks new_marks : List SessionMark) (old mid new : Index) (asked : Option Parts) (rounds count : ℕ) (f : Fragment) (remain : List (List Txn)) (awaited : List PendingRead) → remain ≡ with_fragment parts.remain f → new_marks ≡ with_received marks f.session count → count ≡ length f.txns → awaited ≡ awaited_from marks f.session f.first f.txns → IsKept parts marks old asked rounds → IsAdmitted parts f → WaitsAlso old mid awaited → HaveArrived mid new f.session f.first count → IsKept (record parts { remain = remain }) new_marks new asked rounds
+kept_offered parts marks new_marks old mid new asked rounds count f remain awaited e m n a kept fits also come =
+    let come : HaveArrived mid new f.session f.first (length f.txns) = subst (λ k. HaveArrived mid new f.session f.first k) n come in
+    let told : new_marks ≡ with_received marks f.session (length f.txns) = m ∙ ap (with_received marks f.session) n in
+    subst (λ (ms : List SessionMark). IsKept (record parts { remain = remain }) ms new asked rounds) (sym told)
+    (kept_with parts marks old mid new asked rounds f remain e kept fits (subst (λ reads. WaitsAlso old mid reads) a also) come)
+
+-- a session that was lengthened and cut again
+pub cut_back : (remain : List (List Txn)) (s n : ℕ) (txns : List Txn) → s < length remain → n ≡ length (session_of remain s) → slice_set (slice_set remain s (session_of remain s ++ txns)) s (take n (session_of (slice_set remain s (session_of remain s ++ txns)) s)) ≡ remain
+cut_back [] s n txns within e = absurd (omega arith)
+cut_back (session ∷ remain) zero n txns within e = ap (λ front. front ∷ remain) (ap (λ k. take k (session ++ txns)) e ∙ take-append_seam session txns)
+cut_back (session ∷ remain) (suc s) n txns within e = ap (λ rest. session ∷ rest) (cut_back remain s n txns (omega arith) e)
+
+pub cut_back_to : (remain grown cut : List (List Txn)) (place s n : ℕ) (txns before : List Txn) → place ≡ s → s < length remain → before ≡ session_of remain s → n ≡ length before → grown ≡ slice_set remain place (session_of remain place ++ txns) → cut ≡ slice_set grown place (take n (session_of grown place)) → cut ≡ remain
+cut_back_to remain grown cut place s n txns before p within b e g c =
+    let inside : place < length remain = omega (arith, p, within) in
+    let size : n ≡ length (session_of remain place) = e ∙ ap length (b ∙ ap (session_of remain) (sym p)) in
+    c ∙ ap (λ (list : List (List Txn)). slice_set list place (take n (session_of list place))) g ∙ cut_back remain place n txns inside size
+
+-- a session closed
+pub kept_closed : (parts : Parts) (marks : List SessionMark) (waits : Index) (asked : Option Parts) (rounds s : ℕ) (closed : List Bool) → closed ≡ slice_set parts.closed s true → s < length parts.remain → IsKept parts marks waits asked rounds → IsKept (record parts { closed = closed }) (with_closed marks s) waits asked rounds
+kept_closed parts marks waits asked rounds s closed e within kept = subst (λ (flags : List Bool). IsKept (record parts { closed = flags }) (with_closed marks s) waits asked rounds) (sym e) (record {
+  parts_fit = record { good = good_closed parts s kept.parts_fit.good; low_limit = kept.parts_fit.low_limit };
+  marks_fit = marks_closed marks parts s kept.marks_fit kept.parts_fit.good within;
+  waits_fit = kept.waits_fit;
+  numbers = kept.numbers;
+  number = kept.number;
+})
 
 -- a list of one value everywhere has it everywhere
 same_at : {X : Type 0} (n s : ℕ) (x : X) → get_or (replicate n x) s x ≡ x
@@ -70,12 +124,37 @@ good_empty sessions limit many low =
       base = λ key writer h. absurd (no_writer key writer h);
     }
 
-pub kept_fresh : (sessions limit : ℕ) (parts : Parts) → parts ≡ empty_parts sessions limit → IsSessions sessions → IsLimit limit → IsKept parts None 0
-kept_fresh sessions limit parts e many low =
+abbrev no_txns : List Txn
+no_txns = []
+
+-- nothing remains, so nothing is read
+no_read : (sessions limit : ℕ) (reader writer : TxnId) (key : ℕ) → Reads (remaining_at (empty_parts sessions limit)) reader key (By writer) → ⊥
+no_read sessions limit reader writer key reads = by_place (nat_lt reader.number (mark_of (empty_parts sessions limit) reader.session)) (subst (λ (txns : List Txn). IsSomeAnd (cond (nat_lt reader.number (mark_of (empty_parts sessions limit) reader.session)) None (slice_get txns (reader.number - mark_of (empty_parts sessions limit) reader.session))) (λ txn. Contains txn.reads (key, By writer))) (same_at sessions reader.session []) reads)
+  where
+    by_place : (t : Bool) → IsSomeAnd (cond t None (slice_get no_txns (reader.number - mark_of (empty_parts sessions limit) reader.session))) (λ txn. Contains txn.reads (key, By writer)) → ⊥
+    by_place true h = h
+    by_place false h = h
+
+index_fresh : (sessions limit : ℕ) → IsIndexOf [] (empty_parts sessions limit)
+index_fresh sessions limit = λ reader writer key. (λ waits. absurd (omega (arith, waits.1)), λ pending. absurd (no_read sessions limit reader writer key pending.0))
+
+marks_fresh : (sessions limit : ℕ) → AreMarksOf (replicate sessions fresh_mark) (empty_parts sessions limit)
+marks_fresh sessions limit =
+    let all : (s : ℕ) → mark_at (replicate sessions fresh_mark) s ≡ fresh_mark = λ s. same_at sessions s fresh_mark in
+    record {
+      sessions = length-replicate sessions fresh_mark ∙ sym (length-replicate {A = List Txn} sessions []);
+      gone = λ s. ap (λ (m : SessionMark). m.gone) (all s) ∙ sym (same_at {X = ℕ} sessions s 0);
+      received = λ s. omega (arith, ap (λ (m : SessionMark). m.received) (all s), same_at {X = ℕ} sessions s 0, ap (λ (txns : List Txn). length txns) (same_at {X = List Txn} sessions s []));
+      closed = λ s. ap (λ (m : SessionMark). m.closed) (all s) ∙ sym (same_at {X = Bool} sessions s false);
+    }
+
+pub kept_fresh : (sessions limit : ℕ) (parts : Parts) (marks : List SessionMark) → parts ≡ empty_parts sessions limit → marks ≡ replicate sessions fresh_mark → IsSessions sessions → IsLimit limit → IsKept parts marks [] None 0
+kept_fresh sessions limit parts marks e m many low =
     let fits : CanBeTried (empty_parts sessions limit) = record { good = good_empty sessions limit many low; low_limit = low.1 } in
     record {
       parts_fit = subst CanBeTried (sym e) fits;
-      asked_fit = λ snapshot h. absurd cc;
+      marks_fit = subst (λ (p : Parts). AreMarksOf marks p) (sym e) (subst (λ (ms : List SessionMark). AreMarksOf ms (empty_parts sessions limit)) (sym m) (marks_fresh sessions limit));
+      waits_fit = subst (λ (p : Parts). IsIndexOf [] p) (sym e) (index_fresh sessions limit);
       numbers = omega arith;
       number = λ snapshot h. absurd cc;
     }

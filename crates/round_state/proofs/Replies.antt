@@ -10,12 +10,12 @@ use Rattle.order_check.specs.declared.remainder.Kind.{Kind}
 use Rattle.order_check.specs.declared.remainder.Kind.TheVariants as kinds
 use Rattle.order_check.specs.Explains.{Explains}
 use Rattle.order_check.specs.Good.{IsGood}
-use Rattle.order_check.specs.Laws.{SameVerdictAsStoodFor, OfferKeepsStandsFor}
-use Rattle.order_check.specs.StandsFor.{StandsFor}
+use Rattle.order_check.specs.Laws.{SameVerdictAsStoodFor, OfferKeepsStandsFor, CloseKeepsStandsFor}
+use Rattle.order_check.specs.StandsFor.{StandsFor, IsOpenSession}
 use Rattle.order_check.specs.Verdict.{IsVerdict}
 use Rattle.order_check.specs.Whole.{IsVerdictWhole}
 use Rattle.round_state.specs.EngineState.{EngineState}
-use Rattle.round_state.specs.Legal.{State, Legal, IsAdmitted, IsOfferRefusal, MayBegin, IsBeginRefusal, IsFinishRefusal, IsSolvedRefusal, IsAbandonRefusal, engine_offered, engine_begun, engine_finished, engine_abandoned, offered, begun, finished, abandoned, IsTrueOf, Shows, IsRightReport}
+use Rattle.round_state.specs.Legal.{State, Legal, IsAdmitted, IsOfferRefusal, IsCloseRefusal, MayBegin, IsBeginRefusal, IsFinishRefusal, IsSolvedRefusal, IsAbandonRefusal, engine_offered, engine_closed, engine_begun, engine_finished, engine_abandoned, offered, closed, begun, finished, abandoned, IsTrueOf, Shows, IsRightReport}
 use Rattle.round_state.specs.Runs.{Holds, StepsLegally}
 use Rattle.round_state.specs.Solving.{IsLawful, IsRight, IsWrong, IsReportOn}
 use Rattle.round_state.specs.declared.solving.Answer.{Answer}
@@ -24,7 +24,7 @@ use Rattle.round_state.specs.declared.reports.Certificate.{Certificate}
 use Rattle.round_state.specs.declared.reports.Certificate.TheVariants.{Order, Refuted, Nothing}
 use Rattle.round_state.specs.declared.reports.Report.{Report}
 use Rattle.round_state.specs.declared.steps.Step.{Step}
-use Rattle.round_state.specs.declared.steps.Step.TheVariants.{Offer, Begin, Finish, Abandon}
+use Rattle.round_state.specs.declared.steps.Step.TheVariants.{Offer, Close, Begin, Finish, Abandon}
 use Rattle.round_state.specs.declared.steps.StepReply.TheVariants as reply
 use Rattle.round_state.proofs.Counts.{counts_of}
 
@@ -51,6 +51,20 @@ offer_done old new f law fits e before holds = (
 
 pub offer_refused : (old new : EngineState) (f : Fragment) (refusal : Refusal) → IsOfferRefusal old.parts f refusal → new ≡ old → StepsLegally old (Offer f) (reply.Refused refusal) new
 offer_refused old new f refusal why e = refused old new (Offer f) refusal e (λ before same. (subst (λ (engine : EngineState). IsOfferRefusal engine.parts f refusal) (sym same) why, refl))
+
+pub close_done : (old new : EngineState) (s : ℕ) → CloseKeepsStandsFor → IsOpenSession old.parts s → new ≡ engine_closed old s → StepsLegally old (Close s) reply.Done new
+close_done old new s law open_one e before holds = (
+  closed before s,
+  (subst (λ (engine : EngineState). IsOpenSession engine.parts s) (sym holds.same) open_one, refl),
+  subst (λ (engine : EngineState). Holds engine (closed before s)) (sym e) (record {
+    same = ap (λ (engine : EngineState). engine_closed engine s) holds.same;
+    parts = law old.parts before.whole s holds.parts;
+    asked = holds.asked;
+  }),
+)
+
+pub close_refused : (old new : EngineState) (s : ℕ) (refusal : Refusal) → IsCloseRefusal old.parts s refusal → new ≡ old → StepsLegally old (Close s) (reply.Refused refusal) new
+close_refused old new s refusal why e = refused old new (Close s) refusal e (λ before same. (subst (λ (engine : EngineState). IsCloseRefusal engine.parts s refusal) (sym same) why, refl))
 
 pub begin_done : (old new : EngineState) → MayBegin old → new ≡ engine_begun old → StepsLegally old Begin reply.Done new
 begin_done old new may e before holds = (

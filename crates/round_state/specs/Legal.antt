@@ -11,7 +11,7 @@ use Rattle.order_check.specs.declared.remainder.Kind.{Kind}
 use Rattle.order_check.specs.declared.remainder.Kind.TheVariants as kinds
 use Rattle.order_check.specs.Based.{received_count}
 use Rattle.order_check.specs.Explains.{Explains}
-use Rattle.order_check.specs.StandsFor.{IsOpenSession, IsNextFragment, parts_with, with_fragment}
+use Rattle.order_check.specs.StandsFor.{IsOpenSession, IsNextFragment, parts_with, parts_closed, with_fragment}
 use Rattle.order_check.specs.Verdict.{HasOrder}
 use Rattle.order_check.specs.Whole.{IsVerdictWhole}
 use Rattle.round_state.specs.EngineState.{EngineState}
@@ -21,7 +21,7 @@ use Rattle.round_state.specs.declared.reports.Certificate.{Certificate}
 use Rattle.round_state.specs.declared.reports.Certificate.TheVariants.{Order, Refuted, Nothing}
 use Rattle.round_state.specs.declared.reports.Report.{Report}
 use Rattle.round_state.specs.declared.steps.Step.{Step}
-use Rattle.round_state.specs.declared.steps.Step.TheVariants.{Offer, Begin, Finish, Abandon}
+use Rattle.round_state.specs.declared.steps.Step.TheVariants.{Offer, Close, Begin, Finish, Abandon}
 use Rattle.round_state.specs.declared.steps.StepReply.{StepReply}
 use Rattle.round_state.specs.declared.steps.StepReply.TheVariants as reply
 
@@ -31,10 +31,14 @@ pub record State : Type 0 where
   pub whole : History
   pub asked : History
 
+-- the session is there and receives no more
+abbrev pub IsClosedSession : Parts → ℕ → Type 0
+IsClosedSession parts s = (s < length parts.remain) × (slice_get parts.closed s ≡ Some true)
+
 -- Why a well-formed fragment is refused: each case stands behind the ones above it.
 abbrev pub IntakeFault : Parts → Fragment → Refusal → Type 0
 IntakeFault parts fragment BadSession = length parts.remain ≤ fragment.session
-IntakeFault parts fragment Closed = (fragment.session < length parts.remain) × (slice_get parts.closed fragment.session ≡ Some true)
+IntakeFault parts fragment Closed = IsClosedSession parts fragment.session
 IntakeFault parts fragment Gap = IsOpenSession parts fragment.session × (received_count parts fragment.session < fragment.first)
 IntakeFault parts fragment Repeat = IsOpenSession parts fragment.session × (fragment.first < received_count parts fragment.session)
 IntakeFault parts fragment Backlog = IsOpenSession parts fragment.session × (fragment.first ≡ received_count parts fragment.session) × (parts.limit < sum_by length parts.remain + length fragment.txns)
@@ -49,6 +53,12 @@ pub record IsAdmitted (parts : Parts) (fragment : Fragment) : Type 0 where
 abbrev pub IsOfferRefusal : Parts → Fragment → Refusal → Type 0
 IsOfferRefusal parts fragment NoMemory = IsAdmitted parts fragment
 IsOfferRefusal parts fragment refusal = FragmentFault fragment refusal ⊎ (IsWellFormedFragment fragment × IntakeFault parts fragment refusal)
+
+-- Why a close is refused: the session isn't there, or is closed already.
+abbrev pub IsCloseRefusal : Parts → ℕ → Refusal → Type 0
+IsCloseRefusal parts s BadSession = length parts.remain ≤ s
+IsCloseRefusal parts s Closed = IsClosedSession parts s
+IsCloseRefusal parts s refusal = ⊥
 
 -- a round may begin: none is open, and its number is below 2^48
 pub record MayBegin (engine : EngineState) : Type 0 where
@@ -85,6 +95,9 @@ IsAbandonRefusal engine refusal = ⊥
 abbrev pub engine_offered : EngineState → Fragment → EngineState
 engine_offered old fragment = record old { parts = parts_with old.parts fragment }
 
+abbrev pub engine_closed : EngineState → ℕ → EngineState
+engine_closed old s = record old { parts = parts_closed old.parts s }
+
 abbrev pub engine_begun : EngineState → EngineState
 engine_begun old = record old { asked = Some old.parts }
 
@@ -98,6 +111,9 @@ engine_abandoned old = record old { asked = None }
 
 abbrev pub offered : State → Fragment → State
 offered old fragment = record { engine = engine_offered old.engine fragment; whole = with_fragment old.whole fragment; asked = old.asked }
+
+abbrev pub closed : State → ℕ → State
+closed old s = record old { engine = engine_closed old.engine s }
 
 abbrev pub begun : State → State
 begun old = record { engine = engine_begun old.engine; whole = old.whole; asked = old.whole }
@@ -135,6 +151,8 @@ pub record IsRightReport (old : State) (parts : Parts) (budget depth : ℕ) (rep
 abbrev pub Legal : State → Step → StepReply → State → Type 0
 Legal old (Offer fragment) reply.Done new = IsAdmitted old.engine.parts fragment × (new ≡ offered old fragment)
 Legal old (Offer fragment) (reply.Refused refusal) new = IsOfferRefusal old.engine.parts fragment refusal × (new ≡ old)
+Legal old (Close s) reply.Done new = IsOpenSession old.engine.parts s × (new ≡ closed old s)
+Legal old (Close s) (reply.Refused refusal) new = IsCloseRefusal old.engine.parts s refusal × (new ≡ old)
 Legal old Begin reply.Done new = MayBegin old.engine × (new ≡ begun old)
 Legal old Begin (reply.Refused refusal) new = IsBeginRefusal old.engine refusal × (new ≡ old)
 Legal old (Finish budget depth workers) (reply.Report report) new = IsSomeAnd old.engine.asked (λ parts. IsRightReport old parts budget depth report) × (new ≡ finished old)

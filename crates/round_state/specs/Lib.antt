@@ -1,7 +1,9 @@
+pub mod Awaiting
 pub mod EngineState
 pub mod Kept
 pub mod Legal
 pub mod Opening
 pub mod Runs
 pub mod Solving
+pub mod Tracked
 pub mod Trial

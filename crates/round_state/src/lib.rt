@@ -2,8 +2,10 @@
 //! violated.
 #![tactic(auto)]
 
+mod intake;
 mod problems;
 mod reports;
+mod snapshots;
 mod solving;
 mod state;
 mod steps;

@@ -5,6 +5,7 @@ ghost use Rattle.order_check.specs.Verdict.{HasOrder, IsVerdict};
 ghost use Rattle.round_state.specs.Solving.{IsRight, IsReportRefusal};
 ghost use Rattle.round_state.specs.Trial.{CanBeTried};
 
+use crate::snapshots::Snapshot;
 use crate::solving::Answer;
 use order_check::{Kind, Parts, explains, find_order};
 use std::alloc::Global;
@@ -45,12 +46,11 @@ pub fn received_counts(alloc: Global, parts: &Parts) -> Result<Sequence<u64>, No
     Ok(Sequence::new(counts))
 }
 
-/// The kind of parts that some order explains.
-fn kind_of_explained(parts: &Parts) -> Kind
-    requires { IsGood parts.now }
-    ensures { HasOrder parts.now → IsVerdict parts.now result }
+/// The kind of a snapshot that some order explains.
+fn kind_of_explained(snapshot: &Snapshot) -> Kind
+    ensures { HasOrder snapshot.now → IsVerdict snapshot.now result }
 {
-    if parts.has_pending() {
+    if snapshot.has_pending() {
         Kind::Pending
     } else {
         Kind::Serial
@@ -60,21 +60,20 @@ fn kind_of_explained(parts: &Parts) -> Kind
 /// Checks the answer. A right one earns its kind and its certificate.
 pub(crate) fn judge(
     alloc: Global,
-    parts: &Parts,
+    snapshot: &Snapshot,
     answer: Answer,
 ) -> Result<(Kind, Certificate), Refusal>
-    requires { CanBeTried parts.now }
-    ensures { MatchResult result (λ judged. IsRight parts.now answer judged.0 judged.1) (IsReportRefusal parts.now answer) }
+    ensures { MatchResult result (λ judged. IsRight snapshot.now answer judged.0 judged.1) (IsReportRefusal snapshot.now answer) }
 {
     match answer {
         Answer::Yes(order) => {
-            if !explains(alloc, parts, order.as_slice())? {
+            if !explains(alloc, snapshot.parts(), order.as_slice())? {
                 return Err(Refusal::BadCertificate);
             }
-            Ok((kind_of_explained(parts), Certificate::Order(order)))
+            Ok((kind_of_explained(snapshot), Certificate::Order(order)))
         }
         Answer::No => {
-            if find_order(alloc, parts)?.is_some() {
+            if find_order(alloc, snapshot.parts())?.is_some() {
                 return Err(Refusal::BadCertificate);
             }
             Ok((Kind::Violated, Certificate::Refuted))

@@ -1,16 +1,20 @@
 ghost use Rattle.std.specs.Prelude.{◌≡◌, ◌↔◌, ◌+◌, IsTrue, false, replicate, length, sum_by, Some, IfOk, IfErr, OnOk, MatchResult, IsSome, IsSomeAnd};
-ghost use Rattle.txn.specs.Transactions.{IsWellFormedFragment};
 ghost use Rattle.order_check.specs.Good.{IsGood};
+ghost use Rattle.order_check.specs.StandsFor.{IsOpenSession};
 ghost use Rattle.round_state.specs.Trial.{CanBeTried};
 ghost use Rattle.round_state.specs.Opening.{IsSessions, IsLimit, IsOpenRefusal, no_history, empty_parts, fresh, fresh_state};
-ghost use Rattle.round_state.specs.Legal.{IsAdmitted, IntakeFault, IsOfferRefusal, MayBegin, IsBeginRefusal, IsFinishRefusal, IsSolvedRefusal, IsAbandonRefusal, engine_offered, engine_begun, engine_finished, engine_abandoned};
+ghost use Rattle.round_state.specs.Legal.{IsAdmitted, IsOfferRefusal, IsCloseRefusal, MayBegin, IsBeginRefusal, IsFinishRefusal, IsSolvedRefusal, IsAbandonRefusal, engine_offered, engine_closed, engine_begun, engine_finished, engine_abandoned};
 ghost use Rattle.round_state.specs.Runs.{Holds};
 ghost use Rattle.round_state.specs.Solving.{IsReportOn};
 
+use crate::intake::{admit, arrive_all, awaited_reads};
 use crate::problems::Problem;
-use crate::reports::{Report, judge, received_counts};
+use crate::reports::{Report, judge};
+use crate::snapshots::Snapshot;
 use crate::solving::Answer;
 use order_check::{Base, LastWriters, Parts, stands_for_what_remains};
+use pending_reads::PendingReads;
+use session_marks::Marks;
 use std::alloc::Global;
 use std::marker::Model;
 use txn::{Fragment, NoMemory, Refusal, Sequence, Txn, check_fragment};
@@ -29,7 +33,13 @@ const LAST_ROUND: u64 = (1 << 48) - 1;
 #[derive(Drop, Debug)]
 pub struct Engine {
     parts: Parts,
-    asked: Option<Parts>,
+    /// How far each session is.
+    marks: Marks,
+    /// The pending reads.
+    waits: PendingReads,
+    /// The open round's snapshot.
+    asked: Option<Snapshot>,
+    /// The number of the last finished round.
     round: u64,
 }
 
@@ -45,7 +55,7 @@ impl Model for Engine {
 
     ghost view = { λ e. record { parts = e.parts; asked = e.asked; rounds = e.round } };
 
-    ghost invariant = { λ e. IsKept e.parts e.asked e.round };
+    ghost invariant = { λ e. IsKept e.parts e.marks e.waits e.asked e.round };
 }
 
 fn is_sessions(sessions: u64) -> bool
@@ -98,31 +108,6 @@ fn empty_parts(alloc: Global, sessions: u64, limit: u64) -> Result<Parts, NoMemo
     })
 }
 
-/// Whether a well-formed fragment is next in an open session and finds room; if not, why.
-fn admit(parts: &Parts, fragment: &Fragment) -> Result<(), Refusal>
-    requires good { IsGood parts.now }
-    requires well_formed { IsWellFormedFragment fragment.now }
-    ensures { MatchResult result (λ _. IsAdmitted parts.now fragment.now) (IntakeFault parts.now fragment.now) }
-{
-    if usize::from(fragment.session) >= parts.sessions() {
-        return Err(Refusal::BadSession);
-    }
-    if parts.is_closed(fragment.session) {
-        return Err(Refusal::Closed);
-    }
-    let received = parts.received_count(fragment.session);
-    if fragment.first > received {
-        return Err(Refusal::Gap);
-    }
-    if fragment.first < received {
-        return Err(Refusal::Repeat);
-    }
-    if (parts.remaining_count() + fragment.txns.len()) as u64 > parts.limit {
-        return Err(Refusal::Backlog);
-    }
-    Ok(())
-}
-
 impl Engine {
     /// A fresh engine of so many sessions, which lets at most so many transactions remain.
     pub fn open(alloc: Global, sessions: u64, limit: u64) -> Result<Engine, Refusal>
@@ -140,6 +125,8 @@ impl Engine {
         stands_for_what_remains();
         Ok(Engine {
             parts: empty_parts(alloc, sessions, limit)?,
+            marks: Marks::new(alloc, sessions as usize)?,
+            waits: PendingReads::new(alloc),
             asked: None,
             round: 0,
         })
@@ -159,15 +146,40 @@ impl Engine {
         &self.parts
     }
 
-    /// Takes a fragment in, whether or not a round is open.
+    /// Takes a fragment in, whether or not a round is open. It takes time of the fragment's reads times the logarithm of the
+    /// pending reads, however much remains.
     pub fn offer(&mut self, alloc: Global, fragment: Fragment) -> Result<(), Refusal>
         ensures ok { OnOk result (IsAdmitted self.old.parts fragment × (self.new ≡ engine_offered self.old fragment)) }
         ensures err { IfErr result (λ refusal. IsOfferRefusal self.old.parts fragment refusal × (self.new ≡ self.old)) }
     {
         check_fragment(&fragment)?;
-        admit(&self.parts, &fragment)?;
-        let Fragment { session, txns, .. } = fragment;
-        self.parts.remain.append_at(usize::from(session), txns)?;
+        admit(&self.parts, &self.marks, &fragment)?;
+        let awaited = awaited_reads(alloc, &self.marks, &fragment)?;
+        let before = self.parts.remaining_of(fragment.session).len();
+        let Fragment {
+            session,
+            first,
+            txns,
+        } = fragment;
+        let count = txns.len() as u64;
+        let place = usize::from(session);
+        self.parts.remain.append_at(place, txns)?;
+        if let Err(refused) = self.waits.add_all(awaited.as_slice()) {
+            self.parts.remain.truncate_at(place, before);
+            return Err(Refusal::from(refused));
+        }
+        self.marks.receive(session, count);
+        arrive_all(&mut self.waits, session, first, count);
+        Ok(())
+    }
+
+    /// Closes a session, whether or not a round is open: it receives no more. It takes no memory.
+    pub fn close(&mut self, session: u8) -> Result<(), Refusal>
+        ensures ok { OnOk result (IsOpenSession self.old.parts session × (self.new ≡ engine_closed self.old session)) }
+        ensures err { IfErr result (λ refusal. IsCloseRefusal self.old.parts session refusal × (self.new ≡ self.old)) }
+    {
+        self.marks.close(session)?;
+        self.parts.closed.set(usize::from(session), true);
         Ok(())
     }
 
@@ -183,7 +195,8 @@ impl Engine {
             return Err(Refusal::TooLong);
         }
         let problem = Problem::of(alloc, &self.parts)?;
-        self.asked = Some(self.parts.clone()?);
+        let snapshot = Snapshot::of(alloc, &self.parts, &self.marks, &self.waits)?;
+        self.asked = Some(snapshot);
         Ok(problem)
     }
 
@@ -192,11 +205,11 @@ impl Engine {
         ensures ok { IfOk result (λ report. IsSomeAnd self.old.asked (λ parts. IsReportOn parts (self.old.rounds + 1) answer report) × (self.new ≡ engine_finished self.old)) }
         ensures err { IfErr result (λ refusal. IsFinishRefusal self.old answer refusal × (self.new ≡ self.old)) }
     {
-        let Some(parts) = &self.asked else {
+        let Some(snapshot) = &self.asked else {
             return Err(Refusal::NoRound);
         };
-        let counts = received_counts(alloc, parts)?;
-        let (kind, certificate) = judge(alloc, parts, answer)?;
+        let counts = snapshot.counts()?;
+        let (kind, certificate) = judge(alloc, snapshot, answer)?;
         self.asked = None;
         self.round += 1;
         Ok(Report {
@@ -213,7 +226,7 @@ impl Engine {
         ensures err { IfErr result (IsSolvedRefusal self.now) }
     {
         match &self.asked {
-            Some(parts) => Ok(Problem::of(alloc, parts)?),
+            Some(snapshot) => Ok(Problem::of(alloc, snapshot.parts())?),
             None => Err(Refusal::NoRound),
         }
     }

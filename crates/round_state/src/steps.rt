@@ -5,7 +5,7 @@ ghost use Rattle.round_state.specs.Solving.{AreLimits};
 use crate::reports::Report;
 use crate::solving::Solver;
 use crate::state::Engine;
-use order_check::{offer_keeps_stands_for, verdict_as_stood_for};
+use order_check::{close_keeps_stands_for, offer_keeps_stands_for, verdict_as_stood_for};
 use std::alloc::Global;
 use txn::{Fragment, NoMemory, Refusal};
 
@@ -13,6 +13,8 @@ use txn::{Fragment, NoMemory, Refusal};
 #[derive(Drop, Debug)]
 pub enum Step {
     Offer(Fragment),
+    /// Closes the session.
+    Close(u8),
     Begin,
     /// Solves the open round's problem and finishes by the answer.
     Finish {
@@ -46,6 +48,16 @@ impl Engine {
     {
         offer_keeps_stands_for();
         match self.offer(alloc, fragment) {
+            Ok(()) => StepReply::Done,
+            Err(refusal) => StepReply::Refused(refusal),
+        }
+    }
+
+    fn reply_to_close(&mut self, session: u8) -> StepReply
+        ensures { StepsLegally self.old (Step.Close session) result self.new }
+    {
+        close_keeps_stands_for();
+        match self.close(session) {
             Ok(()) => StepReply::Done,
             Err(refusal) => StepReply::Refused(refusal),
         }
@@ -99,6 +111,7 @@ impl Engine {
     {
         match step {
             Step::Offer(fragment) => self.reply_to_offer(alloc, fragment),
+            Step::Close(session) => self.reply_to_close(session),
             Step::Begin => self.reply_to_begin(alloc),
             Step::Finish {
                 budget,

@@ -11,3 +11,6 @@ returns-in-Finish g c = rw c.in-Finish.is c.reply_to_finish.ensures
 
 pub returns-in-Abandon : goal.returns-in-Abandon
 returns-in-Abandon g c = rw c.in-Abandon.is c.reply_to_abandon.ensures
+
+pub returns-in-Close : goal.returns-in-Close
+returns-in-Close g c = rw c.in-Close.is c.reply_to_close.ensures

@@ -1,0 +1,96 @@
+ghost use Rattle.std.specs.Prelude.{◌≡◌, [], ◌∷◌, ◌++◌, ◌+◌, ◌≤◌, ◌^◌, length, OnOk, IfOk, MatchResult};
+ghost use Rattle.std.specs.Option.{option_to_list};
+ghost use Rattle.txn.specs.Transactions.{IsWellFormedFragment};
+ghost use Rattle.order_check.specs.Good.{IsGood};
+ghost use Rattle.round_state.specs.Awaiting.{awaited_of, awaited_from, HaveArrived};
+ghost use Rattle.round_state.specs.Legal.{IsAdmitted, IntakeFault};
+ghost use Rattle.round_state.specs.Tracked.{AreMarksOf};
+
+use order_check::Parts;
+use pending_reads::{PendingRead, PendingReads};
+use session_marks::Marks;
+use std::alloc::Global;
+use txn::{Fragment, NoMemory, Refusal, Source, Txn, TxnId};
+
+/// Whether a well-formed fragment is next in an open session and finds room; if not, why.
+pub(crate) fn admit(parts: &Parts, marks: &Marks, fragment: &Fragment) -> Result<(), Refusal>
+    requires good { IsGood parts.now }
+    requires marks { AreMarksOf marks.now parts.now }
+    requires well_formed { IsWellFormedFragment fragment.now }
+    ensures { MatchResult result (λ _. IsAdmitted parts.now fragment.now) (IntakeFault parts.now fragment.now) }
+{
+    marks.admit(fragment)?;
+    if (parts.remaining_count() + fragment.txns.len()) as u64 > parts.limit {
+        return Err(Refusal::Backlog);
+    }
+    Ok(())
+}
+
+/// The read, where it waits for a transaction that wasn't received.
+fn awaited_read(marks: &Marks, reader: TxnId, key: u64, source: Source) -> Option<PendingRead>
+    ensures { option_to_list result ≡ awaited_of marks.now reader ((key, source) ∷ []) }
+{
+    match source {
+        Source::Init => None,
+        Source::By(writer) => {
+            if marks.is_received(writer) {
+                return None;
+            }
+            Some(PendingRead {
+                reader,
+                key,
+                writer,
+            })
+        }
+    }
+}
+
+/// Puts those reads of a transaction that wait for one that wasn't received at the end.
+fn push_awaited(
+    awaited: &mut Vec<PendingRead>,
+    marks: &Marks,
+    reader: TxnId,
+    txn: &Txn,
+) -> Result<(), NoMemory>
+    ensures { OnOk result (awaited.new.items ≡ awaited.old.items ++ awaited_of marks.now reader txn.now.reads) }
+{
+    let reads = txn.reads.as_slice();
+    for place in 0..reads.len() {
+        let (key, source) = reads[place];
+        if let Some(read) = awaited_read(marks, reader, key, source) {
+            awaited.push(read)?;
+        }
+    }
+    Ok(())
+}
+
+/// The reads of a fragment that wait for a transaction that wasn't received before it.
+pub(crate) fn awaited_reads(
+    alloc: Global,
+    marks: &Marks,
+    fragment: &Fragment,
+) -> Result<Vec<PendingRead>, NoMemory>
+    requires { IsWellFormedFragment fragment.now }
+    ensures { IfOk result (λ awaited. awaited.items ≡ awaited_from marks.now fragment.now.session fragment.now.first fragment.now.txns) }
+{
+    let mut awaited = Vec::new(alloc);
+    let txns = fragment.txns.as_slice();
+    for place in 0..txns.len() {
+        let reader = TxnId {
+            session: fragment.session,
+            number: fragment.first + place as u64,
+        };
+        push_awaited(&mut awaited, marks, reader, &txns[place])?;
+    }
+    Ok(awaited)
+}
+
+/// Takes the reads out of the index that wait for these transactions.
+pub(crate) fn arrive_all(waits: &mut PendingReads, session: u8, first: u64, count: u64)
+    requires { first + count ≤ 2 ^ 48 }
+    ensures { HaveArrived waits.old waits.new session first count }
+{
+    for number in first..first + count {
+        waits.arrive(TxnId { session, number });
+    }
+}
