@@ -64,7 +64,7 @@ open_kind old new (Finish budget depth workers) answer is = told_kind is.0 answe
 open_kind old new (Round budget depth workers) answer is = told_kind is.0 answer is.2 (round_kind old new budget depth workers is.0 is.1)
 open_kind old new Show answer is = subst HasKindOfOrder (sym is.0) tt
 open_kind old new (Start sessions limit) answer is = bad_line_kind old new answer is
-open_kind old new (Close session) answer is = bad_line_kind old new answer is
+open_kind old new (Close session) answer is = told_kind is.0 answer is.2 (step_kind old new (step.Close session) is.0 is.1)
 
 first_kind : (command : Command) (answer : Reply) (new : Option State) → AnswersFirst command answer new → HasKindOfOrder answer
 first_kind (Start sessions limit) told.Done new is = tt

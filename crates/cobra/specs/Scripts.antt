@@ -46,12 +46,12 @@ state_told engine = told.Show engine.parts.base.marks (received_counts engine.pa
 -- the reply to a command, where an engine is open
 abbrev pub AnswersOpen : State → Command → Reply → State → Type 0
 AnswersOpen old (Offer fragment) answer new = IsStep old (step.Offer fragment) answer new
+AnswersOpen old (Close session) answer new = IsStep old (step.Close session) answer new
 AnswersOpen old Begin answer new = IsStep old step.Begin answer new
 AnswersOpen old (Finish budget depth workers) answer new = IsStep old (step.Finish budget depth workers) answer new
 AnswersOpen old (Round budget depth workers) answer new = (said : StepReply) × IsRound old budget depth workers said new × (answer ≡ reply_of said)
 AnswersOpen old Show answer new = (answer ≡ state_told old.engine) × (new ≡ old)
 AnswersOpen old (Start sessions limit) answer new = IsBadLine old answer new
-AnswersOpen old (Close session) answer new = IsBadLine old answer new
 
 -- the reply to a command, where none is open yet
 abbrev pub AnswersFirst : Command → Reply → Option State → Type 0

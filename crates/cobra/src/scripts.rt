@@ -77,6 +77,10 @@ fn answer_open<S: Solver>(
             let said = engine.step(alloc, Step::Offer(fragment), solver);
             Ok(reply_of(said))
         }
+        Command::Close(session) => {
+            let said = engine.step(alloc, Step::Close(session), solver);
+            Ok(reply_of(said))
+        }
         Command::Begin => {
             let said = engine.step(alloc, Step::Begin, solver);
             Ok(reply_of(said))
@@ -104,7 +108,6 @@ fn answer_open<S: Solver>(
         }
         Command::Show => state_told(alloc, engine),
         Command::Start { .. } => Ok(Reply::No(Refusal::BadLine)),
-        Command::Close(_) => Ok(Reply::No(Refusal::BadLine)),
     }
 }
 

@@ -32,4 +32,5 @@ pub returns-in-Start : goal.returns-in-Start
 returns-in-Start g c = rw c.in-Start.is (out_of_place c.args.engine.now)
 
 pub returns-in-Close : goal.returns-in-Close
-returns-in-Close g c = rw c.in-Close.is (out_of_place c.args.engine.now)
+returns-in-Close g c =
+    rw c.in-Close.is (step_told c.args.engine.now c.step-said-in-Close.new.self (step.Close c.in-Close.session) c.step-said-in-Close.result c.reply_of-in-Close.result c.step-said-in-Close.ensures c.reply_of-in-Close.ensures)
