@@ -7,6 +7,8 @@ mod reports;
 mod solving;
 mod state;
 mod steps;
+#[cfg(test)]
+mod tests;
 
 pub use problems::Problem;
 pub use reports::{Certificate, Report, received_counts};
