@@ -1,0 +1,6 @@
+mod answers;
+mod driving;
+mod fixtures;
+mod histories;
+mod refusals;
+mod refused_memory;

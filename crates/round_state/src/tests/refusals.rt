@@ -1,0 +1,140 @@
+//! Each refusal of an engine's calls; none changes what can be seen of the engine.
+use super::driving::{by_calls, by_run, by_steps};
+use super::fixtures::{Act, ID_0_0, READS_5_OF_0_0, Row, Shown, WRITES_5, Want};
+use crate::Engine;
+use order_check::Kind::Serial;
+use std::test::Fail;
+use txn::Refusal;
+use txn::Refusal::{
+    Backlog, BadFence, BadSession, BadTxn, Gap, NoRound, Repeat, RoundOpen, TooLong,
+};
+use txn::Source::Init;
+
+static ROWS: [Row; 5] = [
+    Row {
+        name: "sessions",
+        sessions: 2,
+        steps: &[
+            (Act::Offer(2, 0, &[WRITES_5]), Want::Refused(BadSession)),
+            (Act::Offer(64, 0, &[WRITES_5]), Want::Refused(BadSession)),
+            (Act::Offer(64, 0, &[]), Want::Refused(BadSession)),
+        ],
+    },
+    Row {
+        name: "transactions",
+        sessions: 2,
+        steps: &[
+            (Act::Offer(0, 0, &[(&[], &[5, 5])]), Want::Refused(BadTxn)),
+            (
+                Act::Offer(0, 0, &[WRITES_5, (&[], &[6, 5])]),
+                Want::Refused(BadTxn),
+            ),
+            (Act::Offer(0, 0, &[READS_5_OF_0_0]), Want::Refused(BadTxn)),
+            (
+                Act::Offer(0, 0, &[(&[(0, Init)], &[0, 5])]),
+                Want::Refused(BadFence),
+            ),
+            (
+                Act::Offer(0, 0, &[WRITES_5, (&[], &[0])]),
+                Want::Refused(BadFence),
+            ),
+        ],
+    },
+    Row {
+        name: "lengths and numbers",
+        sessions: 2,
+        steps: &[
+            (Act::Offer(0, 0, &[]), Want::Refused(TooLong)),
+            (Act::Offer(0, 0, &[WRITES_5; 257]), Want::Refused(TooLong)),
+            (Act::Offer(0, 1 << 48, &[WRITES_5]), Want::Refused(TooLong)),
+        ],
+    },
+    Row {
+        name: "places and room",
+        sessions: 2,
+        steps: &[
+            (Act::Offer(0, 1, &[WRITES_5]), Want::Refused(Gap)),
+            (Act::Offer(0, 0, &[WRITES_5; 9]), Want::Refused(Backlog)),
+            (Act::Offer(0, 0, &[WRITES_5]), Want::Done),
+            (Act::Offer(0, 0, &[WRITES_5]), Want::Refused(Repeat)),
+            (Act::Offer(0, 2, &[WRITES_5]), Want::Refused(Gap)),
+            (Act::Offer(0, 1, &[WRITES_5; 8]), Want::Refused(Backlog)),
+            (Act::Offer(1, 0, &[WRITES_5; 8]), Want::Refused(Backlog)),
+            (Act::Offer(0, 1, &[WRITES_5; 7]), Want::Done),
+            (Act::Offer(1, 0, &[WRITES_5]), Want::Refused(Backlog)),
+        ],
+    },
+    Row {
+        name: "rounds",
+        sessions: 2,
+        steps: &[
+            (Act::Finish, Want::Refused(NoRound)),
+            (Act::Abandon, Want::Refused(NoRound)),
+            (Act::Offer(0, 0, &[WRITES_5]), Want::Done),
+            (Act::Begin, Want::Done),
+            (Act::Begin, Want::Refused(RoundOpen)),
+            (Act::Abandon, Want::Done),
+            (Act::Abandon, Want::Refused(NoRound)),
+            (Act::Finish, Want::Refused(NoRound)),
+            (Act::Begin, Want::Done),
+            (
+                Act::Finish,
+                Want::Report(1, Serial, &[1, 0], Shown::Order(&[ID_0_0])),
+            ),
+            (Act::Finish, Want::Refused(NoRound)),
+            (Act::Begin, Want::Done),
+            (
+                Act::Finish,
+                Want::Report(2, Serial, &[1, 0], Shown::Order(&[ID_0_0])),
+            ),
+        ],
+    },
+];
+
+fn rows() -> &'static [Row] {
+    &ROWS
+}
+
+#[test]
+fn refusals_by_calls(rt: HostRuntime) -> Result<(), Fail> {
+    for row in rows() {
+        by_calls(&rt, rt.alloc(), row)?;
+    }
+    Ok(())
+}
+
+#[test]
+fn refusals_by_steps(rt: HostRuntime) -> Result<(), Fail> {
+    for row in rows() {
+        by_steps(&rt, rt.alloc(), row)?;
+    }
+    Ok(())
+}
+
+#[test]
+fn refusals_by_lists_of_steps(rt: HostRuntime) -> Result<(), Fail> {
+    for row in rows() {
+        by_run(&rt, rt.alloc(), row)?;
+    }
+    Ok(())
+}
+
+#[test]
+fn engines_of_such_numbers(rt: HostRuntime) {
+    let rows: [(u64, u64, Option<Refusal>); 10] = [
+        (1, 1, None),
+        (64, 8, None),
+        (0, 8, Some(BadSession)),
+        (65, 8, Some(BadSession)),
+        (u64::MAX, 8, Some(BadSession)),
+        (0, 0, Some(BadSession)),
+        (65, 9, Some(BadSession)),
+        (1, 0, Some(TooLong)),
+        (64, 9, Some(TooLong)),
+        (1, u64::MAX, Some(TooLong)),
+    ];
+    for (sessions, limit, refusal) in rows {
+        let opened = Engine::open(rt.alloc(), sessions, limit);
+        assert_eq!(rt; opened.err(), refusal, "{sessions} sessions, limit {limit}");
+    }
+}
