@@ -1,4 +1,5 @@
 mod arrivals;
+mod cuts;
 mod fixtures;
 mod generated;
 mod plain;
