@@ -1,5 +1,5 @@
 //! Cuts at a settled fence, and reads of a gone writer that come after or before the cut.
-ghost use Rattle.std.specs.Prelude.{◌≡◌, [], ◌∷◌, ◌++◌, false, IfOk, OnOk};
+ghost use Rattle.std.specs.Prelude.{◌≡◌, [], ◌∷◌, ◌++◌, false, IfOk, OnOk, OnErr};
 ghost use Rattle.std.specs.FinMap as map;
 ghost use Rattle.order_check.specs.Good.{IsGood};
 ghost use Rattle.order_check.specs.Rows.{fresh, first_cut, cut_rest, overwritten, overwritten_read, overwritten_rest, gone_read};
@@ -80,7 +80,7 @@ fn base(alloc: Global, gone: u64, fence: TxnId, writer: TxnId) -> Result<Base, N
 }
 
 /// 0.0 writes key 5, and then comes a fence in each session.
-fn two_fences(alloc: Global) -> Result<Parts, NoMemory>
+pub fn two_fences(alloc: Global) -> Result<Parts, NoMemory>
     ensures { IfOk result (λ parts. parts ≡ fresh first_cut) }
 {
     let first = then(Vec::new(alloc), &[], &[5])?;
@@ -90,7 +90,7 @@ fn two_fences(alloc: Global) -> Result<Parts, NoMemory>
 }
 
 /// What a cut at 0.1 leaves of it.
-fn last_fence(alloc: Global) -> Result<Parts, NoMemory>
+pub fn last_fence(alloc: Global) -> Result<Parts, NoMemory>
     ensures { IfOk result (λ parts. parts ≡ cut_rest) }
 {
     let second = then(Vec::new(alloc), &[(0, By(ID_0_1))], &[0])?;
@@ -140,7 +140,7 @@ fn behind_with_reader(alloc: Global) -> Result<Parts, NoMemory>
     )
 }
 
-fn cut_at_first_fence(
+pub fn cut_at_first_fence(
     alloc: Global,
     saturated: &mut Saturated,
     rest: &Parts,
@@ -148,7 +148,8 @@ fn cut_at_first_fence(
     requires whole { saturated.old.parts ≡ fresh first_cut }
     requires rest { rest.now ≡ cut_rest }
     requires good { IsGood rest.now }
-    ensures { OnOk result (saturated.new.parts ≡ rest.now) }
+    ensures ok { OnOk result (saturated.new.parts ≡ rest.now) }
+    ensures err { OnErr result (saturated.new ≡ saturated.old) }
 {
     row_first_cut();
     saturated.cut(alloc, &[ID_0_0, ID_0_1], rest)

@@ -1,7 +1,9 @@
 //! Calls whose memory is refused leave what they were called on as it was, and work when called again.
 //! To be run with each allocation refused in turn: `rt try --test --fail-alloc N`.
+ghost use Rattle.std.specs.Prelude.{◌≡◌};
 ghost use Rattle.order_check.specs.Good.{IsGood};
 
+use super::cuts::{cut_at_first_fence, last_fence, two_fences};
 use super::fixtures::{
     ID_0_0, ID_0_1, ID_1_0, ID_2_0, Lists, WRITES, is_chain, may_come, parts_of, txn_of,
 };
@@ -30,6 +32,7 @@ fn shows_two_writers(rt: &impl Abort, saturated: &Saturated) {
 
 fn made(rt: &impl Abort, alloc: Global, parts: &Parts) -> Saturated
     requires { IsGood parts.now }
+    ensures { result.parts ≡ parts.now }
 {
     match Saturated::of(alloc, parts) {
         Ok(saturated) => saturated,
@@ -79,4 +82,21 @@ fn refused_memory_changes_nothing(rt: HostRuntime) {
     has_one_open_choice(&rt, rt.alloc(), &copy);
     add_next(&rt, rt.alloc(), &mut saturated, &next);
     shows_two_writers(&rt, &copy);
+}
+
+#[test]
+fn refused_memory_cuts_nothing(rt: HostRuntime) {
+    let (Ok(parts), Ok(rest)) = (two_fences(rt.alloc()), last_fence(rt.alloc())) else {
+        return;
+    };
+    assert!(rt; parts.is_good());
+    assert!(rt; rest.is_good());
+    let mut saturated = made(&rt, rt.alloc(), &parts);
+    if cut_at_first_fence(rt.alloc(), &mut saturated, &rest).is_err() {
+        is_chain(&rt, &saturated, &[ID_0_0, ID_0_1, ID_1_0]);
+        assert_eq!(rt; saturated.parts().remaining_count(), 3);
+        assert!(rt; cut_at_first_fence(rt.alloc(), &mut saturated, &rest).is_ok());
+    }
+    is_chain(&rt, &saturated, &[ID_1_0]);
+    assert_eq!(rt; saturated.parts().remaining_count(), 1);
 }
