@@ -8,3 +8,4 @@ pub mod SaturationLaws
 pub mod Distinct
 pub mod OpenSoFar
 pub mod Keeping
+pub mod WholeCuts

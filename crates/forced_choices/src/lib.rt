@@ -8,3 +8,6 @@ mod saturated;
 mod saturation;
 
 pub use saturated::Saturated;
+
+#[cfg(test)]
+mod tests;

@@ -139,3 +139,23 @@ pending_in_front = (reads 5 (By (id 1 1)) ∷ fence Init ∷ []) ∷ (fence (By 
 -- two writers of key 5 that nothing orders, and three fences behind them
 abbrev pub unordered_writers : History
 unordered_writers = (writes 5 ∷ fence Init ∷ fence (By (id 1 1)) ∷ []) ∷ (writes 5 ∷ fence (By (id 0 1)) ∷ []) ∷ []
+
+-- 0.1 overwrites what it reads from 0.0, and then comes a fence in each session
+abbrev pub overwritten : History
+overwritten = (writes 5 ∷ reads_writes 5 (By (id 0 0)) 5 ∷ fence Init ∷ []) ∷ (fence (By (id 0 2)) ∷ []) ∷ []
+
+-- then 1.1 reads it from 0.0
+abbrev pub overwritten_read : History
+overwritten_read = (writes 5 ∷ reads_writes 5 (By (id 0 0)) 5 ∷ fence Init ∷ []) ∷ (fence (By (id 0 2)) ∷ reads 5 (By (id 0 0)) ∷ []) ∷ []
+
+-- what a cut at fence 0.2 takes out
+abbrev pub overwritten_gone : List TxnId
+overwritten_gone = id 0 0 ∷ id 0 1 ∷ id 0 2 ∷ []
+
+-- the last writers of the keys written there
+abbrev pub overwritten_writers : FinMap nat_cmp TxnId
+overwritten_writers = insert (insert empty 0 (id 0 2)) 5 (id 0 1)
+
+-- the parts that it leaves; with 1.1 they are those of the gone read
+abbrev pub overwritten_rest : Parts
+overwritten_rest = record { base = record { last = overwritten_writers; marks = 3 ∷ 0 ∷ [] }; remain = [] ∷ (fence (By (id 0 2)) ∷ []) ∷ []; closed = false ∷ false ∷ []; limit = 4096 }

@@ -7,7 +7,7 @@ ghost use Rattle.order_check.specs.Whole.{ExplainsWhole, IsVerdictWhole};
 ghost use Rattle.order_check.specs.Known.{Known, AreOpenChoices};
 ghost use Rattle.order_check.specs.Settled.{IsSettled, IsLastSettled, IsCutAt, IsCutOf};
 ghost use Rattle.order_check.specs.StandsFor.{IsOpenSession};
-ghost use Rattle.order_check.specs.Rows.{id, fresh, nothing, not_a_writer, real_split, split_choice, silent_session, pending_in_front, reader_first, write_skew, session_order, pending, arrived, lost_update, gone_read, two_writers, two_writers_read, open_choice, first_cut, cut_gone, cut_writers, cut_rest, unordered_writers};
+ghost use Rattle.order_check.specs.Rows.{id, fresh, nothing, not_a_writer, real_split, split_choice, silent_session, pending_in_front, reader_first, write_skew, session_order, pending, arrived, lost_update, gone_read, two_writers, two_writers_read, open_choice, first_cut, cut_gone, cut_writers, cut_rest, overwritten, overwritten_read, overwritten_gone, overwritten_writers, overwritten_rest, unordered_writers};
 
 /// A history with nothing in it is serial.
 pub fn row_empty()
@@ -75,6 +75,14 @@ pub fn row_first_cut()
     ensures cut { IsCutAt (fresh first_cut) (id 0 1) cut_gone cut_writers }
     ensures rest { IsCutOf (fresh first_cut) cut_rest cut_gone cut_writers }
     ensures not_past { ¬ IsSettled (fresh first_cut) (IsOpenSession (fresh first_cut)) (id 1 0) }
+{}
+
+/// A cut leaves what is behind the fence, also what arrived there before it.
+pub fn row_overwritten()
+    ensures settled { IsSettled (fresh overwritten) (IsOpenSession (fresh overwritten)) (id 0 2) }
+    ensures cut { IsCutAt (fresh overwritten) (id 0 2) overwritten_gone overwritten_writers }
+    ensures rest { IsCutOf (fresh overwritten) overwritten_rest overwritten_gone overwritten_writers }
+    ensures read { IsCutOf (fresh overwritten_read) gone_read overwritten_gone overwritten_writers }
 {}
 
 /// A fence isn't settled where two writers of a key in front of it have no known order.
