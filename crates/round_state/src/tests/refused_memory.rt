@@ -12,9 +12,22 @@ use txn::Refusal::{NoMemory, NoRound, RoundOpen};
 /// The report of the round.
 const IN_ORDER: Want = Want::Report(1, Serial, &[1, 1], Shown::Order(&[ID_1_0, ID_0_0]));
 
-/// An engine that has received a writer of key 5, where no memory is refused.
-fn writer_first(alloc: Global) -> Option<Engine> {
-    let mut engine = Engine::open(alloc, 2, LIMIT).ok()?;
+/// A fresh engine, opened a second time where the first is refused for memory.
+fn open(rt: &impl Abort, alloc: Global) -> Option<Engine> {
+    match Engine::open(alloc, 2, LIMIT) {
+        Ok(engine) => Some(engine),
+        Err(refusal) => {
+            assert_eq!(rt; refusal, NoMemory);
+            let again = Engine::open(alloc, 2, LIMIT);
+            assert!(rt; again.is_ok());
+            again.ok()
+        }
+    }
+}
+
+/// An engine that has received a writer of key 5; nothing where memory is refused for that.
+fn writer_first(rt: &impl Abort, alloc: Global) -> Option<Engine> {
+    let mut engine = open(rt, alloc)?;
     let fragment = fragment_of(alloc, 0, 0, &[WRITES_5]).ok()?;
     engine.offer(alloc, fragment).ok()?;
     Some(engine)
@@ -72,7 +85,7 @@ fn finish(rt: &impl Abort, alloc: Global, engine: &mut Engine, problem: Problem)
 
 /// A round on two fragments, with nothing where memory was refused to what stands around the engine.
 fn round(rt: &impl Abort, alloc: Global) -> Option<()> {
-    let mut engine = writer_first(alloc)?;
+    let mut engine = writer_first(rt, alloc)?;
     offer(rt, alloc, &mut engine)?;
     let problem = begin(rt, alloc, &mut engine)?;
     finish(rt, alloc, &mut engine, problem)
