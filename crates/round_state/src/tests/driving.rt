@@ -124,6 +124,7 @@ fn call(
             let fragment = fragment_of(alloc, session, first, rows)?;
             Ok(of_done(engine.offer(alloc, fragment)))
         }
+        Act::Close(session) => Ok(of_done(engine.close(session))),
         Act::Begin => Ok(begin(alloc, engine, problem)),
         Act::Finish => {
             let answer = solve(alloc, problem);

@@ -46,6 +46,7 @@ pub const READS_5_OF_0_0: Lists = (&[(5, Source::By(ID_0_0))], &[]);
 pub enum Act {
     /// Offers transactions of a session, the first with a number.
     Offer(u8, u64, &'static [Lists]),
+    Close(u8),
     Begin,
     /// Solves the open round's problem, and finishes by the answer.
     Finish,
@@ -111,6 +112,7 @@ pub fn step_of(alloc: Global, act: Act) -> Result<Step, NoMemory>
         Act::Offer(session, first, rows) => {
             Ok(Step::Offer(fragment_of(alloc, session, first, rows)?))
         }
+        Act::Close(session) => Ok(Step::Close(session)),
         Act::Begin => Ok(Step::Begin),
         Act::Finish => Ok(Step::Finish {
             budget: BUDGET,

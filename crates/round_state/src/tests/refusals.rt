@@ -1,16 +1,16 @@
 //! Each refusal of an engine's calls; none changes what can be seen of the engine.
 use super::driving::{by_calls, by_run, by_steps};
-use super::fixtures::{Act, ID_0_0, READS_5_OF_0_0, Row, Shown, WRITES_5, Want};
+use super::fixtures::{Act, ID_0_0, ID_1_0, READS_5_OF_0_0, Row, Shown, WRITES_5, Want};
 use crate::Engine;
-use order_check::Kind::Serial;
+use order_check::Kind::{Pending, Serial};
 use std::test::Fail;
 use txn::Refusal;
 use txn::Refusal::{
-    Backlog, BadFence, BadSession, BadTxn, Gap, NoRound, Repeat, RoundOpen, TooLong,
+    Backlog, BadFence, BadSession, BadTxn, Closed, Gap, NoRound, Repeat, RoundOpen, TooLong,
 };
 use txn::Source::Init;
 
-static ROWS: [Row; 5] = [
+static ROWS: [Row; 6] = [
     Row {
         name: "sessions",
         sessions: 2,
@@ -62,6 +62,29 @@ static ROWS: [Row; 5] = [
             (Act::Offer(1, 0, &[WRITES_5; 8]), Want::Refused(Backlog)),
             (Act::Offer(0, 1, &[WRITES_5; 7]), Want::Done),
             (Act::Offer(1, 0, &[WRITES_5]), Want::Refused(Backlog)),
+        ],
+    },
+    Row {
+        name: "closed sessions",
+        sessions: 2,
+        steps: &[
+            (Act::Close(2), Want::Refused(BadSession)),
+            (Act::Close(255), Want::Refused(BadSession)),
+            (Act::Offer(1, 0, &[READS_5_OF_0_0]), Want::Done),
+            (Act::Begin, Want::Done),
+            (Act::Close(0), Want::Done),
+            (Act::Close(0), Want::Refused(Closed)),
+            (Act::Offer(0, 0, &[WRITES_5]), Want::Refused(Closed)),
+            (Act::Offer(0, 1, &[WRITES_5; 9]), Want::Refused(Closed)),
+            (
+                Act::Finish,
+                Want::Report(1, Pending, &[0, 1], Shown::Order(&[ID_1_0])),
+            ),
+            (Act::Begin, Want::Done),
+            (
+                Act::Finish,
+                Want::Report(2, Pending, &[0, 1], Shown::Order(&[ID_1_0])),
+            ),
         ],
     },
     Row {
