@@ -6,7 +6,7 @@ Run at the top of the repository, after `cd crates/cobra_audit && rt run < /dev/
     python3 bench/read_scripts.py [PROGRAM]
 
 It makes a script of 64,000 transactions in 2,000 offers (8 reads and 8 writes each), and one ten times as long. The offers
-are refused (they don't fit the limit), so that reading dominates.
+are refused (they don't fit the limit), so that reading dominates. Times are the best of five runs.
 """
 import json
 import os
@@ -16,6 +16,7 @@ import tempfile
 import time
 
 OFFERS, TRANSACTIONS, READS, WRITES = 2000, 32, 8, 8
+RUNS = 5
 
 
 def offer(number):
@@ -37,15 +38,23 @@ def write_script(path, offers):
 
 
 def seconds_of_program(program, path):
-    """Wall time, and the peak memory of the program in KiB."""
     with open(path, "rb") as script, open(os.devnull, "wb") as replies:
         begin = time.perf_counter()
+        subprocess.run([program], stdin=script, stdout=replies, check=True)
+        return time.perf_counter() - begin
+
+
+def peak_of_program(program, path):
+    """The peak memory in KiB, as last told while it ran: what wait4 tells has the memory of this program in it."""
+    peak = 0
+    with open(path, "rb") as script, open(os.devnull, "wb") as replies:
         process = subprocess.Popen([program], stdin=script, stdout=replies)
-        _, status, usage = os.wait4(process.pid, 0)
-        seconds = time.perf_counter() - begin
-    if status != 0:
-        sys.exit(f"{program} ended with status {status}")
-    return seconds, usage.ru_maxrss
+        while process.poll() is None:
+            with open(f"/proc/{process.pid}/status", encoding="ascii") as status:
+                told = [line.split()[1] for line in status if line.startswith("VmHWM:")]
+            peak = max([peak, *map(int, told)])
+            time.sleep(0.001)
+    return peak
 
 
 def seconds_of_python(path):
@@ -63,9 +72,9 @@ def main():
         short, long = os.path.join(folder, "short"), os.path.join(folder, "long")
         write_script(short, OFFERS)
         write_script(long, 10 * OFFERS)
-        ours, peak = seconds_of_program(program, short)
-        theirs = seconds_of_python(short)
-        _, long_peak = seconds_of_program(program, long)
+        ours = min(seconds_of_program(program, short) for _ in range(RUNS))
+        theirs = min(seconds_of_python(short) for _ in range(RUNS))
+        peak, long_peak = peak_of_program(program, short), peak_of_program(program, long)
         print(f"script                 {os.path.getsize(short) / 1e6:8.1f} MB, {OFFERS * TRANSACTIONS} transactions")
         print(f"cobra_audit            {ours:8.3f} s")
         print(f"CPython's json.loads   {theirs:8.3f} s")
