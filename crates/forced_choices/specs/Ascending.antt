@@ -1,4 +1,4 @@
--- What is in a list, and lists that ascend, by cases on the list.
+-- For private clauses: what is in a list, and lists that ascend, by cases on the list.
 use Rattle.std.specs.Prelude.{◌≡◌, ◌⊎◌, ⊤, Bool, true, List, [], ◌∷◌}
 
 -- the list has it

@@ -1,5 +1,5 @@
--- What a list of arcs asks of a list of ids.
-use Rattle.std.specs.Prelude.{◌≢◌, ◌<◌, ℕ, List, length, slice_index_or, Contains}
+-- For private clauses: what a list of arcs asks of a list of ids.
+use Rattle.std.specs.Prelude.{◌≢◌, ◌<◌, ℕ, List, length, slice_index_or}
 use Rattle.txn.specs.declared.transactions.TxnId.{TxnId}
 use Rattle.txn.specs.declared.choices.Arc.{Arc}
 use Rattle.txn.specs.Arcs.{start_of, end_of}
@@ -8,12 +8,6 @@ use Rattle.known_graph.specs.Graphs.{GraphState, HasNode}
 -- no id stands twice
 abbrev pub AreDistinct : List TxnId → Type 0
 AreDistinct ids = (i j : ℕ) (d : TxnId) → i < j → j < length ids → slice_index_or ids i d ≢ slice_index_or ids j d
-
--- both ends of the arc are there, and differ
-pub record IsAmong (ids : List TxnId) (arc : Arc) : Type 0 where
-  pub start : Contains ids (start_of arc)
-  pub end : Contains ids (end_of arc)
-  pub apart : start_of arc ≢ end_of arc
 
 -- both ends of the arc are nodes, and differ
 pub record IsBetween (graph : GraphState) (arc : Arc) : Type 0 where

@@ -1,4 +1,4 @@
--- What a saturation keeps at all times.
+-- For private clauses: what a saturation keeps at all times.
 use Rattle.std.specs.Prelude.{◌↔◌, List, []}
 use Rattle.txn.specs.declared.transactions.TxnId.{TxnId}
 use Rattle.txn.specs.declared.choices.ForceStep.{ForceStep}

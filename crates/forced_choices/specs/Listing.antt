@@ -1,4 +1,4 @@
--- The ids, arcs and choices of parts, listed in order.
+-- For private clauses: the ids, arcs and choices of parts, listed in order.
 use Rattle.std.specs.Prelude.{ℕ, ◌-◌, nat_lt, is_some, Bool, true, false, ◌&&◌, not, List, [], ◌∷◌, ◌++◌, length, filter, map, Some, None, Option, if◌then◌else◌}
 use Rattle.std.specs.List.{flat_map, range_with_len}
 use Rattle.txn.specs.declared.transactions.TxnId.{TxnId}

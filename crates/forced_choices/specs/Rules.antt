@@ -1,4 +1,4 @@
--- When a side of a choice is forced, and which arc it takes.
+-- For private clauses: when a side of a choice is forced, and which arc it takes.
 use Rattle.std.specs.Prelude.{List, [], ◌∷◌}
 use Rattle.std.specs.List.{flat_map}
 use Rattle.txn.specs.declared.transactions.TxnId.{TxnId}

@@ -1,4 +1,4 @@
--- What forcing sides, one after another, leads to.
+-- For private clauses: what forcing sides, one after another, leads to.
 use Rattle.std.specs.Prelude.{◌≡◌, ◌≢◌, ℕ, List, [], ◌∷◌, ◌++◌, remove, slice_get, Some, All}
 use Rattle.txn.specs.declared.choices.Arc.{Arc}
 use Rattle.txn.specs.declared.choices.Arc.TheVariants.{Taken}

@@ -1,4 +1,4 @@
--- What the saturation of parts comes to.
+-- For private clauses: what the saturation of parts comes to.
 use Rattle.std.specs.Prelude.{List, []}
 use Rattle.txn.specs.declared.choices.ForceStep.{ForceStep}
 use Rattle.order_check.specs.declared.remainder.Parts.{Parts}

@@ -1,4 +1,4 @@
--- Choices that a graph leaves undecided.
+-- For private clauses: choices that a graph leaves undecided.
 use Rattle.std.specs.Prelude.{List, Contains}
 use Rattle.txn.specs.declared.choices.Arc.{Arc}
 use Rattle.txn.specs.declared.choices.Choice.{Choice}

@@ -1,4 +1,4 @@
--- What a graph keeps of itself.
+-- For private clauses: what a graph keeps of itself.
 use Rattle.std.specs.Prelude.{List, Option, All}
 use Rattle.txn.specs.declared.transactions.TxnId.{TxnId}
 use Rattle.txn.specs.declared.choices.Arc.{Arc}

@@ -1,4 +1,4 @@
--- Lists of pairs of transactions, and what one more arc adds to a closure.
+-- For private clauses: lists of pairs of transactions, and what one more arc adds to a closure.
 use Rattle.std.specs.Prelude.{◌≡◌, ◌⊎◌, List, Contains}
 use Rattle.std.specs.Ordering.{nat_cmp, ordering_then}
 use Rattle.std.specs.List.Sorted.{IsSorted}

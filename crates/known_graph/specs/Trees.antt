@@ -1,4 +1,4 @@
--- Arcs that lead to a goal, as a search finds them.
+-- For private clauses: arcs that lead to a goal, as a search finds them.
 use Rattle.std.specs.Prelude.{◌≡◌, ◌≢◌, ℕ, ◌<◌, ◌⊎◌, Bool, true, List, length, take, slice_index_or, Contains}
 use Rattle.std.specs.List.{list_any}
 use Rattle.txn.specs.declared.transactions.TxnId.{TxnId}

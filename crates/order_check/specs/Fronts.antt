@@ -1,4 +1,4 @@
--- Fronts of the orders that explain parts.
+-- For private clauses: fronts of the orders that explain parts.
 use Rattle.std.specs.Prelude.{◌≡◌, ℕ, Bool, List, ◌∷◌, ◌++◌, Option, slice_get, count_by, MatchBool}
 use Rattle.txn.specs.declared.transactions.TxnId.{TxnId}
 use Rattle.txn.specs.History.{in_session}

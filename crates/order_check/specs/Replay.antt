@@ -1,4 +1,4 @@
--- A walk through an order, id after id: what meets the reads of the next id, and which id of a session is the next.
+-- For private clauses: a walk through an order, id after id: what meets the reads of the next id, and which id of a session is the next.
 use Rattle.std.specs.Prelude.{◌≡◌, ℕ, ◌+◌, ◌<◌, ⊤, List, length, slice_index, Option, Some, None, All, if◌then◌else◌}
 use Rattle.std.specs.Option.{option_or}
 use Rattle.std.specs.Ordering.{nat_cmp}

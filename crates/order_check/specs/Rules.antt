@@ -1,4 +1,4 @@
--- The rules of parts, in the groups that they are tested in.
+-- For private clauses, but for the last: the rules of parts, in the groups that they are tested in.
 use Rattle.std.specs.Prelude.{◌≡◌, ℕ, ◌+◌, ◌<◌, ◌≤◌, ◌^◌, List, length, slice_get, slice_index, Some}
 use Rattle.std.specs.Ordering.{nat_cmp}
 use Rattle.std.specs.FinMap.{FinMap, get}

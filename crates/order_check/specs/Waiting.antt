@@ -1,4 +1,4 @@
--- Reads that wait for a transaction that isn't received.
+-- For private clauses: reads that wait for a transaction that isn't received.
 use Rattle.std.specs.Prelude.{List, Any}
 use Rattle.txn.specs.declared.transactions.Source.{Source}
 use Rattle.txn.specs.declared.transactions.Source.TheVariants.{Init, By}

@@ -1,5 +1,4 @@
--- Which reads of a fragment wait, and what becomes of those that waited for its transactions. Private functions alone cite
--- these.
+-- For private clauses: which reads of a fragment wait, and what becomes of those that waited for its transactions.
 use Rattle.std.specs.Prelude.{◌≡◌, ℕ, ◌+◌, ◌<◌, ◌≤◌, List, [], ◌∷◌, ◌++◌, nat_lt, if◌then◌else◌}
 use Rattle.txn.specs.declared.transactions.TxnId.{TxnId}
 use Rattle.txn.specs.declared.transactions.Source.{Source}

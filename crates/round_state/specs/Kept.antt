@@ -1,4 +1,4 @@
--- What an engine keeps at all times.
+-- For private clauses: what an engine keeps at all times.
 use Rattle.std.specs.Prelude.{◌≡◌, ℕ, ◌-◌, ◌<◌, ◌≤◌, ◌^◌, List, Option, Some}
 use Rattle.session_marks.specs.declared.marks.SessionMark.{SessionMark}
 use Rattle.pending_reads.specs.Waiting.{Index}
