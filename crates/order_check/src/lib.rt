@@ -19,8 +19,8 @@ pub use facts::{
 };
 pub use known_laws::{cycle_leaves_no_order, every_order_keeps_known};
 pub use laws::{
-    offer_keeps_stands_for, close_keeps_stands_for, orders_as_of_whole, stands_for_what_remains, verdict_as_of_whole,
-    verdict_as_stood_for, violated_is_final,
+    close_keeps_stands_for, offer_keeps_stands_for, orders_as_of_whole, stands_for_what_remains,
+    verdict_as_of_whole, verdict_as_stood_for, violated_is_final,
 };
 pub use remainder::{Base, Kind, LastWriters, Parts};
 pub use trial::{brute, find_order};

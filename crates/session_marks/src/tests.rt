@@ -60,7 +60,10 @@ fn tells_how_far_sessions_are(rt: HostRuntime) -> Result<(), Fail> {
         (0, 0, true)
     );
     assert!(rt; copy.is_open(1));
-    assert_eq!(rt; marks.received_counts(rt.alloc())?.as_slice(), [0, 3].as_slice());
+    assert_eq!(rt;
+        marks.received_counts(rt.alloc())?.as_slice(),
+        [0, 3].as_slice()
+    );
     let received = [(1, 2, true), (1, 3, false), (0, 0, false), (2, 0, false)];
     for (session, number, wanted) in received {
         let id = TxnId { session, number };
