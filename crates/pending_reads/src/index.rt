@@ -43,7 +43,7 @@ impl PendingReads {
         }
     }
 
-    /// Adds a read that waits for the writer.
+    /// Adds a read that waits for the writer. Beside memory it takes time of the logarithm of the awaited transactions.
     pub fn add(&mut self, reader: TxnId, key: u64, writer: TxnId) -> Result<(), NoMemory>
         requires { ¬ Waits self.old reader key writer }
         ensures ok { OnOk result (ChangesOnly self.old self.new writer (waiting_for self.old writer ++ (reader, key) ∷ [])) }
@@ -59,7 +59,7 @@ impl PendingReads {
         Ok(())
     }
 
-    /// Adds reads that wait: all of them, or none.
+    /// Adds reads that wait: all of them, or none. Each takes the time of `add`.
     pub fn add_all(&mut self, reads: &[PendingRead]) -> Result<(), NoMemory>
         requires { AreNew self.old reads.now }
         ensures ok { OnOk result (HasAlso self.old self.new reads.now × WaitsAlso self.old self.new reads.now) }
@@ -109,7 +109,8 @@ impl PendingReads {
         }
     }
 
-    /// Takes out the reads that wait for the writer, in the order in which they were added.
+    /// Takes out the reads that wait for the writer, in the order in which they were added. It takes no memory, and time of the
+    /// logarithm of the awaited transactions: the list is handed out as it is.
     pub fn arrive(&mut self, writer: TxnId) -> Sequence<(TxnId, u64)>
         ensures handed { result ≡ waiting_for self.old writer }
         ensures once { AreDistinct result }
@@ -121,14 +122,15 @@ impl PendingReads {
         }
     }
 
-    /// Whether any read waits.
+    /// Whether any read waits, in constant time.
     pub fn any(&self) -> bool
         ensures { IsTrue result ↔ HasWaiting self.now }
     {
         !self.awaited.is_empty()
     }
 
-    /// Whether any read of these transactions waits. They are given in ascending order.
+    /// Whether any read of these transactions waits. They are given in ascending order. It looks at each read that waits, in time
+    /// of the logarithm of how many are given.
     pub fn any_in(&self, readers: &[TxnId]) -> bool
         requires { Rises id_below readers.now }
         ensures { IsTrue result ↔ HasWaitingIn self.now readers.now }

@@ -94,7 +94,8 @@ impl Marks {
         Ok(Sequence::new(counts.collect(alloc)?))
     }
 
-    /// Whether the fragment is next in its session; if not, the first of BadSession, Closed, Gap and Repeat.
+    /// Whether the fragment is next in its session; if not, the first of BadSession, Closed, Gap and Repeat. It takes
+    /// constant time.
     pub fn admit(&self, fragment: &Fragment) -> Result<(), Refusal>
         requires { IsWellFormedFragment fragment.now }
         ensures { MatchResult result (λ _. IsNext self.now fragment.now) (AdmitFault self.now fragment.now) }
