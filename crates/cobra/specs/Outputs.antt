@@ -7,7 +7,6 @@ use Rattle.log_text.specs.Commands.{IsCommand}
 use Rattle.log_text.specs.Replies.{line_of}
 use Rattle.round_state.specs.EngineState.{EngineState}
 use Rattle.round_state.specs.Legal.{State}
-use Rattle.cobra.specs.declared.lines.TheConstants.{LONGEST_LINE}
 use Rattle.cobra.specs.declared.lines.Next.{Next}
 use Rattle.cobra.specs.declared.lines.Next.TheVariants.{Line, TooLong, End}
 use Rattle.cobra.specs.Lines.{lines, lf_count}
@@ -15,7 +14,7 @@ use Rattle.cobra.specs.Scripts.{IsBadLine, Answers, HoldsScript}
 
 -- the line is the command, and isn't too long for one
 pub record Asks (line : List ℕ) (command : Command) : Type 0 where
-  pub short : length line ≤ LONGEST_LINE
+  pub short : length line ≤ 8388608
   pub is : IsCommand line command
 
 -- The reply to a line is the one to its command, and BadLine where it is none.
@@ -86,8 +85,8 @@ pub record StopsWriting (input : List ℕ) (left : Option (List ℕ)) (output : 
 
 -- the line that is told to be next, or told to be too long
 abbrev pub IsTold : List ℕ → Next → Type 0
-IsTold line (Line bytes) = (bytes.items ≡ line) × (length line ≤ LONGEST_LINE)
-IsTold line TooLong = LONGEST_LINE < length line
+IsTold line (Line bytes) = (bytes.items ≡ line) × (length line ≤ 8388608)
+IsTold line TooLong = 8388608 < length line
 IsTold line End = ⊥
 
 -- the reply to what was read, and what it leads to, whatever histories the engine stood for

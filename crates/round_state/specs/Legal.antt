@@ -65,27 +65,28 @@ pub record MayBegin (engine : EngineState) : Type 0 where
   pub none_open : engine.asked ≡ None
   pub number : engine.rounds < 2 ^ 48 - 1
 
--- Why a begin is refused: memory is asked for last.
+-- Why a begin is refused: a round is open; else the numbers of rounds are used up; memory is asked for last.
 abbrev pub IsBeginRefusal : EngineState → Refusal → Type 0
 IsBeginRefusal engine RoundOpen = IsSome engine.asked
 IsBeginRefusal engine TooLong = (engine.asked ≡ None) × (2 ^ 48 - 1 ≤ engine.rounds)
 IsBeginRefusal engine NoMemory = MayBegin engine
 IsBeginRefusal engine refusal = ⊥
 
--- Why a finish by this answer is refused: a wrong answer is, and where a round is open memory may be wanting.
+-- Why a finish by this answer is refused: no round is open; or the answer is wrong; and where one is open memory may be
+-- wanting.
 abbrev pub IsFinishRefusal : EngineState → Answer → Refusal → Type 0
 IsFinishRefusal engine answer NoRound = engine.asked ≡ None
 IsFinishRefusal engine answer BadCertificate = IsSomeAnd engine.asked (λ parts. IsWrong parts answer)
 IsFinishRefusal engine answer NoMemory = IsSome engine.asked
 IsFinishRefusal engine answer refusal = ⊥
 
--- why a finish by a solver's answer is refused: a solver's answer is never wrong
+-- why a finish by a solver's answer is refused: no round is open, or memory is wanting; a solver's answer is never wrong
 abbrev pub IsSolvedRefusal : EngineState → Refusal → Type 0
 IsSolvedRefusal engine NoRound = engine.asked ≡ None
 IsSolvedRefusal engine NoMemory = IsSome engine.asked
 IsSolvedRefusal engine refusal = ⊥
 
--- why an abandon is refused
+-- why an abandon is refused: no round is open
 abbrev pub IsAbandonRefusal : EngineState → Refusal → Type 0
 IsAbandonRefusal engine NoRound = engine.asked ≡ None
 IsAbandonRefusal engine refusal = ⊥

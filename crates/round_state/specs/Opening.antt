@@ -7,7 +7,6 @@ use Rattle.txn.specs.History.{History}
 use Rattle.order_check.specs.declared.remainder.Parts.{Parts}
 use Rattle.round_state.specs.EngineState.{EngineState}
 use Rattle.round_state.specs.Legal.{State}
-use Rattle.round_state.specs.declared.state.TheConstants.{GREATEST_SESSIONS, GREATEST_LIMIT}
 
 -- so many sessions in which nothing was received
 abbrev pub no_history : ℕ → History
@@ -32,11 +31,11 @@ fresh_state sessions limit = record { engine = fresh sessions limit; whole = no_
 
 -- there may be so many sessions
 abbrev pub IsSessions : ℕ → Type 0
-IsSessions sessions = (1 ≤ sessions) × (sessions ≤ GREATEST_SESSIONS)
+IsSessions sessions = (1 ≤ sessions) × (sessions ≤ 64)
 
--- so many transactions may be let remain
+-- so many transactions may be let remain: as many as a trial of all orders can take
 abbrev pub IsLimit : ℕ → Type 0
-IsLimit limit = (1 ≤ limit) × (limit ≤ GREATEST_LIMIT)
+IsLimit limit = (1 ≤ limit) × (limit ≤ 8)
 
 -- Why no engine is given: the number of sessions is judged before the limit, and memory is asked for last.
 abbrev pub IsOpenRefusal : ℕ → ℕ → Refusal → Type 0

@@ -24,7 +24,8 @@ pub record AreLimits (budget depth workers : ℕ) : Type 0 where
   pub some_workers : 1 ≤ workers
   pub few_workers : workers ≤ 16
 
--- A search may be spent only where the parts leave more choices open than its budget reaches.
+-- A search may be spent only where its budget doesn't reach: with n choices open, of which it splits the first e, the budget
+-- and 2^e are together below 2^(n+1).
 abbrev pub MayBeSpent : Parts → ℕ → ℕ → Type 0
 MayBeSpent parts budget depth = (choices : List Choice) × AreOpenChoices parts [] choices × (budget + 2 ^ min depth (length choices) < 2 ^ (length choices + 1))
 
@@ -36,7 +37,7 @@ IsLawful parts budget depth answers.No = ¬ HasOrder parts
 IsLawful parts budget depth answers.Spent = MayBeSpent parts budget depth
 IsLawful parts budget depth answers.NoMemory = ⊤
 
--- An answer about parts is right, and earns this kind and this certificate.
+-- An answer about parts is right, and earns this kind and this certificate. Spent claims nothing, and is never wrong.
 abbrev pub IsRight : Parts → Answer → Kind → Certificate → Type 0
 IsRight parts (answers.Yes order) kind (Order shown) = (shown ≡ order) × Explains parts order × IsVerdict parts kind
 IsRight parts answers.No kind Refuted = (kind ≡ kinds.Violated) × (¬ HasOrder parts)

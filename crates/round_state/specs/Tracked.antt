@@ -1,4 +1,4 @@
--- What an engine keeps beside its parts, and finds in them too: how far each session is, and which reads are pending.
+-- For private clauses: what an engine keeps beside its parts, and finds in them too: how far each session is, and which reads are pending.
 use Rattle.std.specs.Prelude.{◌≡◌, ◌↔◌, ℕ, Bool, false, List, length, slice_index_or, IsTrue}
 use Rattle.txn.specs.declared.transactions.TxnId.{TxnId}
 use Rattle.txn.specs.declared.transactions.Source.TheVariants.{By}
@@ -25,7 +25,7 @@ IsPendingRead parts reader key writer = Reads (remaining_at parts) reader key (B
 abbrev pub IsIndexOf : Index → Parts → Type 0
 IsIndexOf index parts = (reader writer : TxnId) (key : ℕ) → Waits index reader key writer ↔ IsPendingRead parts reader key writer
 
--- What is kept with a snapshot: how many were received of each session, and whether a read was pending.
+-- What is kept with a snapshot, parts that a trial can take: how many were received of each session, and whether a read was pending.
 pub record IsSnapshot (parts : Parts) (told : List ℕ) (some : Bool) : Type 0 where
   pub fit : CanBeTried parts
   pub counts : told ≡ received_counts parts

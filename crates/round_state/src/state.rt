@@ -146,8 +146,8 @@ impl Engine {
         &self.parts
     }
 
-    /// Takes a fragment in, whether or not a round is open. It takes time of the fragment's reads times the logarithm of the
-    /// pending reads, however much remains.
+    /// Takes a fragment in, whether or not a round is open. Beside memory it takes time of the sessions, and of the fragment's
+    /// reads and transactions times the logarithm of the pending reads, however much remains.
     pub fn offer(&mut self, alloc: Global, fragment: Fragment) -> Result<(), Refusal>
         ensures ok { OnOk result (IsAdmitted self.old.parts fragment × (self.new ≡ engine_offered self.old fragment)) }
         ensures err { IfErr result (λ refusal. IsOfferRefusal self.old.parts fragment refusal × (self.new ≡ self.old)) }

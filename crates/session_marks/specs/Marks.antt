@@ -41,7 +41,7 @@ pub record IsNext (marks : List SessionMark) (fragment : Fragment) : Type 0 wher
   pub session : IsOpen marks fragment.session
   pub place : fragment.first ≡ (mark_at marks fragment.session).received
 
--- Why a well-formed fragment isn't next: its session isn't there, or is closed; else it starts above what was received
+-- Why a fragment isn't next: its session isn't there, or is closed; else it starts above what was received
 -- of the session, or below.
 abbrev pub AdmitFault : List SessionMark → Fragment → Refusal → Type 0
 AdmitFault marks fragment BadSession = length marks ≤ fragment.session
