@@ -1,13 +1,13 @@
 -- The numbers of a command that a line asks for are within their limits.
-use Rattle.std.proofs.Common.{◌≡◌, ℕ, ◌≤◌, ◌&&◌, nat_le, Bool, true, false, cond, List, Option, Some, None, refl, sym, subst, arith}
+use Rattle.std.proofs.Common.{◌≡◌, ℕ, ◌≤◌, ◌&&◌, nat_le, Bool, true, false, cond, List, Option, Some, None, refl, subst, arith}
 use Rattle.std.specs.Prelude.{if◌then◌else◌, option_map, option_and_then, bytes_eq, codes}
 use Rattle.std.proofs.lemmas.Bool.Decides.{nat_tests}
 use Rattle.serde_json.specs.Data.{Data, array, string, Items, no_items, item}
 use Rattle.log_text.specs.declared.commands.Command.{Command}
 use Rattle.log_text.specs.declared.commands.Command.TheVariants.{Start, Offer, Close, Begin, Finish, Round, Show}
 use Rattle.log_text.specs.declared.commands.Effort.{Effort}
-use Rattle.log_text.specs.Numbers.{whole_number, if_within, number_within, with_both, with_three, list_of}
-use Rattle.log_text.specs.Commands.{session_of, txn_of, start_in, offer_in, close_in, effort_in, finish_in, round_in, alone, command_named, command_in, command_of, IsEffort, HasLimits}
+use Rattle.log_text.specs.Numbers.{whole_number, if_within, number_within, with_both, with_three, alone, list_of}
+use Rattle.log_text.specs.Commands.{session_of, txn_of, start_in, offer_in, close_in, effort_in, command_named, command_of, IsEffort, HasLimits}
 use Rattle.txn.specs.declared.transactions.Txn.{Txn}
 
 within : (least most n m : ℕ) → if_within least most m ≡ Some n → (least ≤ n) × (n ≤ most)

@@ -1,4 +1,8 @@
-pub mod Arity
 pub mod CommandLimits
-pub mod EachItem
+pub mod Forms
+pub mod Leaves
+pub mod Names
+pub mod ReadForms
 pub mod ValueTexts
+pub mod WholeLines
+pub mod WholeNumbers

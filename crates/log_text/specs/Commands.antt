@@ -8,7 +8,7 @@ use Rattle.txn.specs.declared.transactions.Txn.{Txn}
 use Rattle.log_text.specs.declared.commands.Command.{Command}
 use Rattle.log_text.specs.declared.commands.Effort.{Effort}
 use Rattle.log_text.specs.declared.commands.Command.TheVariants.{Start, Offer, Close, Begin, Finish, Round, Show}
-use Rattle.log_text.specs.Numbers.{whole_number, number_within, list_of, with_both, with_three}
+use Rattle.log_text.specs.Numbers.{whole_number, number_within, list_of, with_both, with_three, one_of, two_of, three_of, alone}
 
 -- the lines of a script name sessions up to 255
 abbrev pub session_of : Data → Option ℕ
@@ -31,8 +31,7 @@ read_of given = None
 
 -- a transaction: [[read,..],[key,..]]
 abbrev pub txn_in : Items → Option Txn
-txn_in (item reads (item writes no_items)) = with_both (λ r w. record { reads = r; writes = w }) (list_of read_of reads) (list_of whole_number writes)
-txn_in items = None
+txn_in = two_of (λ reads writes. record { reads = reads; writes = writes }) (list_of read_of) (list_of whole_number)
 
 abbrev pub txn_of : Data → Option Txn
 txn_of (array items) = txn_in items
@@ -40,23 +39,19 @@ txn_of given = None
 
 -- ["open",sessions,limit]
 abbrev pub start_in : Items → Option Command
-start_in (item sessions (item limit no_items)) = with_both Start (whole_number sessions) (whole_number limit)
-start_in parts = None
+start_in = two_of Start whole_number whole_number
 
 -- ["offer",session,first,[txn,..]]
 abbrev pub offer_in : Items → Option Command
-offer_in (item session (item first (item txns no_items))) = with_three (λ s f ts. Offer (record { session = s; first = f; txns = ts })) (session_of session) (whole_number first) (list_of txn_of txns)
-offer_in parts = None
+offer_in = three_of (λ session first txns. Offer (record { session = session; first = first; txns = txns })) session_of whole_number (list_of txn_of)
 
 -- ["close",session]
 abbrev pub close_in : Items → Option Command
-close_in (item session no_items) = option_map Close (session_of session)
-close_in parts = None
+close_in = one_of Close session_of
 
 -- a budget from 1 to 2^32, a depth up to 6, and 1 to 16 workers
 abbrev pub effort_in : Items → Option Effort
-effort_in (item budget (item depth (item workers no_items))) = with_three (λ b d w. record { budget = b; depth = d; workers = w }) (number_within 1 (2 ^ 32) budget) (number_within 0 6 depth) (number_within 1 16 workers)
-effort_in parts = None
+effort_in = three_of (λ budget depth workers. record { budget = budget; depth = depth; workers = workers }) (number_within 1 (2 ^ 32)) (number_within 0 6) (number_within 1 16)
 
 -- ["finish",budget,depth,workers]
 abbrev pub finish_in : Items → Option Command
@@ -66,12 +61,7 @@ finish_in parts = option_map (λ (effort : Effort). Finish effort.budget effort.
 abbrev pub round_in : Items → Option Command
 round_in parts = option_map (λ (effort : Effort). Round effort.budget effort.depth effort.workers) (effort_in parts)
 
--- ["begin"] and ["show"] have no parts
-abbrev pub alone : Command → Items → Option Command
-alone command no_items = Some command
-alone command parts = None
-
--- the command of this name, with these parts
+-- the command of this name, with these parts; "begin" and "show" have none
 abbrev pub command_named : List ℕ → Items → Option Command
 command_named name parts =
     if bytes_eq name (codes "open") then start_in parts

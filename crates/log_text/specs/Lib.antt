@@ -2,3 +2,4 @@ pub mod Commands
 pub mod Numbers
 pub mod Replies
 pub mod Texts
+pub mod Tokens

@@ -1,4 +1,4 @@
--- Numbers and lists in a line.
+-- Numbers, lists and items in a line.
 use Rattle.std.specs.Prelude.{ℕ, List, [], ◌∷◌, Option, Some, None, option_and_then, option_map, ◌&&◌, nat_le, if◌then◌else◌}
 use Rattle.serde_json.specs.Data.{Data, number, unsigned, array, Items, no_items, item}
 
@@ -34,3 +34,23 @@ with_both make a b = None
 abbrev pub with_three : {A B C X : Type 0} → (A → B → C → X) → Option A → Option B → Option C → Option X
 with_three make (Some a) (Some b) (Some c) = Some (make a b c)
 with_three make a b c = None
+
+-- one item in this form, and no other
+abbrev pub one_of : {A X : Type 0} → (A → X) → (Data → Option A) → Items → Option X
+one_of make form (item a no_items) = option_map make (form a)
+one_of make form items = None
+
+-- two items in these forms, and no other
+abbrev pub two_of : {A B X : Type 0} → (A → B → X) → (Data → Option A) → (Data → Option B) → Items → Option X
+two_of make first second (item a (item b no_items)) = with_both make (first a) (second b)
+two_of make first second items = None
+
+-- three items in these forms, and no other
+abbrev pub three_of : {A B C X : Type 0} → (A → B → C → X) → (Data → Option A) → (Data → Option B) → (Data → Option C) → Items → Option X
+three_of make first second third (item a (item b (item c no_items))) = with_three make (first a) (second b) (third c)
+three_of make first second third items = None
+
+-- no items
+abbrev pub alone : {X : Type 0} → X → Items → Option X
+alone given no_items = Some given
+alone given items = None

@@ -2,6 +2,8 @@
 #![tactic(auto)]
 
 mod commands;
+mod fragments;
+mod numbers;
 mod replies;
 #[cfg(test)]
 mod tests;

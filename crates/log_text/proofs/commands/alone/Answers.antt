@@ -1,8 +1,10 @@
-use Rattle.std.proofs.Common.{refl, sym}
-use Rattle.std.proofs.lemmas.Bool.{eqb-false}
-use Rattle.log_text.specs.Commands.{alone}
-use Rattle.log_text.proofs.Arity.{none_but_none}
+use Rattle.std.proofs.Common.{refl}
+use Rattle.log_text.specs.Numbers.{alone}
+use Rattle.log_text.proofs.Forms.{ended, not_ended}
 use Rattle.log_text.proofs.commands.alone.Goals as goal
 
-pub returns-else-is_empty : goal.returns-else-is_empty
-returns-else-is_empty c = none_but_none (alone c.args.command) (λ _ _. refl) c.args.parts.now (eqb-false _ _ (sym c.if-is_empty.ensures))
+pub returns-then-take_end_array : goal.returns-then-take_end_array
+returns-then-take_end_array c depth deep = ended (alone c.args.command) depth _ _ c.if-take_end_array.ensures
+
+pub returns-else-take_end_array : goal.returns-else-take_end_array
+returns-else-take_end_array c depth deep = not_ended (alone c.args.command) (λ d rest. refl) depth _ c.if-take_end_array.ensures.0

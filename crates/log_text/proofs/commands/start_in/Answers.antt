@@ -1,13 +1,20 @@
-use Rattle.std.proofs.Common.{refl, arith}
-use Rattle.std.proofs.lemmas.Bool.{ltb-true, ltb-false}
-use Rattle.log_text.specs.Commands.{start_in}
-use Rattle.log_text.proofs.Arity.{none_but_two}
+use Rattle.std.proofs.Common.{Some, None, ap, sym, ◌∙◌}
+use Rattle.log_text.specs.declared.commands.Command.TheVariants.{Start}
+use Rattle.log_text.specs.Numbers.{whole_number}
+use Rattle.log_text.specs.Tokens.{with_rest}
+use Rattle.log_text.proofs.Forms.{took_last, took_second}
 use Rattle.log_text.proofs.commands.start_in.Goals as goal
-use Rattle.log_text.proofs.commands.start_in.Goals.{in_default-via-then-parts-lt2, in_default-via-else-parts-lt2+else-parts-lt3}
 
-pub returns-in_default : goal.returns-in_default
-returns-in_default c = none_but_two start_in refl (λ _. refl) (λ _ _ _ _. refl) c.args.parts.now
-    (elim c.in_default.branch [
-      | in_default-via-then-parts-lt2 w ↦ omega (arith, ltb-true _ _ w.if-parts-lt2-1.true)
-      | in_default-via-else-parts-lt2+else-parts-lt3 w ↦ omega (arith, ltb-false _ _ w.if-parts-lt3-1.false)
-    ])
+pub returns-in_err-sessions : goal.returns-in_err-sessions
+returns-in_err-sessions c depth deep = took_second Start whole_number whole_number depth _ c.whole_number.new.reader None (c.in_err-sessions.ensures depth deep) ∙ ap (λ o. with_rest o c.whole_number.new.reader) (sym c.from_residual.ensures)
+
+pub returns-in_err-limit : goal.returns-in_err-limit
+returns-in_err-limit c depth deep =
+    took_second Start whole_number whole_number depth _ _ (Some c.in_ok-sessions.sessions) (c.in_ok-sessions.ensures depth deep)
+    ∙ took_last (Start c.in_ok-sessions.sessions) whole_number depth _ c.whole_number-2.new.reader None (c.in_err-limit.ensures depth deep)
+    ∙ ap (λ o. with_rest o c.whole_number-2.new.reader) (sym c.from_residual-in_err-limit.ensures)
+
+pub returns : goal.returns
+returns c depth deep =
+    took_second Start whole_number whole_number depth _ _ (Some c.in_ok-sessions.sessions) (c.in_ok-sessions.ensures depth deep)
+    ∙ took_last (Start c.in_ok-sessions.sessions) whole_number depth _ _ (Some c.in_ok-limit.limit) (c.in_ok-limit.ensures depth deep) ∙ c.alone.ensures depth deep

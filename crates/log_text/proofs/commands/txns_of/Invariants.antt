@@ -1,8 +1,0 @@
-use Rattle.std.proofs.Common.{◌≡◌, Some, take}
-use Rattle.serde_json.specs.View.{items_view}
-use Rattle.log_text.specs.Numbers.{each_of}
-use Rattle.log_text.specs.Commands.{txn_of}
-use Rattle.log_text.proofs.commands.txns_of.Given as goal
-
-abbrev pub invariant-loop-item : goal.invariant-loop-item
-invariant-loop-item l = each_of txn_of (items_view (take l.item-index l.item-items)) ≡ Some l.txns.items
