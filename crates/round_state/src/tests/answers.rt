@@ -1,15 +1,15 @@
 //! Rounds that are finished by answers from elsewhere, right and wrong ones.
-use super::driving::{Sight, is_kept, of_finished, solve};
+use super::driving::{Sight, finish, is_answered, opened, solve};
 use super::fixtures::{
-    ID_0_0, ID_1_0, LIMIT, READS_5_INIT, Shown, WRITES_5, Want, fragment_of, is_reply, order_of,
+    ID_0_0, ID_1_0, Lists, READS_5_INIT, Shown, WRITES_5, Want, fragment_of, is_reply, order_of,
 };
-use crate::{Answer, Engine};
+use crate::{Answer, Engine, StepReply};
 use order_check::Kind::{Serial, Spent};
 use std::alloc::Global;
 use std::process::Abort;
 use std::test::Fail;
 use txn::Refusal::{BadCertificate, NoMemory, RoundOpen};
-use txn::TxnId;
+use txn::{Refusal, TxnId};
 
 /// An answer, as rows have it.
 #[derive(Clone, Copy)]
@@ -53,12 +53,48 @@ fn answer_of(alloc: Global, told: Told) -> Result<Answer, txn::NoMemory> {
     }
 }
 
-/// An engine that has received a writer of key 5, and a reader of it from the initial state.
-fn reader_first(alloc: Global) -> Result<Engine, Fail> {
-    let mut engine = Engine::open(alloc, 2, LIMIT)?;
-    engine.offer(alloc, fragment_of(alloc, 0, 0, &[WRITES_5])?)?;
-    engine.offer(alloc, fragment_of(alloc, 1, 0, &[READS_5_INIT])?)?;
+/// The engine takes these in, as the first transactions of a session.
+fn takes(alloc: Global, engine: &mut Engine, session: u8, rows: &[Lists]) -> Result<(), Refusal> {
+    let fragment = fragment_of(alloc, session, 0, rows)?;
+    engine.offer(alloc, fragment)
+}
+
+/// A writer of key 5, and a reader of it from the initial state.
+fn takes_both(alloc: Global, engine: &mut Engine) -> Result<(), Refusal> {
+    takes(alloc, engine, 0, &[WRITES_5])?;
+    takes(alloc, engine, 1, &[READS_5_INIT])
+}
+
+/// Takes both in, and opens a round on them.
+fn opens_round(alloc: Global, engine: &mut Engine) -> Result<(), Refusal> {
+    takes_both(alloc, engine)?;
+    let _problem = engine.begin(alloc)?;
+    Ok(())
+}
+
+/// An engine that has received both, with an open round.
+fn reader_first(alloc: Global) -> Result<Engine, Refusal> {
+    let mut engine = opened(alloc, 2)?;
+    opens_round(alloc, &mut engine)?;
     Ok(engine)
+}
+
+fn reply_to(alloc: Global, engine: &mut Engine, told: Told) -> Result<StepReply, txn::NoMemory> {
+    let answer = answer_of(alloc, told)?;
+    Ok(finish(alloc, engine, answer))
+}
+
+/// Finishes by the answer, before which the engine looked like this.
+fn finishes_after(
+    rt: &impl Abort,
+    alloc: Global,
+    engine: &mut Engine,
+    place: usize,
+    row: (Told, Want),
+    before: &Sight,
+) -> Result<(), txn::NoMemory> {
+    let reply = reply_to(alloc, engine, row.0)?;
+    is_answered(rt, alloc, ("answers", place), before, engine, &reply, row.1)
 }
 
 /// Finishes by the answer, and has the reply.
@@ -66,39 +102,64 @@ fn finishes(
     rt: &impl Abort,
     alloc: Global,
     engine: &mut Engine,
-    told: Told,
-    want: Want,
-) -> Result<(), Fail> {
+    place: usize,
+    row: (Told, Want),
+) -> Result<(), txn::NoMemory> {
     let before = Sight::of(alloc, engine)?;
-    let answer = answer_of(alloc, told)?;
-    let reply = of_finished(engine.finish(alloc, answer));
-    assert!(rt; is_reply(&reply, want));
-    assert!(rt; is_kept(alloc, &before, engine, &reply)?);
-    assert_eq!(rt; engine.remaining(), 2);
-    Ok(())
+    finishes_after(rt, alloc, engine, place, row, &before)
 }
 
-#[test]
-fn a_wrong_answer_leaves_the_round_open(rt: HostRuntime) -> Result<(), Fail> {
-    let alloc = rt.alloc();
-    let mut engine = reader_first(alloc)?;
-    let _problem = engine.begin(alloc)?;
-    for (told, want) in answers() {
-        assert_eq!(rt; engine.begin(alloc).err(), Some(RoundOpen));
-        finishes(&rt, alloc, &mut engine, *told, *want)?;
+fn both_remain(rt: &impl Abort, engine: &Engine) {
+    assert_eq!(rt; engine.remaining(), 2);
+}
+
+fn is_open(rt: &impl Abort, alloc: Global, engine: &mut Engine) {
+    assert_eq!(rt; engine.begin(alloc).err(), Some(RoundOpen));
+}
+
+fn has_its_answers(rt: &impl Abort, alloc: Global, engine: &mut Engine) -> Result<(), Refusal> {
+    for (place, row) in answers().iter().enumerate() {
+        is_open(rt, alloc, engine);
+        finishes(rt, alloc, engine, place, *row)?;
+        both_remain(rt, engine);
     }
     Ok(())
 }
 
-#[test]
-fn a_spent_round_has_its_number(rt: HostRuntime) -> Result<(), Fail> {
-    let alloc = rt.alloc();
+fn stays_open(rt: &impl Abort, alloc: Global) -> Result<(), Refusal> {
     let mut engine = reader_first(alloc)?;
-    let _problem = engine.begin(alloc)?;
-    finishes(&rt, alloc, &mut engine, Told::Spent, GIVEN_UP)?;
+    has_its_answers(rt, alloc, &mut engine)
+}
+
+#[test]
+fn a_wrong_answer_leaves_the_round_open(rt: HostRuntime) -> Result<(), Fail> {
+    Ok(stays_open(&rt, rt.alloc())?)
+}
+
+fn next_reply(alloc: Global, engine: &mut Engine) -> Result<StepReply, Refusal> {
     let problem = Some(engine.begin(alloc)?);
-    let answer = solve(alloc, &problem);
-    let reply = of_finished(engine.finish(alloc, answer));
+    Ok(finish(alloc, engine, solve(alloc, &problem)))
+}
+
+/// The round after is finished by the right answer.
+fn finishes_next(rt: &impl Abort, alloc: Global, engine: &mut Engine) -> Result<(), Refusal> {
+    let reply = next_reply(alloc, engine)?;
     assert!(rt; is_reply(&reply, IN_ORDER_NEXT));
     Ok(())
+}
+
+fn is_spent(rt: &impl Abort, alloc: Global, engine: &mut Engine) -> Result<(), Refusal> {
+    finishes(rt, alloc, engine, 0, (Told::Spent, GIVEN_UP))?;
+    both_remain(rt, engine);
+    finishes_next(rt, alloc, engine)
+}
+
+fn goes_on_after_spent(rt: &impl Abort, alloc: Global) -> Result<(), Refusal> {
+    let mut engine = reader_first(alloc)?;
+    is_spent(rt, alloc, &mut engine)
+}
+
+#[test]
+fn a_spent_round_has_its_number(rt: HostRuntime) -> Result<(), Fail> {
+    Ok(goes_on_after_spent(&rt, rt.alloc())?)
 }

@@ -1,5 +1,5 @@
 //! Histories with the reports of their rounds.
-use super::driving::{by_calls, by_run, by_steps};
+use super::driving::{Way, go_through, run_through};
 use super::fixtures::{
     Act, ID_0_0, ID_0_1, ID_1_0, ID_1_1, READS_5_INIT, READS_5_OF_0_0, Row, Shown, WRITES_5, Want,
 };
@@ -155,24 +155,15 @@ fn rows() -> &'static [Row] {
 
 #[test]
 fn rounds_by_calls(rt: HostRuntime) -> Result<(), Fail> {
-    for row in rows() {
-        by_calls(&rt, rt.alloc(), row)?;
-    }
-    Ok(())
+    Ok(go_through(&rt, rt.alloc(), Way::Calls, rows())?)
 }
 
 #[test]
 fn rounds_by_steps(rt: HostRuntime) -> Result<(), Fail> {
-    for row in rows() {
-        by_steps(&rt, rt.alloc(), row)?;
-    }
-    Ok(())
+    Ok(go_through(&rt, rt.alloc(), Way::Steps, rows())?)
 }
 
 #[test]
 fn rounds_by_lists_of_steps(rt: HostRuntime) -> Result<(), Fail> {
-    for row in rows() {
-        by_run(&rt, rt.alloc(), row)?;
-    }
-    Ok(())
+    Ok(run_through(&rt, rt.alloc(), rows())?)
 }

@@ -1,8 +1,9 @@
 //! Each refusal of an engine's calls; none changes what can be seen of the engine.
-use super::driving::{by_calls, by_run, by_steps};
+use super::driving::{Way, go_through, run_through};
 use super::fixtures::{Act, ID_0_0, ID_1_0, READS_5_OF_0_0, Row, Shown, WRITES_5, Want};
 use crate::Engine;
 use order_check::Kind::{Pending, Serial};
+use std::alloc::Global;
 use std::test::Fail;
 use txn::Refusal;
 use txn::Refusal::{
@@ -120,44 +121,47 @@ fn rows() -> &'static [Row] {
 
 #[test]
 fn refusals_by_calls(rt: HostRuntime) -> Result<(), Fail> {
-    for row in rows() {
-        by_calls(&rt, rt.alloc(), row)?;
-    }
-    Ok(())
+    Ok(go_through(&rt, rt.alloc(), Way::Calls, rows())?)
 }
 
 #[test]
 fn refusals_by_steps(rt: HostRuntime) -> Result<(), Fail> {
-    for row in rows() {
-        by_steps(&rt, rt.alloc(), row)?;
-    }
-    Ok(())
+    Ok(go_through(&rt, rt.alloc(), Way::Steps, rows())?)
 }
 
 #[test]
 fn refusals_by_lists_of_steps(rt: HostRuntime) -> Result<(), Fail> {
-    for row in rows() {
-        by_run(&rt, rt.alloc(), row)?;
-    }
-    Ok(())
+    Ok(run_through(&rt, rt.alloc(), rows())?)
+}
+
+/// Sessions, a limit, and how an engine of them is refused.
+type Numbers = (u64, u64, Option<Refusal>);
+
+static NUMBERS: [Numbers; 10] = [
+    (1, 1, None),
+    (64, 8, None),
+    (0, 8, Some(BadSession)),
+    (65, 8, Some(BadSession)),
+    (u64::MAX, 8, Some(BadSession)),
+    (0, 0, Some(BadSession)),
+    (65, 9, Some(BadSession)),
+    (1, 0, Some(TooLong)),
+    (64, 9, Some(TooLong)),
+    (1, u64::MAX, Some(TooLong)),
+];
+
+fn numbers() -> &'static [Numbers] {
+    &NUMBERS
+}
+
+fn refusal_of(alloc: Global, sessions: u64, limit: u64) -> Option<Refusal> {
+    Engine::open(alloc, sessions, limit).err()
 }
 
 #[test]
 fn engines_of_such_numbers(rt: HostRuntime) {
-    let rows: [(u64, u64, Option<Refusal>); 10] = [
-        (1, 1, None),
-        (64, 8, None),
-        (0, 8, Some(BadSession)),
-        (65, 8, Some(BadSession)),
-        (u64::MAX, 8, Some(BadSession)),
-        (0, 0, Some(BadSession)),
-        (65, 9, Some(BadSession)),
-        (1, 0, Some(TooLong)),
-        (64, 9, Some(TooLong)),
-        (1, u64::MAX, Some(TooLong)),
-    ];
-    for (sessions, limit, refusal) in rows {
-        let opened = Engine::open(rt.alloc(), sessions, limit);
-        assert_eq!(rt; opened.err(), refusal, "{sessions} sessions, limit {limit}");
+    for (sessions, limit, wanted) in numbers() {
+        let refusal = refusal_of(rt.alloc(), *sessions, *limit);
+        assert_eq!(rt; refusal, *wanted, "{sessions} sessions, limit {limit}");
     }
 }
