@@ -1,11 +1,14 @@
 //! The same four transactions in each order in which they may arrive.
-use super::fixtures::{ID_0_0, ID_0_1, ID_1_0, ID_2_0, Lists, WRITES, add, is_chain, parts_of};
+use super::fixtures::{
+    ID_0_0, ID_0_1, ID_1_0, ID_2_0, Lists, WRITES, add, has_remaining, is_chain, parts_of,
+    saturated_of,
+};
 use crate::Saturated;
 use std::alloc::Global;
 use std::process::Abort;
 use std::test::Fail;
 use txn::Source::By;
-use txn::{Choice, Side, TxnId};
+use txn::{Choice, ForceStep, NoMemory, Side, TxnId};
 
 static ORDERS: [[TxnId; 4]; 12] = [
     [ID_0_0, ID_0_1, ID_1_0, ID_2_0],
@@ -40,48 +43,99 @@ fn lists_of(id: TxnId) -> Lists {
     }
 }
 
-fn arrived(rt: &impl Abort, alloc: Global, order: &[TxnId]) -> Result<Saturated, Fail> {
+fn none_arrived(rt: &impl Abort, alloc: Global) -> Result<Saturated, NoMemory> {
     let parts = parts_of(alloc, &[&[], &[], &[]])?;
-    assert!(rt; parts.is_good());
-    let mut saturated = Saturated::of(alloc, &parts)?;
+    saturated_of(rt, alloc, &parts)
+}
+
+fn arrive(
+    rt: &impl Abort,
+    alloc: Global,
+    saturated: &mut Saturated,
+    order: &[TxnId],
+) -> Result<(), NoMemory> {
     for id in order {
-        add(rt, alloc, &mut saturated, *id, lists_of(*id))?;
+        add(rt, alloc, saturated, *id, lists_of(*id))?;
     }
+    Ok(())
+}
+
+fn arrived(rt: &impl Abort, alloc: Global, order: &[TxnId]) -> Result<Saturated, NoMemory> {
+    let mut saturated = none_arrived(rt, alloc)?;
+    arrive(rt, alloc, &mut saturated, order)?;
     Ok(saturated)
+}
+
+fn has_no_open_choice(
+    rt: &impl Abort,
+    alloc: Global,
+    saturated: &Saturated,
+) -> Result<(), NoMemory> {
+    let open = saturated.open_choices(alloc)?;
+    assert!(rt; open.is_empty());
+    Ok(())
+}
+
+fn ends_alike(rt: &impl Abort, alloc: Global, order: &[TxnId]) -> Result<(), NoMemory> {
+    let saturated = arrived(rt, alloc, order)?;
+    is_chain(rt, &saturated, &CHAIN);
+    has_remaining(rt, &saturated, 4);
+    has_no_open_choice(rt, alloc, &saturated)
 }
 
 #[test]
 fn all_orders_of_arrival_end_alike(rt: HostRuntime) -> Result<(), Fail> {
     for order in orders() {
-        let saturated = arrived(&rt, rt.alloc(), order)?;
-        is_chain(&rt, &saturated, &CHAIN);
-        assert_eq!(rt; saturated.parts().remaining_count(), 4);
-        assert!(rt; saturated.open_choices(rt.alloc())?.is_empty());
+        ends_alike(&rt, rt.alloc(), order)?;
     }
     Ok(())
 }
 
 /// The second side is forced since the writers are in order, which they are by the first one.
+static FORCED: [(Choice, Side); 2] = [
+    (
+        Choice {
+            reader: ID_0_1,
+            key: 5,
+            writer: ID_1_0,
+            other: ID_0_0,
+        },
+        Side::First,
+    ),
+    (
+        Choice {
+            reader: ID_2_0,
+            key: 5,
+            writer: ID_0_0,
+            other: ID_1_0,
+        },
+        Side::Second,
+    ),
+];
+
+fn forced() -> &'static [(Choice, Side)] {
+    &FORCED
+}
+
+fn is_told(rt: &impl Abort, step: &ForceStep, choice: Choice, side: Side) {
+    let is_told = step.choice == choice && step.side == side && step.cycle.len() == 2;
+    assert!(rt; is_told, "{step:?}");
+}
+
+fn are_told(rt: &impl Abort, log: &[ForceStep]) {
+    for (step, (choice, side)) in log.iter().zip(forced().iter()) {
+        is_told(rt, step, *choice, *side);
+    }
+}
+
+fn tells_forced_sides(rt: &impl Abort, alloc: Global) -> Result<(), NoMemory> {
+    let saturated = arrived(rt, alloc, &CHAIN)?;
+    assert_eq!(rt; saturated.log().len(), forced().len());
+    are_told(rt, saturated.log());
+    Ok(())
+}
+
 #[test]
 fn each_forced_side_is_told(rt: HostRuntime) -> Result<(), Fail> {
-    let saturated = arrived(&rt, rt.alloc(), &CHAIN)?;
-    let first = Choice {
-        reader: ID_0_1,
-        key: 5,
-        writer: ID_1_0,
-        other: ID_0_0,
-    };
-    let second = Choice {
-        reader: ID_2_0,
-        key: 5,
-        writer: ID_0_0,
-        other: ID_1_0,
-    };
-    let log = saturated.log();
-    assert_eq!(rt; log.len(), 2);
-    assert_eq!(rt; (log[0].choice, log[0].side), (first, Side::First));
-    assert_eq!(rt; (log[1].choice, log[1].side), (second, Side::Second));
-    assert_eq!(rt; log[0].cycle.len(), 2);
-    assert_eq!(rt; log[1].cycle.len(), 2);
-    Ok(())
+    Ok(tells_forced_sides(&rt, rt.alloc())?)
 }

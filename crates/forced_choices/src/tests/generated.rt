@@ -1,6 +1,7 @@
 //! Generated parts of up to eight transactions, held against the plain computation.
 ghost use Rattle.std.specs.Prelude.{◌<◌};
 
+use super::fixtures::saturated_of;
 use super::plain::{choices_of, ids_of, known_of, open_of};
 use crate::Saturated;
 use order_check::{Base, LastWriters, Parts};
@@ -8,7 +9,7 @@ use std::alloc::Global;
 use std::process::Abort;
 use std::test::Fail;
 use txn::Source::{self, By, Init};
-use txn::{NoMemory, Sequence, Txn, TxnId};
+use txn::{Choice, NoMemory, Sequence, Txn, TxnId};
 
 /// A linear congruential generator, with the numbers of Knuth's MMIX.
 #[derive(Drop)]
@@ -32,6 +33,14 @@ impl Dice {
     fn toss(&mut self) -> bool {
         self.roll(2) == 0
     }
+}
+
+fn four_empty(alloc: Global) -> Result<Sequence<Sequence<Txn>>, NoMemory> {
+    let mut remain = Vec::new(alloc);
+    for _ in 0..4 {
+        remain.push(Sequence::new(Vec::new(alloc)))?;
+    }
+    Ok(Sequence::new(remain))
 }
 
 /// Transactions come one after another, and mostly read what was written last, so that many histories have an order.
@@ -77,22 +86,44 @@ impl Run {
         })
     }
 
-    fn plain_txn(&mut self, alloc: Global, id: TxnId) -> Result<Txn, NoMemory> {
-        let mut reads = Vec::new(alloc);
-        let mut writes = Vec::new(alloc);
-        for key in 1..4 {
-            if self.dice.roll(3) == 0 {
-                reads.push((key, self.source(key, id)))?;
-            }
-            if self.dice.roll(3) == 0 {
-                writes.push(key)?;
-                self.wrote(key, id);
-            }
+    /// What the transaction reads of the key, if it reads it.
+    fn read(&mut self, key: u64, id: TxnId) -> Option<(u64, Source)> {
+        if self.dice.roll(3) == 0 {
+            Some((key, self.source(key, id)))
+        } else {
+            None
         }
-        Ok(Txn {
-            reads: Sequence::new(reads),
-            writes: Sequence::new(writes),
-        })
+    }
+
+    /// Whether the transaction writes the key.
+    fn writes(&mut self, key: u64, id: TxnId) -> bool {
+        let is_written = self.dice.roll(3) == 0;
+        if is_written {
+            self.wrote(key, id);
+        }
+        is_written
+    }
+
+    /// What the transaction does to the key.
+    fn use_key(&mut self, txn: &mut Txn, key: u64, id: TxnId) -> Result<(), NoMemory> {
+        if let Some(read) = self.read(key, id) {
+            txn.reads.push(read)?;
+        }
+        if self.writes(key, id) {
+            txn.writes.push(key)?;
+        }
+        Ok(())
+    }
+
+    fn plain_txn(&mut self, alloc: Global, id: TxnId) -> Result<Txn, NoMemory> {
+        let mut txn = Txn {
+            reads: Sequence::new(Vec::new(alloc)),
+            writes: Sequence::new(Vec::new(alloc)),
+        };
+        for key in 1..4 {
+            self.use_key(&mut txn, key, id)?;
+        }
+        Ok(txn)
     }
 
     fn txn(&mut self, alloc: Global, id: TxnId) -> Result<Txn, NoMemory> {
@@ -103,38 +134,56 @@ impl Run {
         }
     }
 
+    /// Maybe a last gone writer, of a session of which one is gone or none.
+    fn gone_writer(
+        &mut self,
+        last: &mut LastWriters,
+        session: u8,
+        mark: u64,
+    ) -> Result<(), NoMemory> {
+        let key = self.dice.roll(4);
+        if mark == 1 && self.dice.toss() {
+            let writer = TxnId { session, number: 0 };
+            last.insert(key, writer)?;
+            self.wrote(key, writer);
+        }
+        Ok(())
+    }
+
+    /// One or none is gone of the session.
+    fn gone(&mut self, base: &mut Base, session: u8) -> Result<(), NoMemory> {
+        let mark = self.dice.roll(2);
+        base.marks.push(mark)?;
+        self.gone_writer(&mut base.last, session, mark)
+    }
+
     /// One or none is gone of each session, and some keys have a last gone writer.
     fn base(&mut self, alloc: Global) -> Result<Base, NoMemory> {
-        let mut marks = Vec::new(alloc);
-        let mut last = LastWriters::new(alloc);
+        let mut base = Base {
+            last: LastWriters::new(alloc),
+            marks: Sequence::new(Vec::new(alloc)),
+        };
         for session in 0..4 {
-            let mark = self.dice.roll(2);
-            marks.push(mark)?;
-            let key = self.dice.roll(4);
-            if mark == 1 && self.dice.toss() {
-                let writer = TxnId { session, number: 0 };
-                last.insert(key, writer)?;
-                self.wrote(key, writer);
-            }
+            self.gone(&mut base, session)?;
         }
-        Ok(Base {
-            last,
-            marks: Sequence::new(marks),
-        })
+        Ok(base)
     }
 
     /// Four sessions of which nothing remains.
     fn start(&mut self, alloc: Global) -> Result<Parts, NoMemory> {
-        let mut remain = Vec::new(alloc);
-        for _ in 0..4 {
-            remain.push(Sequence::new(Vec::new(alloc)))?;
-        }
         Ok(Parts {
             base: self.base(alloc)?,
-            remain: Sequence::new(remain),
+            remain: four_empty(alloc)?,
             closed: Sequence::new([false; 4].to_vec(alloc)?),
             limit: 8,
         })
+    }
+
+    /// The transaction, as the next one of a session.
+    fn next(&mut self, alloc: Global, id: TxnId) -> Result<Sequence<Txn>, NoMemory> {
+        let mut txns = Vec::new(alloc);
+        txns.push(self.txn(alloc, id)?)?;
+        Ok(Sequence::new(txns))
     }
 
     /// One more transaction in some session.
@@ -143,12 +192,8 @@ impl Run {
         assert!(rt; usize::from(session) < parts.sessions());
         let received = parts.remaining_of(session).len() as u64;
         let number = parts.mark_of(session).wrapping_add(received);
-        let txn = self.txn(alloc, TxnId { session, number })?;
-        let mut txns = Vec::new(alloc);
-        txns.push(txn)?;
-        parts
-            .remain
-            .append_at(usize::from(session), Sequence::new(txns))?;
+        let next = self.next(alloc, TxnId { session, number })?;
+        parts.remain.append_at(usize::from(session), next)?;
         Ok(())
     }
 
@@ -160,51 +205,122 @@ impl Run {
         }
         Ok(parts)
     }
+
+    /// More parts, held against the plain computation.
+    fn agrees(&mut self, rt: &impl Abort, alloc: Global) -> Result<Seen, NoMemory> {
+        let parts = self.parts(rt, alloc)?;
+        agrees(rt, alloc, &parts)
+    }
+}
+
+/// Whether choices are open, and whether sides were forced.
+#[derive(Clone, Copy)]
+struct Seen {
+    open: bool,
+    forced: bool,
+}
+
+fn is_pair(rt: &impl Abort, saturated: &Saturated, pair: (TxnId, TxnId), known: bool) {
+    let found = saturated.reaches(pair.0, pair.1);
+    assert!(rt; found == known, "{pair:?} of {:?}", saturated.parts());
 }
 
 /// Stops unless the relation is that of the plain computation.
 fn is_relation(rt: &impl Abort, saturated: &Saturated, ids: &[TxnId], known: &[(TxnId, TxnId)]) {
     for first in ids {
         for second in ids {
-            assert_eq!(rt;
-                saturated.reaches(*first, *second),
-                known.contains(&(*first, *second)),
-                "{first:?}, {second:?} of {:?}",
-                saturated.parts()
-            );
+            let pair = (*first, *second);
+            is_pair(rt, saturated, pair, known.contains(&pair));
         }
     }
 }
 
-/// Stops unless the relation and the choices are those of the plain computation. Tells whether choices are open, and
-/// whether sides were forced.
-fn agrees(rt: &impl Abort, alloc: Global, parts: &Parts) -> Result<(bool, bool), Fail> {
-    assert!(rt; parts.is_good(), "{parts:?}");
-    let saturated = Saturated::of(alloc, parts)?;
-    let ids = ids_of(alloc, parts)?;
-    let choices = choices_of(alloc, parts, &ids)?;
-    let known = known_of(alloc, parts, &ids, &choices)?;
-    is_relation(rt, &saturated, &ids, &known);
-    let open = open_of(alloc, &known, &choices)?;
+/// Stops unless the open choices are these. Tells whether there are any.
+fn has_open(
+    rt: &impl Abort,
+    alloc: Global,
+    saturated: &Saturated,
+    open: &[Choice],
+) -> Result<bool, NoMemory> {
     let found = saturated.open_choices(alloc)?;
-    assert_eq!(rt; found.as_slice(), open.as_slice(), "{parts:?}");
-    Ok((!open.is_empty(), !saturated.log().is_empty()))
+    assert!(rt; found.as_slice() == open, "{:?}", saturated.parts());
+    Ok(!open.is_empty())
 }
 
-#[test]
-fn generated_histories_agree(rt: HostRuntime) -> Result<(), Fail> {
+/// Stops unless the open choices are those of the plain computation. Tells whether there are any.
+fn has_plain_open(
+    rt: &impl Abort,
+    alloc: Global,
+    saturated: &Saturated,
+    known: &[(TxnId, TxnId)],
+    choices: &[Choice],
+) -> Result<bool, NoMemory> {
+    let open = open_of(alloc, known, choices)?;
+    has_open(rt, alloc, saturated, open.as_slice())
+}
+
+fn agrees_among(
+    rt: &impl Abort,
+    alloc: Global,
+    saturated: &Saturated,
+    ids: &[TxnId],
+    choices: &[Choice],
+) -> Result<bool, NoMemory> {
+    let known = known_of(alloc, saturated.parts(), ids, choices)?;
+    is_relation(rt, saturated, ids, known.as_slice());
+    has_plain_open(rt, alloc, saturated, known.as_slice(), choices)
+}
+
+fn agrees_on(
+    rt: &impl Abort,
+    alloc: Global,
+    saturated: &Saturated,
+    ids: &[TxnId],
+) -> Result<bool, NoMemory> {
+    let choices = choices_of(alloc, saturated.parts(), ids)?;
+    agrees_among(rt, alloc, saturated, ids, choices.as_slice())
+}
+
+/// Stops unless the relation and the choices are those of the plain computation. Tells whether choices are open.
+fn agrees_with_plain(
+    rt: &impl Abort,
+    alloc: Global,
+    saturated: &Saturated,
+) -> Result<bool, NoMemory> {
+    let ids = ids_of(alloc, saturated.parts())?;
+    agrees_on(rt, alloc, saturated, ids.as_slice())
+}
+
+fn agrees_in_all(rt: &impl Abort, alloc: Global, saturated: &Saturated) -> Result<Seen, NoMemory> {
+    let open = agrees_with_plain(rt, alloc, saturated)?;
+    let forced = !saturated.log().is_empty();
+    Ok(Seen { open, forced })
+}
+
+fn agrees(rt: &impl Abort, alloc: Global, parts: &Parts) -> Result<Seen, NoMemory> {
+    let saturated = saturated_of(rt, alloc, parts)?;
+    agrees_in_all(rt, alloc, &saturated)
+}
+
+/// How many of as many generated parts have an open choice, and how many a forced side.
+fn agree(rt: &impl Abort, alloc: Global, count: u64) -> Result<(u64, u64), NoMemory> {
     let mut run = Run {
         dice: Dice { state: 1 },
         last: [Init; 4],
     };
     let mut some_open = 0_u64;
     let mut some_forced = 0_u64;
-    for _ in 0..300 {
-        let parts = run.parts(&rt, rt.alloc())?;
-        let (open, forced) = agrees(&rt, rt.alloc(), &parts)?;
-        some_open = some_open.wrapping_add(u64::from(open));
-        some_forced = some_forced.wrapping_add(u64::from(forced));
+    for _ in 0..count {
+        let seen = run.agrees(rt, alloc)?;
+        some_open = some_open.wrapping_add(u64::from(seen.open));
+        some_forced = some_forced.wrapping_add(u64::from(seen.forced));
     }
+    Ok((some_open, some_forced))
+}
+
+#[test]
+fn generated_histories_agree(rt: HostRuntime) -> Result<(), Fail> {
+    let (some_open, some_forced) = agree(&rt, rt.alloc(), 300)?;
     assert!(rt; some_open > 30 && some_forced > 30);
     Ok(())
 }

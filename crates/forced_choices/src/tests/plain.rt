@@ -12,15 +12,20 @@ const KEYS: [u64; 4] = [0, 1, 2, 3];
 /// No more pairs than this are there of eight ids.
 const PAIRS: usize = 64;
 
+fn push_ids(ids: &mut Vec<TxnId>, parts: &Parts, session: u8) -> Result<(), NoMemory> {
+    let mut number = parts.mark_of(session);
+    for _ in parts.remaining_of(session) {
+        ids.push(TxnId { session, number })?;
+        number = number.wrapping_add(1);
+    }
+    Ok(())
+}
+
 /// What remains.
 pub fn ids_of(alloc: Global, parts: &Parts) -> Result<Vec<TxnId>, NoMemory> {
     let mut ids = Vec::new(alloc);
     for session in 0..4 {
-        let mut number = parts.mark_of(session);
-        for _ in parts.remaining_of(session) {
-            ids.push(TxnId { session, number })?;
-            number = number.wrapping_add(1);
-        }
+        push_ids(&mut ids, parts, session)?;
     }
     Ok(ids)
 }
@@ -54,6 +59,28 @@ fn is_choice(parts: &Parts, choice: Choice) -> bool {
         && choice.other != choice.reader
 }
 
+fn push_choices_between(
+    choices: &mut Vec<Choice>,
+    parts: &Parts,
+    ids: &[TxnId],
+    reader: TxnId,
+    key: u64,
+    writer: TxnId,
+) -> Result<(), NoMemory> {
+    for other in ids {
+        let choice = Choice {
+            reader,
+            key,
+            writer,
+            other: *other,
+        };
+        if is_choice(parts, choice) {
+            choices.push(choice)?;
+        }
+    }
+    Ok(())
+}
+
 fn push_choices_of(
     choices: &mut Vec<Choice>,
     parts: &Parts,
@@ -62,17 +89,19 @@ fn push_choices_of(
     key: u64,
 ) -> Result<(), NoMemory> {
     for writer in ids {
-        for other in ids {
-            let choice = Choice {
-                reader,
-                key,
-                writer: *writer,
-                other: *other,
-            };
-            if is_choice(parts, choice) {
-                choices.push(choice)?;
-            }
-        }
+        push_choices_between(choices, parts, ids, reader, key, *writer)?;
+    }
+    Ok(())
+}
+
+fn push_choices(
+    choices: &mut Vec<Choice>,
+    parts: &Parts,
+    ids: &[TxnId],
+    reader: TxnId,
+) -> Result<(), NoMemory> {
+    for key in KEYS {
+        push_choices_of(choices, parts, ids, reader, key)?;
     }
     Ok(())
 }
@@ -81,9 +110,7 @@ fn push_choices_of(
 pub fn choices_of(alloc: Global, parts: &Parts, ids: &[TxnId]) -> Result<Vec<Choice>, NoMemory> {
     let mut choices = Vec::new(alloc);
     for reader in ids {
-        for key in KEYS {
-            push_choices_of(&mut choices, parts, ids, *reader, key)?;
-        }
+        push_choices(&mut choices, parts, ids, *reader)?;
     }
     Ok(choices)
 }
@@ -107,9 +134,10 @@ fn is_arc_of_some_key(parts: &Parts, first: TxnId, second: TxnId) -> bool {
 }
 
 fn forces(known: &[Pair], choice: Choice, first: TxnId, second: TxnId) -> bool {
-    let after = (first, second) == (choice.reader, choice.other)
+    let pair = (first, second);
+    let after = pair == (choice.reader, choice.other)
         && known.contains(&(choice.writer, choice.other));
-    let before = (first, second) == (choice.other, choice.writer)
+    let before = pair == (choice.other, choice.writer)
         && known.contains(&(choice.other, choice.reader));
     after || before
 }
@@ -132,6 +160,37 @@ fn goes_through(known: &[Pair], ids: &[TxnId], first: TxnId, second: TxnId) -> b
     false
 }
 
+/// Whether one use of a rule gives the pair.
+fn is_given(
+    known: &[Pair],
+    parts: &Parts,
+    ids: &[TxnId],
+    choices: &[Choice],
+    first: TxnId,
+    second: TxnId,
+) -> bool {
+    is_arc_of_some_key(parts, first, second)
+        || is_forced(known, choices, first, second)
+        || goes_through(known, ids, first, second)
+}
+
+/// Adds each pair of this first id that one use of a rule gives.
+fn grow_from(
+    known: &mut Vec<Pair>,
+    parts: &Parts,
+    ids: &[TxnId],
+    choices: &[Choice],
+    first: TxnId,
+) -> Result<(), NoMemory> {
+    for second in ids {
+        let pair = (first, *second);
+        if !known.contains(&pair) && is_given(known, parts, ids, choices, first, *second) {
+            known.push(pair)?;
+        }
+    }
+    Ok(())
+}
+
 /// Adds each pair that one use of a rule gives.
 fn grow(
     known: &mut Vec<Pair>,
@@ -140,15 +199,7 @@ fn grow(
     choices: &[Choice],
 ) -> Result<(), NoMemory> {
     for first in ids {
-        for second in ids {
-            if !known.contains(&(*first, *second))
-                && (is_arc_of_some_key(parts, *first, *second)
-                    || is_forced(known, choices, *first, *second)
-                    || goes_through(known, ids, *first, *second))
-            {
-                known.push((*first, *second))?;
-            }
-        }
+        grow_from(known, parts, ids, choices, *first)?;
     }
     Ok(())
 }

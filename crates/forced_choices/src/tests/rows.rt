@@ -5,7 +5,7 @@ use std::alloc::Global;
 use std::process::Abort;
 use std::test::Fail;
 use txn::Source::{By, Init};
-use txn::{Choice, TxnId};
+use txn::{Choice, NoMemory, TxnId};
 
 const ID_3_0: TxnId = TxnId {
     session: 3,
@@ -138,29 +138,49 @@ fn rows() -> &'static [Row] {
     &ROWS
 }
 
-fn saturated_of(rt: &impl Abort, alloc: Global, row: &Row) -> Result<Saturated, Fail> {
+fn saturated_of(rt: &impl Abort, alloc: Global, row: &Row) -> Result<Saturated, NoMemory> {
     let parts = parts_of(alloc, row.remain)?;
     assert!(rt; parts.is_good(), "{}", row.name);
-    Ok(Saturated::of(alloc, &parts)?)
+    Saturated::of(alloc, &parts)
+}
+
+fn is_known(rt: &impl Abort, saturated: &Saturated, name: &str, pair: (TxnId, TxnId), known: bool) {
+    assert!(rt;
+        saturated.reaches(pair.0, pair.1) == known,
+        "{name}: {pair:?}"
+    );
 }
 
 fn has_its_relation(rt: &impl Abort, saturated: &Saturated, row: &Row) {
-    let name = row.name;
-    for (first, second) in row.known {
-        assert!(rt; saturated.reaches(*first, *second), "{name}");
+    for pair in row.known {
+        is_known(rt, saturated, row.name, *pair, true);
     }
-    for (first, second) in row.unknown {
-        assert!(rt; !saturated.reaches(*first, *second), "{name}");
+    for pair in row.unknown {
+        is_known(rt, saturated, row.name, *pair, false);
     }
+}
+
+fn has_its_choices(
+    rt: &impl Abort,
+    alloc: Global,
+    saturated: &Saturated,
+    row: &Row,
+) -> Result<(), NoMemory> {
+    let open = saturated.open_choices(alloc)?;
+    assert_eq!(rt; open.as_slice(), row.open, "{}", row.name);
+    Ok(())
+}
+
+fn is_as_told(rt: &impl Abort, alloc: Global, row: &Row) -> Result<(), NoMemory> {
+    let saturated = saturated_of(rt, alloc, row)?;
+    has_its_relation(rt, &saturated, row);
+    has_its_choices(rt, alloc, &saturated, row)
 }
 
 #[test]
 fn each_has_its_relation_and_its_choices(rt: HostRuntime) -> Result<(), Fail> {
     for row in rows() {
-        let saturated = saturated_of(&rt, rt.alloc(), row)?;
-        has_its_relation(&rt, &saturated, row);
-        let open = saturated.open_choices(rt.alloc())?;
-        assert_eq!(rt; open.as_slice(), row.open, "{}", row.name);
+        is_as_told(&rt, rt.alloc(), row)?;
     }
     Ok(())
 }
