@@ -6,7 +6,8 @@ use Rattle.serde_json.specs.Data.{Data, array, string, Items, no_items, item}
 use Rattle.log_text.specs.declared.commands.Command.{Command}
 use Rattle.log_text.specs.declared.commands.Command.TheVariants.{Start, Offer, Close, Begin, Finish, Round, Show}
 use Rattle.log_text.specs.declared.commands.Effort.{Effort}
-use Rattle.log_text.specs.Numbers.{whole_number, if_within, number_within, with_both, with_three, alone, list_of}
+use Rattle.log_text.specs.Items.{list_of, with_both, with_three, alone}
+use Rattle.log_text.specs.Numbers.{whole_number, if_within, number_within}
 use Rattle.log_text.specs.Commands.{session_of, txn_of, start_in, offer_in, close_in, effort_in, command_named, command_of, IsEffort, HasLimits}
 use Rattle.txn.specs.declared.transactions.Txn.{Txn}
 

@@ -4,10 +4,10 @@ use Rattle.std.specs.Prelude.{⊤}
 use Rattle.json.specs.Token.{Token}
 use Rattle.json.specs.Json as json
 use Rattle.json.specs.Json.{parse_map, after_end_array, items_step, items, value}
-use Rattle.json.proofs.Grammar.{left, value-begin_array, value_is, closed_array, items_end, items_fail, items_more, skip_value-shorter}
-use Rattle.serde_json.specs.Data.{Data, array, Items, no_items, item}
+use Rattle.json.proofs.Grammar.{left, value_is, closed_array, items_end, items_fail, items_more, skip_value-shorter}
+use Rattle.serde_json.specs.Data.{Data, Items, no_items, item}
 use Rattle.serde_json.specs.Read.{of_json, of_items, converted}
-use Rattle.log_text.specs.Numbers.{with_both, with_three, one_of, two_of, three_of, alone, each_of}
+use Rattle.log_text.specs.Items.{each_of, with_both, with_three, alone, one_item, two_items, three_items}
 use Rattle.log_text.specs.Tokens.{value_as, items_as, with_rest}
 
 -- ---- what was found, and the rest
@@ -148,7 +148,7 @@ pub none_for : {A X : Type 0} (found : Option A) → None ≡ option_and_then {U
 none_for None = refl
 none_for (Some a) = refl
 
-one_first : {A X : Type 0} (make : A → X) (form : Data → Option A) (d : Data) (rest : Items) → one_of make form (item d rest) ≡ option_and_then (λ a. alone (make a) rest) (form d)
+one_first : {A X : Type 0} (make : A → X) (form : Data → Option A) (d : Data) (rest : Items) → one_item make form (item d rest) ≡ option_and_then (λ a. alone (make a) rest) (form d)
 one_first make form d no_items = by make (form d)
   where
     by : {A X : Type 0} (make : A → X) (o : Option A) → option_map make o ≡ option_and_then (λ a. Some (make a)) o
@@ -156,7 +156,7 @@ one_first make form d no_items = by make (form d)
     by make (Some a) = refl
 one_first make form d (item e rest) = none_for (form d)
 
-two_first : {A B X : Type 0} (make : A → B → X) (first : Data → Option A) (second : Data → Option B) (d : Data) (rest : Items) → two_of make first second (item d rest) ≡ option_and_then (λ a. one_of (make a) second rest) (first d)
+two_first : {A B X : Type 0} (make : A → B → X) (first : Data → Option A) (second : Data → Option B) (d : Data) (rest : Items) → two_items make first second (item d rest) ≡ option_and_then (λ a. one_item (make a) second rest) (first d)
 two_first make first second d no_items = none_for (first d)
 two_first make first second d (item e no_items) = by make (first d) (second e)
   where
@@ -167,7 +167,7 @@ two_first make first second d (item e no_items) = by make (first d) (second e)
 two_first make first second d (item e (item f rest)) = none_for (first d)
 
 three_first : {A B C X : Type 0} (make : A → B → C → X) (first : Data → Option A) (second : Data → Option B) (third : Data → Option C) (d : Data) (rest : Items)
-    → three_of make first second third (item d rest) ≡ option_and_then (λ a. two_of (make a) second third rest) (first d)
+    → three_items make first second third (item d rest) ≡ option_and_then (λ a. two_items (make a) second third rest) (first d)
 three_first make first second third d no_items = none_for (first d)
 three_first make first second third d (item e no_items) = none_for (first d)
 three_first make first second third d (item e (item f no_items)) = by make (first d) (second e) (third f)
@@ -180,16 +180,16 @@ three_first make first second third d (item e (item f no_items)) = by make (firs
 three_first make first second third d (item e (item f (item g rest))) = none_for (first d)
 
 pub took_last : {A X : Type 0} (make : A → X) (form : Data → Option A) (depth : ℕ) (ts r : List Token) (found : Option A) → value_as form depth ts ≡ with_rest found r
-    → items_as (one_of make form) depth ts ≡ option_and_then (λ a. items_as (alone (make a)) depth r) found
-took_last make form depth ts r found e = took form (one_of make form) (λ a. alone (make a)) (one_first make form) refl depth ts r found e
+    → items_as (one_item make form) depth ts ≡ option_and_then (λ a. items_as (alone (make a)) depth r) found
+took_last make form depth ts r found e = took form (one_item make form) (λ a. alone (make a)) (one_first make form) refl depth ts r found e
 
 pub took_second : {A B X : Type 0} (make : A → B → X) (first : Data → Option A) (second : Data → Option B) (depth : ℕ) (ts r : List Token) (found : Option A) → value_as first depth ts ≡ with_rest found r
-    → items_as (two_of make first second) depth ts ≡ option_and_then (λ a. items_as (one_of (make a) second) depth r) found
-took_second make first second depth ts r found e = took first (two_of make first second) (λ a. one_of (make a) second) (two_first make first second) refl depth ts r found e
+    → items_as (two_items make first second) depth ts ≡ option_and_then (λ a. items_as (one_item (make a) second) depth r) found
+took_second make first second depth ts r found e = took first (two_items make first second) (λ a. one_item (make a) second) (two_first make first second) refl depth ts r found e
 
 pub took_third : {A B C X : Type 0} (make : A → B → C → X) (first : Data → Option A) (second : Data → Option B) (third : Data → Option C) (depth : ℕ) (ts r : List Token) (found : Option A) → value_as first depth ts ≡ with_rest found r
-    → items_as (three_of make first second third) depth ts ≡ option_and_then (λ a. items_as (two_of (make a) second third) depth r) found
-took_third make first second third depth ts r found e = took first (three_of make first second third) (λ a. two_of (make a) second third) (three_first make first second third) refl depth ts r found e
+    → items_as (three_items make first second third) depth ts ≡ option_and_then (λ a. items_as (two_items (make a) second third) depth r) found
+took_third make first second third depth ts r found e = took first (three_items make first second third) (λ a. two_items (make a) second third) (three_first make first second third) refl depth ts r found e
 
 -- ---- a list of items, an item at a time
 
@@ -249,17 +249,3 @@ shorter {A} form depth ts r a e = by_value (value depth ts) refl e
     by_value : (read : Option (json.Json × List Token)) → value depth ts ≡ read → converted form (converted of_json read) ≡ Some (a, r) → length r < length ts
     by_value None is_read e = absurd (cc)
     by_value (Some (j, s)) is_read e = skip_value-shorter depth ts r (ap left is_read ∙ ap Some (by_data s (of_json j) e))
-
--- ---- arrays
-
-pub opened : {Y : Type 0} (form : Data → Option Y) (all : Items → Option Y) → ((given : Items) → form (array given) ≡ all given) → (depth : ℕ) (ts : List Token) → 0 < depth
-    → value_as form depth (Token.begin_array ∷ ts) ≡ items_as all (depth - 1) ts
-opened {Y} form all is depth ts deep = ap (λ o. converted form (converted of_json o)) (value-begin_array depth ts deep) ∙ inside (items (value (depth - 1)) (length ts) ts)
-  where
-    by : (q : List Token) (o : Option Items) → converted form (with_rest (option_map array o) q) ≡ converted all (with_rest o q)
-    by q None = refl
-    by q (Some given) = ap (λ o. with_rest o q) (is given)
-
-    inside : (read : Option (json.Items × List Token)) → converted form (converted of_json (parse_map json.array read)) ≡ converted all (converted of_items read)
-    inside None = refl
-    inside (Some (js, q)) = by q (of_items js)

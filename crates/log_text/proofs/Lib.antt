@@ -1,3 +1,4 @@
+pub mod Arrays
 pub mod CommandLimits
 pub mod Forms
 pub mod Leaves

@@ -6,11 +6,10 @@ use Rattle.json.specs.declared.token.Token.{Token as CodeToken}
 use Rattle.json.specs.declared.token.Token.TheVariants as code
 use Rattle.serde_json.specs.Data.{Data, null, boolean, number, string, array, object, Items, item}
 use Rattle.serde_json.specs.Find.{as_str}
-use Rattle.log_text.specs.Commands.{command_named, command_in, command_of}
+use Rattle.log_text.specs.Commands.{command_named, command_in}
 use Rattle.log_text.specs.Tokens.{value_as, items_as, with_rest}
 use Rattle.log_text.proofs.Forms.{took}
 use Rattle.log_text.proofs.Leaves.{Unfit}
-use Rattle.log_text.proofs.ReadForms.{IsOfArrays}
 
 pub other_word : (token : CodeToken) → ((text : _) → token ≡ code.String text → ⊥) → (rest : List Token) (depth : ℕ) → Unfit as_str depth (token_of token ∷ rest)
 other_word code.BeginObject h rest depth = λ ms. refl
@@ -34,11 +33,3 @@ named (object ms) rest = refl
 
 pub took_name : (depth : ℕ) (ts r : List Token) (found : Option (List ℕ)) → value_as as_str depth ts ≡ with_rest found r → items_as command_in depth ts ≡ option_and_then (λ name. items_as (command_named name) depth r) found
 took_name depth ts r found e = took as_str command_in command_named named refl depth ts r found e
-
-pub commands_are_arrays : IsOfArrays command_of
-commands_are_arrays null e = refl
-commands_are_arrays (boolean b) e = refl
-commands_are_arrays (number n) e = refl
-commands_are_arrays (string s) e = refl
-commands_are_arrays (array js) e = absurd (cc)
-commands_are_arrays (object ms) e = refl

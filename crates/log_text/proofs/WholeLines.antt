@@ -11,8 +11,8 @@ use Rattle.log_text.specs.Commands.{command_of, IsCommand}
 use Rattle.log_text.specs.Tokens.{value_as, with_rest}
 use Rattle.log_text.proofs.Forms.{same_found, same_rest}
 
-abbrev whole : Option (Json × List Token) → Option Data
-whole found = option_and_then of_json (option_and_then (λ p. if_last p.0 p.1) found)
+abbrev all_read : Option (Json × List Token) → Option Data
+all_read found = option_and_then of_json (option_and_then (λ p. if_last p.0 p.1) found)
 
 -- a command, and nothing behind it
 pub accepted : (line : List ℕ) (command : Command) → IsUtf8 line → value_as command_of 127 (tokens line) ≡ Some (command, []) → IsCommand line command
@@ -26,7 +26,7 @@ accepted line command utf8 e = by_value (value 127 (tokens line)) refl e
     by_data j s is_read None is_data e = absurd (cc)
     by_data j s is_read (Some d) is_data e =
         let found = by_found s (command_of d) e in
-        record { utf8 = utf8; said = d; reads = ap whole (is_read ∙ ap (λ r. Some (j, r)) found.0) ∙ is_data; is = found.1 }
+        record { utf8 = utf8; said = d; reads = ap all_read (is_read ∙ ap (λ r. Some (j, r)) found.0) ∙ is_data; is = found.1 }
 
     by_value : (o : Option (Json × List Token)) → value 127 (tokens line) ≡ o → converted command_of (converted of_json o) ≡ Some (command, []) → IsCommand line command
     by_value None is_read e = absurd (cc)
@@ -36,7 +36,7 @@ accepted line command utf8 e = by_value (value 127 (tokens line)) refl e
 pub in_front : (line : List ℕ) (command : Command) → IsCommand line command → value_as command_of 127 (tokens line) ≡ Some (command, [])
 in_front line command given = by_value (value 127 (tokens line)) refl given.reads
   where
-    by_value : (o : Option (Json × List Token)) → value 127 (tokens line) ≡ o → whole o ≡ Some given.said → converted command_of (converted of_json o) ≡ Some (command, [])
+    by_value : (o : Option (Json × List Token)) → value 127 (tokens line) ≡ o → all_read o ≡ Some given.said → converted command_of (converted of_json o) ≡ Some (command, [])
     by_value None is_read e = absurd (cc)
     by_value (Some (j, [])) is_read e = ap (λ o. converted command_of (with_rest o [])) e ∙ ap (λ o. with_rest o []) given.is
     by_value (Some (j, t ∷ s)) is_read e = absurd (cc)

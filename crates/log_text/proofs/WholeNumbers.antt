@@ -1,5 +1,5 @@
 -- Which numbers of JSON are whole, by their text.
-use Rattle.std.proofs.Common.{◌≡◌, ℕ, ◌<◌, ◌^◌, ◌&&◌, ◌==◌, nat_lt, List, ◌∷◌, drop, length, slice_index, Bool, true, false, cond, Option, Some, None, option_map, option_and_then, refl, sym, ap, arith}
+use Rattle.std.proofs.Common.{◌≡◌, ℕ, ◌<◌, ◌^◌, ◌&&◌, ◌==◌, nat_lt, List, [], ◌∷◌, drop, length, slice_index, eqb-true, Bool, true, false, cond, Option, Some, None, option_map, option_and_then, refl, sym, ap, arith}
 use Rattle.std.specs.Option.{SomeIff}
 use Rattle.std.proofs.lemmas.Bool.Decides.{nat_tests}
 use Rattle.fast_float.specs.Text.{minus, Parts, scan, digits_of, IsInteger}
@@ -24,7 +24,7 @@ negative_none : (p : Parts) (test : Bool) → whole (cond test (Some (negative (
 negative_none p true = refl
 negative_none p false = no_float _ _ refl
 
-pub signed_none : (text : List ℕ) → (slice_index text 0 == minus) ≡ true → whole (number_of text) ≡ None
+signed_none : (text : List ℕ) → (slice_index text 0 == minus) ≡ true → whole (number_of text) ≡ None
 unfolding number_of
 signed_none text e = rw e (negative_none (scan (drop 1 text)) _)
 
@@ -40,9 +40,23 @@ integer_by p (Some n) true e h = ap Some h.1
 integer_by p None false e h = sym (no_float _ _ refl)
 integer_by p (Some n) false e h = absurd (grind (arith, nat_tests, h.0))
 
-pub unsigned_whole : (text : List ℕ) (found : Option ℕ) → (slice_index text 0 == minus) ≡ false → SomeIff found (IsInteger (scan text) × (digits_of (scan text) < 2 ^ 64)) (digits_of (scan text)) → found ≡ whole (number_of text)
+unsigned_whole : (text : List ℕ) (found : Option ℕ) → (slice_index text 0 == minus) ≡ false → SomeIff found (IsInteger (scan text) × (digits_of (scan text) < 2 ^ 64)) (digits_of (scan text)) → found ≡ whole (number_of text)
 unfolding number_of
 unsigned_whole text found e h = rw e (integer_by (scan text) found _ refl h)
+
+-- where a minus stands first, no digits do
+no_digits : (text : List ℕ) → slice_index text 0 ≡ minus → length (scan text).whole ≡ 0
+unfolding scan
+no_digits [] e = absurd (omega (arith, e))
+no_digits (x ∷ rest) e = rw (let first : x ≡ minus = e in first) refl
+
+pub is_whole : (text : List ℕ) (found : Option ℕ) → SomeIff found (IsInteger (scan text) × (digits_of (scan text) < 2 ^ 64)) (digits_of (scan text)) → found ≡ whole (number_of text)
+is_whole text found h = by_sign found h (slice_index text 0 == minus) refl
+  where
+    by_sign : (found : Option ℕ) → SomeIff found (IsInteger (scan text) × (digits_of (scan text) < 2 ^ 64)) (digits_of (scan text)) → (signed : Bool) → (slice_index text 0 == minus) ≡ signed → found ≡ whole (number_of text)
+    by_sign None h true e = sym (signed_none text e)
+    by_sign (Some n) h true e = absurd (omega (arith, h.0.0.0, no_digits text (eqb-true _ _ e)))
+    by_sign found h false e = unsigned_whole text found e h
 
 -- ---- the first token
 

@@ -1,6 +1,6 @@
 -- Which lines of a script are commands: each is a JSON array, of a word and the command's parts.
 use Rattle.std.specs.Prelude.{◌≡◌, ℕ, ◌≤◌, ◌^◌, ⊤, List, Option, Some, None, IsUtf8, bytes_eq, codes, option_map, if◌then◌else◌}
-use Rattle.serde_json.specs.Data.{Data, string, array, Items, no_items, item}
+use Rattle.serde_json.specs.Data.{Data, string, Items, no_items, item}
 use Rattle.serde_json.specs.Read.{read}
 use Rattle.txn.specs.declared.transactions.Source.{Source}
 use Rattle.txn.specs.declared.transactions.Source.TheVariants.{Init, By}
@@ -8,7 +8,8 @@ use Rattle.txn.specs.declared.transactions.Txn.{Txn}
 use Rattle.log_text.specs.declared.commands.Command.{Command}
 use Rattle.log_text.specs.declared.commands.Effort.{Effort}
 use Rattle.log_text.specs.declared.commands.Command.TheVariants.{Start, Offer, Close, Begin, Finish, Round, Show}
-use Rattle.log_text.specs.Numbers.{whole_number, number_within, list_of, with_both, with_three, one_of, two_of, three_of, alone}
+use Rattle.log_text.specs.Items.{array_of, list_of, with_both, alone, one_item, two_items, three_items}
+use Rattle.log_text.specs.Numbers.{whole_number, number_within}
 
 -- the lines of a script name sessions up to 255
 abbrev pub session_of : Data → Option ℕ
@@ -19,39 +20,42 @@ abbrev pub init_of : Data → Option Source
 init_of (string word) = if bytes_eq word (codes "init") then Some Init else None
 init_of given = None
 
+-- the source of a read: "init", or its session and its number there
+abbrev pub source_in : Items → Option Source
+source_in (item source no_items) = init_of source
+source_in (item session (item place no_items)) = with_both (λ s n. By (record { session = s; number = n })) (session_of session) (whole_number place)
+source_in items = None
+
 -- a read: [key,"init"] or [key,session,number]
 abbrev pub read_in : Items → Option (ℕ × Source)
-read_in (item key (item source no_items)) = with_both (λ k s. (k, s)) (whole_number key) (init_of source)
-read_in (item key (item session (item place no_items))) = with_three (λ k s n. (k, By (record { session = s; number = n }))) (whole_number key) (session_of session) (whole_number place)
-read_in items = None
+read_in (item key source) = with_both (λ k s. (k, s)) (whole_number key) (source_in source)
+read_in no_items = None
 
 abbrev pub read_of : Data → Option (ℕ × Source)
-read_of (array items) = read_in items
-read_of given = None
+read_of = array_of read_in
 
 -- a transaction: [[read,..],[key,..]]
 abbrev pub txn_in : Items → Option Txn
-txn_in = two_of (λ reads writes. record { reads = reads; writes = writes }) (list_of read_of) (list_of whole_number)
+txn_in = two_items (λ reads writes. record { reads = reads; writes = writes }) (list_of read_of) (list_of whole_number)
 
 abbrev pub txn_of : Data → Option Txn
-txn_of (array items) = txn_in items
-txn_of given = None
+txn_of = array_of txn_in
 
 -- ["open",sessions,limit]
 abbrev pub start_in : Items → Option Command
-start_in = two_of Start whole_number whole_number
+start_in = two_items Start whole_number whole_number
 
 -- ["offer",session,first,[txn,..]]
 abbrev pub offer_in : Items → Option Command
-offer_in = three_of (λ session first txns. Offer (record { session = session; first = first; txns = txns })) session_of whole_number (list_of txn_of)
+offer_in = three_items (λ session first txns. Offer (record { session = session; first = first; txns = txns })) session_of whole_number (list_of txn_of)
 
 -- ["close",session]
 abbrev pub close_in : Items → Option Command
-close_in = one_of Close session_of
+close_in = one_item Close session_of
 
 -- a budget from 1 to 2^32, a depth up to 6, and 1 to 16 workers
 abbrev pub effort_in : Items → Option Effort
-effort_in = three_of (λ budget depth workers. record { budget = budget; depth = depth; workers = workers }) (number_within 1 (2 ^ 32)) (number_within 0 6) (number_within 1 16)
+effort_in = three_items (λ budget depth workers. record { budget = budget; depth = depth; workers = workers }) (number_within 1 (2 ^ 32)) (number_within 0 6) (number_within 1 16)
 
 -- ["finish",budget,depth,workers]
 abbrev pub finish_in : Items → Option Command
@@ -79,8 +83,7 @@ command_in (item (string name) parts) = command_named name parts
 command_in items = None
 
 abbrev pub command_of : Data → Option Command
-command_of (array items) = command_in items
-command_of given = None
+command_of = array_of command_in
 
 -- the numbers of a search are within their limits
 pub record IsEffort (budget depth workers : ℕ) : Type 0 where
@@ -90,13 +93,13 @@ pub record IsEffort (budget depth workers : ℕ) : Type 0 where
   pub some_workers : 1 ≤ workers
   pub few_workers : workers ≤ 16
 
--- those that a command has
+-- where a command has such numbers, they are within their limits
 abbrev pub HasLimits : Command → Type 0
 HasLimits (Finish budget depth workers) = IsEffort budget depth workers
 HasLimits (Round budget depth workers) = IsEffort budget depth workers
 HasLimits command = ⊤
 
--- the line is a JSON text, and what it says is this command
+-- the line is UTF-8, `serde_json` reads it as some data, and these are this command
 pub record IsCommand (line : List ℕ) (command : Command) : Type 0 where
   pub utf8 : IsUtf8 line
   pub said : Data

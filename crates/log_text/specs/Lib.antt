@@ -1,4 +1,5 @@
 pub mod Commands
+pub mod Items
 pub mod Numbers
 pub mod Replies
 pub mod Texts

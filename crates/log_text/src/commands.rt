@@ -2,10 +2,10 @@ ghost use Rattle.std.specs.Prelude.{◌≡◌, ◌⊎◌, option_map, IfOk, IfEr
 ghost use Rattle.serde_json.specs.Find.{as_str};
 ghost use Rattle.log_text.specs.declared.commands.Command.{Command};
 ghost use Rattle.log_text.specs.Commands.{start_in, offer_in, close_in, effort_in, finish_in, round_in, command_named, command_of, IsCommand, HasLimits};
-ghost use Rattle.log_text.specs.Numbers.{alone};
+ghost use Rattle.log_text.specs.Items.{alone};
 ghost use Rattle.log_text.specs.Tokens.{IsValueAs, AreItemsAs};
 
-use crate::fragments::{begins_array, txns_of};
+use crate::fragments::{next_begins_array, txns_of};
 use crate::numbers::{number_within, session_of, whole_number};
 use json::{Reader, Scratch, Token};
 use std::alloc::Global;
@@ -179,7 +179,7 @@ fn next_word<'a>(reader: &mut Reader<'a>) -> Option<&'a str>
 fn command_of(alloc: Global, reader: &mut Reader<'_>) -> Result<Option<Command>, NoMemory>
     ensures { IfOk result (λ command. IsValueAs command_of 5 reader.old command reader.new) }
 {
-    if !begins_array(reader) {
+    if !next_begins_array(reader) {
         return Ok(None);
     }
     let Some(name) = next_word(reader) else {
@@ -188,14 +188,15 @@ fn command_of(alloc: Global, reader: &mut Reader<'_>) -> Result<Option<Command>,
     command_named(alloc, name, reader)
 }
 
-/// The command that a line is, without its line feed; BadLine where it is none.
+/// The command that a line is, without its line feed. BadLine where it is none; NoMemory where room for a text as long as
+/// the line, or for the lists of an offer, is refused.
 pub fn read_line(alloc: Global, line: &[u8]) -> Result<Command, Refusal>
     ensures ok { IfOk result (IsCommand line.now) }
     ensures limits { IfOk result HasLimits }
     ensures err { IfErr result (λ refusal. (refusal ≡ Refusal.NoMemory)
         ⊎ ((refusal ≡ Refusal.BadLine) × ((command : Command) → ¬ IsCommand line.now command))) }
 {
-    let Ok(text) = simdutf8::compat::from_utf8(line) else {
+    let Ok(text) = simdutf8::basic::from_utf8(line) else {
         return Err(Refusal::BadLine);
     };
     let mut scratch = Scratch::new(alloc);

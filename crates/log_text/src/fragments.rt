@@ -2,9 +2,10 @@ ghost use Rattle.std.specs.Prelude.{◌≡◌, ◌∷◌, IfOk};
 ghost use Rattle.std.specs.Bool.{MatchBool};
 ghost use Rattle.json.specs.Token.{begin_array};
 ghost use Rattle.serde_json.specs.Data.{number, unsigned, string};
-ghost use Rattle.log_text.specs.Numbers.{whole_number, list_of};
-ghost use Rattle.log_text.specs.Commands.{read_of, txn_of};
-ghost use Rattle.log_text.specs.Tokens.{IsValueAs, AreItemsAs, BeginsNoArray, source_in, behind};
+ghost use Rattle.log_text.specs.Items.{list_of};
+ghost use Rattle.log_text.specs.Numbers.{whole_number};
+ghost use Rattle.log_text.specs.Commands.{source_in, read_of, txn_of};
+ghost use Rattle.log_text.specs.Tokens.{IsValueAs, AreItemsAs, BeginsNoArray, behind};
 
 use crate::numbers::{session_numbered, whole_number, whole_number_of};
 use json::{Reader, Token};
@@ -12,7 +13,7 @@ use std::alloc::Global;
 use txn::{NoMemory, Sequence, Source, Txn, TxnId};
 
 /// Takes the next token, and tells whether it opens an array.
-pub(crate) fn begins_array(reader: &mut Reader<'_>) -> bool
+pub(crate) fn next_begins_array(reader: &mut Reader<'_>) -> bool
     ensures { MatchBool result (reader.old ≡ begin_array ∷ reader.new) (BeginsNoArray reader.old) }
 {
     matches!(reader.next(), Some(Token::BeginArray))
@@ -54,7 +55,7 @@ fn source_in(reader: &mut Reader<'_>) -> Option<Source>
 fn read_of(reader: &mut Reader<'_>) -> Option<(u64, Source)>
     ensures { IsValueAs read_of 1 reader.old result reader.new }
 {
-    if !begins_array(reader) {
+    if !next_begins_array(reader) {
         return None;
     }
     let key = whole_number(reader)?;
@@ -68,7 +69,7 @@ fn reads_of(
 ) -> Result<Option<Sequence<(u64, Source)>>, NoMemory>
     ensures { IfOk result (λ reads. IsValueAs (list_of read_of) 2 reader.old reads reader.new) }
 {
-    if !begins_array(reader) {
+    if !next_begins_array(reader) {
         return Ok(None);
     }
     let mut reads = Vec::new(alloc);
@@ -84,7 +85,7 @@ fn reads_of(
 fn keys_of(alloc: Global, reader: &mut Reader<'_>) -> Result<Option<Sequence<u64>>, NoMemory>
     ensures { IfOk result (λ keys. IsValueAs (list_of whole_number) 1 reader.old keys reader.new) }
 {
-    if !begins_array(reader) {
+    if !next_begins_array(reader) {
         return Ok(None);
     }
     let mut keys = Vec::new(alloc);
@@ -100,7 +101,7 @@ fn keys_of(alloc: Global, reader: &mut Reader<'_>) -> Result<Option<Sequence<u64
 fn txn_of(alloc: Global, reader: &mut Reader<'_>) -> Result<Option<Txn>, NoMemory>
     ensures { IfOk result (λ txn. IsValueAs txn_of 3 reader.old txn reader.new) }
 {
-    if !begins_array(reader) {
+    if !next_begins_array(reader) {
         return Ok(None);
     }
     let Some(reads) = reads_of(alloc, reader)? else {
@@ -122,7 +123,7 @@ pub(crate) fn txns_of(
 ) -> Result<Option<Sequence<Txn>>, NoMemory>
     ensures { IfOk result (λ txns. IsValueAs (list_of txn_of) 4 reader.old txns reader.new) }
 {
-    if !begins_array(reader) {
+    if !next_begins_array(reader) {
         return Ok(None);
     }
     let mut txns = Vec::new(alloc);

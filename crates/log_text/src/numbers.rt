@@ -1,5 +1,4 @@
-ghost use Rattle.std.specs.Prelude.{◌≡◌, ◌==◌, slice_index, option_map, option_and_then};
-ghost use Rattle.fast_float.specs.Text.{minus};
+ghost use Rattle.std.specs.Prelude.{◌≡◌, option_map, option_and_then};
 ghost use Rattle.serde_json.specs.Data.{number};
 ghost use Rattle.serde_json.specs.Read.{number_of};
 ghost use Rattle.log_text.specs.Numbers.{whole_number, if_within, number_within};
@@ -9,25 +8,12 @@ ghost use Rattle.log_text.specs.Tokens.{IsValueAs};
 use fast_float::Numeral;
 use json::{Reader, Token};
 
-fn begins_with_minus(bytes: &[u8]) -> bool
-    ensures { result ≡ (slice_index bytes.now 0 == minus) }
-{
-    match bytes.first() {
-        Some(byte) => *byte == b'-',
-        None => false,
-    }
-}
-
 /// The whole number that a number of JSON is, by its text.
 pub(crate) fn whole_number_of(text: &str) -> Option<u64>
     ensures { result ≡ option_and_then whole_number (option_map number (number_of text.now)) }
 {
-    let bytes = text.as_bytes();
-    if begins_with_minus(bytes) {
-        None
-    } else {
-        Numeral::scan(bytes).to_u64()
-    }
+    // A numeral begins with a digit: where a minus stands first, it has none.
+    Numeral::scan(text.as_bytes()).to_u64()
 }
 
 pub(crate) fn whole_number(reader: &mut Reader<'_>) -> Option<u64>

@@ -179,7 +179,8 @@ fn commands(rt: HostRuntime) -> Result<(), Fail> {
 #[test]
 fn offered_transactions(rt: HostRuntime) -> Result<(), Fail> {
     let alloc = rt.alloc();
-    let line = b"[\"offer\",3,4,[[[[0,\"init\"],[9,255,18446744073709551615]],[5,6]],[[],[]]]]";
+    let line =
+        b"[\"offer\",3,4,[[[[0,\"init\"],[9,255,18446744073709551615]],[5,6]],[[[7,\"\\u0069nit\"]],[]]]]";
     let Command::Offer(fragment) = read_line(alloc, line)? else {
         return Err(Fail::from("no offer"));
     };
@@ -191,7 +192,8 @@ fn offered_transactions(rt: HostRuntime) -> Result<(), Fail> {
     assert!(rt; fragment.session == 3 && fragment.first == 4 && txns.len() == 2);
     assert!(rt; txns[0].reads.as_slice() == [(0, Source::Init), (9, by)].as_slice());
     assert!(rt; txns[0].writes.as_slice() == [5, 6].as_slice());
-    assert!(rt; txns[1].reads.is_empty() && txns[1].writes.is_empty());
+    assert!(rt; txns[1].reads.as_slice() == [(7, Source::Init)].as_slice());
+    assert!(rt; txns[1].writes.is_empty());
     Ok(())
 }
 
@@ -260,6 +262,8 @@ fn bad_lines(rt: HostRuntime) -> Result<(), Fail> {
         "[\"round\",1,0,17]",
         "[\"round\",1,-0,1]",
         "[\"round\",1,0,1,1]",
+        "{\"show\"]",
+        "[\"show\"}",
         "[\"open\" 2,16]",
         "[\"open\",[2],16]",
         "[\"open\",{},16]",

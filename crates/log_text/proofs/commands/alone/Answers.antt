@@ -1,5 +1,5 @@
 use Rattle.std.proofs.Common.{refl}
-use Rattle.log_text.specs.Numbers.{alone}
+use Rattle.log_text.specs.Items.{alone}
 use Rattle.log_text.proofs.Forms.{ended, not_ended}
 use Rattle.log_text.proofs.commands.alone.Goals as goal
 

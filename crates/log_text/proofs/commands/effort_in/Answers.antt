@@ -1,6 +1,7 @@
 use Rattle.std.proofs.Common.{ℕ, Some, None, refl, ap, sym, ◌∙◌}
 use Rattle.log_text.specs.declared.commands.Effort.{Effort}
-use Rattle.log_text.specs.Numbers.{number_within, alone}
+use Rattle.log_text.specs.Items.{alone}
+use Rattle.log_text.specs.Numbers.{number_within}
 use Rattle.log_text.specs.Tokens.{with_rest}
 use Rattle.log_text.proofs.Forms.{took_last, took_second, took_third, ended, not_ended}
 use Rattle.log_text.proofs.commands.effort_in.Goals as goal

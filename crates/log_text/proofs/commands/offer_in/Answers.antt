@@ -2,7 +2,8 @@ use Rattle.std.proofs.Common.{ℕ, List, Some, None, ◌∙◌, arith}
 use Rattle.txn.specs.declared.transactions.Txn.{Txn}
 use Rattle.log_text.specs.declared.commands.Command.{Command}
 use Rattle.log_text.specs.declared.commands.Command.TheVariants.{Offer}
-use Rattle.log_text.specs.Numbers.{whole_number, list_of}
+use Rattle.log_text.specs.Items.{list_of}
+use Rattle.log_text.specs.Numbers.{whole_number}
 use Rattle.log_text.specs.Commands.{session_of, txn_of}
 use Rattle.log_text.proofs.Forms.{took_last, took_second, took_third}
 use Rattle.log_text.proofs.commands.offer_in.Goals as goal

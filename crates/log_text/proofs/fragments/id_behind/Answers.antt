@@ -1,7 +1,7 @@
 use Rattle.std.proofs.Common.{◌≡◌, Some, None, refl, ap, sym, ◌∙◌}
 use Rattle.txn.specs.declared.transactions.Source.TheVariants.{By}
 use Rattle.serde_json.specs.Data.{number, unsigned}
-use Rattle.log_text.specs.Numbers.{alone}
+use Rattle.log_text.specs.Items.{alone}
 use Rattle.log_text.specs.Commands.{session_of}
 use Rattle.log_text.specs.Tokens.{with_rest}
 use Rattle.log_text.proofs.Forms.{ended, not_ended}

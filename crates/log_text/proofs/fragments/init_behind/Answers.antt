@@ -1,6 +1,7 @@
 use Rattle.std.proofs.Common.{◌≡◌, ℕ, List, None, refl, ◌∙◌}
 use Rattle.serde_json.specs.Data.{Data, string, Items, no_items, item}
-use Rattle.log_text.specs.Tokens.{source_in, behind}
+use Rattle.log_text.specs.Commands.{source_in}
+use Rattle.log_text.specs.Tokens.{behind}
 use Rattle.log_text.proofs.Forms.{ended, not_ended}
 use Rattle.log_text.proofs.fragments.init_behind.Goals as goal
 use Rattle.log_text.proofs.fragments.init_behind.Goals.{else-take_end_array-via-then-take_end_array+else-eq, else-take_end_array-via-else-take_end_array}

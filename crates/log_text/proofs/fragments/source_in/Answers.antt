@@ -1,6 +1,7 @@
 use Rattle.std.proofs.Common.{◌≡◌, [], ◌∷◌, Some, None, ap, sym, ◌∙◌, arith}
 use Rattle.json.specs.Reads.{token_of}
-use Rattle.log_text.specs.Tokens.{items_as, with_rest, source_in}
+use Rattle.log_text.specs.Commands.{source_in}
+use Rattle.log_text.specs.Tokens.{items_as, with_rest}
 use Rattle.log_text.proofs.ReadForms.{no_source, other_first, word_first, number_first}
 use Rattle.log_text.proofs.fragments.source_in.Goals as goal
 
