@@ -3,6 +3,7 @@ ghost use Rattle.log_text.specs.Replies.{HasKindOfOrder};
 use crate::{Command, Reply, read_line, write_reply};
 use order_check::Kind;
 use std::alloc::Global;
+use std::process::Abort;
 use std::test::Fail;
 use txn::{NoMemory, Refusal, Sequence, Source, TxnId};
 
@@ -197,96 +198,125 @@ fn offered_transactions(rt: HostRuntime) -> Result<(), Fail> {
     Ok(())
 }
 
-#[test]
-fn bad_lines(rt: HostRuntime) -> Result<(), Fail> {
-    let alloc = rt.alloc();
-    for line in [
-        "",
-        " ",
-        "null",
-        "[]",
-        "{}",
-        "\"show\"",
-        "[[\"show\"]]",
-        "[show]",
-        "[\"show\",]",
-        "[\"show\"",
-        "[\"show\"]]",
-        "[\"show\"] 1",
-        "[\"Show\"]",
-        "[\"show \"]",
-        "[\"sho\"]",
-        "[\"show\",1]",
-        "[\"truncate\"]",
-        "[\"begin\",[]]",
-        "[\"close\"]",
-        "[\"close\",256]",
-        "[\"close\",0,0]",
-        "[\"close\",\"0\"]",
-        "[\"close\",-1]",
-        "[\"open\",2]",
-        "[\"open\",2,16,1]",
-        "[\"open\",-0,16]",
-        "[\"open\",1.0,16]",
-        "[\"open\",1e0,16]",
-        "[\"open\",\"1\",16]",
-        "[\"open\",01,16]",
-        "[\"open\",+1,16]",
-        "[\"open\",1,18446744073709551616]",
-        "[\"open\",1,1e400]",
-        "[\"offer\",0",
-        "[\"offer\",0,0]",
-        "[\"offer\",256,0,[]]",
-        "[\"offer\",0,0,{}]",
-        "[\"offer\",0,0,[],[]]",
-        "[\"offer\",0,0,[[]]]",
-        "[\"offer\",0,0,[[[]]]]",
-        "[\"offer\",0,0,[[[],[],[]]]]",
-        "[\"offer\",0,0,[[[],[5,null]]]]",
-        "[\"offer\",0,0,[[[],5]]]",
-        "[\"offer\",0,0,[[[[]],[]]]]",
-        "[\"offer\",0,0,[[[[5]],[]]]]",
-        "[\"offer\",0,0,[[[[5,0]],[]]]]",
-        "[\"offer\",0,0,[[[[5,\"Init\"]],[]]]]",
-        "[\"offer\",0,0,[[[[5,\"init\",0]],[]]]]",
-        "[\"offer\",0,0,[[[[5,256,0]],[]]]]",
-        "[\"offer\",0,0,[[[[5,0,0,0]],[]]]]",
-        "[\"offer\",0,0,[[[[5,0,1.0]],[]]]]",
-        "[\"offer\",0,0,[[[],[5]],[[],[-5]]]]",
-        "[\"finish\",0,0,1]",
-        "[\"finish\",1,0]",
-        "[\"round\",0,0,1]",
-        "[\"round\",4294967297,0,1]",
-        "[\"round\",1,7,1]",
-        "[\"round\",1,0,0]",
-        "[\"round\",1,0,17]",
-        "[\"round\",1,-0,1]",
-        "[\"round\",1,0,1,1]",
-        "{\"show\"]",
-        "[\"show\"}",
-        "[\"open\" 2,16]",
-        "[\"open\",[2],16]",
-        "[\"open\",{},16]",
-        "[\"open\",{\"2\":2},16]",
-        "[\"open\":2,16]",
-        "[,\"show\"]",
-        "[\"show\"],",
-        "{\"show\":1}",
-        "[\"offer\",0,0,[[[],[5,]]]]",
-        "[\"offer\",0,0,[[[],[5}]]]",
-        "[\"offer\",0,0,[[[],[5]]]",
-        "[\"offer\",0,0,[[[],[5]]]]x",
-        "[\"offer\",0,0,[[[],[5]]]]{",
-        "[\"offer\",0,0,[[[[5,{\"init\":0}]],[]]]]",
-        "[\"offer\",0,0,[[[[5,[\"init\"]]],[]]]]",
-        "[\"offer\",0,0,[[[[5,true,0]],[]]]]",
-        "[\"offer\",0,0,[[[[5,-1,0]],[]]]]",
-        "[\"offer\",0,0,[[[[5,1e400,0]],[]]]]",
-        "[\"offer\",0,0,[[[[\"5\",0,0]],[]]]]",
-    ] {
+// Texts that are no JSON, or no array of a known word and its parts.
+static NO_COMMANDS: [&str; 22] = [
+    "",
+    " ",
+    "null",
+    "[]",
+    "{}",
+    "\"show\"",
+    "[[\"show\"]]",
+    "[show]",
+    "[\"show\",]",
+    "[\"show\"",
+    "[\"show\"]]",
+    "[\"show\"] 1",
+    "[\"Show\"]",
+    "[\"show \"]",
+    "[\"sho\"]",
+    "[\"show\",1]",
+    "[\"truncate\"]",
+    "{\"show\"]",
+    "[\"show\"}",
+    "[,\"show\"]",
+    "[\"show\"],",
+    "{\"show\":1}",
+];
+
+// Commands with other parts than theirs.
+static BAD_PARTS: [&str; 30] = [
+    "[\"begin\",[]]",
+    "[\"close\"]",
+    "[\"close\",256]",
+    "[\"close\",0,0]",
+    "[\"close\",\"0\"]",
+    "[\"close\",-1]",
+    "[\"open\",2]",
+    "[\"open\",2,16,1]",
+    "[\"open\",-0,16]",
+    "[\"open\",1.0,16]",
+    "[\"open\",1e0,16]",
+    "[\"open\",\"1\",16]",
+    "[\"open\",01,16]",
+    "[\"open\",+1,16]",
+    "[\"open\",1,18446744073709551616]",
+    "[\"open\",1,1e400]",
+    "[\"finish\",0,0,1]",
+    "[\"finish\",1,0]",
+    "[\"round\",0,0,1]",
+    "[\"round\",4294967297,0,1]",
+    "[\"round\",1,7,1]",
+    "[\"round\",1,0,0]",
+    "[\"round\",1,0,17]",
+    "[\"round\",1,-0,1]",
+    "[\"round\",1,0,1,1]",
+    "[\"open\" 2,16]",
+    "[\"open\",[2],16]",
+    "[\"open\",{},16]",
+    "[\"open\",{\"2\":2},16]",
+    "[\"open\":2,16]",
+];
+
+// Offers with other parts than theirs.
+static BAD_OFFERS: [&str; 30] = [
+    "[\"offer\",0",
+    "[\"offer\",0,0]",
+    "[\"offer\",256,0,[]]",
+    "[\"offer\",0,0,{}]",
+    "[\"offer\",0,0,[],[]]",
+    "[\"offer\",0,0,[[]]]",
+    "[\"offer\",0,0,[[[]]]]",
+    "[\"offer\",0,0,[[[],[],[]]]]",
+    "[\"offer\",0,0,[[[],[5,null]]]]",
+    "[\"offer\",0,0,[[[],5]]]",
+    "[\"offer\",0,0,[[[[]],[]]]]",
+    "[\"offer\",0,0,[[[[5]],[]]]]",
+    "[\"offer\",0,0,[[[[5,0]],[]]]]",
+    "[\"offer\",0,0,[[[[5,\"Init\"]],[]]]]",
+    "[\"offer\",0,0,[[[[5,\"init\",0]],[]]]]",
+    "[\"offer\",0,0,[[[[5,256,0]],[]]]]",
+    "[\"offer\",0,0,[[[[5,0,0,0]],[]]]]",
+    "[\"offer\",0,0,[[[[5,0,1.0]],[]]]]",
+    "[\"offer\",0,0,[[[],[5]],[[],[-5]]]]",
+    "[\"offer\",0,0,[[[],[5,]]]]",
+    "[\"offer\",0,0,[[[],[5}]]]",
+    "[\"offer\",0,0,[[[],[5]]]",
+    "[\"offer\",0,0,[[[],[5]]]]x",
+    "[\"offer\",0,0,[[[],[5]]]]{",
+    "[\"offer\",0,0,[[[[5,{\"init\":0}]],[]]]]",
+    "[\"offer\",0,0,[[[[5,[\"init\"]]],[]]]]",
+    "[\"offer\",0,0,[[[[5,true,0]],[]]]]",
+    "[\"offer\",0,0,[[[[5,-1,0]],[]]]]",
+    "[\"offer\",0,0,[[[[5,1e400,0]],[]]]]",
+    "[\"offer\",0,0,[[[[\"5\",0,0]],[]]]]",
+];
+
+// What is looked up behind a call is not carried through each turn of a loop's proof.
+fn no_commands() -> &'static [&'static str] {
+    &NO_COMMANDS
+}
+
+fn bad_parts() -> &'static [&'static str] {
+    &BAD_PARTS
+}
+
+fn bad_offers() -> &'static [&'static str] {
+    &BAD_OFFERS
+}
+
+fn are_bad_lines(rt: &impl Abort, alloc: Global, lines: &[&str]) -> Result<(), Refusal> {
+    for line in lines {
         assert!(rt; is_bad_line(alloc, line.as_bytes())?, "at {line}");
     }
     Ok(())
+}
+
+#[test]
+fn bad_lines(rt: HostRuntime) -> Result<(), Fail> {
+    are_bad_lines(&rt, rt.alloc(), no_commands())?;
+    are_bad_lines(&rt, rt.alloc(), bad_parts())?;
+    Ok(are_bad_lines(&rt, rt.alloc(), bad_offers())?)
 }
 
 // Another refusal is handed on, as that of memory.
