@@ -1,0 +1,9 @@
+//! Tests of the engine, of lines and of scripts, by their public calls alone.
+#![tactic(auto)]
+
+#[cfg(test)]
+mod engines;
+#[cfg(test)]
+mod lines;
+#[cfg(test)]
+mod scripts;

@@ -1,0 +1,15 @@
+//! Tests of the libraries below the engine, by their public calls alone.
+#![tactic(auto)]
+
+#[cfg(test)]
+mod fragments;
+#[cfg(test)]
+mod graphs;
+#[cfg(test)]
+mod marks;
+#[cfg(test)]
+mod orders;
+#[cfg(test)]
+mod sides;
+#[cfg(test)]
+mod waiting;
