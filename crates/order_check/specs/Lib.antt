@@ -1,5 +1,6 @@
 pub mod Based
 pub mod Codes
+pub mod Cuts
 pub mod Cycles
 pub mod Explains
 pub mod Fronts
@@ -11,6 +12,7 @@ pub mod Precedes
 pub mod Replay
 pub mod Rows
 pub mod Rules
+pub mod SameContent
 pub mod Settled
 pub mod StandsFor
 pub mod Verdict
