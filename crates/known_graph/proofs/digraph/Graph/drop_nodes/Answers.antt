@@ -1,28 +1,46 @@
-use Rattle.std.proofs.Common.{◌≡◌, ◌↔◌, false, ap, ◌∙◌, filter, subst}
+use Rattle.std.proofs.Common.{arith, length, ◌≡◌, ◌↔◌, false, ap, ◌∙◌, filter, subst}
 use Rattle.txn.specs.Arcs.{start_of, end_of}
+use Rattle.std.proofs.lemmas.List.{with_items_is}
 use Rattle.known_graph.specs.Drops.{has_id, arc_stays}
-use Rattle.known_graph.specs.Graphs.{GraphState, HasKey}
+use Rattle.known_graph.specs.Graphs.{GraphState, IsAt}
 use Rattle.known_graph.proofs.Dropped.{IsKept-left, Contains-from_filter, Reaches-left, Reaches-before, Reaches-stays, stay, is_not_gone, not_gone}
 use Rattle.known_graph.proofs.digraph.Graph.drop_nodes.Goals as goal
 
 -- the arcs left, as the clauses have them
-left : (c : goal.After-drop_pairs) → c.drop_arcs.new.arcs.items ≡ filter (arc_stays c.args.gone.now) c.args.self.now.arcs
+left : (c : goal.After-drop_arcs) → c.drop_arcs.new.arcs.items ≡ filter (arc_stays c.args.gone.now) c.args.self.now.arcs
 left c = c.drop_arcs.ensures ∙ ap (λ (graph : GraphState). filter (arc_stays c.args.gone.now) graph.arcs) c.self.view_is
+
+pub clear_gone-requires : goal.clear_gone-requires
+clear_gone-requires c = rw c.deref_mut.ensures.value c.self.invariant.forwards.square
+
+pub clear_gone-requires-2 : goal.clear_gone-requires-2
+clear_gone-requires-2 c = rw c.deref_mut-2.ensures.value c.self.invariant.backwards.square
 
 pub invariant_of-self : goal.invariant_of-self
 invariant_of-self c =
-    let arcs = c.self.inside.arcs.items in
+    let graph = c.self.inside in
     let before = rw (← c.self.view_is) at c.requires.before in
-    rw (c.drop_arcs.ensures, c.drop_pairs.ensures)
-    (IsKept-left c.args.gone.now arcs before c.self.inside.nodes.slots c.remove_all.new.nodes.slots c.self.inside.pairs.items c.remove_all.ensures c.self.invariant)
+    let onto_is = with_items_is graph.onto c.clear_gone.new.rows (omega (arith, c.clear_gone.ensures.lengths.0, ap length c.deref_mut.ensures.value, graph.onto.ok.0)) in
+    let from_is = with_items_is graph.from c.clear_gone-2.new.rows (omega (arith, c.clear_gone-2.ensures.lengths.0, ap length c.deref_mut-2.ensures.value, graph.from.ok.0)) in
+    rw (c.drop_arcs.ensures, onto_is, from_is)
+    (IsKept-left c.args.gone.now graph.arcs.items before graph.nodes.slots c.remove_all.new.nodes.slots graph.onto.items graph.from.items c.clear_gone.new.rows c.clear_gone-2.new.rows c.remove_all.ensures
+    (rw c.deref_mut.ensures.value at c.clear_gone.ensures.lengths) (rw c.deref_mut.ensures.value at c.clear_gone.ensures.bits)
+    (rw c.deref_mut-2.ensures.value at c.clear_gone-2.ensures.lengths) (rw c.deref_mut-2.ensures.value at c.clear_gone-2.ensures.bits)
+    c.self.invariant)
 
-pub returns-clause-nodes : goal.returns-clause-nodes
-returns-clause-nodes c = λ id.
+pub returns-clause-kept : goal.returns-clause-kept
+returns-clause-kept c = λ key id.
     let gone = c.args.gone.now in
-    let kept = subst (λ (graph : GraphState). HasKey c.remove_all.new.nodes.slots id ↔ (HasKey graph.nodes id × (has_id gone id ≡ false))) c.self.view_is (c.remove_all.ensures id) in (
-      λ has. let both = kept.0 has in (both.0, not_gone gone id both.1),
+    let kept = subst (λ (graph : GraphState). IsAt c.remove_all.new.nodes.slots key id ↔ (IsAt graph.nodes key id × (has_id gone id ≡ false))) c.self.view_is (c.remove_all.ensures key id) in (
+      λ is. let both = kept.0 is in (both.0, not_gone gone id both.1),
       λ was. kept.1 (was.0, is_not_gone gone id was.1),
     )
+
+pub returns-clause-nodes : goal.returns-clause-nodes
+returns-clause-nodes c = λ id. (
+  λ has. let both = (returns-clause-kept c has.0 id).0 has.1 in ((has.0, both.0), both.1),
+  λ was. (was.0.0, (returns-clause-kept c was.0.0 id).1 (was.0.1, was.1)),
+)
 
 pub returns-clause-among : goal.returns-clause-among
 returns-clause-among c = λ arc there.

@@ -1,11 +1,19 @@
-use Rattle.std.proofs.Common.{subst}
-use Rattle.known_graph.specs.Graphs.{GraphState, HasNode}
+use Rattle.std.proofs.lemmas.Bool.{false≢true}
 use Rattle.known_graph.proofs.Stored.{Reaches-there}
 use Rattle.known_graph.proofs.digraph.Graph.reaches.Goals as goal
 
-pub returns-clause-there : goal.returns-clause-there
-returns-clause-there c = λ yes.
-    let arcs = c.self.inside.arcs.items in
-    let pair = rw c.deref.ensures.value at (c.has_pair.ensures.0 yes) in
-    let both = Reaches-there c.self.inside.nodes.slots arcs c.self.inside.pairs.items c.self.invariant (c.self.invariant.closure.reached c.args.from c.args.to pair) in
-    subst (λ (graph : GraphState). HasNode graph c.args.from × HasNode graph c.args.to) c.self.view_is both
+pub returns-in-None-key_of-clause-exact : goal.returns-in-None-key_of-clause-exact
+returns-in-None-key_of-clause-exact c = (
+  λ e. absurd (false≢true e),
+  λ is. absurd (
+      let both = Reaches-there c.self.inside.nodes.slots c.self.inside.arcs.items c.self.inside.onto.items c.self.inside.from.items c.self.invariant (rw (← c.self.view_is) at is) in
+      c.in-None-key_of.ensures both.1),
+)
+
+pub returns-in-None-clause-exact : goal.returns-in-None-clause-exact
+returns-in-None-clause-exact c = (
+  λ e. absurd (false≢true e),
+  λ is. absurd (
+      let both = Reaches-there c.self.inside.nodes.slots c.self.inside.arcs.items c.self.inside.onto.items c.self.inside.from.items c.self.invariant (rw (← c.self.view_is) at is) in
+      c.in-None.ensures both.0),
+)
