@@ -1,0 +1,101 @@
+"""A whole collector: two clients of a small bank in SQLite, audited by cobra_audit. docs/COLLECTORS.md tells why each part is as it is.
+
+    python3 examples/sqlite_collector.py [FAULT] [PROGRAM]      FAULT: honest (the default), stale, lost-update, dirty-read or lost-write
+"""
+import json, os, sqlite3, subprocess, sys, tempfile
+
+FAULT = sys.argv[1] if len(sys.argv) > 1 else "honest"
+PROGRAM = sys.argv[2] if len(sys.argv) > 2 else f"{os.path.dirname(os.path.abspath(__file__))}/../crates/cobra_audit/out/cobra_audit"
+if FAULT not in ("honest", "stale", "lost-update", "dirty-read", "lost-write") or not os.path.isfile(PROGRAM):
+    sys.exit(f"{__doc__}\n{PROGRAM}: {'there' if os.path.isfile(PROGRAM) else 'not built yet, see README.md'}")
+
+
+class Auditor:
+    """The program, with pipes on both ends: for each line that goes in, one comes out."""
+
+    def __init__(self, sessions, limit):
+        self.program = subprocess.Popen([PROGRAM], stdin=subprocess.PIPE, stdout=subprocess.PIPE, text=True)
+        self.numbers = {}  # of each key, in one table for all sessions
+        self.ask("open", sessions, limit)
+
+    def ask(self, *line):
+        print(json.dumps(line), file=self.program.stdin, flush=True)
+        reply = json.loads(self.program.stdout.readline() or '["no", 0, "the program ended"]')
+        if reply[0] == "no":
+            sys.exit(f"{json.dumps(line)} was answered {reply}")
+        return reply
+
+    def number(self, key):
+        return self.numbers.setdefault(key, len(self.numbers) + 1)  # from 1: key 0 is for fences
+
+
+class Session:
+    """One client: a connection, one transaction at a time, and a number for each that begins."""
+
+    def __init__(self, name, auditor, database):
+        self.name, self.auditor, self.begun = name, auditor, 0
+        self.store = sqlite3.connect(database, isolation_level=None, timeout=0)
+
+    def begin(self):
+        self.id, self.reads, self.writes = (self.name, self.begun), set(), {}
+        self.begun += 1  # an attempt that aborts keeps its number: a retry takes the next
+        if FAULT != "lost-update":  # the fault: what was read may change before the commit
+            self.store.execute("BEGIN")
+
+    def get(self, key):
+        if key in self.writes:
+            return self.writes[key]  # its own write: not logged
+        order = "ASC" if FAULT == "stale" else "DESC"  # the fault: the oldest version in place of the newest
+        found = f"SELECT value, session, number FROM versions WHERE key = ? ORDER BY rowid {order} LIMIT 1"
+        value, *source = self.store.execute(found, (key,)).fetchone() or (None, "init")
+        self.reads.add((self.auditor.number(key), *source))
+        return value
+
+    def put(self, key, value):
+        self.writes[key] = value  # goes to the store at the commit, once: no version is there to be read but the last
+
+    def commit(self):
+        try:
+            if not self.store.in_transaction:
+                self.store.execute("BEGIN")
+            for key, value in self.writes.items():  # beside the value the writer's name
+                self.store.execute("INSERT INTO versions VALUES (?, ?, ?, ?)", (key, value, *self.id))
+            self.store.execute("ROLLBACK" if FAULT == "lost-write" and self.id == (1, 1) else "COMMIT")
+        except sqlite3.Error as error:  # a local store leaves no doubt that nothing was committed
+            self.store.execute("COMMIT" if FAULT == "dirty-read" else "ROLLBACK")
+            return self.offer([], [], f"aborted ({error})")
+        reads = sorted(self.reads, key=lambda read: (read[0], read[1] != "init", read[1:]))
+        return self.offer(reads, sorted(map(self.auditor.number, self.writes)), "committed")
+
+    def offer(self, reads, writes, outcome):
+        print(f"  {self.id[0]}.{self.id[1]} {outcome}: reads {reads}, writes {writes}")
+        self.auditor.ask("offer", *self.id, [[reads, writes]])
+        return outcome == "committed"
+
+
+def work(alice, bob):
+    alice.begin(), alice.put("rent", 100), alice.put("food", 50), alice.commit()
+    bob.begin(), alice.begin()  # at the same time, both take 10 from the rent
+    for client in (bob, alice):
+        client.put("rent", client.get("rent") - 10)
+    alice.commit()
+    if not bob.commit():  # an honest store lets one of them commit; the other tries once more
+        bob.begin(), bob.put("rent", bob.get("rent") - 10), bob.commit()
+    alice.begin(), alice.put("food", 900), alice.put("rent", -750), alice.commit()  # aborts: nothing may be below 0
+    bob.begin(), bob.get("rent"), bob.get("food"), bob.commit()
+    alice.begin(), alice.put("food", 130), alice.put("rent", 0), alice.commit()
+
+
+with tempfile.TemporaryDirectory() as folder:
+    setup = sqlite3.connect(f"{folder}/bank", isolation_level=None)
+    setup.executescript("PRAGMA journal_mode = WAL; CREATE TABLE versions (key, value CHECK (value >= 0), session, number)")
+    auditor = Auditor(sessions=2, limit=8)
+    work(Session(0, auditor, f"{folder}/bank"), Session(1, auditor, f"{folder}/bank"))
+    _, _, kind, counts, order = auditor.ask("round", 1, 0, 1)
+    told = " ".join(f"{session}.{number}" for session, number in order)
+    says = {
+        "serial": f"one at a time in the order {told}, these transactions would have read the same",
+        "pending": f"the order {told} explains what they read, where transactions that are still to come allow it",
+        "violated": "no order that keeps each session's own explains what they read",
+    }
+    print(f"{FAULT}: {kind}: {says[kind]}")
