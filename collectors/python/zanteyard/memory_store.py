@@ -1,0 +1,78 @@
+"""A store in memory, whose faults can be switched on. Honest, it lets a transaction commit only where all that it read is still the newest."""
+from .sessions import Aborted, OutcomeUnknown
+
+FAULTS = ("stale-read", "lost-update", "write-skew", "torn-read", "dirty-read", "lost-write", "reappearing")
+
+
+class MemoryStore:
+    """What is shared by all connections: of each key its versions, oldest first, as (value, name, moment)."""
+
+    def __init__(self, fault=None):
+        assert fault is None or fault in FAULTS, fault
+        self.fault, self.versions, self.moment = fault, {}, 0
+
+    def connect(self):
+        return Connection(self)
+
+    def newest(self, key, moment):
+        """The index of the key's newest version of this moment, or -1."""
+        versions = self.versions.get(key, [])
+        return max((i for i, version in enumerate(versions) if version[2] <= moment), default=-1)
+
+
+class Connection:
+    def __init__(self, shared):
+        self.shared, self.lost, self.known = shared, None, True
+        self.last_outcome = "unknown"
+
+    def begin(self):
+        self.began, self.seen, self.writes = self.shared.moment, {}, {}
+
+    def read(self, key):
+        shared = self.shared
+        at = shared.newest(key, shared.moment if shared.fault == "torn-read" else self.began)
+        self.seen[key] = at
+        if shared.fault == "stale-read" and at > 0:
+            at -= 1
+        if at < 0:
+            return None
+        value, name, _ = shared.versions[key][at]
+        if value is None and shared.fault == "reappearing":
+            value, name, _ = shared.versions[key][at - 1]
+        return value, name
+
+    def write(self, key, value, name):
+        self.writes[key] = (value, name)
+
+    def commit(self):
+        shared = self.shared
+        changed = {key for key, at in self.seen.items() if at != shared.newest(key, shared.moment)}
+        if shared.fault in ("lost-update", "torn-read"):
+            changed = set()
+        if shared.fault == "write-skew":  # as under snapshot isolation
+            changed &= set(self.writes)
+        if changed:
+            self.end("aborted")
+            raise Aborted(f"{sorted(changed)} changed")
+        self.end("committed")
+        if self.lost is not None:
+            raise OutcomeUnknown("no answer")
+
+    def rollback(self):
+        if self.shared.fault == "dirty-read" and self.writes:
+            self.install()
+        self.writes = {}
+
+    def end(self, outcome):
+        """`lost`, which tests set, has the commit take effect ("committed") or not ("aborted") without an answer."""
+        self.last_outcome = self.lost or outcome
+        if self.last_outcome == "committed" and self.shared.fault != "lost-write":
+            self.install()
+
+    def install(self):
+        self.shared.moment += 1
+        for key, (value, name) in self.writes.items():
+            self.shared.versions.setdefault(key, []).append((value, name, self.shared.moment))
+
+    def outcome(self):
+        return self.last_outcome if self.known else "unknown"

@@ -1,0 +1,76 @@
+"""A table of PostgreSQL as a store. Each row has its writer's name beside the value; the value NULL marks a deleted key."""
+import psycopg2
+from psycopg2 import errors
+
+from .sessions import Aborted, OutcomeUnknown
+
+TABLE = """CREATE TABLE IF NOT EXISTS zanteyard (
+    key text PRIMARY KEY, value text, run text NOT NULL, session int NOT NULL, number bigint NOT NULL)"""
+READ = "SELECT value, run, session, number FROM zanteyard WHERE key = %s"
+WRITE = """INSERT INTO zanteyard VALUES (%s, %s, %s, %s, %s) ON CONFLICT (key) DO UPDATE
+    SET value = excluded.value, run = excluded.run, session = excluded.session, number = excluded.number"""
+CONFLICTS = (errors.SerializationFailure, errors.DeadlockDetected)
+
+
+def prepare(dsn):
+    """Makes the table, where it isn't there."""
+    connection = psycopg2.connect(dsn)
+    with connection:
+        connection.cursor().execute(TABLE)
+    connection.close()
+
+
+class PostgresStore:
+    """One connection. `level` is "serializable", "repeatable read" or "read committed"."""
+
+    def __init__(self, dsn, level="serializable"):
+        self.dsn, self.level, self.connection, self.transaction_id = dsn, level, None, None
+
+    def connect(self):
+        self.connection = psycopg2.connect(self.dsn)
+        self.connection.set_session(isolation_level=self.level)
+
+    def ask(self, *statement):
+        cursor = self.connection.cursor()
+        try:
+            cursor.execute(*statement)
+        except CONFLICTS as error:
+            raise Aborted(str(error).strip()) from error
+        return cursor
+
+    def begin(self):
+        if self.connection is None or self.connection.closed:
+            self.connect()
+        self.transaction_id = None
+
+    def read(self, key):
+        row = self.ask(READ, (key,)).fetchone()
+        return None if row is None else (row[0], row[1:])
+
+    def write(self, key, value, name):
+        self.ask(WRITE, (key, value, *name))
+
+    def commit(self):
+        self.transaction_id = self.ask("SELECT pg_current_xact_id_if_assigned()::text").fetchone()[0]
+        try:
+            self.connection.commit()
+        except CONFLICTS as error:
+            raise Aborted(str(error).strip()) from error
+        except (psycopg2.OperationalError, psycopg2.InterfaceError) as error:
+            raise OutcomeUnknown(str(error).strip()) from error
+
+    def rollback(self):
+        if self.connection is not None and not self.connection.closed:
+            self.connection.rollback()
+
+    def outcome(self):
+        """By a connection of its own, since the one at hand may be broken."""
+        try:
+            with psycopg2.connect(self.dsn) as connection:
+                cursor = connection.cursor()
+                cursor.execute("SELECT pg_xact_status(%s::text::xid8)", (self.transaction_id,))
+                status = cursor.fetchone()[0]
+            connection.close()
+        except psycopg2.Error:
+            return "unknown"
+        return status if status in ("committed", "aborted") else "unknown"
