@@ -1,0 +1,315 @@
+ghost use Rattle.std.specs.Prelude.{◌<◌, ◌≤◌, IfOk};
+
+use cobra::{
+    ByteSink, ByteSource, DeviceFault, Failure, LONGEST_LINE, LineReader, MemorySink, MemorySource,
+    Next, Pace, ReaderSource, WriterSink, demo, serve, write_all,
+};
+use round_state::TrialSolver;
+use std::alloc::{AllocError, Global};
+use std::cell::Cell;
+use std::io::{self, ErrorKind, Read, Write};
+use std::process::Abort;
+use std::test::Fail;
+
+/// Answers each call with how many bytes it moves, or why it fails, and counts its calls.
+#[derive(Drop)]
+struct Counting<'a> {
+    answers: &'a [Result<usize, ErrorKind>],
+    calls: &'a Cell<usize>,
+}
+
+impl<'a> Counting<'a> {
+    fn answer(&self, most: usize) -> io::Result<usize>
+        ensures { IfOk result (λ n. n ≤ most) }
+    {
+        let call = self.calls.get();
+        self.calls.set(call.wrapping_add(1));
+        match self.answers.get(call) {
+            Some(Ok(count)) => Ok(most.min(*count)),
+            Some(Err(kind)) => Err(io::Error::from(*kind)),
+            None => Ok(0),
+        }
+    }
+}
+
+impl<'a> Read for Counting<'a> {
+    fn read(&mut self, buf: &mut [u8]) -> io::Result<usize> {
+        self.answer(buf.len())
+    }
+}
+
+impl<'a> Write for Counting<'a> {
+    fn write(&mut self, buf: &[u8]) -> io::Result<usize> {
+        self.answer(buf.len())
+    }
+
+    fn flush(&mut self) -> io::Result<()> {
+        Ok(())
+    }
+}
+
+/// A device answers what it is answered.
+fn is_same(got: Result<usize, DeviceFault>, answer: &Result<usize, ErrorKind>) -> bool {
+    match answer {
+        Ok(count) => got == Ok(*count),
+        Err(_) => got == Err(DeviceFault),
+    }
+}
+
+fn reads_once_a_call(rt: &impl Abort, answers: &[Result<usize, ErrorKind>]) {
+    let calls = Cell::new(0);
+    let mut source = ReaderSource::new(Counting {
+        answers,
+        calls: &calls,
+    });
+    let mut buffer = [0; 4];
+    for (call, answer) in answers.iter().enumerate() {
+        assert!(rt; is_same(source.read(&mut buffer), answer), "at {call}");
+        assert_eq!(rt; calls.get(), call.wrapping_add(1));
+    }
+}
+
+fn writes_once_a_call(rt: &impl Abort, answers: &[Result<usize, ErrorKind>]) {
+    let calls = Cell::new(0);
+    let mut sink = WriterSink::new(Counting {
+        answers,
+        calls: &calls,
+    });
+    for (call, answer) in answers.iter().enumerate() {
+        assert!(rt; is_same(sink.write(b"abcd"), answer), "at {call}");
+        assert_eq!(rt; calls.get(), call.wrapping_add(1));
+    }
+}
+
+#[test]
+fn devices_call_once(rt: HostRuntime) {
+    // A second byte that is ready; a failure after a byte; interruptions.
+    for answers in [
+        [Ok(1), Ok(1), Ok(2)],
+        [Ok(1), Err(ErrorKind::Other), Ok(1)],
+        [Err(ErrorKind::Interrupted), Ok(1), Err(ErrorKind::Interrupted)],
+    ] {
+        reads_once_a_call(&rt, &answers);
+        writes_once_a_call(&rt, &answers);
+    }
+}
+
+#[test]
+fn a_write_of_nothing_is_a_failure(rt: HostRuntime) {
+    let calls = Cell::new(0);
+    let mut sink = WriterSink::new(Counting {
+        answers: &[Ok(1), Ok(0), Ok(1)],
+        calls: &calls,
+    });
+    assert_eq!(rt; write_all(&mut sink, b"abcd"), Err(DeviceFault));
+    assert_eq!(rt; calls.get(), 2);
+    assert_eq!(rt; sink.write(b""), Ok(0));
+}
+
+/// What is written of eight bytes, three a call, where this call fails.
+fn fronts() -> &'static [(u64, &'static [u8])] {
+    &[
+        (0, b"abcdefgh"),
+        (1, b""),
+        (2, b"abc"),
+        (3, b"abcdef"),
+        (4, b"abcdefgh"),
+    ]
+}
+
+#[test]
+fn writes_all_by_pieces_or_a_front(rt: HostRuntime) {
+    for (fails_at, want) in fronts() {
+        let mut sink = MemorySink {
+            bytes: Vec::new(rt.alloc()),
+            pace: Pace::new(3, *fails_at),
+        };
+        let end = write_all(&mut sink, b"abcdefgh");
+        assert_eq!(rt; end.is_ok(), want.len() == 8, "at {fails_at}");
+        assert_eq!(rt; sink.bytes.as_slice(), *want, "at {fails_at}");
+    }
+}
+
+/// Puts a line in brackets behind, `!` for one that is too long, `.` for the end, `?` for a failed read.
+fn show(shown: &mut Vec<u8>, next: Result<Next, Failure>) -> Result<(), AllocError> {
+    match next {
+        Ok(Next::Line(line)) => {
+            shown.push(b'[')?;
+            shown.extend_from_slice(&line)?;
+            shown.push(b']')?;
+        }
+        Ok(Next::TooLong) => shown.push(b'!')?,
+        Ok(Next::End) => shown.push(b'.')?,
+        Err(_) => shown.push(b'?')?,
+    }
+    Ok(())
+}
+
+/// The first eight that come.
+fn shown(alloc: Global, bytes: &[u8], limit: usize, pace: Pace) -> Result<Vec<u8>, AllocError> {
+    let mut source = MemorySource { bytes, pace };
+    let mut reader = LineReader::new(alloc, limit)?;
+    let mut all = Vec::new(alloc);
+    for _ in 0..8 {
+        show(&mut all, reader.next_line(&mut source))?;
+    }
+    Ok(all)
+}
+
+/// Bytes, the longest line, and what is handed out.
+fn cuts() -> &'static [(&'static str, usize, &'static str)] {
+    &[
+        ("", 9, "........"),
+        ("\n", 9, "[]......."),
+        ("a\n\nb", 9, "[a][][b]....."),
+        ("a\r\n", 9, "[a\r]......."),
+        ("abc\nabcd\nab\n", 3, "[abc]![ab]....."),
+        ("abcd\n\n", 3, "![]......"),
+        ("abcdefghijkl", 3, "!......."),
+        ("\na", 0, "[]!......"),
+    ]
+}
+
+#[test]
+fn cuts_lines_whatever_a_read_gives(rt: HostRuntime) -> Result<(), Fail> {
+    for (text, limit, want) in cuts() {
+        for most in [1, 7, 4096] {
+            let got = shown(rt.alloc(), text.as_bytes(), *limit, Pace::new(most, 0))?;
+            assert_eq!(rt; got.as_slice(), want.as_bytes(), "{text:?} by {most}");
+        }
+    }
+    Ok(())
+}
+
+/// Which read of a byte fails, and what is handed out.
+fn failures() -> &'static [(u64, &'static str)] {
+    &[
+        (1, "?[a][bcd]![ef]..."),
+        (3, "[a]?[bcd]![ef]..."),
+        (7, "[a][bcd]?![ef]..."),
+        (12, "[a][bcd]!?[ef]..."),
+        (15, "[a][bcd]![ef]?..."),
+        (16, "[a][bcd]![ef].?.."),
+    ]
+}
+
+#[test]
+fn goes_on_after_each_failed_read(rt: HostRuntime) -> Result<(), Fail> {
+    for (fails_at, want) in failures() {
+        let text = b"a\nbcd\nghij\nef";
+        let got = shown(rt.alloc(), text, 3, Pace::new(1, *fails_at))?;
+        assert_eq!(rt; got.as_slice(), want.as_bytes(), "at {fails_at}");
+    }
+    Ok(())
+}
+
+/// Bytes a call, which write fails, and how much of the line is written.
+fn paces() -> &'static [(usize, u64, usize)] {
+    &[(4096, 0, 40), (7, 0, 40), (4096, 1, 0), (7, 3, 14)]
+}
+
+#[test]
+fn demonstration(rt: HostRuntime) {
+    let line = b"[\"report\",1,\"serial\",[2],[[0,0],[0,1]]]\n";
+    for (most, fails_at, count) in paces() {
+        let mut sink = MemorySink {
+            bytes: Vec::new(rt.alloc()),
+            pace: Pace::new((*most).max(1), *fails_at),
+        };
+        let end = demo(rt.alloc(), &mut sink);
+        assert_eq!(rt; end.is_ok(), *fails_at == 0);
+        assert!(rt; line.get(..*count) == Some(sink.bytes.as_slice()), "by {most}, failing at {fails_at}");
+    }
+}
+
+/// The script `three_rounds.jsonl` of the examples.
+const SCRIPT: &str = r#"["open",2,8]
+["offer",1,0,[[[[5,0,0]],[]]]]
+["round",32,0,1]
+["offer",0,0,[[[],[5]]]]
+["round",32,0,1]
+["offer",1,1,[[[[5,"init"]],[]]]]
+["round",32,0,1]
+"#;
+
+/// The replies to it.
+const REPLIES: &str = r#"["ok"]
+["ok"]
+["report",1,"pending",[0,1],[[1,0]]]
+["ok"]
+["report",2,"serial",[1,1],[[0,0],[1,0]]]
+["ok"]
+["report",3,"violated",[1,2],[]]
+"#;
+
+/// How the script is served, and what is written, where the devices move so many bytes a call and one call of each fails.
+fn served(
+    alloc: Global,
+    script: &[u8],
+    most: usize,
+    failing_read: u64,
+    failing_write: u64,
+) -> (Result<(), Failure>, Vec<u8>)
+    requires { 0 < most }
+{
+    let mut source = MemorySource {
+        bytes: script,
+        pace: Pace::new(most, failing_read),
+    };
+    let mut sink = MemorySink {
+        bytes: Vec::new(alloc),
+        pace: Pace::new(most, failing_write),
+    };
+    let end = serve(alloc, &mut source, &mut sink, &TrialSolver);
+    (end, sink.bytes)
+}
+
+#[test]
+fn longest_line(rt: HostRuntime) -> Result<(), Fail> {
+    let open = b"[\"open\",2,8]\n[\"open\",2,8]\n";
+    let cases = [
+        (12, "[\"ok\"]\n[\"no\",1,\"BadLine\"]\n"),
+        (11, "[\"no\",1,\"BadLine\"]\n[\"ok\"]\n"),
+    ];
+    for (shorter, replies) in cases {
+        let mut script: Vec<u8> = vec![in rt.alloc(); b' '; LONGEST_LINE - shorter]?;
+        script.extend_from_slice(open)?;
+        let (end, written) = served(rt.alloc(), &script, 1 << 20, 0, 0);
+        assert_eq!(rt; end, Ok(()));
+        assert_eq!(rt; written.as_slice(), replies.as_bytes(), "at {shorter}");
+    }
+    Ok(())
+}
+
+/// Whether the bytes are lines, each with its LF.
+fn are_lines(bytes: &[u8]) -> bool {
+    bytes.is_empty() || bytes.ends_with(b"\n")
+}
+
+/// Each read, or each write, fails in turn: a front of the replies is written, after a failed read whole lines. Answers the
+/// first call that isn't made.
+fn fails_in_turn(rt: &(impl AllocGlobal + Abort), most: usize, is_read: bool) -> u64
+    requires { 0 < most }
+{
+    for call in 1..1000 {
+        let (read, write) = if is_read { (call, 0) } else { (0, call) };
+        let (end, written) = served(rt.alloc(), SCRIPT.as_bytes(), most, read, write);
+        if end == Ok(()) {
+            assert!(rt; written.as_slice() == REPLIES.as_bytes(), "by {most}");
+            return call;
+        }
+        assert_eq!(rt; end, Err(Failure::Device), "at call {call} by {most}");
+        assert!(rt; REPLIES.as_bytes().starts_with(&written), "at call {call} by {most}");
+        assert!(rt; !is_read || are_lines(&written), "at call {call} by {most}");
+    }
+    0
+}
+
+#[test]
+fn stops_at_a_failure(rt: HostRuntime) {
+    // The last read finds the end, and the call after the last one can't fail.
+    for (most, reads, writes) in [(1, 156, 141), (7, 24, 22), (4096, 3, 8)] {
+        assert_eq!(rt; fails_in_turn(&rt, most, true), reads);
+        assert_eq!(rt; fails_in_turn(&rt, most, false), writes);
+    }
+}

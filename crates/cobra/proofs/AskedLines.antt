@@ -1,5 +1,5 @@
 -- What is told to be next asks for the command that its bytes are.
-use Rattle.std.proofs.Common.{◌≡◌, ℕ, ◌<◌, ◌≤◌, List, length, Option, Some, None, refl, sym, ◌∙◌, ◌⊎◌, ⊎_elim, subst, arith, inl, inr}
+use Rattle.std.proofs.Common.{◌≡◌, ℕ, List, Option, refl, sym, ◌∙◌, ◌⊎◌, ⊎_elim, subst, arith, inl, inr}
 use Rattle.std.specs.Global.{Vec}
 use Rattle.txn.specs.declared.refusals.Refusal.{Refusal}
 use Rattle.txn.specs.declared.refusals.Refusal.TheVariants.{BadLine, NoMemory}
@@ -9,8 +9,8 @@ use Rattle.log_text.specs.declared.replies.Reply.TheVariants as told
 use Rattle.log_text.specs.Commands.{IsCommand}
 use Rattle.log_text.specs.Replies.{line_of}
 use Rattle.round_state.specs.EngineState.{EngineState}
-use Rattle.cobra.specs.declared.lines.Next.{Next}
-use Rattle.cobra.specs.declared.lines.Next.TheVariants.{Line, TooLong, End}
+use Rattle.byte_lines.specs.declared.lines.Next.{Next}
+use Rattle.byte_lines.specs.declared.lines.Next.TheVariants.{Line, TooLong}
 use Rattle.cobra.specs.Outputs.{Asks, IsTold, AnswersLineLegally, RepliesLegally}
 use Rattle.cobra.specs.Scripts.{AnswersLegally}
 

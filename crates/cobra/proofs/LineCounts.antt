@@ -1,14 +1,14 @@
 -- How many LFs and how many lines bytes have.
-use Rattle.std.proofs.Common.{◌≡◌, ◌≢◌, ℕ, ◌+◌, ◌≤◌, ◌<◌, List, [], ◌∷◌, ◌++◌, length, Bool, true, false, cond, nat_eq, Option, refl, ap, sym, ◌∙◌, subst, arith}
-use Rattle.std.specs.List.{sum_by}
+use Rattle.std.proofs.Common.{◌≡◌, ◌≢◌, ℕ, ◌+◌, ◌≤◌, List, [], ◌∷◌, ◌++◌, length, Bool, true, false, cond, nat_eq, Option, refl, ap, sym, ◌∙◌, arith}
 use Rattle.std.proofs.lemmas.List.Elements.{All-head, All-tail}
 use Rattle.std.proofs.lemmas.List.Sums.{sum_by-append}
 use Rattle.std.proofs.lemmas.Bool.Decides.{nat_tests}
-use Rattle.cobra.specs.declared.lines.LineReader.{LineReader}
-use Rattle.cobra.specs.declared.lines.Next.{Next}
-use Rattle.cobra.specs.LineReaders.{ahead, EndsAtLf, EndsAtEnd, StopsInLine}
-use Rattle.cobra.specs.Lines.{lines, onto_first, lf_count, HasNoLf}
-use Rattle.cobra.proofs.LineLemmas.{not_lf}
+use Rattle.byte_lines.specs.declared.lines.Next.{Next}
+use Rattle.byte_lines.specs.LineReaders.{LineState, EndsAtLf, EndsAtEnd, StopsInLine}
+use Rattle.byte_lines.specs.Lines.{lines, onto_first, lf_count, HasNoLf}
+
+not_lf : (byte : ℕ) → byte ≢ 10 → nat_eq byte 10 ≡ false
+not_lf byte h = grind (arith, nat_tests)
 
 pub lf_count-append : (xs ys : List ℕ) → lf_count (xs ++ ys) ≡ lf_count xs + lf_count ys
 lf_count-append xs ys = sum_by-append (λ byte. cond (nat_eq byte 10) 1 0) xs ys
@@ -57,15 +57,15 @@ no_lines [] e = refl
 no_lines (byte ∷ bytes) e = absurd (some_lines byte bytes (nat_eq byte 10) e)
 
 -- of what was ahead and what was read, an LF ended the line, and the rest is ahead now
-pub lf_count-line : (old new : LineReader) (read : List ℕ) (next : Next) → EndsAtLf old new (ahead old ++ read) next → lf_count (ahead old) + lf_count read ≡ 1 + lf_count (ahead new)
+pub lf_count-line : (old new : LineState) (read : List ℕ) (next : Next) → EndsAtLf old new (old.ahead ++ read) next → lf_count old.ahead + lf_count read ≡ 1 + lf_count new.ahead
 lf_count-line old new read next e =
-    sym (lf_count-append (ahead old) read) ∙ (ap lf_count e.cut ∙ lf_count-cut e.piece (ahead new) e.no_lf)
+    sym (lf_count-append old.ahead read) ∙ (ap lf_count e.cut ∙ lf_count-cut e.piece new.ahead e.no_lf)
 
 -- there was none
-pub lf_count-last : (old new : LineReader) (read : List ℕ) (left : Option (List ℕ)) (next : Next) → EndsAtEnd old new (ahead old ++ read) left next → lf_count (ahead old) + lf_count read ≡ 0
-lf_count-last old new read left next e = sym (lf_count-append (ahead old) read) ∙ lf_count-none (ahead old ++ read) e.no_lf
+pub lf_count-last : (old new : LineState) (read : List ℕ) (left : Option (List ℕ)) (next : Next) → EndsAtEnd old new (old.ahead ++ read) left next → lf_count old.ahead + lf_count read ≡ 0
+lf_count-last old new read left next e = sym (lf_count-append old.ahead read) ∙ lf_count-none (old.ahead ++ read) e.no_lf
 
-pub lf_count-stopped : (old new : LineReader) (read : List ℕ) → StopsInLine old new (ahead old ++ read) → ahead new ≡ [] → lf_count (ahead old) + lf_count read ≡ 0
+pub lf_count-stopped : (old new : LineState) (read : List ℕ) → StopsInLine old new (old.ahead ++ read) → new.ahead ≡ [] → lf_count old.ahead + lf_count read ≡ 0
 lf_count-stopped old new read stops none =
-    sym (lf_count-append (ahead old) read)
-    ∙ (ap lf_count stops.cut ∙ (lf_count-append stops.piece (ahead new) ∙ ap (λ n. n + lf_count (ahead new)) (lf_count-none stops.piece stops.no_lf) ∙ (ap (λ bytes. 0 + lf_count bytes) none)))
+    sym (lf_count-append old.ahead read)
+    ∙ (ap lf_count stops.cut ∙ (lf_count-append stops.piece new.ahead ∙ ap (λ n. n + lf_count new.ahead) (lf_count-none stops.piece stops.no_lf) ∙ (ap (λ bytes. 0 + lf_count bytes) none)))

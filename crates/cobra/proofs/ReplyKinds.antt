@@ -1,8 +1,6 @@
 -- Only a report that is serial or pending is told with an order.
 use Rattle.std.proofs.Common.{◌≡◌, ℕ, List, Option, Some, None, sym, subst, ⊎_elim}
 use Rattle.std.specs.Prelude.{IsSomeAnd}
-use Rattle.txn.specs.declared.refusals.Refusal.{Refusal}
-use Rattle.txn.specs.declared.refusals.Refusal.TheVariants.{NoMemory}
 use Rattle.order_check.specs.declared.remainder.Kind.{Kind}
 use Rattle.order_check.specs.declared.remainder.Kind.TheVariants as kinds
 use Rattle.order_check.specs.declared.remainder.Parts.{Parts}
@@ -20,7 +18,7 @@ use Rattle.round_state.specs.declared.steps.Step.{Step}
 use Rattle.round_state.specs.declared.steps.Step.TheVariants as step
 use Rattle.round_state.specs.declared.steps.StepReply.{StepReply}
 use Rattle.round_state.specs.declared.steps.StepReply.TheVariants as reply
-use Rattle.cobra.specs.Scripts.{IsBadLine, IsStep, EndsRound, IsRound, AnswersOpen, AnswersFirst, Answers, HoldsScript, IsUnderWay, AnswersLegally}
+use Rattle.cobra.specs.Scripts.{IsBadLine, EndsRound, IsRound, AnswersOpen, AnswersFirst, Answers, IsUnderWay, AnswersLegally}
 use Rattle.cobra.specs.StepReplies.{certified, report_of, reply_of}
 
 -- what a certificate shows is told by its own kind

@@ -1,5 +1,5 @@
 -- A script's rounds and steps are answered legally.
-use Rattle.std.proofs.Common.{◌≡◌, ◌≢◌, ℕ, true, false, Option, Some, None, refl, sym, ap, subst, inl, inr}
+use Rattle.std.proofs.Common.{◌≡◌, ◌≢◌, ℕ, true, false, Option, Some, None, refl, sym, subst, inl, inr}
 use Rattle.std.specs.Prelude.{IsSome}
 use Rattle.txn.specs.declared.refusals.Refusal.{Refusal}
 use Rattle.txn.specs.declared.refusals.Refusal.TheVariants.{BadLine, NoRound, NoMemory}
@@ -10,13 +10,13 @@ use Rattle.log_text.specs.declared.replies.Reply.{Reply}
 use Rattle.log_text.specs.declared.replies.Reply.TheVariants as told
 use Rattle.round_state.specs.EngineState.{EngineState}
 use Rattle.round_state.specs.Legal.{State, Legal}
-use Rattle.round_state.specs.Opening.{IsSessions, IsLimit, fresh, fresh_state}
+use Rattle.round_state.specs.Opening.{IsSessions, IsLimit, fresh_state}
 use Rattle.round_state.specs.Runs.{Holds, StepsLegally}
 use Rattle.round_state.specs.declared.steps.Step.{Step}
 use Rattle.round_state.specs.declared.steps.Step.TheVariants as step
 use Rattle.round_state.specs.declared.steps.StepReply.{StepReply}
 use Rattle.round_state.specs.declared.steps.StepReply.TheVariants as reply
-use Rattle.cobra.specs.Scripts.{IsBadLine, IsStep, EndsRound, IsRound, state_told, AnswersOpen, Answers, HoldsScript, IsUnderWay, EndsLegally, RoundsLegally, AnswersOpenLegally, AnswersLegally}
+use Rattle.cobra.specs.Scripts.{IsBadLine, IsStep, EndsRound, state_told, IsUnderWay, EndsLegally, RoundsLegally, AnswersOpenLegally, AnswersLegally}
 use Rattle.cobra.specs.StepReplies.{reply_of}
 
 none_or_some : (asked : Option Parts) → IsSome asked → asked ≡ None → ⊥

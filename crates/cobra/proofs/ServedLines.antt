@@ -1,20 +1,19 @@
 -- A script under way: the lines that were answered, and those that are still to come.
-use Rattle.std.proofs.Common.{◌≡◌, ◌≢◌, ℕ, ◌+◌, ◌≤◌, ◌<◌, ◌⊎◌, List, [], ◌∷◌, ◌++◌, length, take, append_assoc, append-nil, length-append, Option, Some, None, IfSome, refl, ap, sym, ◌∙◌, subst, arith, ⊎_elim}
+use Rattle.std.proofs.Common.{◌≡◌, ◌≢◌, ℕ, ◌+◌, ◌≤◌, ◌<◌, List, [], ◌∷◌, ◌++◌, length, take, append_assoc, append-nil, length-append, Option, Some, None, IfSome, refl, ap, sym, ◌∙◌, subst, arith, ⊎_elim}
 use Rattle.std.specs.Prelude.{slice_get}
 use Rattle.std.specs.List.{concat}
-use Rattle.std.specs.Io.KnownBytes.{Appends, Consumes, IsAtEnd}
+use Rattle.std.specs.Io.KnownBytes.{Appends, Consumes}
 use Rattle.std.proofs.KnownBytes.{Appends-trans}
 use Rattle.std.proofs.lemmas.List.{take_at, length_push}
 use Rattle.round_state.specs.EngineState.{EngineState}
 use Rattle.round_state.specs.Legal.{State}
-use Rattle.cobra.specs.declared.lines.TheConstants.{LONGEST_LINE}
-use Rattle.cobra.specs.declared.lines.LineReader.{LineReader}
-use Rattle.cobra.specs.declared.failures.Failure.{Failure}
-use Rattle.cobra.specs.declared.failures.Failure.TheVariants.{Device, NoMemory}
-use Rattle.cobra.specs.declared.lines.Next.{Next}
-use Rattle.cobra.specs.declared.lines.Next.TheVariants.{Line, TooLong, End}
-use Rattle.cobra.specs.LineReaders.{ahead, limit_of, lines_ahead, IsNextOf, ReadsLine, EndsAtLf, EndsAtEnd, StopsInLine}
-use Rattle.cobra.specs.Lines.{lines, lf_count}
+use Rattle.byte_lines.specs.declared.lines.TheConstants.{LONGEST_LINE}
+use Rattle.byte_lines.specs.declared.failures.Failure.{Failure}
+use Rattle.byte_lines.specs.declared.failures.Failure.TheVariants.{Device, NoMemory}
+use Rattle.byte_lines.specs.declared.lines.Next.{Next}
+use Rattle.byte_lines.specs.declared.lines.Next.TheVariants.{Line, TooLong, End}
+use Rattle.byte_lines.specs.LineReaders.{LineState, lines_ahead, IsNextOf, ReadsLine, EndsAtLf, EndsAtEnd, StopsInLine}
+use Rattle.byte_lines.specs.Lines.{lines, lf_count}
 use Rattle.cobra.specs.Outputs.{Replies, RepliesAll, IsOutputOf, IsOutput, lines_read, AnswersFront, StopsForMemory, StopsReading, StopsWriting, IsTold, RepliesLegally}
 use Rattle.cobra.specs.Scripts.{HoldsScript, IsUnderWay}
 use Rattle.cobra.proofs.LineCounts.{lf_count-append, lf_count-le-lines, no_lines, lf_count-line, lf_count-last, lf_count-stopped}
@@ -54,15 +53,15 @@ output_more asked output line text mid new before one = (
 -- While the input is served: what is left of it, what was read, the lines that were asked and answered, and those that
 -- were taken and aren't answered yet. A line is taken before more is read, so the lines whose end was read are those and
 -- the ones that are ahead.
-pub record IsServing (input : List ℕ) (reader : LineReader) (left : Option (List ℕ)) (output : List ℕ) (engine : Option EngineState) (taken : List (List ℕ)) : Type 0 where
+pub record IsServing (input : List ℕ) (reader : LineState) (left : Option (List ℕ)) (output : List ℕ) (engine : Option EngineState) (taken : List (List ℕ)) : Type 0 where
   pub rest : List ℕ
   pub left_is : left ≡ Some rest
   pub read : List ℕ
   pub input_is : input ≡ read ++ rest
   pub asked : List (List ℕ)
-  pub split : lines input ≡ asked ++ (taken ++ lines (ahead reader ++ rest))
-  pub no_more : lf_count read ≤ length asked + length taken + lf_count (ahead reader)
-  pub no_fewer : length asked + length taken + lf_count (ahead reader) ≤ lines_read read rest
+  pub split : lines input ≡ asked ++ (taken ++ lines (reader.ahead ++ rest))
+  pub no_more : lf_count read ≤ length asked + length taken + lf_count reader.ahead
+  pub no_fewer : length asked + length taken + lf_count reader.ahead ≤ lines_read read rest
   pub state : Option State
   pub answers : IsOutputOf asked output state
   pub holds : HoldsScript engine state
@@ -70,7 +69,7 @@ pub record IsServing (input : List ℕ) (reader : LineReader) (left : Option (Li
 pub under_way_first : (engine : Option EngineState) → engine ≡ None → IsUnderWay engine
 under_way_first engine first = (None, subst (λ (e : Option EngineState). HoldsScript e None) (sym first) tt)
 
-pub serving_first : (input : List ℕ) (reader : LineReader) (left : Option (List ℕ)) (engine : Option EngineState) → left ≡ Some input → ahead reader ≡ [] → engine ≡ None → IsServing input reader left [] engine []
+pub serving_first : (input : List ℕ) (reader : LineState) (left : Option (List ℕ)) (engine : Option EngineState) → left ≡ Some input → reader.ahead ≡ [] → engine ≡ None → IsServing input reader left [] engine []
 serving_first input reader left engine told none first = record {
   rest = input;
   left_is = told;
@@ -107,18 +106,18 @@ taken_line limit all after TooLong is h some =
 taken_line limit all after End is h some = absurd (some refl)
 
 -- a line is read
-pub serving_read : (input : List ℕ) (old new : LineReader) (a b : Option (List ℕ)) (output : List ℕ) (engine : Option EngineState) (more : List ℕ) (next : Next) → IsServing input old a output engine [] → Consumes a b more → ReadsLine old new (ahead old ++ more) b next → limit_of old ≡ LONGEST_LINE → IsNextOf (limit_of old) (lines_ahead old a) next (lines_ahead new b) → next ≢ End → (line : List ℕ) × IsTold line next × IsServing input new b output engine (line ∷ [])
+pub serving_read : (input : List ℕ) (old new : LineState) (a b : Option (List ℕ)) (output : List ℕ) (engine : Option EngineState) (more : List ℕ) (next : Next) → IsServing input old a output engine [] → Consumes a b more → ReadsLine old new (old.ahead ++ more) b next → old.limit ≡ LONGEST_LINE → IsNextOf old.limit (lines_ahead old a) next (lines_ahead new b) → next ≢ End → (line : List ℕ) × IsTold line next × IsServing input new b output engine (line ∷ [])
 serving_read input old new a None output engine more next s gone line limit is some = absurd (subst (λ (o : Option (List ℕ)). Consumes o None more) s.left_is gone)
 serving_read input old new a (Some rest) output engine more next s gone line limit is some =
     let left : s.rest ≡ more ++ rest = subst (λ (o : Option (List ℕ)). Consumes o (Some rest) more) s.left_is gone in
-    let found = taken_line (limit_of old) (lines (ahead old ++ s.rest)) (lines (ahead new ++ rest)) next limit (subst (λ (o : Option (List ℕ)). IsNextOf (limit_of old) (lines_ahead old o) next (Some (lines (ahead new ++ rest)))) s.left_is is) some in
+    let found = taken_line old.limit (lines (old.ahead ++ s.rest)) (lines (new.ahead ++ rest)) next limit (subst (λ (o : Option (List ℕ)). IsNextOf old.limit (lines_ahead old o) next (Some (lines (new.ahead ++ rest)))) s.left_is is) some in
     let all : input ≡ (s.read ++ more) ++ rest = s.input_is ∙ (ap (λ bytes. s.read ++ bytes) left ∙ sym (append_assoc s.read more rest)) in
-    let split : lines input ≡ s.asked ++ (found.0 ∷ lines (ahead new ++ rest)) = s.split ∙ ap (λ ls. s.asked ++ ls) found.2 in
-    let had : length s.asked + lf_count (ahead old) ≤ lines_read s.read (more ++ rest) = subst (λ bytes. length s.asked + lf_count (ahead old) ≤ lines_read s.read bytes) left (omega (arith, s.no_fewer)) in
-    let many : length s.asked + 1 + lf_count (ahead new) ≤ length (lines input) = omega (arith, ap (λ (ls : List (List ℕ)). length ls) split, length-append s.asked (found.0 ∷ lines (ahead new ++ rest)), length-append (ahead new) rest, lf_count-append (ahead new) rest, lf_count-le-lines (ahead new ++ rest)) in
-    let Counts : Type 0 = (lf_count (ahead old) + lf_count more ≤ 1 + lf_count (ahead new)) × ((0 < length rest) → 1 + lf_count (ahead new) ≤ lf_count (ahead old) + lf_count more) in
-    let at_lf : EndsAtLf old new (ahead old ++ more) next → Counts = λ e. let n = lf_count-line old new more next e in (omega (arith, n), λ some_left. omega (arith, n)) in
-    let at_end : EndsAtEnd old new (ahead old ++ more) (Some rest) next → Counts = λ e. let n = lf_count-last old new more (Some rest) next e in (omega (arith, n), λ some_left. absurd (omega (arith, ap (λ (bytes : List ℕ). length bytes) e.at_end))) in
+    let split : lines input ≡ s.asked ++ (found.0 ∷ lines (new.ahead ++ rest)) = s.split ∙ ap (λ ls. s.asked ++ ls) found.2 in
+    let had : length s.asked + lf_count old.ahead ≤ lines_read s.read (more ++ rest) = subst (λ bytes. length s.asked + lf_count old.ahead ≤ lines_read s.read bytes) left (omega (arith, s.no_fewer)) in
+    let many : length s.asked + 1 + lf_count new.ahead ≤ length (lines input) = omega (arith, ap (λ (ls : List (List ℕ)). length ls) split, length-append s.asked (found.0 ∷ lines (new.ahead ++ rest)), length-append new.ahead rest, lf_count-append new.ahead rest, lf_count-le-lines (new.ahead ++ rest)) in
+    let Counts : Type 0 = (lf_count old.ahead + lf_count more ≤ 1 + lf_count new.ahead) × ((0 < length rest) → 1 + lf_count new.ahead ≤ lf_count old.ahead + lf_count more) in
+    let at_lf : EndsAtLf old new (old.ahead ++ more) next → Counts = λ e. let n = lf_count-line old new more next e in (omega (arith, n), λ some_left. omega (arith, n)) in
+    let at_end : EndsAtEnd old new (old.ahead ++ more) (Some rest) next → Counts = λ e. let n = lf_count-last old new more (Some rest) next e in (omega (arith, n), λ some_left. absurd (omega (arith, ap (λ (bytes : List ℕ). length bytes) e.at_end))) in
     let counts : Counts = ⊎_elim at_lf at_end line.ends in (
       found.0,
       found.1,
@@ -130,7 +129,7 @@ serving_read input old new a (Some rest) output engine more next s gone line lim
         asked = s.asked;
         split = split;
         no_more = omega (arith, lf_count-append s.read more, s.no_more, counts.0);
-        no_fewer = count_read input s.read more rest (length s.asked + lf_count (ahead old)) (length s.asked + 1 + lf_count (ahead new)) all had many (λ some_left. omega (arith, counts.1 some_left));
+        no_fewer = count_read input s.read more rest (length s.asked + lf_count old.ahead) (length s.asked + 1 + lf_count new.ahead) all had many (λ some_left. omega (arith, counts.1 some_left));
         state = s.state;
         answers = s.answers;
         holds = s.holds;
@@ -138,7 +137,7 @@ serving_read input old new a (Some rest) output engine more next s gone line lim
     )
 
 -- the line is answered
-pub serving_answered : (input : List ℕ) (reader : LineReader) (left : Option (List ℕ)) (output : List ℕ) (engine new : Option EngineState) (line text : List ℕ) (next : Next) → IsServing input reader left output engine (line ∷ []) → IsTold line next → RepliesLegally engine next text new → IsServing input reader left (output ++ text) new []
+pub serving_answered : (input : List ℕ) (reader : LineState) (left : Option (List ℕ)) (output : List ℕ) (engine new : Option EngineState) (line text : List ℕ) (next : Next) → IsServing input reader left output engine (line ∷ []) → IsTold line next → RepliesLegally engine next text new → IsServing input reader left (output ++ text) new []
 serving_answered input reader left output engine new line text next s told legal =
     let after = legal line told s.state s.holds in
     let long = length_push s.asked line in
@@ -148,7 +147,7 @@ serving_answered input reader left output engine new line text next s told legal
       read = s.read;
       input_is = s.input_is;
       asked = s.asked ++ line ∷ [];
-      split = s.split ∙ sym (append_assoc s.asked (line ∷ []) (lines (ahead reader ++ s.rest)));
+      split = s.split ∙ sym (append_assoc s.asked (line ∷ []) (lines (reader.ahead ++ s.rest)));
       no_more = omega (arith, s.no_more, long);
       no_fewer = omega (arith, s.no_fewer, long);
       state = after.0;
@@ -157,7 +156,7 @@ serving_answered input reader left output engine new line text next s told legal
     }
 
 -- a line is read and answered
-pub serving_on : (input : List ℕ) (old new : LineReader) (a b first then_held now : Option (List ℕ)) (output : List ℕ) (engine after : Option EngineState) (more : List ℕ) (next : Next) (text : List ℕ) → IsServing input old a output engine [] → Consumes a b more → ReadsLine old new (ahead old ++ more) b next → limit_of old ≡ LONGEST_LINE → IsNextOf (limit_of old) (lines_ahead old a) next (lines_ahead new b) → next ≢ End → RepliesLegally engine next text after → Appends first then_held output → Appends then_held now text → (all : List ℕ) × Appends first now all × IsServing input new b all after []
+pub serving_on : (input : List ℕ) (old new : LineState) (a b first then_held now : Option (List ℕ)) (output : List ℕ) (engine after : Option EngineState) (more : List ℕ) (next : Next) (text : List ℕ) → IsServing input old a output engine [] → Consumes a b more → ReadsLine old new (old.ahead ++ more) b next → old.limit ≡ LONGEST_LINE → IsNextOf old.limit (lines_ahead old a) next (lines_ahead new b) → next ≢ End → RepliesLegally engine next text after → Appends first then_held output → Appends then_held now text → (all : List ℕ) × Appends first now all × IsServing input new b all after []
 serving_on input old new a b first then_held now output engine after more next text s gone line limit is some legal before one =
     let taken = serving_read input old new a b output engine more next s gone line limit is some in
     (output ++ text, Appends-trans first then_held now output text before one, serving_answered input new b output engine after taken.0 text next taken.2 taken.1 legal)
@@ -168,42 +167,42 @@ answered_front input output asked rest state split answers =
     subst (λ ls. IsOutputOf ls output state) (sym (ap (take (length asked)) split ∙ take_at asked rest (length asked) refl)) answers
 
 -- it stops where a line was read
-abbrev pub stops_at_line : (input : List ℕ) (reader : LineReader) (left : Option (List ℕ)) (output : List ℕ) (engine : Option EngineState) (taken : List (List ℕ)) → (s : IsServing input reader left output engine taken) → AnswersFront input left output (length s.asked) s.state
+abbrev pub stops_at_line : (input : List ℕ) (reader : LineState) (left : Option (List ℕ)) (output : List ℕ) (engine : Option EngineState) (taken : List (List ℕ)) → (s : IsServing input reader left output engine taken) → AnswersFront input left output (length s.asked) s.state
 stops_at_line input reader left output engine taken s = record {
   read = s.read;
   rest = s.rest;
   left_is = s.left_is;
   input_is = s.input_is;
   were_read = omega (arith, s.no_fewer);
-  answers = answered_front input output s.asked (taken ++ lines (ahead reader ++ s.rest)) s.state s.split s.answers;
+  answers = answered_front input output s.asked (taken ++ lines (reader.ahead ++ s.rest)) s.state s.split s.answers;
 }
 
-pub stops_for_memory_at_line : (input : List ℕ) (reader : LineReader) (left : Option (List ℕ)) (output : List ℕ) (engine : Option EngineState) (taken : List (List ℕ)) → IsServing input reader left output engine taken → StopsForMemory input left output
+pub stops_for_memory_at_line : (input : List ℕ) (reader : LineState) (left : Option (List ℕ)) (output : List ℕ) (engine : Option EngineState) (taken : List (List ℕ)) → IsServing input reader left output engine taken → StopsForMemory input left output
 stops_for_memory_at_line input reader left output engine taken s = (length s.asked, s.state, stops_at_line input reader left output engine taken s)
 
 -- it stops within the next line
-stops_within : (input : List ℕ) (reader : LineReader) (a b : Option (List ℕ)) (output : List ℕ) (engine : Option EngineState) (more : List ℕ) → (s : IsServing input reader a output engine []) → Consumes a b more → (front : AnswersFront input b output (length s.asked) s.state) × (front.read ≡ s.read ++ more)
+stops_within : (input : List ℕ) (reader : LineState) (a b : Option (List ℕ)) (output : List ℕ) (engine : Option EngineState) (more : List ℕ) → (s : IsServing input reader a output engine []) → Consumes a b more → (front : AnswersFront input b output (length s.asked) s.state) × (front.read ≡ s.read ++ more)
 stops_within input reader a None output engine more s gone = absurd (subst (λ (o : Option (List ℕ)). Consumes o None more) s.left_is gone)
 stops_within input reader a (Some rest) output engine more s gone =
     let left : s.rest ≡ more ++ rest = subst (λ (o : Option (List ℕ)). Consumes o (Some rest) more) s.left_is gone in
     let all : input ≡ (s.read ++ more) ++ rest = s.input_is ∙ (ap (λ bytes. s.read ++ bytes) left ∙ sym (append_assoc s.read more rest)) in
     let had : length s.asked ≤ lines_read s.read (more ++ rest) = subst (λ bytes. length s.asked ≤ lines_read s.read bytes) left (omega (arith, s.no_fewer)) in
-    let many : length s.asked ≤ length (lines input) = omega (arith, ap (λ (ls : List (List ℕ)). length ls) s.split, length-append s.asked (lines (ahead reader ++ s.rest))) in (
+    let many : length s.asked ≤ length (lines input) = omega (arith, ap (λ (ls : List (List ℕ)). length ls) s.split, length-append s.asked (lines (reader.ahead ++ s.rest))) in (
       record {
         read = s.read ++ more;
         rest = rest;
         left_is = refl;
         input_is = all;
         were_read = count_read input s.read more rest (length s.asked) (length s.asked) all had many (λ some_left. omega arith);
-        answers = answered_front input output s.asked (lines (ahead reader ++ s.rest)) s.state s.split s.answers;
+        answers = answered_front input output s.asked (lines (reader.ahead ++ s.rest)) s.state s.split s.answers;
       },
       refl,
     )
 
-pub stops_for_memory : (input : List ℕ) (reader : LineReader) (a b : Option (List ℕ)) (output : List ℕ) (engine : Option EngineState) (more : List ℕ) → IsServing input reader a output engine [] → Consumes a b more → StopsForMemory input b output
+pub stops_for_memory : (input : List ℕ) (reader : LineState) (a b : Option (List ℕ)) (output : List ℕ) (engine : Option EngineState) (more : List ℕ) → IsServing input reader a output engine [] → Consumes a b more → StopsForMemory input b output
 stops_for_memory input reader a b output engine more s gone = (length s.asked, s.state, (stops_within input reader a b output engine more s gone).0)
 
-pub stops_reading : (input : List ℕ) (old new : LineReader) (a b : Option (List ℕ)) (output : List ℕ) (engine : Option EngineState) (more : List ℕ) → IsServing input old a output engine [] → Consumes a b more → StopsInLine old new (ahead old ++ more) → ahead new ≡ [] → StopsReading input b output
+pub stops_reading : (input : List ℕ) (old new : LineState) (a b : Option (List ℕ)) (output : List ℕ) (engine : Option EngineState) (more : List ℕ) → IsServing input old a output engine [] → Consumes a b more → StopsInLine old new (old.ahead ++ more) → new.ahead ≡ [] → StopsReading input b output
 stops_reading input old new a b output engine more s gone stops none =
     let within = stops_within input old a b output engine more s gone in
     let none_left = lf_count-stopped old new more stops none in
@@ -228,7 +227,7 @@ slice_get-middle : (xs ys : List (List ℕ)) (y : List ℕ) → slice_get (xs ++
 slice_get-middle [] ys y = refl
 slice_get-middle (x ∷ xs) ys y = slice_get-middle xs ys y
 
-pub stops_writing : (input : List ℕ) (reader : LineReader) (left : Option (List ℕ)) (output : List ℕ) (engine new : Option EngineState) (line text : List ℕ) (next : Next) (n : ℕ) → IsServing input reader left output engine (line ∷ []) → IsTold line next → RepliesLegally engine next text new → n < length text → StopsWriting input left (output ++ take n text)
+pub stops_writing : (input : List ℕ) (reader : LineState) (left : Option (List ℕ)) (output : List ℕ) (engine new : Option EngineState) (line text : List ℕ) (next : Next) (n : ℕ) → IsServing input reader left output engine (line ∷ []) → IsTold line next → RepliesLegally engine next text new → n < length text → StopsWriting input left (output ++ take n text)
 stops_writing input reader left output engine new line text next n s told legal short =
     let after = legal line told s.state s.holds in
     record {
@@ -237,7 +236,7 @@ stops_writing input reader left output engine new line text next n s told legal 
       whole = output;
       front = stops_at_line input reader left output engine (line ∷ []) s;
       line = line;
-      line_is = ap (λ (ls : List (List ℕ)). slice_get ls (length s.asked)) s.split ∙ slice_get-middle s.asked (lines (ahead reader ++ s.rest)) line;
+      line_is = ap (λ (ls : List (List ℕ)). slice_get ls (length s.asked)) s.split ∙ slice_get-middle s.asked (lines (reader.ahead ++ s.rest)) line;
       line_read = omega (arith, s.no_fewer);
       text = text;
       after = after.0;
@@ -252,12 +251,12 @@ no_end [] ys e = e
 no_end (x ∷ xs) ys e = cc
 
 -- all lines are answered
-pub ends_whole : (input : List ℕ) (old new : LineReader) (a b : Option (List ℕ)) (output : List ℕ) (engine : Option EngineState) (more : List ℕ) → IsServing input old a output engine [] → Consumes a b more → IsNextOf (limit_of old) (lines_ahead old a) End (lines_ahead new b) → (b ≡ Some []) × IsOutput input output
+pub ends_whole : (input : List ℕ) (old new : LineState) (a b : Option (List ℕ)) (output : List ℕ) (engine : Option EngineState) (more : List ℕ) → IsServing input old a output engine [] → Consumes a b more → IsNextOf old.limit (lines_ahead old a) End (lines_ahead new b) → (b ≡ Some []) × IsOutput input output
 ends_whole input old new a None output engine more s gone is = absurd (subst (λ (o : Option (List ℕ)). Consumes o None more) s.left_is gone)
 ends_whole input old new a (Some rest) output engine more s gone is =
-    let none = subst (λ (o : Option (List ℕ)). IsNextOf (limit_of old) (lines_ahead old o) End (Some (lines (ahead new ++ rest)))) s.left_is is in
-    let used : lines (ahead new ++ rest) ≡ [] = cc in
+    let none = subst (λ (o : Option (List ℕ)). IsNextOf old.limit (lines_ahead old o) End (Some (lines (new.ahead ++ rest)))) s.left_is is in
+    let used : lines (new.ahead ++ rest) ≡ [] = cc in
     let all : lines input ≡ s.asked = s.split ∙ (ap (λ ls. s.asked ++ ls) none.1 ∙ append-nil s.asked) in (
-      ap Some (no_end (ahead new) rest (no_lines (ahead new ++ rest) used)),
+      ap Some (no_end new.ahead rest (no_lines (new.ahead ++ rest) used)),
       (s.state, subst (λ ls. IsOutputOf ls output s.state) (sym all) s.answers),
     )

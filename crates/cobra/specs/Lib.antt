@@ -1,8 +1,4 @@
 pub mod Demonstration
-pub mod Faults
-pub mod LineReaders
-pub mod Lines
-pub mod Memory
 pub mod Outputs
 pub mod Scripts
 pub mod StepReplies

@@ -1,5 +1,5 @@
 -- The output of a script: a line for each of its lines.
-use Rattle.std.specs.Prelude.{◌≡◌, ◌≢◌, ℕ, ◌<◌, ◌≤◌, ◌⊎◌, List, [], ◌∷◌, ◌++◌, length, take, slice_get, Option, Some, None}
+use Rattle.std.specs.Prelude.{◌≡◌, ℕ, ◌<◌, ◌≤◌, ◌⊎◌, List, [], ◌∷◌, ◌++◌, length, take, slice_get, Option, Some, None}
 use Rattle.std.specs.List.{concat}
 use Rattle.log_text.specs.declared.commands.Command.{Command}
 use Rattle.log_text.specs.declared.replies.Reply.{Reply}
@@ -7,9 +7,9 @@ use Rattle.log_text.specs.Commands.{IsCommand}
 use Rattle.log_text.specs.Replies.{line_of}
 use Rattle.round_state.specs.EngineState.{EngineState}
 use Rattle.round_state.specs.Legal.{State}
-use Rattle.cobra.specs.declared.lines.Next.{Next}
-use Rattle.cobra.specs.declared.lines.Next.TheVariants.{Line, TooLong, End}
-use Rattle.cobra.specs.Lines.{lines, lf_count}
+use Rattle.byte_lines.specs.declared.lines.Next.{Next}
+use Rattle.byte_lines.specs.declared.lines.Next.TheVariants.{Line, TooLong, End}
+use Rattle.byte_lines.specs.Lines.{lines, lf_count}
 use Rattle.cobra.specs.Scripts.{IsBadLine, Answers, HoldsScript}
 
 -- the line is the command, and isn't too long for one

@@ -1,10 +1,9 @@
-ghost use Rattle.std.specs.Prelude.{◌≡◌, ℕ, ◌<◌, List, [], ◌∷◌, length, take, IfOk, IfSome, OnOk, OnErr, IsErrOf};
+ghost use Rattle.std.specs.Prelude.{◌≡◌, ℕ, ◌+◌, ◌<◌, List, [], ◌∷◌, length, take, IfOk, IfSome, OnOk, OnErr, IsErrOf};
 ghost use Rattle.std.specs.Io.KnownBytes.{Appends, Keeps};
 ghost use Rattle.cobra.specs.Demonstration.{shown_txns, shown_fragment, shown_steps, IsShownReport, IsShownLine};
 
-use crate::devices::{ByteSink, write_all};
-use crate::failures::Failure;
 use crate::replies::reply_of;
+use byte_lines::{ByteSink, Failure, write_all};
 use log_text::write_reply;
 use round_state::{Engine, Report, Step, StepReply, TrialSolver};
 use std::alloc::{AllocError, Global};
@@ -97,7 +96,7 @@ pub fn demo<W: ByteSink>(alloc: Global, sink: &mut W) -> Result<(), Failure>
 
     // A proper front of the line is written.
     ensures front { IsErrOf result Failure.Device → ((line : List ℕ) × (n : ℕ) × IsShownLine line × (n < length line) × Appends (W.contents sink.old) (W.contents sink.new) (take n line)) }
-    ensures failed { IsErrOf result Failure.Device → W.faults sink.old < W.faults sink.new }
+    ensures failed { IsErrOf result Failure.Device → W.faults sink.new ≡ W.faults sink.old + 1 }
 
     ensures unwritten { IsErrOf result Failure.NoMemory → Keeps (W.contents sink.old) (W.contents sink.new) }
     ensures unfailed { IsErrOf result Failure.NoMemory → W.faults sink.new ≡ W.faults sink.old }
@@ -106,6 +105,3 @@ pub fn demo<W: ByteSink>(alloc: Global, sink: &mut W) -> Result<(), Failure>
     write_all(sink, &line)?;
     Ok(())
 }
-
-#[cfg(test)]
-mod tests;

@@ -5,9 +5,9 @@ ghost use Rattle.round_state.specs.Solving.{AreLimits};
 ghost use Rattle.cobra.specs.Outputs.{Asks, IsTold, AnswersLineLegally, RepliesLegally};
 ghost use Rattle.cobra.specs.Scripts.{IsUnderWay, EndsLegally, RoundsLegally, AnswersOpenLegally, AnswersLegally};
 
-use crate::lines::Next;
 use crate::replies::reply_of;
 use crate::showing::state_told;
+use byte_lines::Next;
 use log_text::{Command, Reply, read_line, write_reply};
 use round_state::{Engine, Solver, Step, StepReply};
 use std::alloc::{AllocError, Global};

@@ -1,11 +1,9 @@
-ghost use Rattle.std.specs.Prelude.{◌≡◌, ℕ, ◌<◌, ◌⊎◌, List, [], Some, IfSome, OnOk, IsErrOf};
+ghost use Rattle.std.specs.Prelude.{◌≡◌, ℕ, ◌+◌, ◌<◌, ◌⊎◌, List, [], Some, IfSome, OnOk, IsErrOf};
 ghost use Rattle.std.specs.Io.KnownBytes.{Appends};
 ghost use Rattle.cobra.specs.Outputs.{IsOutput, StopsForMemory, StopsReading, StopsWriting};
 
-use crate::devices::{ByteSink, ByteSource, write_all};
-use crate::failures::Failure;
-use crate::lines::{LONGEST_LINE, LineReader, Next};
 use crate::scripts::Script;
+use byte_lines::{ByteSink, ByteSource, Failure, LONGEST_LINE, LineReader, Next, write_all};
 use round_state::Solver;
 use std::alloc::Global;
 
@@ -26,8 +24,8 @@ pub fn serve<R: ByteSource, W: ByteSink, S: Solver>(
     ensures stops_writing { W.faults sink.old < W.faults sink.new → IfSome (R.remaining source.old) (λ input. (output : List ℕ) × StopsWriting input (R.remaining source.new) output × Appends (W.contents sink.old) (W.contents sink.new) output) }
     ensures stops_for_memory { IsErrOf result Failure.NoMemory → IfSome (R.remaining source.old) (λ input. (output : List ℕ) × StopsForMemory input (R.remaining source.new) output × Appends (W.contents sink.old) (W.contents sink.new) output) }
 
-    // One of the devices failed, where that is the answer, and else none did.
-    ensures device { IsErrOf result Failure.Device → ((R.faults source.old < R.faults source.new) × (W.faults sink.new ≡ W.faults sink.old)) ⊎ ((R.faults source.new ≡ R.faults source.old) × (W.faults sink.old < W.faults sink.new)) }
+    // One of the devices failed, once, where that is the answer, and else none did.
+    ensures device { IsErrOf result Failure.Device → ((R.faults source.new ≡ R.faults source.old + 1) × (W.faults sink.new ≡ W.faults sink.old)) ⊎ ((R.faults source.new ≡ R.faults source.old) × (W.faults sink.new ≡ W.faults sink.old + 1)) }
     ensures none_failed { ¬ IsErrOf result Failure.Device → (R.faults source.new ≡ R.faults source.old) × (W.faults sink.new ≡ W.faults sink.old) }
 {
     let mut reader = LineReader::new(alloc, LONGEST_LINE)?;
@@ -41,6 +39,3 @@ pub fn serve<R: ByteSource, W: ByteSink, S: Solver>(
         write_all(sink, &text)?;
     }
 }
-
-#[cfg(test)]
-mod tests;

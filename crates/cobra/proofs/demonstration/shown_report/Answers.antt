@@ -1,6 +1,6 @@
 use Rattle.std.proofs.Common.{◌≡◌, List, [], ◌∷◌, subst}
 use Rattle.round_state.specs.EngineState.{EngineState}
-use Rattle.round_state.specs.Legal.{State, LegalRun}
+use Rattle.round_state.specs.Legal.{LegalRun}
 use Rattle.round_state.specs.Opening.{fresh_state}
 use Rattle.round_state.specs.Runs.{Holds, RunsLegally}
 use Rattle.round_state.specs.declared.reports.Report.{Report}

@@ -1,7 +1,6 @@
 use Rattle.std.proofs.Common.{◌≡◌}
 use Rattle.std.proofs.lemmas.Result.{IfOk-weaker}
 use Rattle.log_text.specs.declared.commands.Command.TheVariants.{Show}
-use Rattle.log_text.specs.declared.replies.Reply.{Reply}
 use Rattle.round_state.specs.declared.steps.Step.TheVariants as step
 use Rattle.cobra.specs.Scripts.{state_told, AnswersOpenLegally}
 use Rattle.cobra.proofs.ScriptRounds.{step_told, round_told, show_told, out_of_place}

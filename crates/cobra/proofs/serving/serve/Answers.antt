@@ -1,8 +1,8 @@
-use Rattle.std.proofs.Common.{◌≡◌, ◌<◌, ◌⊎◌, ℕ, List, [], ◌++◌, take, Some, Err, refl, sym, ap, ◌∙◌, inl, inr, arith}
+use Rattle.std.proofs.Common.{◌≡◌, [], ◌++◌, take, Err, refl, ap, ◌∙◌, inr, arith}
 use Rattle.std.proofs.KnownBytes.{Appends-nil, Appends-trans}
 use Rattle.std.proofs.lemmas.Result.{err_from_is_err_and}
-use Rattle.cobra.specs.declared.failures.Failure.{Failure}
-use Rattle.cobra.specs.declared.failures.Failure.TheVariants.{Device, NoMemory}
+use Rattle.byte_lines.specs.declared.failures.Failure.{Failure}
+use Rattle.byte_lines.specs.declared.failures.Failure.TheVariants.{Device}
 use Rattle.cobra.specs.Outputs.{IsOutput, StopsForMemory, StopsReading, StopsWriting}
 use Rattle.cobra.proofs.ServedLines.{where_told, is_device, under_way_first, serving_first, serving_read, serving_on, stops_first, stops_for_memory, stops_for_memory_at_line, stops_reading, stops_writing, ends_whole}
 use Rattle.cobra.proofs.serving.serve.Goals as goal

@@ -1,8 +1,8 @@
 -- A script is under way, and what was written so far answers the lines before the one that is next.
-use Rattle.std.proofs.Common.{◌≡◌, ◌≤◌, ℕ, List, [], Option, Some}
+use Rattle.std.proofs.Common.{◌≡◌, ℕ, List, [], Some}
 use Rattle.std.specs.Io.KnownBytes.{Appends}
-use Rattle.cobra.specs.declared.lines.TheConstants.{LONGEST_LINE}
-use Rattle.cobra.specs.LineReaders.{limit_of, under_way, lines_left}
+use Rattle.byte_lines.specs.declared.lines.TheConstants.{LONGEST_LINE}
+use Rattle.byte_lines.specs.LineReaders.{lines_left}
 use Rattle.cobra.specs.Scripts.{IsUnderWay}
 use Rattle.cobra.proofs.ServedLines.{IsServing}
 use Rattle.cobra.proofs.serving.serve.Given as goal
@@ -10,8 +10,8 @@ use Rattle.cobra.proofs.serving.serve.Given as goal
 abbrev pub invariant-loop-script : goal.invariant-loop-script
 invariant-loop-script g l = record {
   script : IsUnderWay l.script.engine;
-  fresh : under_way l.reader ≡ Some [];
-  limit : limit_of l.reader ≡ LONGEST_LINE;
+  fresh : l.reader.under_way ≡ Some [];
+  limit : l.reader.limit ≡ LONGEST_LINE;
   told : (input : List ℕ) → g.R.ByteSource.remaining l.initial.source ≡ Some input → (output : List ℕ) × Appends (g.W.ByteSink.contents l.initial.sink) (g.W.ByteSink.contents l.sink) output × IsServing input l.reader (g.R.ByteSource.remaining l.source) output l.script.engine [];
   read : g.R.ByteSource.faults l.source ≡ g.R.ByteSource.faults l.initial.source;
   written : g.W.ByteSink.faults l.sink ≡ g.W.ByteSink.faults l.initial.sink;

@@ -1,0 +1,4 @@
+pub mod Faults
+pub mod LineReaders
+pub mod Lines
+pub mod Memory
