@@ -1,5 +1,5 @@
 -- Parts with a session closed.
-use Rattle.std.proofs.Common.{◌≡◌, ℕ, zero, suc, ◌↔◌, true, Bool, List, [], ◌∷◌, ◌++◌, Some, refl, sym, subst, ap, ◌∙◌}
+use Rattle.std.proofs.Common.{◌≡◌, ℕ, zero, suc, true, Bool, List, [], ◌∷◌, Some, refl}
 use Rattle.std.specs.Prelude.{slice_get, slice_set}
 use Rattle.std.proofs.lemmas.List.Elements.{All-weaker}
 use Rattle.txn.specs.declared.transactions.TxnId.{TxnId}
@@ -12,7 +12,7 @@ use Rattle.order_check.specs.declared.remainder.Kind.{Kind}
 use Rattle.order_check.specs.declared.remainder.Kind.TheVariants.{Serial, Pending, Violated, Spent}
 use Rattle.order_check.specs.Explains.{Explains, Meets}
 use Rattle.order_check.specs.Verdict.{HasOrder, IsVerdict}
-use Rattle.order_check.specs.StandsFor.{StandsFor, IsOpenSession, IsNextFragment, MayCome, parts_with, parts_then, parts_closed}
+use Rattle.order_check.specs.StandsFor.{StandsFor, MayCome, parts_with, parts_then, parts_closed}
 
 -- parts with these flags
 abbrev flagged : Parts → List Bool → Parts

@@ -1,5 +1,5 @@
 -- Every order that explains the parts keeps the known relation.
-use Rattle.std.proofs.Common.{◌≡◌, ◌≢◌, ℕ, ◌+◌, ◌-◌, ◌<◌, ◌≤◌, ◌⊎◌, Bool, true, false, cond, List, [], ◌∷◌, ◌++◌, length, Some, None, Option, refl, sym, subst, ◌∙◌, inl, inr, arith, suc, zero, ap, IsSome, nat_lt}
+use Rattle.std.proofs.Common.{◌≡◌, ◌≢◌, ℕ, ◌+◌, ◌-◌, ◌<◌, ◌≤◌, ◌⊎◌, Bool, true, false, cond, List, ◌∷◌, ◌++◌, length, Some, None, Option, refl, sym, subst, ◌∙◌, inl, inr, arith, suc, zero, ap, IsSome, nat_lt}
 use Rattle.std.specs.Prelude.{Contains, IsSomeAnd}
 use Rattle.std.specs.List.{slice_get}
 use Rattle.std.proofs.lemmas.Bool.{false≢true, eq-eqb, ltb-false, cases_lt}
@@ -11,10 +11,9 @@ use Rattle.txn.specs.declared.transactions.Source.TheVariants.{Init, By}
 use Rattle.txn.specs.declared.choices.Choice.{Choice}
 use Rattle.txn.specs.History.{in_session, ids_from, writes_key, NoneWrites, IsLastWriter}
 use Rattle.order_check.specs.declared.remainder.Parts.{Parts}
-use Rattle.order_check.specs.Based.{mark_of, remaining_of, remaining_ids, remaining_at, Remains}
-use Rattle.order_check.specs.Good.{IsGood}
+use Rattle.order_check.specs.Based.{mark_of, remaining_of, remaining_ids, remaining_at, Remains, HasGoneBase}
 use Rattle.order_check.specs.Explains.{Explains, Meets}
-use Rattle.order_check.specs.Known.{Known, IsChoice, ReadsKey, WritesKey, ReadsBase, IsBaseSource, by_session, by_read, by_base, by_taken, through, forces_after, forces_before}
+use Rattle.order_check.specs.Known.{IsChoice, ReadsKey, WritesKey, ReadsBase, IsBaseSource}
 use Rattle.order_check.specs.Precedes.{Precedes}
 use Rattle.order_check.proofs.Places.{IsAt, filtered_at, precedes_filtered, precedes_filter, place_in, place_left, place_right, split_at}
 use Rattle.order_check.proofs.SessionIds.{ids_from_at, id_at_place}
@@ -168,7 +167,7 @@ pub precedes_left : {X : Type 0} (xs ys : List X) (a b : X) → Precedes xs a b 
 precedes_left xs ys a b (i, j, below, here, there) = (i, j, below, place_left xs ys i a here, place_left xs ys j b there)
 
 -- the choice's other writer stands after the reader, or before the writer
-choice_sides : (parts : Parts) (order : List TxnId) (choice : Choice) → Explains parts order → IsChoice parts choice → Precedes order choice.reader choice.other ⊎ Precedes order choice.other choice.writer
+pub choice_sides : (parts : Parts) (order : List TxnId) (choice : Choice) → Explains parts order → IsChoice parts choice → Precedes order choice.reader choice.other ⊎ Precedes order choice.other choice.writer
 choice_sides parts order choice h is = by_place (around_reader parts order choice.reader choice.other choice.key (By choice.writer) h is.reads is.other is.not_reader)
   where
     by_place : ReaderAndWriter parts order choice.reader choice.other choice.key (By choice.writer) → Precedes order choice.reader choice.other ⊎ Precedes order choice.other choice.writer
@@ -183,7 +182,7 @@ choice_sides parts order choice h is = by_place (around_reader parts order choic
         by_side (inr at) = by_writer (front_writer parts around.front choice.key choice.writer choice.other (around.met.remaining (writer_remains parts choice.writer choice.key is.written)) is.other at)
 
 -- who reads from a writer that remains stands after it
-read_precedes : (parts : Parts) (order : List TxnId) (reader writer : TxnId) (key : ℕ) → Explains parts order → ReadsKey parts reader key (By writer) → WritesKey parts writer key → Precedes order writer reader
+pub read_precedes : (parts : Parts) (order : List TxnId) (reader writer : TxnId) (key : ℕ) → Explains parts order → ReadsKey parts reader key (By writer) → WritesKey parts writer key → Precedes order writer reader
 read_precedes parts order reader writer key h reads writes = by_place (stands parts order reader h (reader_remains parts reader key (By writer) reads))
   where
     by_place : IsAt order reader → Precedes order writer reader
@@ -200,12 +199,12 @@ read_precedes parts order reader writer key h reads writes = by_place (stands pa
                 (length older + 0, t, omega arith, first, here)
 
 -- who reads a key from the base stands before every other writer of the key
-base_precedes : (parts : Parts) (order : List TxnId) (reader other : TxnId) (key : ℕ) → IsGood parts → Explains parts order → ReadsBase parts reader key → WritesKey parts other key → other ≢ reader → Precedes order reader other
+pub base_precedes : (parts : Parts) (order : List TxnId) (reader other : TxnId) (key : ℕ) → HasGoneBase parts → Explains parts order → ReadsBase parts reader key → WritesKey parts other key → other ≢ reader → Precedes order reader other
 base_precedes parts order reader other key good h (source, reads, from_base) writes apart = by_place (around_reader parts order reader other key source h reads writes apart)
   where
     nothing : (front : List TxnId) (source : Source) → IsBaseSource parts key source → Meets parts front key source → NoneWrites (remaining_at parts) key front
     nothing front Init base met = met.1
-    nothing front (By writer) base met = (met.gone (good.base key writer base)).1
+    nothing front (By writer) base met = (met.gone (good key writer base)).1
 
     by_place : ReaderAndWriter parts order reader other key source → Precedes order reader other
     by_place around = by_side around.where_other
@@ -217,21 +216,3 @@ base_precedes parts order reader other key good h (source, reads, from_base) wri
             let same = get_or_from_slice_get around.front v other other at in
             let quiet : writes_key (remaining_at parts other) key ≡ false = subst (λ id. writes_key (remaining_at parts id) key ≡ false) same silent in
             absurd (false≢true (sym quiet ∙ writes))
-
--- every order that explains good parts keeps the known relation
-pub keeps_known : (parts : Parts) (order : List TxnId) (a b : TxnId) → IsGood parts → Explains parts order → Known parts [] a b → Precedes order a b
-keeps_known parts order a b good h (by_session ra rb same below) = session_precedes parts order a b h ra rb same below
-keeps_known parts order a b good h (by_read key reads writes) = read_precedes parts order b a key h reads writes
-keeps_known parts order a b good h (by_base key reads writes apart) = base_precedes parts order a b key good h reads writes apart
-keeps_known parts order a b good h (by_taken (k, within, is)) = absurd (omega arith)
-keeps_known parts order a b good h (through {b = m} first second) = precedes_through parts order a m b h (keeps_known parts order a m good h first) (keeps_known parts order m b good h second)
-keeps_known parts order a b good h (forces_after choice is before) = by_side (choice_sides parts order choice h is) (keeps_known parts order choice.writer choice.other good h before)
-  where
-    by_side : Precedes order choice.reader choice.other ⊎ Precedes order choice.other choice.writer → Precedes order choice.writer choice.other → Precedes order choice.reader choice.other
-    by_side (inl after) known = after
-    by_side (inr before) known = absurd (never_twice parts order choice.writer h (precedes_through parts order choice.writer choice.other choice.writer h known before))
-keeps_known parts order a b good h (forces_before choice is before) = by_side (choice_sides parts order choice h is) (keeps_known parts order choice.other choice.reader good h before)
-  where
-    by_side : Precedes order choice.reader choice.other ⊎ Precedes order choice.other choice.writer → Precedes order choice.other choice.reader → Precedes order choice.other choice.writer
-    by_side (inl after) known = absurd (never_twice parts order choice.reader h (precedes_through parts order choice.reader choice.other choice.reader h after known))
-    by_side (inr before) known = before

@@ -1,5 +1,5 @@
 -- Histories of which a part is gone: what is gone, what remains, and what was received.
-use Rattle.std.specs.Prelude.{ℕ, ◌+◌, ◌-◌, ◌<◌, List, [], ◌∷◌, length, slice_get, slice_index, None, Option, IsSome, nat_lt, if◌then◌else◌}
+use Rattle.std.specs.Prelude.{◌≡◌, ℕ, ◌+◌, ◌-◌, ◌<◌, List, [], ◌∷◌, length, slice_get, slice_index, Some, None, Option, IsSome, nat_lt, if◌then◌else◌}
 use Rattle.std.specs.FinMap.{get}
 use Rattle.txn.specs.declared.transactions.TxnId.{TxnId}
 use Rattle.txn.specs.declared.transactions.Txn.{Txn}
@@ -46,6 +46,10 @@ IsReceived parts id = id.number < received_count parts id.session
 -- the last gone writer of a key
 abbrev pub last_gone : Parts → ℕ → Option TxnId
 last_gone parts key = get parts.base.last key
+
+-- each last gone writer is gone
+abbrev pub HasGoneBase : Parts → Type 0
+HasGoneBase parts = (key : ℕ) (writer : TxnId) → last_gone parts key ≡ Some writer → IsGone parts writer
 
 -- the ids of a session that remain, in order of number
 abbrev pub remaining_ids : Parts → ℕ → List TxnId

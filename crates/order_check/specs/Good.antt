@@ -1,10 +1,9 @@
 -- The rules that parts keep.
 use Rattle.std.specs.Prelude.{◌≡◌, ℕ, ◌+◌, ◌≤◌, ◌^◌, length, slice_get, Some, sum_by}
-use Rattle.txn.specs.declared.transactions.TxnId.{TxnId}
 use Rattle.txn.specs.declared.transactions.Txn.{Txn}
 use Rattle.txn.specs.Transactions.{IsWellFormed, IsShort}
 use Rattle.order_check.specs.declared.remainder.Parts.{Parts}
-use Rattle.order_check.specs.Based.{mark_of, remaining_of, received_count, last_gone, IsGone}
+use Rattle.order_check.specs.Based.{mark_of, remaining_of, received_count, HasGoneBase}
 
 pub record IsGood (parts : Parts) : Type 0 where
   -- 1 to 64 sessions, each with a mark and a flag
@@ -22,4 +21,4 @@ pub record IsGood (parts : Parts) : Type 0 where
   pub well_formed : (s n : ℕ) (txn : Txn) → slice_get (remaining_of parts s) n ≡ Some txn → IsWellFormed (record { session = s; number = mark_of parts s + n }) txn
   pub short : (s n : ℕ) (txn : Txn) → slice_get (remaining_of parts s) n ≡ Some txn → IsShort txn
   -- a last gone writer is gone
-  pub base : (key : ℕ) (writer : TxnId) → last_gone parts key ≡ Some writer → IsGone parts writer
+  pub base : HasGoneBase parts

@@ -1,5 +1,7 @@
+pub mod BadReads
 pub mod Based
 pub mod Codes
+pub mod CutLaws
 pub mod Cuts
 pub mod Cycles
 pub mod Explains
@@ -13,8 +15,12 @@ pub mod Replay
 pub mod Rows
 pub mod Rules
 pub mod SameContent
+pub mod Search
+pub mod SearchLaws
 pub mod Settled
 pub mod StandsFor
+pub mod TakenLaws
+pub mod TakenSides
 pub mod Verdict
 pub mod Waiting
 pub mod Whole

@@ -2,7 +2,7 @@
 use Rattle.std.specs.Prelude.{◌≡◌, ℕ, ◌<◌, List, [], slice_get, Some}
 use Rattle.txn.specs.declared.transactions.TxnId.{TxnId}
 use Rattle.order_check.specs.declared.remainder.Parts.{Parts}
-use Rattle.order_check.specs.Good.{IsGood}
+use Rattle.order_check.specs.Based.{HasGoneBase}
 use Rattle.order_check.specs.Explains.{Explains}
 use Rattle.order_check.specs.Known.{Known}
 
@@ -10,10 +10,10 @@ use Rattle.order_check.specs.Known.{Known}
 abbrev pub Precedes : {X : Type 0} → List X → X → X → Type 0
 Precedes xs earlier later = (i j : ℕ) × (i < j) × (slice_get xs i ≡ Some earlier) × (slice_get xs j ≡ Some later)
 
--- every order that explains the parts keeps the known relation
+-- where each last gone writer is gone, every order that explains the parts keeps the known relation
 abbrev pub KeepsKnown : Type 0
-KeepsKnown = (parts : Parts) (order : List TxnId) (a b : TxnId) → IsGood parts → Explains parts order → Known parts [] a b → Precedes order a b
+KeepsKnown = (parts : Parts) (order : List TxnId) (a b : TxnId) → HasGoneBase parts → Explains parts order → Known parts [] a b → Precedes order a b
 
--- where a transaction is known to come before itself, no order explains the parts
+-- where each last gone writer is gone, and a transaction is known to come before itself, no order explains the parts
 abbrev pub CycleLeavesNoOrder : Type 0
-CycleLeavesNoOrder = (parts : Parts) (order : List TxnId) (id : TxnId) → IsGood parts → Known parts [] id id → ¬ Explains parts order
+CycleLeavesNoOrder = (parts : Parts) (order : List TxnId) (id : TxnId) → HasGoneBase parts → Known parts [] id id → ¬ Explains parts order

@@ -1,6 +1,7 @@
 //! Which orders explain a history of which a part is gone, and what its verdict is.
 #![tactic(auto)]
 
+mod cut_laws;
 mod explaining;
 mod facts;
 mod known_laws;
@@ -8,9 +9,12 @@ mod laws;
 mod lookups;
 mod remainder;
 mod rules;
+mod search_laws;
+mod taken_laws;
 mod trial;
 mod waiting;
 
+pub use cut_laws::{cut_keeps_stands_for, fence_splits_orders, split_law};
 pub use explaining::explains;
 pub use facts::{
     row_empty, row_first_cut, row_gone_read, row_lost_update, row_not_a_writer, row_open_choice,
@@ -23,6 +27,11 @@ pub use laws::{
     verdict_as_of_whole, verdict_as_stood_for, violated_is_final,
 };
 pub use remainder::{Base, Kind, LastWriters, Parts};
+pub use search_laws::{scans_are_bounded, scans_find_one};
+pub use taken_laws::{
+    bad_read_leaves_none, cycle_of_arcs_leaves_none, keeping_explains, orders_keep_taken,
+    orders_take_sides,
+};
 pub use trial::{brute, find_order};
 
 #[cfg(test)]

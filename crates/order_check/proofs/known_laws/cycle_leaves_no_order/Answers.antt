@@ -1,4 +1,5 @@
-use Rattle.order_check.proofs.OrderLaws.{keeps_known, never_twice}
+use Rattle.order_check.proofs.OrderLaws.{never_twice}
+use Rattle.order_check.proofs.TakenLaws.{keeps_known}
 use Rattle.order_check.proofs.known_laws.cycle_leaves_no_order.Goals as goal
 
 pub returns : goal.returns

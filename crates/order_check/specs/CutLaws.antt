@@ -1,0 +1,32 @@
+-- Laws of cuts.
+use Rattle.std.specs.Prelude.{◌≡◌, ◌↔◌, List, ◌∷◌, ◌++◌, Contains}
+use Rattle.std.specs.Ordering.{nat_cmp}
+use Rattle.std.specs.FinMap.{FinMap}
+use Rattle.txn.specs.declared.transactions.TxnId.{TxnId}
+use Rattle.txn.specs.History.{History}
+use Rattle.order_check.specs.declared.remainder.Parts.{Parts}
+use Rattle.order_check.specs.Based.{HasGoneBase, HasPending}
+use Rattle.order_check.specs.Cuts.{IsFront, GoesOn, MayGoOn, IsCutBehind}
+use Rattle.order_check.specs.Explains.{Explains}
+use Rattle.order_check.specs.Settled.{IsSettled, IsCutAt, IsCutOf, InFront}
+use Rattle.order_check.specs.StandsFor.{StandsFor}
+use Rattle.order_check.specs.Verdict.{HasOrder}
+
+-- the fence stands in the order behind all that is in front of it, and before all the rest
+abbrev pub SplitsAt : Parts → TxnId → List TxnId → Type 0
+SplitsAt front fence order = (before after : List TxnId) × (order ≡ before ++ fence ∷ after) × ((id : TxnId) → Contains before id → InFront front fence id) × ((id : TxnId) → Contains after id → ¬ InFront front fence id)
+
+-- Where a fence is settled in a front in which every session that goes on counts as open, every order that explains the
+-- whole has what is in front of the fence in front, ending with the fence.
+abbrev pub FenceSplitsOrders : Type 0
+FenceSplitsOrders = (front whole : Parts) (fence : TxnId) (order : List TxnId) → HasGoneBase whole → IsFront front whole → IsSettled front (GoesOn front whole) fence → Explains whole order → SplitsAt front fence order
+
+-- The split law: where some order explains the front, the whole has an order exactly where what the cut leaves has one, and a
+-- pending read exactly where that has one.
+abbrev pub SplitLaw : Type 0
+SplitLaw = (front whole new : Parts) (gone : List TxnId) (last : FinMap nat_cmp TxnId) → HasGoneBase whole → HasOrder front → IsCutBehind front whole gone last new → (HasOrder whole ↔ HasOrder new) × (HasPending whole ↔ HasPending new)
+
+-- A cut keeps what parts stand for: of a front that some order explains, at a fence that is settled there where every session
+-- that is still open, or has gone on past the front, counts as open.
+abbrev pub CutKeepsStandsFor : Type 0
+CutKeepsStandsFor = (front old new : Parts) (history : History) (fence : TxnId) (gone : List TxnId) (last : FinMap nat_cmp TxnId) → HasGoneBase old → StandsFor old history → HasOrder front → IsFront front old → IsSettled front (MayGoOn front old) fence → IsCutAt front fence gone last → IsCutOf old new gone last → StandsFor new history
