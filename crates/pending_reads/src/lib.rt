@@ -2,7 +2,5 @@
 #![tactic(auto)]
 
 mod index;
-#[cfg(test)]
-mod tests;
 
 pub use index::{PendingRead, PendingReads};

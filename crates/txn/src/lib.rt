@@ -5,8 +5,6 @@
 mod choices;
 mod refusals;
 mod sequences;
-#[cfg(test)]
-mod tests;
 mod transactions;
 mod well_formed;
 
