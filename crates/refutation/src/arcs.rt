@@ -1,0 +1,171 @@
+ghost use Rattle.std.specs.Prelude.{◌≡◌, ◌↔◌, ◌∷◌, Any, Contains, IsTrue, reverse};
+ghost use Rattle.order_check.specs.Based.{Remains, IsGone, remaining_at};
+ghost use Rattle.order_check.specs.BadReads.{IsSilent, IsOverwritten};
+ghost use Rattle.order_check.specs.Cycles.{IsArc, IsPath, IsCycle};
+ghost use Rattle.refutation.specs.Reading.{reads_in};
+ghost use Rattle.order_check.specs.Known.{ReadsKey, WritesKey, ReadsBase, IsBaseSource, IsChoice};
+
+use order_check::Parts;
+use txn::{Arc, Choice, Source, TxnId};
+
+fn remains(parts: &Parts, id: TxnId) -> bool
+    ensures { IsTrue result ↔ Remains parts.now id }
+{
+    parts.remaining_at(id).is_some()
+}
+
+fn is_gone(parts: &Parts, id: TxnId) -> bool
+    ensures { IsTrue result ↔ IsGone parts.now id }
+{
+    id.number < parts.mark_of(id.session)
+}
+
+fn writes(parts: &Parts, id: TxnId, key: u64) -> bool
+    ensures { IsTrue result ↔ WritesKey parts.now id key }
+{
+    match parts.remaining_at(id) {
+        Some(txn) => txn.writes.as_slice().contains(&key),
+        None => false,
+    }
+}
+
+fn reads(parts: &Parts, id: TxnId, key: u64, source: Source) -> bool
+    ensures { IsTrue result ↔ ReadsKey parts.now id key source }
+{
+    match parts.remaining_at(id) {
+        Some(txn) => txn.reads.as_slice().contains(&(key, source)),
+        None => false,
+    }
+}
+
+/// The source that a read of the key from the base names.
+fn base_source(parts: &Parts, key: u64) -> Source
+    ensures { IsBaseSource parts.now key result }
+{
+    match parts.last_gone(key) {
+        Some(writer) => Source::By(writer),
+        None => Source::Init,
+    }
+}
+
+fn reads_base(parts: &Parts, id: TxnId, key: u64) -> bool
+    ensures { IsTrue result ↔ ReadsBase parts.now id key }
+{
+    reads(parts, id, key, base_source(parts, key))
+}
+
+pub fn is_choice(parts: &Parts, choice: Choice) -> bool
+    ensures { IsTrue result ↔ IsChoice parts.now choice }
+{
+    reads(parts, choice.reader, choice.key, Source::By(choice.writer))
+        && writes(parts, choice.writer, choice.key)
+        && writes(parts, choice.other, choice.key)
+        && choice.other != choice.writer
+        && choice.other != choice.reader
+}
+
+fn is_among(sides: &[(TxnId, TxnId)], side: (TxnId, TxnId)) -> bool
+    ensures { IsTrue result ↔ Contains sides.now side }
+{
+    sides.contains(&side)
+}
+
+/// Whether the side is among those taken, the last one last.
+fn is_taken(taken: &[(TxnId, TxnId)], side: (TxnId, TxnId)) -> bool
+    ensures { IsTrue result ↔ Contains (reverse taken.now) side }
+{
+    is_among(taken, side)
+}
+
+/// Whether the arc is right where these sides are taken, the last one last.
+fn is_arc(parts: &Parts, taken: &[(TxnId, TxnId)], arc: Arc) -> bool
+    ensures { IsTrue result ↔ IsArc parts.now (reverse taken.now) arc }
+{
+    match arc {
+        Arc::Session { from, to } => {
+            remains(parts, from)
+                && remains(parts, to)
+                && from.session == to.session
+                && from.number < to.number
+        }
+        Arc::Read { key, from, to } => {
+            reads(parts, to, key, Source::By(from)) && writes(parts, from, key)
+        }
+        Arc::Base { key, from, to } => {
+            reads_base(parts, from, key) && writes(parts, to, key) && to != from
+        }
+        Arc::Taken { from, to } => is_taken(taken, (from, to)),
+    }
+}
+
+/// Whether the arcs are a right path between the two.
+#[tactic(auto, using(crate::proofs::Paths::path_step))]
+fn is_path(parts: &Parts, taken: &[(TxnId, TxnId)], start: TxnId, arcs: &[Arc], goal: TxnId) -> bool
+    ensures { IsTrue result ↔ IsPath parts.now (reverse taken.now) start arcs.now goal }
+{
+    let mut at = start;
+    for arc in arcs {
+        if arc.start() != at || !is_arc(parts, taken, *arc) {
+            return false;
+        }
+        at = arc.end();
+    }
+    at == goal
+}
+
+pub fn is_cycle(parts: &Parts, taken: &[(TxnId, TxnId)], arcs: &[Arc]) -> bool
+    ensures { IsTrue result ↔ IsCycle parts.now (reverse taken.now) arcs.now }
+{
+    match arcs.first() {
+        Some(arc) => is_path(parts, taken, arc.start(), arcs, arc.start()),
+        None => false,
+    }
+}
+
+/// Whether the source remains and doesn't write the key.
+fn is_silent(parts: &Parts, key: u64, source: Source) -> bool
+    ensures { IsTrue result ↔ IsSilent parts.now key source }
+{
+    match source {
+        Source::Init => false,
+        Source::By(writer) => remains(parts, writer) && !writes(parts, writer, key),
+    }
+}
+
+/// Whether the source is gone, and isn't what the base has for the key.
+fn is_overwritten(parts: &Parts, key: u64, source: Source) -> bool
+    ensures { IsTrue result ↔ IsOverwritten parts.now key source }
+{
+    match source {
+        Source::Init => parts.last_gone(key).is_some(),
+        Source::By(writer) => is_gone(parts, writer) && parts.last_gone(key) != Some(writer),
+    }
+}
+
+/// What a remaining transaction reads.
+fn reads_of(parts: &Parts, id: TxnId) -> &[(u64, Source)]
+    ensures { result.now ≡ reads_in (remaining_at parts.now id) }
+{
+    match parts.remaining_at(id) {
+        Some(txn) => txn.reads.as_slice(),
+        None => &[],
+    }
+}
+
+/// Whether the transaction reads the key from one that remains and doesn't write it.
+pub fn is_no_write(parts: &Parts, reader: TxnId, key: u64) -> bool
+    ensures { IsTrue result ↔ Any (λ read. (read.0 ≡ key) × IsSilent parts.now key read.1) (reads_in (remaining_at parts.now reader)) }
+{
+    reads_of(parts, reader)
+        .iter()
+        .any(|read| read.0 == key && is_silent(parts, key, read.1))
+}
+
+/// Whether the transaction reads the key from what is gone, but not from what the base has for the key.
+pub fn is_gone_read(parts: &Parts, reader: TxnId, key: u64) -> bool
+    ensures { IsTrue result ↔ Any (λ read. (read.0 ≡ key) × IsOverwritten parts.now key read.1) (reads_in (remaining_at parts.now reader)) }
+{
+    reads_of(parts, reader)
+        .iter()
+        .any(|read| read.0 == key && is_overwritten(parts, key, read.1))
+}

@@ -1,0 +1,16 @@
+//! Trees that show that no order explains parts, and their checker.
+#![tactic(auto)]
+
+mod arcs;
+mod checking;
+mod joining;
+mod laws;
+mod trees;
+
+pub use checking::check;
+pub use joining::join;
+pub use laws::{
+    after_both, after_more, forced_both, forced_with_more, joined_depth, joined_trees_refute,
+    refuted_has_no_order, refutes_with_more,
+};
+pub use trees::{Leaf, Tree};
