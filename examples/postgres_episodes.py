@@ -107,9 +107,9 @@ def main():
         sys.exit("psycopg2 is wanted: apt-get install python3-psycopg2, and run this by the Python that it is for (/usr/bin/python3)")
     if not program("initdb"):
         sys.exit("PostgreSQL is wanted: apt-get install postgresql")
-    with Cluster() as dsn:
-        stores = [PostgresStore(dsn, LEVELS[asked.level]) for _ in range(asked.clients)]
-        prepare(dsn)
+    with Cluster() as cluster:
+        stores = [PostgresStore(cluster.dsn, LEVELS[asked.level]) for _ in range(asked.clients)]
+        prepare(cluster.dsn)
         began, kinds, aborted = time.monotonic(), Counter(), 0
         for number in range(asked.episodes):
             history, kind = episode(stores, f"episode-{number}", WORKLOADS[asked.workload])

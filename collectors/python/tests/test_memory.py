@@ -1,5 +1,6 @@
 """Each fault of a store in memory is found, and nothing is made up where there is none."""
 import os
+import tempfile
 import unittest
 
 from zanteyard import Aborted, Auditor, Ended, Full, OutcomeUnknown, Refused, Session, audited, smaller, words
@@ -178,6 +179,15 @@ class Recipes(WithAuditor):
         self.auditor.program.kill()
         with self.assertRaises(Ended):
             a.run(put(x=1))
+
+    def test_a_reply_that_can_not_be_written(self):
+        with tempfile.TemporaryDirectory() as folder:
+            full = os.path.join(folder, "full")
+            with open(full, "w") as file:
+                file.write(f'#!/bin/sh\nexec "{PROGRAM}" > /dev/full\n')
+            os.chmod(full, 0o755)
+            with self.assertRaisesRegex(Ended, "status 1: device failed"):
+                Auditor(1, program=full)
 
     def test_a_program_that_is_not_there(self):
         with self.assertRaises(Ended):

@@ -2,7 +2,7 @@
 import os
 import unittest
 
-from zanteyard import Aborted, Auditor, OutcomeUnknown, Session
+from zanteyard import Aborted, Auditor, Logged, OutcomeUnknown, Session
 from zanteyard.auditor import PROGRAM
 from zanteyard.cluster import Cluster, program
 
@@ -24,9 +24,9 @@ LACKING = [
 class Postgres(unittest.TestCase):
     @classmethod
     def setUpClass(cls):
-        cls.cluster = Cluster()
-        cls.dsn = cls.cluster.__enter__()
-        cls.addClassCleanup(cls.cluster.__exit__)
+        cluster = Cluster()
+        cls.dsn = cluster.__enter__().dsn
+        cls.addClassCleanup(cluster.__exit__)
 
     def setUp(self):
         self.auditor = Auditor(sessions=3, limit=8)
@@ -87,25 +87,22 @@ class Postgres(unittest.TestCase):
                 self.assertEqual(self.count_at_once(level), wanted)
 
     def test_a_connection_that_breaks_before_the_commit(self):
-        a, b, _ = self.sessions()
+        admin = self.admin
+
+        class Breaking(PostgresStore):
+            def send_commit(self):
+                if self.transaction_id == broken.get("id"):
+                    admin.cursor().execute("SELECT pg_terminate_backend(%s)", (self.connection.info.backend_pid,))
+                super().send_commit()
+
+        broken = {}
+        a, b, _ = self.sessions(store=Breaking)
         a.run(lambda t: t.put("x", "1"))
         transaction = a.begin()
         transaction.put("x", "2")
-        stored, told = a.store.commit, []
-
-        def commit():
-            told.append(a.store.ask("SELECT pg_current_xact_id()::text").fetchone()[0])
-            self.admin.cursor().execute("SELECT pg_terminate_backend(%s)", (a.store.connection.info.backend_pid,))
-            a.store.transaction_id = told[0]
-            try:
-                a.store.connection.commit()
-            except psycopg2.Error as error:
-                raise OutcomeUnknown(str(error)) from error
-
-        a.store.commit = commit
+        broken["id"] = a.store.ask("SELECT pg_current_xact_id()::text").fetchone()[0]
         with self.assertRaises(Aborted):
             transaction.commit()
-        a.store.commit = stored
         a.run(lambda t: t.put("x", "3"))  # over a new connection
         self.assertEqual(b.run(lambda t: t.get("x")), "3")
         self.assertEqual([it.outcome for it in self.auditor.history[0]], ["committed", "aborted", "committed"])
@@ -113,16 +110,33 @@ class Postgres(unittest.TestCase):
 
     def test_an_answer_that_is_lost(self):
         class Lossy(PostgresStore):
-            def commit(self):
-                super().commit()
+            def send_commit(self):
+                super().send_commit()
                 self.connection.close()
-                raise OutcomeUnknown("the answer is lost")
+                raise psycopg2.OperationalError("the answer is lost")
 
-        a, _, _ = self.sessions(store=Lossy)
+        a = self.sessions(store=Lossy)[0]
         a.run(lambda t: t.put("x", "1"))
         b = self.sessions()[1]
         self.assertEqual(b.run(lambda t: t.get("x")), "1")
         self.assertEqual(self.auditor.history[0][0].outcome, "committed")
+        self.assertEqual(self.kind(), "serial")
+
+    def test_a_server_that_is_killed_in_the_commit(self):
+        with Cluster() as cluster:
+            prepare(cluster.dsn)
+
+            class Killing(PostgresStore):
+                def send_commit(self):
+                    cluster.stop()
+                    super().send_commit()
+
+            session = Session(self.auditor, 0, Killing(cluster.dsn), "run", patience=0.2)
+            with self.assertRaises(OutcomeUnknown):
+                session.run(lambda t: (t.get("x"), t.put("x", "1")))
+            self.assertFalse(session.is_open)
+            session.store.connection.close()
+        self.assertEqual(self.auditor.history[0][0], Logged([], ["x"], "unknown"))
         self.assertEqual(self.kind(), "serial")
 
 

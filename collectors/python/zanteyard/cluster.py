@@ -28,10 +28,17 @@ class Cluster:
         self.run("initdb", "-D", data, "-A", "trust", "-U", "postgres", "--no-sync")
         options = f"-c listen_addresses='' -c unix_socket_directories={self.folder} -c fsync=off"
         self.run("pg_ctl", "-D", data, "-l", f"{self.folder}/log", "-o", options, "-w", "start")
-        return f"host={self.folder} user=postgres dbname=postgres"
+        self.dsn, self.runs = f"host={self.folder} user=postgres dbname=postgres", True
+        return self
+
+    def stop(self):
+        """At once, as if it were killed."""
+        if self.runs:
+            self.runs = False
+            self.run("pg_ctl", "-D", f"{self.folder}/data", "-m", "immediate", "-w", "stop")
 
     def __exit__(self, *_):
         try:
-            self.run("pg_ctl", "-D", f"{self.folder}/data", "-m", "immediate", "-w", "stop")
+            self.stop()
         finally:
             shutil.rmtree(self.folder, ignore_errors=True)

@@ -53,11 +53,16 @@ class PostgresStore:
     def commit(self):
         self.transaction_id = self.ask("SELECT pg_current_xact_id_if_assigned()::text").fetchone()[0]
         try:
-            self.connection.commit()
+            self.send_commit()
         except CONFLICTS as error:
             raise Aborted(str(error).strip()) from error
-        except (psycopg2.OperationalError, psycopg2.InterfaceError) as error:
-            raise OutcomeUnknown(str(error).strip()) from error
+        except psycopg2.Error as error:
+            if error.pgcode is None or self.connection.closed:
+                raise OutcomeUnknown(str(error).strip()) from error
+            raise  # the server has answered: it is aborted
+
+    def send_commit(self):
+        self.connection.commit()
 
     def rollback(self):
         if self.connection is not None and not self.connection.closed:
