@@ -11,7 +11,7 @@ import time
 from collections import Counter
 
 sys.path.insert(0, os.path.join(os.path.dirname(os.path.abspath(__file__)), "../collectors/python"))
-from zanteyard import Aborted, Auditor, Ended, Session, audited, smaller, words
+from zanteyard import Aborted, Auditor, Ended, Session, audited, reasons, smaller, words
 from zanteyard.cluster import Cluster, program
 
 LEVELS = {"serializable": "serializable", "repeatable": "repeatable read", "committed": "read committed"}
@@ -90,6 +90,9 @@ def tell(history, name):
         file.write(audited(small)[1])
     print("violated: of what was logged, no order explains this part, each client's own order kept:")
     for line in words(small):
+        print(f"  {line}")
+    print("because")
+    for line in reasons(small):
         print(f"  {line}")
     print(f"(cobra_audit < {name}.jsonl says so again)")
 

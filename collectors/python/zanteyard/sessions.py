@@ -1,6 +1,6 @@
 """One client's transactions, numbered as they begin, and logged when their outcome is known.
 
-A store, as a session wants it, has five calls and may raise Aborted from all but the last. `begin()` and `rollback()`; `read(key)`, which gives
+A store, as a session wants it, has six calls and may raise Aborted from all but the last. `begin()` and `rollback()`; `read(key)`, which gives
 (value, name), or None where the key isn't there, with the name that was written beside the value; `write(key, value, name)`, where the
 value None deletes the key and leaves the name behind; `commit()`, which raises OutcomeUnknown where no answer came; and `outcome()`, which says of
 the transaction whose commit was sent last, and which had written, whether it is "committed", "aborted" or "unknown".

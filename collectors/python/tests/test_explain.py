@@ -1,0 +1,55 @@
+"""What is told of violated histories. No program is needed."""
+import unittest
+
+from zanteyard import Logged, reasons
+from zanteyard.explain import circle
+
+
+def txn(*reads, writes="", outcome="committed"):
+    return Logged(reads, tuple(writes), outcome)
+
+
+class Explaining(unittest.TestCase):
+    def test_session_order(self):
+        self.assertEqual(
+            reasons([[txn(writes="x"), txn(("x", "init"))]]),
+            [
+                "0.0 comes before 0.1: they are in one session",
+                "0.1 comes before 0.0: 0.1 read x as it was at first, and 0.0 wrote it",
+                "so none can come first of 0.0, 0.1",
+            ],
+        )
+
+    def test_lost_update(self):
+        base = ("x", (0, 0))
+        self.assertEqual(
+            reasons([[txn(writes="x"), txn(base, writes="x")], [txn(base, writes="x")]]),
+            [
+                "0.0 comes before 1.0: 1.0 read x from 0.0",
+                "0.1 comes before 1.0: 0.1 read x from 0.0, and 1.0, which wrote it too, comes after 0.0",
+                "0.0 comes before 0.1: they are in one session",
+                "1.0 comes before 0.1: 1.0 read x from 0.0, and 0.1, which wrote it too, comes after 0.0",
+                "so none can come first of 0.1, 1.0",
+            ],
+        )
+
+    def test_aborted(self):
+        history = [[txn(outcome="aborted"), txn(writes="x")], [txn(("x", (0, 0)))]]
+        self.assertEqual(reasons(history), ["1.0 read x from 0.0, which aborted"])
+
+    def test_two_sources(self):
+        history = [[txn(writes="x")], [txn(writes="x")], [txn(("x", (0, 0)), ("x", (1, 0)))]]
+        self.assertEqual(reasons(history)[-1], "so none can come first of 0.0, 1.0")
+
+    def test_what_has_an_order_has_no_circle(self):
+        self.assertIsNone(circle([[txn(writes="x")], [txn(("x", "init"))], [txn(("x", (0, 0)), ("y", (7, 7)))]]))
+
+    def test_no_circle_where_both_sides_are_open(self):
+        reads = [("p", (0, 0)), ("q", (1, 0))]
+        history = [[txn(writes="pq")], [txn(writes="pq")], [txn(*reads)]]
+        self.assertIsNotNone(circle(history))  # p has 1.0 before 0.0, and q 0.0 before 1.0
+        self.assertIsNone(circle([[txn(writes="p")], [txn(writes="p")], [txn(("p", (0, 0)))]]))
+
+
+if __name__ == "__main__":
+    unittest.main()

@@ -1,0 +1,108 @@
+"""Why no order explains a history, in words. This is an aid: the verdict is the auditor's, and rests on none of this.
+
+What must come before what follows from sessions, from reads, and from other writers of what was read, which stand before the writer
+or after the reader. Where that goes round in a circle no order is left; where none does, it takes a trial of all orders to see it."""
+from collections import namedtuple
+
+Arc = namedtuple("Arc", "start end why needs")  # `needs` are the arcs from which this one follows
+
+
+def name(id):
+    return f"{id[0]}.{id[1]}"
+
+
+def table(history):
+    return {(session, number): logged for session, txns in enumerate(history) for number, logged in enumerate(txns)}
+
+
+def wrong_reads(history):
+    """Reads from a transaction that didn't write the key."""
+    txns = table(history)
+    for reader, logged in txns.items():
+        for key, source in logged.reads:
+            if source in txns and key not in txns[source].writes:
+                yield f"{name(reader)} read {key} from {name(source)}, which " + ("aborted" if txns[source].outcome == "aborted" else "didn't write it")
+
+
+def plain_arcs(txns):
+    for id, logged in txns.items():
+        if (id[0], id[1] + 1) in txns:
+            yield Arc(id, (id[0], id[1] + 1), "they are in one session", ())
+        for key, source in logged.reads:
+            if source == "init":
+                for other, its in txns.items():
+                    if other != id and key in its.writes:
+                        yield Arc(id, other, f"{name(id)} read {key} as it was at first, and {name(other)} wrote it", ())
+            elif source in txns:
+                yield Arc(source, id, f"{name(id)} read {key} from {name(source)}", ())
+
+
+def path(arcs, start, end):
+    """The fewest arcs that lead from the one to the other, at least one; or None."""
+    found, queue = {}, [start]
+    for at in queue:
+        for arc in arcs:
+            if arc.start == at and arc.end not in found:
+                found[arc.end] = arc
+                queue.append(arc.end)
+        if end in found:
+            way = [found[end]]
+            while way[0].start != start:
+                way.insert(0, found[way[0].start])
+            return way
+    return None
+
+
+def forced_arcs(txns, arcs):
+    """What follows of other writers."""
+    for reader, logged in txns.items():
+        for key, writer in logged.reads:
+            if writer not in txns or key not in txns[writer].writes:
+                continue
+            for other, its in txns.items():
+                if key not in its.writes or other in (reader, writer):
+                    continue
+                read = f"{name(reader)} read {key} from {name(writer)}, and {name(other)}, which wrote it too, comes"
+                after, before = path(arcs, writer, other), path(arcs, other, reader)
+                if after:
+                    yield Arc(reader, other, f"{read} after {name(writer)}", tuple(after))
+                if before:
+                    yield Arc(other, writer, f"{read} before {name(reader)}", tuple(before))
+
+
+def circle(history):
+    """Arcs that lead from a transaction back to itself, or None."""
+    txns = table(history)
+    arcs = list(plain_arcs(txns))
+    while True:
+        circles = [way for way in (path(arcs, id, id) for id in txns) if way]
+        if circles:
+            return min(circles, key=len)
+        known = {(arc.start, arc.end) for arc in arcs}
+        new = {(arc.start, arc.end): arc for arc in forced_arcs(txns, arcs)}
+        more = [arc for ends, arc in new.items() if ends not in known]
+        if not more:
+            return None
+        arcs += more
+
+
+def reasons(history):
+    """The lines that tell it, each after those from which it follows."""
+    wrong = list(wrong_reads(history))
+    if wrong:
+        return wrong
+    around = circle(history)
+    if around is None:
+        return ["each order fails in its own way"]
+    told = []
+
+    def tell(arc):
+        for needed in arc.needs:
+            tell(needed)
+        line = f"{name(arc.start)} comes before {name(arc.end)}: {arc.why}"
+        if line not in told:
+            told.append(line)
+
+    for arc in around:
+        tell(arc)
+    return told + ["so none can come first of " + ", ".join(name(arc.start) for arc in around)]
