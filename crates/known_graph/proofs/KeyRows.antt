@@ -8,7 +8,7 @@ use Rattle.known_graph.specs.Graphs.{HasKey, IsAt}
 use Rattle.known_graph.specs.Kept.{AreRowsOf}
 use Rattle.known_graph.specs.Rows.{row_at, HasAt, IsOrHasAt, HaveSameLengths, AreSquare}
 use Rattle.known_graph.proofs.RowLists.{none_past}
-use Rattle.known_graph.proofs.Words.{no_bit}
+use Rattle.known_graph.proofs.Words.{no_bit, cases_bit}
 
 pub same_id_at : (nodes : List (Option TxnId)) (k : ℕ) (a b : TxnId) → IsAt nodes k a → IsAt nodes k b → a ≡ b
 same_id_at nodes k a b first second = cc
@@ -26,20 +26,25 @@ AreRowsOf-same nodes R old new square more bits rows = record {
   all = λ i j a b at_i at_j is. (bits i j).1 (rows.all i j a b at_i at_j is);
 }
 
+-- a place of a row, or the row's own, is within other rows of the same nodes
+pub place_there : (nodes : List (Option TxnId)) (R S : TxnId → TxnId → Type 0) (rows other : List (Vec ℕ Global)) (ks : ℕ) (s : TxnId) → IsAt nodes ks s → AreRowsOf nodes R rows → AreRowsOf nodes S other → (i : ℕ) → IsOrHasAt other ks i → i < length rows
+place_there nodes R S rows other ks s at_s are others i (inl same) = subst (λ k. k < length rows) same (are.enough ks s at_s)
+place_there nodes R S rows other ks s at_s are others i (inr has) = let told = others.told ks i has in are.enough i told.1 told.3
+
 -- s and what stands in the relation to it are joined with t and what t stands in the relation to
-module _ (nodes : List (Option TxnId)) (R S : TxnId → TxnId → Type 0) (s t : TxnId) (ks kt : ℕ) (old new : List (Vec ℕ Global)) (more : List ℕ)
-    (one : HasOneKey nodes) (at_s : IsAt nodes ks s) (at_t : IsAt nodes kt t) (rows : AreRowsOf nodes R old) where
+module _ (nodes : List (Option TxnId)) (R S : TxnId → TxnId → Type 0) (s t : TxnId) (ks kt : ℕ) (old new turned : List (Vec ℕ Global)) (places more : List ℕ)
+    (one : HasOneKey nodes) (at_s : IsAt nodes ks s) (at_t : IsAt nodes kt t) (rows : AreRowsOf nodes R old) (columns : AreRowsOf nodes (λ a b. R b a) turned) where
   abbrev To : TxnId → Type 0
   To a = (a ≡ s) ⊎ R a s
 
   abbrev On : TxnId → Type 0
   On b = (t ≡ b) ⊎ R t b
 
-  source : (i : ℕ) → IsOrHasAt old i ks → (a : TxnId) × IsAt nodes i a × To a
-  source i (inl same) = (s, subst (λ k. IsAt nodes k s) (sym same) at_s, inl refl)
+  source : (i : ℕ) → IsOrHasAt turned ks i → (a : TxnId) × IsAt nodes i a × To a
+  source i (inl same) = (s, subst (λ k. IsAt nodes k s) same at_s, inl refl)
   source i (inr has) =
-      let told = rows.told i ks has in
-      (told.0, told.2, inr (subst (λ x. R told.0 x) (same_id_at nodes ks told.1 s told.3 at_s) told.4))
+      let told = columns.told ks i has in
+      (told.1, told.3, inr (subst (λ x. R told.1 x) (same_id_at nodes ks told.0 s told.2 at_s) told.4))
 
   target : (j : ℕ) → IsOrHasAt old kt j → (b : TxnId) × IsAt nodes j b × On b
   target j (inl same) = (t, subst (λ k. IsAt nodes k t) same at_t, inl refl)
@@ -47,34 +52,46 @@ module _ (nodes : List (Option TxnId)) (R S : TxnId → TxnId → Type 0) (s t :
       let told = rows.told kt j has in
       (told.1, told.3, inr (subst (λ x. R x told.1) (same_id_at nodes kt told.0 t told.2 at_t) told.4))
 
-  to_key : (i : ℕ) (a : TxnId) → IsAt nodes i a → To a → IsOrHasAt old i ks
-  to_key i a at_i (inl same) = inl (one i ks a at_i (subst (λ x. IsAt nodes ks x) (sym same) at_s))
-  to_key i a at_i (inr is) = inr (rows.all i ks a s at_i at_s is)
+  to_key : (i : ℕ) (a : TxnId) → IsAt nodes i a → To a → IsOrHasAt turned ks i
+  to_key i a at_i (inl same) = inl (one ks i a (subst (λ x. IsAt nodes ks x) (sym same) at_s) at_i)
+  to_key i a at_i (inr is) = inr (columns.all ks i s a at_s at_i is)
 
   on_key : (j : ℕ) (b : TxnId) → IsAt nodes j b → On b → IsOrHasAt old kt j
   on_key j b at_j (inl same) = inl (one kt j b (subst (λ x. IsAt nodes kt x) same at_t) at_j)
   on_key j b at_j (inr is) = inr (rows.all kt j t b at_t at_j is)
 
+  -- only rows that haven't t yet are joined, since the others have what it stands in the relation to
   pub AreRowsOf-join : HaveSameLengths old new
-      → ((i j : ℕ) → HasAt new i j ↔ (HasAt old i j ⊎ ((i < length old) × IsOrHasAt old i ks × HasBit more j)))
+      → ((i j : ℕ) → HasAt new i j ↔ (HasAt old i j ⊎ (HasBit places i × HasBit more j)))
+      → ((i : ℕ) → HasBit places i ↔ (IsOrHasAt turned ks i × ¬ HasAt turned kt i))
       → ((j : ℕ) → HasBit more j ↔ IsOrHasAt old kt j)
+      → ((a b c : TxnId) → R a b → R b c → R a c)
       → ((a b : TxnId) → R a b → S a b)
       → ((a b : TxnId) → To a → On b → S a b)
       → ((a b : TxnId) → S a b → R a b ⊎ (To a × On b))
       → AreRowsOf nodes S new
-  AreRowsOf-join lengths bits row weaker joined cases = record {
+  AreRowsOf-join lengths bits place row transitive weaker joined cases = record {
     square = λ i within. omega (arith, lengths.0, lengths.1 i, rows.square i (omega (arith, lengths.0)));
     enough = λ i a is. omega (arith, lengths.0, rows.enough i a is);
     told = λ i j has. elim ((bits i j).0 has) [
       | inl was ↦ let told = rows.told i j was in (told.0, told.1, told.2, told.3, weaker told.0 told.1 told.4)
       | inr joins ↦
-          let first = source i joins.1 in
-          let second = target j ((row j).0 joins.2) in
+          let first = source i ((place i).0 joins.0).0 in
+          let second = target j ((row j).0 joins.1) in
           (first.0, second.0, first.1, second.1, joined first.0 second.0 first.2 second.2)
     ];
     all = λ i j a b at_i at_j is. (bits i j).1 (elim (cases a b is) [
       | inl was ↦ inl (rows.all i j a b at_i at_j was)
-      | inr joins ↦ inr (rows.enough i a at_i, to_key i a at_i joins.0, (row j).1 (on_key j b at_j joins.1))
+      | inr joins ↦ elim (cases_bit (row_at turned kt) i) [
+        | inl has ↦
+            let told = columns.told kt i has in
+            let reached : R a t = subst (λ x. R a x) (same_id_at nodes kt told.0 t told.2 at_t) (subst (λ x. R x told.0) (same_id_at nodes i told.1 a told.3 at_i) told.4) in
+            inl (rows.all i j a b at_i at_j (elim joins.1 [
+              | inl same ↦ subst (λ x. R a x) same reached
+              | inr on ↦ transitive a t b reached on
+            ]))
+        | inr has_not ↦ inr ((place i).1 (to_key i a at_i joins.0, has_not), (row j).1 (on_key j b at_j joins.1))
+      ]
     ]);
   }
 

@@ -4,7 +4,7 @@ use Rattle.std.proofs.lemmas.Bool.{cases_eq, cases_lt}
 use Rattle.std.specs.Vec.{with_items}
 use Rattle.std.proofs.lemmas.List.{with_items_is, length_push}
 use Rattle.known_graph.specs.Bits.{HasBit}
-use Rattle.known_graph.specs.Rows.{row_at, HasAt, IsOrHasAt, HaveWidth, HaveSameLengths, IsJoinedAt, IsClearedAt}
+use Rattle.known_graph.specs.Rows.{row_at, HasAt, HaveWidth, HaveSameLengths, IsJoinedAt, IsClearedAt}
 use Rattle.known_graph.proofs.Words.{no_bit}
 
 pub row_at-get : (rows : List (Vec ℕ Global)) (i : ℕ) (d : Vec ℕ Global) → i < length rows → (get_or rows i d).items ≡ row_at rows i
@@ -82,63 +82,61 @@ module _ (rows : List (Vec ℕ Global)) (i : ℕ) (d : Vec ℕ Global) (words sh
         (λ has. (subst (λ row. HasBit row j) same has, apart), λ had. subst (λ row. HasBit row j) (sym same) had.0)
   ]
 
--- the rows so far are joined with the row where they have the place, and the others are as they were
-pub record AreJoinedBelow (old new : List (Vec ℕ Global)) (place : ℕ) (more : List ℕ) (done : ℕ) : Type 0 where
+-- the rows so far are joined with the row where the place is among these, and the others are as they were
+pub record AreJoinedBelow (old new : List (Vec ℕ Global)) (places more : List ℕ) (done : ℕ) : Type 0 where
   pub lengths : HaveSameLengths old new
-  pub joined : (i j : ℕ) → i < done → HasAt new i j ↔ (HasAt old i j ⊎ (IsOrHasAt old i place × HasBit more j))
+  pub joined : (i j : ℕ) → i < done → HasAt new i j ↔ (HasAt old i j ⊎ (HasBit places i × HasBit more j))
   pub rest : (i : ℕ) → done ≤ i → row_at new i ≡ row_at old i
 
-module _ (old mid : List (Vec ℕ Global)) (place : ℕ) (more : List ℕ) (done : ℕ) (below : AreJoinedBelow old mid place more done) where
-  unmoved : (j : ℕ) → HasAt mid done j ↔ HasAt old done j
-  unmoved j = let same = below.rest done (omega arith) in (λ has. subst (λ words. HasBit words j) same has, λ has. subst (λ words. HasBit words j) (sym same) has)
+module _ (old mid : List (Vec ℕ Global)) (places more : List ℕ) (done : ℕ) (below : AreJoinedBelow old mid places more done) where
+  unmoved : (i j : ℕ) → done ≤ i → HasAt mid i j ↔ HasAt old i j
+  unmoved i j past = let same = below.rest i past in (λ has. subst (λ words. HasBit words j) same has, λ has. subst (λ words. HasBit words j) (sym same) has)
 
-  pub AreJoinedBelow-join : (new : List (Vec ℕ Global)) → IsOrHasAt mid done place → IsJoinedAt mid new done more → AreJoinedBelow old new place more (done + 1)
-  AreJoinedBelow-join new is_source here = record {
+  -- up to the next of the places, which is joined
+  pub AreJoinedBelow-join : (new : List (Vec ℕ Global)) (next : ℕ) → done ≤ next → HasBit places next → ((j : ℕ) → done ≤ j → j < next → ¬ HasBit places j) → IsJoinedAt mid new next more → AreJoinedBelow old new places more (next + 1)
+  AreJoinedBelow-join new next on is_place none here = record {
     lengths = (here.lengths.0 ∙ below.lengths.0, λ i. here.lengths.1 i ∙ below.lengths.1 i);
-    joined = λ i j within. elim (cases_lt i done) [
-      | inl before ↦ subst (λ words. HasBit words j ↔ (HasAt old i j ⊎ (IsOrHasAt old i place × HasBit more j))) (sym (here.others i (λ e. omega arith))) (below.joined i j before)
-      | inr above ↦
-          let same : done ≡ i = omega arith in
-          subst (λ k. HasAt new k j ↔ (HasAt old k j ⊎ (IsOrHasAt old k place × HasBit more j))) same (
+    joined = λ i j within. elim (cases_eq i next) [
+      | inl same ↦
+          subst (λ k. HasAt new k j ↔ (HasAt old k j ⊎ (HasBit places k × HasBit more j))) (sym same) (
             λ has. elim ((here.here j).0 has) [
-              | inl was ↦ inl ((unmoved j).0 was)
-              | inr joins ↦ inr (source, joins)
+              | inl was ↦ inl ((unmoved next j on).0 was)
+              | inr joins ↦ inr (is_place, joins)
             ],
             λ was. (here.here j).1 (elim was [
-              | inl had ↦ inl ((unmoved j).1 had)
+              | inl had ↦ inl ((unmoved next j on).1 had)
               | inr joins ↦ inr joins.1
             ]),
           )
+      | inr apart ↦ subst (λ words. HasBit words j ↔ (HasAt old i j ⊎ (HasBit places i × HasBit more j))) (sym (here.others i apart)) (before i j (omega arith))
     ];
     rest = λ i above. here.others i (λ e. omega arith) ∙ below.rest i (omega arith);
   }
     where
-      source : IsOrHasAt old done place
-      source = elim is_source [
-        | inl same ↦ inl same
-        | inr has ↦ inr ((unmoved place).0 has)
+      before : (i j : ℕ) → i < next → HasAt mid i j ↔ (HasAt old i j ⊎ (HasBit places i × HasBit more j))
+      before i j within = elim (cases_lt i done) [
+        | inl low ↦ below.joined i j low
+        | inr high ↦ (
+          λ has. inl ((unmoved i j high).0 has),
+          λ was. elim was [
+            | inl had ↦ (unmoved i j high).1 had
+            | inr joins ↦ absurd (none i high within joins.0)
+          ],
+        )
       ]
 
-  pub AreJoinedBelow-skip : ¬ IsOrHasAt mid done place → AreJoinedBelow old mid place more (done + 1)
-  AreJoinedBelow-skip no_source = record {
-    lengths = below.lengths;
-    joined = λ i j within. elim (cases_lt i done) [
-      | inl before ↦ below.joined i j before
-      | inr above ↦
-          let same : done ≡ i = omega arith in
-          subst (λ k. HasAt mid k j ↔ (HasAt old k j ⊎ (IsOrHasAt old k place × HasBit more j))) same (
-            λ has. inl ((unmoved j).0 has),
-            λ was. elim was [
-              | inl had ↦ (unmoved j).1 had
-              | inr joins ↦ absurd (no_source (elim joins.0 [
-                | inl same ↦ inl same
-                | inr has ↦ inr ((unmoved place).1 has)
-              ]))
-            ],
-          )
-    ];
-    rest = λ i above. below.rest i (omega arith);
-  }
+  -- there is no further place
+  pub AreJoinedBelow-all : ((j : ℕ) → done ≤ j → ¬ HasBit places j) → (i j : ℕ) → HasAt mid i j ↔ (HasAt old i j ⊎ (HasBit places i × HasBit more j))
+  AreJoinedBelow-all none i j = elim (cases_lt i done) [
+    | inl low ↦ below.joined i j low
+    | inr high ↦ (
+      λ has. inl ((unmoved i j high).0 has),
+      λ was. elim was [
+        | inl had ↦ (unmoved i j high).1 had
+        | inr joins ↦ absurd (none i high joins.0)
+      ],
+    )
+  ]
 
 -- the rows so far are without the column
 pub record AreClearedBelow (old new : List (Vec ℕ Global)) (column done : ℕ) : Type 0 where

@@ -4,6 +4,8 @@
 mod bits;
 mod digraph;
 mod drops;
+mod index;
+mod nearest;
 mod nodes;
 mod paths;
 mod rows;

@@ -7,7 +7,7 @@ use Rattle.known_graph.proofs.Dropped.{IsKept-left, Contains-from_filter, Reache
 use Rattle.known_graph.proofs.digraph.Graph.drop_nodes.Goals as goal
 
 -- the arcs left, as the clauses have them
-left : (c : goal.After-drop_arcs) → c.drop_arcs.new.arcs.items ≡ filter (arc_stays c.args.gone.now) c.args.self.now.arcs
+left : (c : goal.After-relink) → c.drop_arcs.new.arcs.items ≡ filter (arc_stays c.args.gone.now) c.args.self.now.arcs
 left c = c.drop_arcs.ensures ∙ ap (λ (graph : GraphState). filter (arc_stays c.args.gone.now) graph.arcs) c.self.view_is
 
 pub clear_gone-requires : goal.clear_gone-requires

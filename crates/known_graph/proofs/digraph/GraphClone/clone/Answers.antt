@@ -5,10 +5,10 @@ use Rattle.known_graph.proofs.Slots.{same_slot}
 use Rattle.known_graph.proofs.Stored.{IsKept-same}
 use Rattle.known_graph.proofs.digraph.GraphClone.clone.Goals as goal
 
-same_slots : (c : goal.In_ok-from) → c.in_ok-nodes.nodes.slots ≡ c.self.inside.nodes.slots
+same_slots : (c : goal.In_ok-index) → c.in_ok-nodes.nodes.slots ≡ c.self.inside.nodes.slots
 same_slots c = same_from_all_zip _ _ _ c.in_ok-nodes.ensures.cases.slots (same_slot _ (λ x y clone. search rules))
 
-same_arcs : (c : goal.In_ok-from) → c.in_ok-arcs.arcs.items ≡ c.self.inside.arcs.items
+same_arcs : (c : goal.In_ok-index) → c.in_ok-arcs.arcs.items ≡ c.self.inside.arcs.items
 same_arcs c = same_from_all_zip _ _ _ c.in_ok-arcs.ensures.cases.0 (λ x y clone. search rules)
 
 more : (old new shown : List (Vec ℕ Global)) → shown ≡ old → length new ≡ length shown → length old ≤ length new
