@@ -1,9 +1,3 @@
-pub mod Arrays
-pub mod CommandLimits
-pub mod Forms
-pub mod Leaves
-pub mod Names
-pub mod ReadForms
+pub mod Arity
+pub mod EachItem
 pub mod ValueTexts
-pub mod WholeLines
-pub mod WholeNumbers

@@ -3,4 +3,3 @@ pub mod Items
 pub mod Numbers
 pub mod Replies
 pub mod Texts
-pub mod Tokens

@@ -1,13 +1,12 @@
-ghost use Rattle.std.specs.Prelude.{◌≡◌, ◌⊎◌, option_map, IfOk, IfErr};
-ghost use Rattle.serde_json.specs.Find.{as_str};
+ghost use Rattle.std.specs.Prelude.{◌≡◌, ◌⊎◌, IfOk, IfErr, IfSome, IsUtf8};
+ghost use Rattle.serde_json.specs.View.{view, items_view};
 ghost use Rattle.log_text.specs.declared.commands.Command.{Command};
-ghost use Rattle.log_text.specs.Commands.{start_in, offer_in, close_in, effort_in, finish_in, round_in, command_named, command_of, IsCommand, HasLimits};
 ghost use Rattle.log_text.specs.Items.{alone};
-ghost use Rattle.log_text.specs.Tokens.{IsValueAs, AreItemsAs};
+ghost use Rattle.log_text.specs.Commands.{start_in, offer_in, close_in, effort_in, finish_in, round_in, command_named, command_in, command_of, IsCommand, IsEffort, HasLimits};
 
-use crate::fragments::{next_begins_array, txns_of};
+use crate::fragments::txns_of;
 use crate::numbers::{number_within, session_of, whole_number};
-use json::{Reader, Scratch, Token};
+use serde_json::Value;
 use std::alloc::Global;
 use txn::{Fragment, NoMemory, Refusal};
 
@@ -55,56 +54,67 @@ struct Effort {
     workers: u64,
 }
 
-fn alone(command: Command, reader: &mut Reader<'_>) -> Option<Command>
-    ensures { AreItemsAs (alone command) 0 reader.old result reader.new }
+#[tactic(auto, using(crate::proofs::Arity::alone_none))]
+fn alone(command: Command, parts: &[Value]) -> Option<Command>
+    ensures form { result ≡ alone command (items_view parts.now) }
+    ensures given { IfSome result (λ given. given ≡ command) }
 {
-    if reader.take_end_array() {
+    if parts.is_empty() {
         Some(command)
     } else {
         None
     }
 }
 
-fn start_in(reader: &mut Reader<'_>) -> Option<Command>
-    ensures { AreItemsAs start_in 0 reader.old result reader.new }
+#[tactic(auto, using(crate::proofs::Arity::two_items_none))]
+fn start_in(parts: &[Value]) -> Option<Command>
+    ensures form { result ≡ start_in (items_view parts.now) }
+    ensures limits { IfSome result HasLimits }
 {
-    let sessions = whole_number(reader)?;
-    let limit = whole_number(reader)?;
-    alone(Command::Start { sessions, limit }, reader)
-}
-
-fn close_in(reader: &mut Reader<'_>) -> Option<Command>
-    ensures { AreItemsAs close_in 0 reader.old result reader.new }
-{
-    let session = session_of(reader)?;
-    alone(Command::Close(session), reader)
-}
-
-fn effort_in(reader: &mut Reader<'_>) -> Option<Effort>
-    ensures { AreItemsAs effort_in 0 reader.old result reader.new }
-{
-    let budget = number_within(1, MOST_BUDGET, reader)?;
-    let depth = number_within(0, MOST_DEPTH, reader)?;
-    let workers = number_within(1, MOST_WORKERS, reader)?;
-    if reader.take_end_array() {
-        Some(Effort {
-            budget,
-            depth,
-            workers,
-        })
-    } else {
-        None
+    match parts {
+        [sessions, limit] => Some(Command::Start {
+            sessions: whole_number(sessions)?,
+            limit: whole_number(limit)?,
+        }),
+        _ => None,
     }
 }
 
-fn finish_in(reader: &mut Reader<'_>) -> Option<Command>
-    ensures { AreItemsAs finish_in 0 reader.old result reader.new }
+#[tactic(auto, using(crate::proofs::Arity::one_item_none))]
+fn close_in(parts: &[Value]) -> Option<Command>
+    ensures form { result ≡ close_in (items_view parts.now) }
+    ensures limits { IfSome result HasLimits }
+{
+    match parts {
+        [session] => Some(Command::Close(session_of(session)?)),
+        _ => None,
+    }
+}
+
+#[tactic(auto, using(crate::proofs::Arity::three_items_none))]
+fn effort_in(parts: &[Value]) -> Option<Effort>
+    ensures form { result ≡ effort_in (items_view parts.now) }
+    ensures limits { IfSome result (λ effort. IsEffort effort.budget effort.depth effort.workers) }
+{
+    match parts {
+        [budget, depth, workers] => Some(Effort {
+            budget: number_within(1, MOST_BUDGET, budget)?,
+            depth: number_within(0, MOST_DEPTH, depth)?,
+            workers: number_within(1, MOST_WORKERS, workers)?,
+        }),
+        _ => None,
+    }
+}
+
+fn finish_in(parts: &[Value]) -> Option<Command>
+    ensures form { result ≡ finish_in (items_view parts.now) }
+    ensures limits { IfSome result HasLimits }
 {
     let Effort {
         budget,
         depth,
         workers,
-    } = effort_in(reader)?;
+    } = effort_in(parts)?;
     Some(Command::Finish {
         budget,
         depth,
@@ -112,14 +122,15 @@ fn finish_in(reader: &mut Reader<'_>) -> Option<Command>
     })
 }
 
-fn round_in(reader: &mut Reader<'_>) -> Option<Command>
-    ensures { AreItemsAs round_in 0 reader.old result reader.new }
+fn round_in(parts: &[Value]) -> Option<Command>
+    ensures form { result ≡ round_in (items_view parts.now) }
+    ensures limits { IfSome result HasLimits }
 {
     let Effort {
         budget,
         depth,
         workers,
-    } = effort_in(reader)?;
+    } = effort_in(parts)?;
     Some(Command::Round {
         budget,
         depth,
@@ -127,85 +138,84 @@ fn round_in(reader: &mut Reader<'_>) -> Option<Command>
     })
 }
 
-fn offer_in(alloc: Global, reader: &mut Reader<'_>) -> Result<Option<Command>, NoMemory>
-    ensures { IfOk result (λ command. AreItemsAs offer_in 4 reader.old command reader.new) }
+#[tactic(auto, using(crate::proofs::Arity::three_items_none))]
+fn offer_in(alloc: Global, parts: &[Value]) -> Result<Option<Command>, NoMemory>
+    ensures form { IfOk result (λ command. command ≡ offer_in (items_view parts.now)) }
+    ensures limits { IfOk result (λ command. IfSome command HasLimits) }
 {
-    let Some(session) = session_of(reader) else {
+    let [session, first, txns] = parts else {
         return Ok(None);
     };
-    let Some(first) = whole_number(reader) else {
+    let (Some(session), Some(first)) = (session_of(session), whole_number(first)) else {
         return Ok(None);
     };
-    let Some(txns) = txns_of(alloc, reader)? else {
-        return Ok(None);
-    };
-    let fragment = Fragment {
-        session,
-        first,
-        txns,
-    };
-    Ok(alone(Command::Offer(fragment), reader))
+    match txns_of(alloc, txns)? {
+        Some(txns) => Ok(Some(Command::Offer(Fragment {
+            session,
+            first,
+            txns,
+        }))),
+        None => Ok(None),
+    }
 }
 
-fn command_named(
-    alloc: Global,
-    name: &str,
-    reader: &mut Reader<'_>,
-) -> Result<Option<Command>, NoMemory>
-    ensures { IfOk result (λ command.
-        AreItemsAs (command_named name.now) 4 reader.old command reader.new) }
+fn command_named(alloc: Global, name: &str, parts: &[Value]) -> Result<Option<Command>, NoMemory>
+    ensures form { IfOk result (λ command. command ≡ command_named name.now (items_view parts.now)) }
+    ensures limits { IfOk result (λ command. IfSome command HasLimits) }
 {
     match name {
-        "open" => Ok(start_in(reader)),
-        "offer" => offer_in(alloc, reader),
-        "close" => Ok(close_in(reader)),
-        "begin" => Ok(alone(Command::Begin, reader)),
-        "finish" => Ok(finish_in(reader)),
-        "round" => Ok(round_in(reader)),
-        "show" => Ok(alone(Command::Show, reader)),
+        "open" => Ok(start_in(parts)),
+        "offer" => offer_in(alloc, parts),
+        "close" => Ok(close_in(parts)),
+        "begin" => Ok(alone(Command::Begin, parts)),
+        "finish" => Ok(finish_in(parts)),
+        "round" => Ok(round_in(parts)),
+        "show" => Ok(alone(Command::Show, parts)),
         _ => Ok(None),
     }
 }
 
-fn next_word<'a>(reader: &mut Reader<'a>) -> Option<&'a str>
-    ensures { IsValueAs as_str 0 reader.old (option_map (λ word. word.now) result) reader.new }
+fn command_in(alloc: Global, items: &[Value]) -> Result<Option<Command>, NoMemory>
+    ensures form { IfOk result (λ command. command ≡ command_in (items_view items.now)) }
+    ensures limits { IfOk result (λ command. IfSome command HasLimits) }
 {
-    match reader.next()? {
-        Token::String(word) => Some(word),
-        _ => None,
-    }
-}
-
-fn command_of(alloc: Global, reader: &mut Reader<'_>) -> Result<Option<Command>, NoMemory>
-    ensures { IfOk result (λ command. IsValueAs command_of 5 reader.old command reader.new) }
-{
-    if !next_begins_array(reader) {
-        return Ok(None);
-    }
-    let Some(name) = next_word(reader) else {
+    let [name, parts @ ..] = items else {
         return Ok(None);
     };
-    command_named(alloc, name, reader)
+    match name.as_str() {
+        Some(name) => command_named(alloc, name, parts),
+        None => Ok(None),
+    }
 }
 
-/// The command that a line is, without its line feed. BadLine where it is none; NoMemory where room for a text as long as
-/// the line, or for the lists of an offer, is refused.
+fn command_of(alloc: Global, value: &Value) -> Result<Option<Command>, NoMemory>
+    ensures form { IfOk result (λ command. command ≡ command_of (view value.now)) }
+    ensures limits { IfOk result (λ command. IfSome command HasLimits) }
+{
+    match value.as_array() {
+        Some(items) => command_in(alloc, items.as_slice()),
+        None => Ok(None),
+    }
+}
+
+/// The command that a line is, without its line feed; BadLine where it is none. NoMemory may take the place of either where the
+/// line is UTF-8: it is answered where room for its values or for the lists of an offer is refused, which no clause says.
 pub fn read_line(alloc: Global, line: &[u8]) -> Result<Command, Refusal>
     ensures ok { IfOk result (IsCommand line.now) }
     ensures limits { IfOk result HasLimits }
-    ensures err { IfErr result (λ refusal. (refusal ≡ Refusal.NoMemory)
+    ensures err { IfErr result (λ refusal. ((refusal ≡ Refusal.NoMemory) × IsUtf8 line.now)
         ⊎ ((refusal ≡ Refusal.BadLine) × ((command : Command) → ¬ IsCommand line.now command))) }
 {
-    let Ok(text) = simdutf8::basic::from_utf8(line) else {
+    let Ok(text) = std::str::from_utf8(line) else {
         return Err(Refusal::BadLine);
     };
-    let mut scratch = Scratch::new(alloc);
-    let mut reader = Reader::new(text, &mut scratch)?;
-    let Some(command) = command_of(alloc, &mut reader)? else {
-        return Err(Refusal::BadLine);
+    let value = match Value::from_str(alloc, text) {
+        Ok(value) => value,
+        Err(error) if error.is_memory() => return Err(Refusal::NoMemory),
+        Err(_) => return Err(Refusal::BadLine),
     };
-    if reader.next().is_some() {
-        return Err(Refusal::BadLine);
+    match command_of(alloc, &value)? {
+        Some(command) => Ok(command),
+        None => Err(Refusal::BadLine),
     }
-    Ok(command)
 }

@@ -5,8 +5,6 @@ mod commands;
 mod fragments;
 mod numbers;
 mod replies;
-#[cfg(test)]
-mod tests;
 
 pub use commands::{Command, read_line};
 pub use replies::{Reply, write_reply};

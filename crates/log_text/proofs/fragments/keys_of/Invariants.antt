@@ -1,10 +1,8 @@
-use Rattle.std.proofs.Common.{length}
+use Rattle.std.proofs.Common.{◌≡◌, Some, take}
+use Rattle.serde_json.specs.View.{items_view}
+use Rattle.log_text.specs.Items.{each_of}
 use Rattle.log_text.specs.Numbers.{whole_number}
-use Rattle.log_text.proofs.Forms.{IsSoFar}
 use Rattle.log_text.proofs.fragments.keys_of.Given as goal
 
-abbrev pub invariant-keys : goal.invariant-keys
-invariant-keys l = IsSoFar whole_number 0 l.initial.reader l.keys.items l.reader
-
-abbrev pub decreases-keys : goal.decreases-keys
-decreases-keys l = length l.reader
+abbrev pub invariant-loop-item : goal.invariant-loop-item
+invariant-loop-item l = each_of whole_number (items_view (take l.item-index l.item-items)) ≡ Some l.keys.items

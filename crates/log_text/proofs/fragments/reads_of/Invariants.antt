@@ -1,10 +1,8 @@
-use Rattle.std.proofs.Common.{length}
+use Rattle.std.proofs.Common.{◌≡◌, Some, take}
+use Rattle.serde_json.specs.View.{items_view}
+use Rattle.log_text.specs.Items.{each_of}
 use Rattle.log_text.specs.Commands.{read_of}
-use Rattle.log_text.proofs.Forms.{IsSoFar}
 use Rattle.log_text.proofs.fragments.reads_of.Given as goal
 
-abbrev pub invariant-reads : goal.invariant-reads
-invariant-reads l = IsSoFar read_of 1 l.initial.reader l.reads.items l.reader
-
-abbrev pub decreases-reads : goal.decreases-reads
-decreases-reads l = length l.reader
+abbrev pub invariant-loop-item : goal.invariant-loop-item
+invariant-loop-item l = each_of read_of (items_view (take l.item-index l.item-items)) ≡ Some l.reads.items

@@ -1,10 +1,8 @@
-use Rattle.std.proofs.Common.{length}
+use Rattle.std.proofs.Common.{◌≡◌, Some, take}
+use Rattle.serde_json.specs.View.{items_view}
+use Rattle.log_text.specs.Items.{each_of}
 use Rattle.log_text.specs.Commands.{txn_of}
-use Rattle.log_text.proofs.Forms.{IsSoFar}
 use Rattle.log_text.proofs.fragments.txns_of.Given as goal
 
-abbrev pub invariant-txns : goal.invariant-txns
-invariant-txns l = IsSoFar txn_of 3 l.initial.reader l.txns.items l.reader
-
-abbrev pub decreases-txns : goal.decreases-txns
-decreases-txns l = length l.reader
+abbrev pub invariant-loop-item : goal.invariant-loop-item
+invariant-loop-item l = each_of txn_of (items_view (take l.item-index l.item-items)) ≡ Some l.txns.items
