@@ -1,8 +1,8 @@
 ghost use Rattle.std.specs.Prelude.{◌<◌, ◌≤◌, IfOk};
 
 use cobra::{
-    ByteSink, ByteSource, DeviceFault, Failure, LONGEST_LINE, LineReader, MemorySink, MemorySource,
-    Next, Pace, ReaderSource, WriterSink, demo, serve, write_all,
+    Asked, ByteSink, ByteSource, DeviceFault, Failure, LONGEST_LINE, LineReader, MemorySink,
+    MemorySource, Next, Pace, ReaderSource, WriterSink, asked_of, demo, exit_of, serve, write_all,
 };
 use round_state::TrialSolver;
 use std::alloc::{AllocError, Global};
@@ -87,7 +87,11 @@ fn devices_call_once(rt: HostRuntime) {
     for answers in [
         [Ok(1), Ok(1), Ok(2)],
         [Ok(1), Err(ErrorKind::Other), Ok(1)],
-        [Err(ErrorKind::Interrupted), Ok(1), Err(ErrorKind::Interrupted)],
+        [
+            Err(ErrorKind::Interrupted),
+            Ok(1),
+            Err(ErrorKind::Interrupted),
+        ],
     ] {
         reads_once_a_call(&rt, &answers);
         writes_once_a_call(&rt, &answers);
@@ -218,7 +222,10 @@ fn demonstration(rt: HostRuntime) {
         };
         let end = demo(rt.alloc(), &mut sink);
         assert_eq!(rt; end.is_ok(), *fails_at == 0);
-        assert!(rt; line.get(..*count) == Some(sink.bytes.as_slice()), "by {most}, failing at {fails_at}");
+        assert!(rt;
+            line.get(..*count) == Some(sink.bytes.as_slice()),
+            "by {most}, failing at {fails_at}"
+        );
     }
 }
 
@@ -299,7 +306,10 @@ fn fails_in_turn(rt: &(impl AllocGlobal + Abort), most: usize, is_read: bool) ->
             return call;
         }
         assert_eq!(rt; end, Err(Failure::Device), "at call {call} by {most}");
-        assert!(rt; REPLIES.as_bytes().starts_with(&written), "at call {call} by {most}");
+        assert!(rt;
+            REPLIES.as_bytes().starts_with(&written),
+            "at call {call} by {most}"
+        );
         assert!(rt; !is_read || are_lines(&written), "at call {call} by {most}");
     }
     0
@@ -312,4 +322,44 @@ fn stops_at_a_failure(rt: HostRuntime) {
         assert_eq!(rt; fails_in_turn(&rt, most, true), reads);
         assert_eq!(rt; fails_in_turn(&rt, most, false), writes);
     }
+}
+
+#[test]
+fn tells_a_failure_as_it_prints(rt: HostRuntime) -> Result<(), Fail> {
+    for (failure, want) in [
+        (Failure::Device, "device failed"),
+        (Failure::NoMemory, "out of memory"),
+    ] {
+        let exit = exit_of(Err(failure));
+        assert_eq!(rt; exit.status, 1);
+        assert!(rt; exit.words == Some(want));
+        assert_eq!(rt; format!(in rt.alloc(); "{failure}")?.as_str(), want);
+    }
+    assert_eq!(rt; exit_of(Ok(())).status, 0);
+    Ok(())
+}
+
+/// The words, of which the first is the program's name.
+fn words(alloc: Global, text: &str) -> Result<Vec<String>, AllocError> {
+    let mut all = Vec::new(alloc);
+    for word in text.split(' ') {
+        all.push(String::from_str(alloc, word)?)?;
+    }
+    Ok(all)
+}
+
+#[test]
+fn arguments(rt: HostRuntime) -> Result<(), Fail> {
+    for (text, want) in [
+        ("cobra_audit", Asked::Work),
+        ("cobra_audit --help", Asked::Help),
+        ("cobra_audit --version", Asked::Version),
+        ("cobra_audit script.jsonl", Asked::Unknown),
+        ("cobra_audit --help --version", Asked::Unknown),
+        ("cobra_audit --Help", Asked::Unknown),
+    ] {
+        let words = words(rt.alloc(), text)?;
+        assert!(rt; asked_of(&words) == want, "{text}");
+    }
+    Ok(())
 }

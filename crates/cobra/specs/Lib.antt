@@ -1,4 +1,5 @@
 pub mod Demonstration
 pub mod Outputs
+pub mod Programs
 pub mod Scripts
 pub mod StepReplies

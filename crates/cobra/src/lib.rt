@@ -2,6 +2,7 @@
 #![tactic(auto)]
 
 mod demonstration;
+mod programs;
 mod replies;
 mod scripts;
 mod serving;
@@ -12,4 +13,5 @@ pub use byte_lines::{
     Next, Pace, ReaderSource, StandardInput, StandardOutput, WriterSink, write_all,
 };
 pub use demonstration::demo;
+pub use programs::{Asked, Exit, asked_of, exit_of};
 pub use serving::serve;

@@ -1,18 +1,78 @@
 //! The auditor: reads a script on standard input, and writes the reply to each of its lines on standard output.
 #![tactic(auto)]
 
-use cobra::{ReaderSource, WriterSink, serve};
+use cobra::{
+    Asked, ByteSink, Exit, Failure, ReaderSource, WriterSink, asked_of, exit_of, serve, write_all,
+};
 use round_state::TrialSolver;
+use std::env;
+use std::io::ErrorKind;
 use std::process::ExitCode;
+
+const VERSION: &str = "cobra_audit 0.1.0\n";
+
+const USAGE: &str = "usage: cobra_audit [--help | --version] < SCRIPT";
+
+const HELP: &str =
+    r#"cobra_audit is the auditor of Zanteyard: it checks from logs that a transactional key-value store is
+serializable. It reads a script on standard input, and writes the reply to each line on standard output.
+
+  cobra_audit < SCRIPT     serves the script to its end
+  cobra_audit --help       writes this
+  cobra_audit --version    writes the version
+
+A script of three lines: one session, and at most eight transactions at a time; its first
+transaction writes key 5; is there an order that explains what was logged?
+
+  ["open",1,8]
+  ["offer",0,0,[[[],[5]]]]
+  ["round",32,0,1]
+
+The replies:
+
+  ["ok"]
+  ["ok"]
+  ["report",1,"serial",[1],[[0,0]]]
+
+The exit status is 0 at the end of the script, whatever was reported; 1 where a device failed or
+memory was wanting, which standard error then tells; 2 for other arguments.
+
+docs/FORMATS.md describes each line, reply and refusal; docs/COLLECTORS.md, what has to be logged.
+"#;
+
+/// What the arguments ask for. One that isn't UTF-8 is unknown.
+fn asked(rt: &HostRuntime) -> Result<Asked, Failure> {
+    match env::args(rt) {
+        Ok(args) => {
+            let args: Vec<String> = args.collect(rt.alloc())?;
+            Ok(asked_of(&args))
+        }
+        Err(error) if error.kind() == ErrorKind::InvalidData => Ok(Asked::Unknown),
+        Err(_) => Err(Failure::NoMemory),
+    }
+}
+
+fn told<W: ByteSink>(sink: &mut W, text: &str) -> Result<(), Failure> {
+    write_all(sink, text.as_bytes())?;
+    Ok(())
+}
 
 fn main(rt: HostRuntime) -> ExitCode {
     let mut input = ReaderSource::new(rt.stdin());
     let mut output = WriterSink::new(rt.stdout());
-    match serve(rt.alloc(), &mut input, &mut output, &TrialSolver) {
-        Ok(()) => ExitCode::SUCCESS,
-        Err(failure) => {
-            let _ = eprintln!(rt; "{failure}");
-            ExitCode::FAILURE
-        }
+    let alloc = rt.alloc();
+    let exit = match asked(&rt) {
+        Ok(Asked::Work) => exit_of(serve(alloc, &mut input, &mut output, &TrialSolver)),
+        Ok(Asked::Help) => exit_of(told(&mut output, HELP)),
+        Ok(Asked::Version) => exit_of(told(&mut output, VERSION)),
+        Ok(Asked::Unknown) => Exit {
+            status: 2,
+            words: Some(USAGE),
+        },
+        Err(failure) => exit_of(Err(failure)),
+    };
+    if let Some(words) = exit.words {
+        let _ = eprintln!(rt; "{words}");
     }
+    ExitCode::from(exit.status)
 }
