@@ -26,11 +26,11 @@ none_or_some asked some none = let no : false ≡ true = subst (λ (o : Option P
 ended_by : (before kept after : State) (budget depth workers : ℕ) (refusal : Refusal) (said : StepReply) → IsSome before.engine.asked → Legal before (step.Finish budget depth workers) (reply.Refused refusal) kept → Legal kept step.Abandon said after → EndsRound before budget depth workers (reply.Refused refusal) after
 ended_by before kept after budget depth workers NoMemory reply.Done some finish abandon = (kept, finish, abandon)
 ended_by before kept after budget depth workers NoMemory (reply.Refused NoRound) some finish abandon =
-    absurd (none_or_some before.engine.asked some (subst (λ (state : State). state.engine.asked ≡ None) finish.1 abandon.0))
-ended_by before kept after budget depth workers NoMemory (reply.Refused refusal) some finish abandon = absurd abandon.0
-ended_by before kept after budget depth workers NoMemory (reply.Report report) some finish abandon = absurd abandon
-ended_by before kept after budget depth workers NoRound said some finish abandon = absurd (none_or_some before.engine.asked some finish.0)
-ended_by before kept after budget depth workers refusal said some finish abandon = absurd finish.0
+    absurd (none_or_some before.engine.asked some (subst (λ (engine : EngineState). engine.asked ≡ None) finish.engine.1 abandon.engine.0))
+ended_by before kept after budget depth workers NoMemory (reply.Refused refusal) some finish abandon = absurd abandon.engine.0
+ended_by before kept after budget depth workers NoMemory (reply.Report report) some finish abandon = absurd abandon.engine
+ended_by before kept after budget depth workers NoRound said some finish abandon = absurd (none_or_some before.engine.asked some finish.engine.0)
+ended_by before kept after budget depth workers refusal said some finish abandon = absurd finish.engine.0
 
 pub ends_abandoned : (old kept new : EngineState) (budget depth workers : ℕ) (refusal : Refusal) (said : StepReply) → StepsLegally old (step.Finish budget depth workers) (reply.Refused refusal) kept → StepsLegally kept step.Abandon said new → EndsLegally old budget depth workers (reply.Refused refusal) new
 ends_abandoned old kept new budget depth workers refusal said finish abandon before holds some =
@@ -39,14 +39,14 @@ ends_abandoned old kept new budget depth workers refusal said finish abandon bef
     (last.0, ended_by before first.0 last.0 budget depth workers refusal said some first.1 last.1, last.2)
 
 pub ends_finished : (old new : EngineState) (budget depth workers : ℕ) (said : StepReply) → StepsLegally old (step.Finish budget depth workers) said new → ((refusal : Refusal) → said ≢ reply.Refused refusal) → EndsLegally old budget depth workers said new
-ends_finished old new budget depth workers reply.Done finish not before holds some = absurd (finish before holds).1
+ends_finished old new budget depth workers reply.Done finish not before holds some = absurd (finish before holds).1.engine
 ends_finished old new budget depth workers (reply.Refused refusal) finish not before holds some = absurd (not refusal refl)
 ends_finished old new budget depth workers (reply.Report report) finish not before holds some = finish before holds
 
 pub rounds_begun : (old mid new : EngineState) (budget depth workers : ℕ) (said : StepReply) → StepsLegally old step.Begin reply.Done mid → EndsLegally mid budget depth workers said new → RoundsLegally old budget depth workers said new
 rounds_begun old mid new budget depth workers said begin ends before holds =
     let first = begin before holds in
-    let last = ends first.0 first.2 (subst (λ (state : State). IsSome state.engine.asked) (sym first.1.1) refl) in
+    let last = ends first.0 first.2 (subst (λ (engine : EngineState). IsSome engine.asked) (sym first.1.engine.1) refl) in
     (last.0, inr (first.0, first.1, last.1), last.2)
 
 pub rounds_refused : (old new : EngineState) (budget depth workers : ℕ) (said : StepReply) → StepsLegally old step.Begin said new → said ≢ reply.Done → RoundsLegally old budget depth workers said new
@@ -54,7 +54,7 @@ rounds_refused old new budget depth workers reply.Done begin not before holds = 
 rounds_refused old new budget depth workers (reply.Refused refusal) begin not before holds =
     let first = begin before holds in
     (first.0, inl (refusal, refl, first.1), first.2)
-rounds_refused old new budget depth workers (reply.Report report) begin not before holds = absurd (begin before holds).1
+rounds_refused old new budget depth workers (reply.Report report) begin not before holds = absurd (begin before holds).1.engine
 
 -- a step is told
 pub step_told : (old new : EngineState) (asked : Step) (said : StepReply) (answer : Reply) → StepsLegally old asked said new → answer ≡ reply_of said → (before : State) → Holds old before → (after : State) × IsStep before asked answer after × Holds new after

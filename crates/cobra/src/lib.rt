@@ -2,6 +2,7 @@
 #![tactic(auto)]
 
 mod demonstration;
+mod open_engine;
 mod programs;
 mod replies;
 mod scripts;

@@ -1,15 +1,16 @@
 ghost use Rattle.std.specs.Prelude.{◌≡◌, ℕ, List, None, IfOk, IfSome, IfNone};
 ghost use Rattle.log_text.specs.Commands.{HasLimits};
 ghost use Rattle.log_text.specs.Replies.{HasKindOfOrder};
-ghost use Rattle.round_state.specs.Solving.{AreLimits};
+ghost use Rattle.order_check.specs.Effort.{IsEffort};
 ghost use Rattle.cobra.specs.Outputs.{Asks, IsTold, AnswersLineLegally, RepliesLegally};
 ghost use Rattle.cobra.specs.Scripts.{IsUnderWay, EndsLegally, RoundsLegally, AnswersOpenLegally, AnswersLegally};
 
+use crate::open_engine::OpenEngine;
 use crate::replies::reply_of;
 use crate::showing::state_told;
 use byte_lines::Next;
 use log_text::{Command, Reply, read_line, write_reply};
-use round_state::{Engine, Solver, Step, StepReply};
+use round_state::{Solver, Step, StepReply};
 use std::alloc::{AllocError, Global};
 use txn::{NoMemory, Refusal};
 
@@ -17,19 +18,19 @@ use txn::{NoMemory, Refusal};
 #[derive(Drop)]
 pub(crate) struct Script {
     /// There is one once a line has opened it.
-    engine: Option<Engine>,
+    engine: Option<OpenEngine>,
 }
 
 /// Finishes the open round, or abandons it where memory is wanting.
 fn end_round<S: Solver>(
-    engine: &mut Engine,
+    engine: &mut OpenEngine,
     alloc: Global,
     budget: u64,
     depth: u64,
     workers: u64,
     solver: &S,
 ) -> StepReply
-    requires { AreLimits budget depth workers }
+    requires { IsEffort budget depth workers }
     ensures { EndsLegally engine.old budget depth workers result engine.new }
 {
     let finish = Step::Finish {
@@ -47,14 +48,14 @@ fn end_round<S: Solver>(
 }
 
 fn make_round<S: Solver>(
-    engine: &mut Engine,
+    engine: &mut OpenEngine,
     alloc: Global,
     budget: u64,
     depth: u64,
     workers: u64,
     solver: &S,
 ) -> StepReply
-    requires { AreLimits budget depth workers }
+    requires { IsEffort budget depth workers }
     ensures { RoundsLegally engine.old budget depth workers result engine.new }
 {
     match engine.step(alloc, Step::Begin, solver) {
@@ -64,7 +65,7 @@ fn make_round<S: Solver>(
 }
 
 fn answer_open<S: Solver>(
-    engine: &mut Engine,
+    engine: &mut OpenEngine,
     alloc: Global,
     command: Command,
     solver: &S,
@@ -106,7 +107,7 @@ fn answer_open<S: Solver>(
             let said = make_round(engine, alloc, budget, depth, workers, solver);
             Ok(reply_of(said))
         }
-        Command::Show => state_told(alloc, engine),
+        Command::Show => state_told(alloc, engine.engine()),
         Command::Start { .. } => Ok(Reply::No(Refusal::BadLine)),
     }
 }
@@ -141,7 +142,7 @@ impl Script {
         requires { self.old.engine ≡ None }
         ensures { AnswersLegally self.old.engine (Command.Start sessions limit) result self.new.engine }
     {
-        match Engine::open(alloc, sessions, limit) {
+        match OpenEngine::open(alloc, sessions, limit) {
             Ok(engine) => {
                 self.engine = Some(engine);
                 Reply::Done

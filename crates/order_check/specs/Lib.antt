@@ -4,6 +4,7 @@ pub mod Codes
 pub mod CutLaws
 pub mod Cuts
 pub mod Cycles
+pub mod Effort
 pub mod Explains
 pub mod Fronts
 pub mod Good

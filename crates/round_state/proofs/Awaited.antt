@@ -1,9 +1,9 @@
 -- The reads of a fragment that wait: which they are, and that none stands twice.
-use Rattle.std.proofs.Common.{◌≡◌, ◌≢◌, ℕ, zero, suc, ◌+◌, ◌<◌, ◌≤◌, ◌⊎◌, inl, inr, Bool, true, false, cond, ◌||◌, ◌&&◌, nat_lt, nat_eq, refl, sym, ap, subst, ◌∙◌, List, [], ◌∷◌, ◌++◌, length, length-append, length-take-le, append-nil, take, get_or, Some, None, arith, add-one}
-use Rattle.std.specs.Prelude.{Contains, All, slice_get, ⊤}
+use Rattle.std.proofs.Common.{◌≡◌, ◌≢◌, ℕ, zero, suc, ◌+◌, ◌<◌, ◌⊎◌, inl, inr, Bool, true, false, cond, ◌&&◌, nat_lt, nat_eq, refl, sym, ap, subst, ◌∙◌, List, [], ◌∷◌, ◌++◌, length, length-append, length-take-le, append-nil, take, get_or, Some, arith, add-one}
+use Rattle.std.specs.Prelude.{Contains, slice_get, ⊤}
 use Rattle.std.specs.List.{AllPairs}
 use Rattle.std.proofs.lemmas.Bool.{false≢true, ltb-true, lt-ltb, eqb-true, or_cases, and_parts}
-use Rattle.std.proofs.lemmas.List.{get_or_append_left, get_or-append-add, get_or_default, append_assoc, take_more}
+use Rattle.std.proofs.lemmas.List.{get_or_append_left, get_or-append-add, append_assoc, take_more}
 use Rattle.std.proofs.lemmas.List.Elements.{All-weaker, All-contains_itself}
 use Rattle.std.proofs.lemmas.List.Kept.{AllPairs-cons}
 use Rattle.txn.specs.declared.transactions.TxnId.{TxnId}

@@ -13,7 +13,7 @@ use Rattle.order_check.specs.declared.remainder.Parts.{Parts}
 use Rattle.order_check.specs.Based.{mark_of, remaining_of, received_count}
 use Rattle.order_check.specs.Good.{IsGood}
 use Rattle.order_check.specs.StandsFor.{parts_with, parts_closed, with_fragment}
-use Rattle.round_state.specs.Legal.{IsAdmitted}
+use Rattle.round_state.specs.Steps.{IsAdmitted}
 
 -- an element of two lists is one of the first or one of the second
 pub get_either : {X : Type 0} (xs ys : List X) (n : ℕ) (x : X) → slice_get (xs ++ ys) n ≡ Some x → (slice_get xs n ≡ Some x) ⊎ ((m : ℕ) × (n ≡ length xs + m) × (slice_get ys m ≡ Some x))

@@ -1,27 +1,26 @@
 -- The index of pending reads keeps having exactly the pending reads of the parts.
 use Rattle.std.proofs.Common.{◌≡◌, ◌≢◌, ℕ, zero, suc, ◌+◌, ◌-◌, ◌<◌, ◌≤◌, ◌⊎◌, inl, inr, Bool, true, false, cond, nat_lt, refl, sym, ap, subst, ◌∙◌, List, [], ◌∷◌, ◌++◌, length, length-append, get_or, get_or-set_same, get_or-set_other, Option, Some, None, arith}
-use Rattle.std.specs.Prelude.{Contains, All, slice_get, IsSomeAnd, ◌↔◌}
-use Rattle.std.proofs.lemmas.Bool.{false≢true, ltb-true, lt-ltb, le-ltb, cases_eq, cases_lt}
+use Rattle.std.specs.Prelude.{Contains, slice_get, IsSomeAnd, ◌↔◌}
+use Rattle.std.proofs.lemmas.Bool.{false≢true, lt-ltb, le-ltb, cases_eq, cases_lt}
 use Rattle.std.proofs.lemmas.List.{get_or_default}
 use Rattle.std.proofs.lemmas.Option.{slice_get_within}
 use Rattle.txn.specs.declared.transactions.TxnId.{TxnId}
 use Rattle.txn.specs.declared.transactions.Source.{Source}
-use Rattle.txn.specs.declared.transactions.Source.TheVariants.{Init, By}
+use Rattle.txn.specs.declared.transactions.Source.TheVariants.{By}
 use Rattle.txn.specs.declared.transactions.Txn.{Txn}
 use Rattle.txn.specs.declared.transactions.Fragment.{Fragment}
 use Rattle.txn.specs.History.{session_of, Reads}
 use Rattle.txn.specs.Transactions.{id_in}
 use Rattle.session_marks.specs.declared.marks.SessionMark.{SessionMark}
 use Rattle.session_marks.specs.Marks.{IsReceived as IsMarked}
-use Rattle.pending_reads.specs.declared.index.PendingRead.{PendingRead}
-use Rattle.pending_reads.specs.Waiting.{Index, Waits, HasWaiting, WaitsAlso, WaitsAsBefore, AreNew, waiting_for}
+use Rattle.pending_reads.specs.Waiting.{Index, Waits, HasWaiting, WaitsAlso, WaitsAsBefore, AreNew}
 use Rattle.order_check.specs.declared.remainder.Parts.{Parts}
 use Rattle.order_check.specs.Based.{mark_of, remaining_of, remaining_at, received_count, IsReceived, HasPending}
-use Rattle.order_check.specs.StandsFor.{parts_with, with_fragment}
+use Rattle.order_check.specs.StandsFor.{parts_with}
 use Rattle.round_state.specs.Awaiting.{awaited_from, IsOneOf, HaveArrived}
-use Rattle.round_state.specs.Legal.{IsAdmitted}
+use Rattle.round_state.specs.Steps.{IsAdmitted}
 use Rattle.round_state.specs.Tracked.{AreMarksOf, IsIndexOf, IsPendingRead}
-use Rattle.round_state.proofs.Awaited.{IsReadAt, from_sound, from_complete, awaited_once}
+use Rattle.round_state.proofs.Awaited.{from_sound, from_complete, awaited_once}
 use Rattle.round_state.proofs.Grown.{get_either}
 
 -- what an id finds

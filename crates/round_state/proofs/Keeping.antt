@@ -26,7 +26,7 @@ use Rattle.order_check.specs.NoBase.{HasNoBase}
 use Rattle.round_state.specs.EngineState.{EngineState}
 use Rattle.round_state.specs.Runs.{Holds}
 use Rattle.round_state.specs.Kept.{IsKept}
-use Rattle.round_state.specs.Legal.{IsAdmitted}
+use Rattle.round_state.specs.Steps.{IsAdmitted}
 use Rattle.round_state.specs.Opening.{IsSessions, IsLimit, empty_parts, fresh, fresh_state}
 use Rattle.round_state.specs.Trial.{CanBeTried}
 use Rattle.round_state.specs.Awaiting.{awaited_from, HaveArrived}

@@ -1,5 +1,5 @@
 -- The marks of an engine tell of its parts, and keep telling of them.
-use Rattle.std.proofs.Common.{◌≡◌, ◌≢◌, ℕ, zero, suc, ◌+◌, ◌<◌, ◌≤◌, Bool, true, false, List, [], ◌∷◌, ◌++◌, length, map, Some, None, refl, sym, ap, ◌∙◌, subst, inl, inr, arith, length-append, length-set, get_or, get_or-set_same, get_or-set_other}
+use Rattle.std.proofs.Common.{◌≡◌, ◌≢◌, ℕ, zero, suc, ◌+◌, ◌<◌, ◌≤◌, Bool, true, false, List, [], ◌∷◌, ◌++◌, length, Some, sym, ap, ◌∙◌, subst, inl, inr, arith, length-append, length-set, get_or, get_or-set_same, get_or-set_other}
 use Rattle.std.specs.Prelude.{slice_get, slice_set, sum_by}
 use Rattle.std.proofs.lemmas.Bool.{cases_eq, false≢true}
 use Rattle.std.proofs.lemmas.List.{ext_get_or, length-map, get_or-map}
@@ -17,7 +17,7 @@ use Rattle.order_check.specs.declared.remainder.Parts.{Parts}
 use Rattle.order_check.specs.Based.{mark_of, received_count, received_counts}
 use Rattle.order_check.specs.Good.{IsGood}
 use Rattle.order_check.specs.StandsFor.{IsOpenSession, parts_with, parts_closed}
-use Rattle.round_state.specs.Legal.{IsAdmitted, IntakeFault, IsClosedSession, IsCloseRefusal}
+use Rattle.round_state.specs.Steps.{IsAdmitted, IntakeFault, IsClosedSession, IsCloseRefusal}
 use Rattle.round_state.specs.Tracked.{AreMarksOf}
 use Rattle.round_state.proofs.Counts.{counts_length, counts_at}
 

@@ -1,9 +1,6 @@
--- Replies to steps are legal, and lead to an engine that stands for what the histories have become.
+-- Right replies are legal: they are so by the engine alone, and what they say is true of whole histories that it stands for.
 use Rattle.std.proofs.Common.{◌≡◌, ℕ, ◌+◌, Option, Some, None, refl, sym, ap, ◌∙◌, subst}
-use Rattle.std.specs.Prelude.{IsSome, IsSomeAnd}
-use Rattle.txn.specs.declared.transactions.Fragment.{Fragment}
-use Rattle.txn.specs.declared.refusals.Refusal.{Refusal}
-use Rattle.txn.specs.declared.refusals.Refusal.TheVariants.{NoRound, BadCertificate, NoMemory}
+use Rattle.std.specs.Prelude.{IsSomeAnd}
 use Rattle.txn.specs.History.{History}
 use Rattle.order_check.specs.declared.remainder.Parts.{Parts}
 use Rattle.order_check.specs.declared.remainder.Kind.{Kind}
@@ -11,13 +8,14 @@ use Rattle.order_check.specs.declared.remainder.Kind.TheVariants as kinds
 use Rattle.order_check.specs.Explains.{Explains}
 use Rattle.order_check.specs.Good.{IsGood}
 use Rattle.order_check.specs.Laws.{SameVerdictAsStoodFor, OfferKeepsStandsFor, CloseKeepsStandsFor}
-use Rattle.order_check.specs.StandsFor.{StandsFor, IsOpenSession}
+use Rattle.order_check.specs.StandsFor.{StandsFor}
 use Rattle.order_check.specs.Verdict.{IsVerdict}
 use Rattle.order_check.specs.Whole.{IsVerdictWhole}
 use Rattle.round_state.specs.EngineState.{EngineState}
-use Rattle.round_state.specs.Legal.{State, Legal, IsAdmitted, IsOfferRefusal, IsCloseRefusal, MayBegin, IsBeginRefusal, IsFinishRefusal, IsSolvedRefusal, IsAbandonRefusal, engine_offered, engine_closed, engine_begun, engine_finished, engine_abandoned, offered, closed, begun, finished, abandoned, IsTrueOf, Shows, IsRightReport}
+use Rattle.round_state.specs.Legal.{State, Legal, IsTrueOf, TellsOf, IsTrueReply, whole_after, asked_after}
 use Rattle.round_state.specs.Runs.{Holds, StepsLegally}
-use Rattle.round_state.specs.Solving.{IsLawful, IsRight, IsWrong, IsReportOn}
+use Rattle.round_state.specs.Solving.{IsLawful, IsRight, IsReportOn}
+use Rattle.round_state.specs.Steps.{IsFinished, IsKindOf, Shows, IsRightReport, StepsTo}
 use Rattle.round_state.specs.declared.solving.Answer.{Answer}
 use Rattle.round_state.specs.declared.solving.Answer.TheVariants as answers
 use Rattle.round_state.specs.declared.reports.Certificate.{Certificate}
@@ -25,120 +23,107 @@ use Rattle.round_state.specs.declared.reports.Certificate.TheVariants.{Order, Re
 use Rattle.round_state.specs.declared.reports.Report.{Report}
 use Rattle.round_state.specs.declared.steps.Step.{Step}
 use Rattle.round_state.specs.declared.steps.Step.TheVariants.{Offer, Close, Begin, Finish, Abandon}
+use Rattle.round_state.specs.declared.steps.StepReply.{StepReply}
 use Rattle.round_state.specs.declared.steps.StepReply.TheVariants as reply
 use Rattle.round_state.proofs.Counts.{counts_of}
 
 none_or_some : (parts : Parts) → None ≡ Some parts → ⊥
 none_or_some parts e = cc
 
-some_and : (o : Option Parts) (P : Parts → Type 0) (parts : Parts) → o ≡ Some parts → P parts → IsSomeAnd o P
-some_and o P parts e h = subst (λ (asked : Option Parts). IsSomeAnd asked P) (sym e) h
+-- what a lawful answer earns is the verdict, and shown
+earned : (parts : Parts) (budget depth : ℕ) (answer : Answer) (kind : Kind) (certificate : Certificate) → IsLawful parts budget depth answer → IsRight parts answer kind certificate → IsKindOf parts kind × Shows parts budget depth kind certificate
+earned parts budget depth (answers.Yes order) kinds.Serial (Order shown) lawful right = (right.2, subst (Explains parts) (sym right.0) right.1)
+earned parts budget depth (answers.Yes order) kinds.Pending (Order shown) lawful right = (right.2, subst (Explains parts) (sym right.0) right.1)
+earned parts budget depth (answers.Yes order) kinds.Violated (Order shown) lawful right = absurd (right.2 (order, right.1))
+earned parts budget depth (answers.Yes order) kinds.Spent (Order shown) lawful right = absurd right.2
+earned parts budget depth answers.No kind Refuted lawful right =
+    subst (λ (k : Kind). IsKindOf parts k × Shows parts budget depth k Refuted) (sym right.0) (right.1, right.1)
+earned parts budget depth answers.Spent kind Nothing lawful right =
+    subst (λ (k : Kind). IsKindOf parts k × Shows parts budget depth k Nothing) (sym right) (tt, lawful)
+earned parts budget depth answer kind certificate lawful right = absurd right
 
--- the engine is what it was
-refused : (old new : EngineState) (step : Step) (refusal : Refusal) → new ≡ old → ((before : State) → before.engine ≡ old → Legal before step (reply.Refused refusal) before) → StepsLegally old step (reply.Refused refusal) new
-refused old new step refusal e legal before holds = (before, legal before holds.same, subst (λ (engine : EngineState). Holds engine before) (sym e) holds)
+right_report : (old : EngineState) (asked : Option Parts) (parts : Parts) (budget depth : ℕ) (answer : Answer) (report : Report) → asked ≡ Some parts → IsLawful parts budget depth answer → IsSomeAnd asked (λ p. IsReportOn p (old.rounds + 1) answer report) → IsSomeAnd asked (λ p. IsRightReport old p budget depth report)
+right_report old None parts budget depth answer report e lawful said = absurd said
+right_report old (Some snapshot) parts budget depth answer report e lawful said =
+    let same : parts ≡ snapshot = cc in
+    let earns = earned snapshot budget depth answer report.kind report.certificate (subst (λ (p : Parts). IsLawful p budget depth answer) same lawful) said.right in
+    record { number = said.number; counts = said.counts; kind = earns.0; shown = earns.1 }
 
-pub offer_done : (old new : EngineState) (f : Fragment) → OfferKeepsStandsFor → IsAdmitted old.parts f → new ≡ engine_offered old f → StepsLegally old (Offer f) reply.Done new
-offer_done old new f law fits e before holds = (
-  offered before f,
-  (subst (λ (engine : EngineState). IsAdmitted engine.parts f) (sym holds.same) fits, refl),
-  subst (λ (engine : EngineState). Holds engine (offered before f)) (sym e) (record {
-    same = ap (λ (engine : EngineState). engine_offered engine f) holds.same;
-    parts = law old.parts before.whole f holds.parts fits.next;
-    asked = holds.asked;
-  }),
-)
+pub finish_reported : (old new : EngineState) (parts : Parts) (budget depth workers : ℕ) (answer : Answer) (report : Report) → old.asked ≡ Some parts → IsLawful parts budget depth answer → IsSomeAnd old.asked (λ p. IsReportOn p (old.rounds + 1) answer report) → IsFinished old new → StepsTo old (Finish budget depth workers) (reply.Report report) new
+finish_reported old new parts budget depth workers answer report open_round lawful said done =
+    (right_report old old.asked parts budget depth answer report open_round lawful said, done)
 
-pub offer_refused : (old new : EngineState) (f : Fragment) (refusal : Refusal) → IsOfferRefusal old.parts f refusal → new ≡ old → StepsLegally old (Offer f) (reply.Refused refusal) new
-offer_refused old new f refusal why e = refused old new (Offer f) refusal e (λ before same. (subst (λ (engine : EngineState). IsOfferRefusal engine.parts f refusal) (sym same) why, refl))
+-- Whole histories.
 
-pub close_done : (old new : EngineState) (s : ℕ) → CloseKeepsStandsFor → IsOpenSession old.parts s → new ≡ engine_closed old s → StepsLegally old (Close s) reply.Done new
-close_done old new s law open_one e before holds = (
-  closed before s,
-  (subst (λ (engine : EngineState). IsOpenSession engine.parts s) (sym holds.same) open_one, refl),
-  subst (λ (engine : EngineState). Holds engine (closed before s)) (sym e) (record {
-    same = ap (λ (engine : EngineState). engine_closed engine s) holds.same;
-    parts = law old.parts before.whole s holds.parts;
-    asked = holds.asked;
-  }),
-)
+true_kind : (parts : Parts) (whole : History) (kind : Kind) → ((k : Kind) → IsVerdict parts k → IsVerdictWhole whole k) → IsKindOf parts kind → IsTrueOf whole kind
+true_kind parts whole kinds.Serial agree is = agree kinds.Serial is
+true_kind parts whole kinds.Pending agree is = agree kinds.Pending is
+true_kind parts whole kinds.Violated agree is = agree kinds.Violated is
+true_kind parts whole kinds.Spent agree is = tt
 
-pub close_refused : (old new : EngineState) (s : ℕ) (refusal : Refusal) → IsCloseRefusal old.parts s refusal → new ≡ old → StepsLegally old (Close s) (reply.Refused refusal) new
-close_refused old new s refusal why e = refused old new (Close s) refusal e (λ before same. (subst (λ (engine : EngineState). IsCloseRefusal engine.parts s refusal) (sym same) why, refl))
+tells_of : (old : EngineState) (asked : Option Parts) (whole : History) (budget depth : ℕ) (report : Report) → SameVerdictAsStoodFor → ((parts : Parts) → asked ≡ Some parts → IsGood parts × StandsFor parts whole) → IsSomeAnd asked (λ p. IsRightReport old p budget depth report) → TellsOf whole report
+tells_of old None whole budget depth report law fits right = absurd right
+tells_of old (Some parts) whole budget depth report law fits right =
+    let stands = (fits parts refl).1 in record {
+      counts = right.counts ∙ counts_of parts whole (fits parts refl).0 stands.sessions stands.received;
+      kind = true_kind parts whole report.kind (λ k h. (law parts whole k stands).1 h) right.kind;
+    }
 
-pub begin_done : (old new : EngineState) → MayBegin old → new ≡ engine_begun old → StepsLegally old Begin reply.Done new
-begin_done old new may e before holds = (
-  begun before,
-  (subst MayBegin (sym holds.same) may, refl),
-  subst (λ (engine : EngineState). Holds engine (begun before)) (sym e) (record {
-    same = ap engine_begun holds.same;
-    parts = holds.parts;
-    asked = λ parts h. let same : old.parts ≡ parts = cc in subst (λ (p : Parts). StandsFor p before.whole) same holds.parts;
-  }),
-)
+-- what an engine's laws and its snapshot give
+pub record Grounds (engine : EngineState) : Type 0 where
+  pub offers : OfferKeepsStandsFor
+  pub closes : CloseKeepsStandsFor
+  pub verdicts : SameVerdictAsStoodFor
+  pub snapshot : (parts : Parts) → engine.asked ≡ Some parts → IsGood parts
 
-pub begin_refused : (old new : EngineState) (refusal : Refusal) → IsBeginRefusal old refusal → new ≡ old → StepsLegally old Begin (reply.Refused refusal) new
-begin_refused old new refusal why e = refused old new Begin refusal e (λ before same. (subst (λ (engine : EngineState). IsBeginRefusal engine refusal) (sym same) why, refl))
+-- A right step is legal, where what the reply says is true, and the engine after it stands for what the histories become.
+legal_by : (old new : EngineState) (step : Step) (said : StepReply) (before : State) → Holds old before → StepsTo old step said new → IsTrueReply before said → StandsFor new.parts (whole_after before step said) → ((parts : Parts) → new.asked ≡ Some parts → StandsFor parts (asked_after before step said)) → (after : State) × Legal before step said after × Holds new after
+legal_by old new step said before holds right true_reply parts asked =
+    let after : State = record { engine = new; whole = whole_after before step said; asked = asked_after before step said } in
+    let legal : Legal before step said after = record {
+      engine = subst (λ (engine : EngineState). StepsTo engine step said new) (sym holds.same) right;
+      true_reply = true_reply;
+      whole = refl;
+      asked = refl;
+    } in
+    let stands : Holds new after = record { same = refl; parts = parts; asked = asked } in
+    (after, legal, stands)
 
-pub abandon_done : (old new : EngineState) → IsSome old.asked → new ≡ engine_abandoned old → StepsLegally old Abandon reply.Done new
-abandon_done old new some e before holds = (
-  abandoned before,
-  (subst (λ (engine : EngineState). IsSome engine.asked) (sym holds.same) some, refl),
-  subst (λ (engine : EngineState). Holds engine (abandoned before)) (sym e) (record {
-    same = ap engine_abandoned holds.same;
-    parts = holds.parts;
-    asked = λ parts h. absurd (none_or_some parts h);
-  }),
-)
+parts_along : (new made : EngineState) (whole : History) → new ≡ made → StandsFor made.parts whole → StandsFor new.parts whole
+parts_along new made whole e stands = subst (λ (engine : EngineState). StandsFor engine.parts whole) (sym e) stands
 
-pub abandon_refused : (old new : EngineState) (refusal : Refusal) → IsAbandonRefusal old refusal → new ≡ old → StepsLegally old Abandon (reply.Refused refusal) new
-abandon_refused old new refusal why e = refused old new Abandon refusal e (λ before same. (subst (λ (engine : EngineState). IsAbandonRefusal engine refusal) (sym same) why, refl))
+asked_along : (new made : EngineState) (asked : History) → new ≡ made → ((parts : Parts) → made.asked ≡ Some parts → StandsFor parts asked) → (parts : Parts) → new.asked ≡ Some parts → StandsFor parts asked
+asked_along new made asked e stands parts h = stands parts (ap (λ (engine : EngineState). engine.asked) (sym e) ∙ h)
 
-pub finish_refused : (old new : EngineState) (budget depth workers : ℕ) (refusal : Refusal) → IsSolvedRefusal old refusal → new ≡ old → StepsLegally old (Finish budget depth workers) (reply.Refused refusal) new
-finish_refused old new budget depth workers refusal why e = refused old new (Finish budget depth workers) refusal e (λ before same. (subst (λ (engine : EngineState). IsSolvedRefusal engine refusal) (sym same) why, refl))
-
-lawful_or_wrong : (parts : Parts) (budget depth : ℕ) (answer : Answer) → IsLawful parts budget depth answer → IsWrong parts answer → ⊥
-lawful_or_wrong parts budget depth (answers.Yes order) lawful wrong = wrong lawful
-lawful_or_wrong parts budget depth answers.No lawful wrong = lawful wrong
-lawful_or_wrong parts budget depth answers.Spent lawful wrong = wrong
-lawful_or_wrong parts budget depth answers.NoMemory lawful wrong = wrong
-
--- a lawful answer isn't refused for what it says
-pub solved_refusal : (engine : EngineState) (parts : Parts) (budget depth : ℕ) (answer : Answer) (refusal : Refusal) → engine.asked ≡ Some parts → IsLawful parts budget depth answer → IsFinishRefusal engine answer refusal → IsSolvedRefusal engine refusal
-solved_refusal engine parts budget depth answer NoRound e lawful why = why
-solved_refusal engine parts budget depth answer NoMemory e lawful why = why
-solved_refusal engine parts budget depth answer BadCertificate e lawful why =
-    absurd (lawful_or_wrong parts budget depth answer lawful (subst (λ (asked : Option Parts). IsSomeAnd asked (λ p. IsWrong p answer)) e why))
-solved_refusal engine parts budget depth answer refusal e lawful why = absurd why
-
--- what a lawful answer earns is true of the whole history, and shown
-earned : (parts : Parts) (whole : History) (budget depth : ℕ) (answer : Answer) (kind : Kind) (certificate : Certificate) → ((k : Kind) → IsVerdict parts k → IsVerdictWhole whole k) → IsLawful parts budget depth answer → IsRight parts answer kind certificate → IsTrueOf whole kind × Shows parts budget depth kind certificate
-earned parts whole budget depth (answers.Yes order) kinds.Serial (Order shown) agree lawful right = (agree kinds.Serial right.2, subst (Explains parts) (sym right.0) right.1)
-earned parts whole budget depth (answers.Yes order) kinds.Pending (Order shown) agree lawful right = (agree kinds.Pending right.2, subst (Explains parts) (sym right.0) right.1)
-earned parts whole budget depth (answers.Yes order) kinds.Violated (Order shown) agree lawful right = absurd (right.2 (order, right.1))
-earned parts whole budget depth (answers.Yes order) kinds.Spent (Order shown) agree lawful right = absurd right.2
-earned parts whole budget depth answers.No kind Refuted agree lawful right =
-    subst (λ (k : Kind). IsTrueOf whole k × Shows parts budget depth k Refuted) (sym right.0) (agree kinds.Violated right.1, right.1)
-earned parts whole budget depth answers.Spent kind Nothing agree lawful right =
-    subst (λ (k : Kind). IsTrueOf whole k × Shows parts budget depth k Nothing) (sym right) (tt, lawful)
-earned parts whole budget depth answer kind certificate agree lawful right = absurd right
-
-pub finish_reported : (old new : EngineState) (parts : Parts) (budget depth workers : ℕ) (answer : Answer) (report : Report) → SameVerdictAsStoodFor → old.asked ≡ Some parts → IsGood parts → IsLawful parts budget depth answer → IsSomeAnd old.asked (λ p. IsReportOn p (old.rounds + 1) answer report) → new ≡ engine_finished old → StepsLegally old (Finish budget depth workers) (reply.Report report) new
-finish_reported old new parts budget depth workers answer report law open_round good lawful said e before holds =
-    let on : IsReportOn parts (old.rounds + 1) answer report = subst (λ (asked : Option Parts). IsSomeAnd asked (λ p. IsReportOn p (old.rounds + 1) answer report)) open_round said in
-    let stands = holds.asked parts open_round in
-    let earns = earned parts before.asked budget depth answer report.kind report.certificate (λ k h. (law parts before.asked k stands).1 h) lawful on.right in
-    let right : IsRightReport before parts budget depth report = record {
-      number = on.number ∙ ap (λ (engine : EngineState). engine.rounds + 1) (sym holds.same);
-      counts = on.counts ∙ counts_of parts before.asked good stands.sessions stands.received;
-      true_of = earns.0;
-      shown = earns.1;
-    } in (
-      finished before,
-      (some_and before.engine.asked (λ p. IsRightReport before p budget depth report) parts (ap (λ (engine : EngineState). engine.asked) holds.same ∙ open_round) right, refl),
-      subst (λ (engine : EngineState). Holds engine (finished before)) (sym e) (record {
-        same = ap engine_finished holds.same;
-        parts = holds.parts;
-        asked = λ p h. absurd (none_or_some p h);
-      }),
-    )
+-- whatever histories the engine stood for, a right step is legal
+pub legal_of : (old new : EngineState) (step : Step) (said : StepReply) → Grounds old → StepsTo old step said new → StepsLegally old step said new
+legal_of old new (Offer f) reply.Done grounds right before holds =
+    legal_by old new (Offer f) reply.Done before holds right tt
+    (parts_along new _ _ right.1 (grounds.offers old.parts before.whole f holds.parts right.0.next))
+    (asked_along new _ _ right.1 holds.asked)
+legal_of old new (Offer f) (reply.Refused refusal) grounds right before holds =
+    legal_by old new (Offer f) (reply.Refused refusal) before holds right tt (parts_along new old _ right.1 holds.parts) (asked_along new old _ right.1 holds.asked)
+legal_of old new (Close s) reply.Done grounds right before holds =
+    legal_by old new (Close s) reply.Done before holds right tt
+    (parts_along new _ _ right.1 (grounds.closes old.parts before.whole s holds.parts))
+    (asked_along new _ _ right.1 holds.asked)
+legal_of old new (Close s) (reply.Refused refusal) grounds right before holds =
+    legal_by old new (Close s) (reply.Refused refusal) before holds right tt (parts_along new old _ right.1 holds.parts) (asked_along new old _ right.1 holds.asked)
+legal_of old new Begin reply.Done grounds right before holds =
+    legal_by old new Begin reply.Done before holds right tt (parts_along new _ _ right.1 holds.parts)
+    (asked_along new _ before.whole right.1 (λ parts h. let same : old.parts ≡ parts = cc in subst (λ (p : Parts). StandsFor p before.whole) same holds.parts))
+legal_of old new Begin (reply.Refused refusal) grounds right before holds =
+    legal_by old new Begin (reply.Refused refusal) before holds right tt (parts_along new old _ right.1 holds.parts) (asked_along new old _ right.1 holds.asked)
+legal_of old new (Finish budget depth workers) (reply.Report report) grounds right before holds =
+    legal_by old new (Finish budget depth workers) (reply.Report report) before holds right
+    (tells_of old old.asked before.asked budget depth report grounds.verdicts (λ parts e. (grounds.snapshot parts e, holds.asked parts e)) right.0)
+    (subst (λ (p : Parts). StandsFor p before.whole) (sym right.1.parts) holds.parts)
+    (λ parts h. absurd (none_or_some parts (sym right.1.none_open ∙ h)))
+legal_of old new (Finish budget depth workers) (reply.Refused refusal) grounds right before holds =
+    legal_by old new (Finish budget depth workers) (reply.Refused refusal) before holds right tt (parts_along new old _ right.1 holds.parts) (asked_along new old _ right.1 holds.asked)
+legal_of old new Abandon reply.Done grounds right before holds =
+    legal_by old new Abandon reply.Done before holds right tt (parts_along new _ _ right.1 holds.parts)
+    (asked_along new _ _ right.1 (λ parts h. absurd (none_or_some parts h)))
+legal_of old new Abandon (reply.Refused refusal) grounds right before holds =
+    legal_by old new Abandon (reply.Refused refusal) before holds right tt (parts_along new old _ right.1 holds.parts) (asked_along new old _ right.1 holds.asked)
+legal_of old new step said grounds right before holds = absurd right

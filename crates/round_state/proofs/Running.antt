@@ -1,4 +1,4 @@
--- A legal run goes on by a legal step.
+-- A run goes on by a step.
 use Rattle.std.proofs.Common.{◌≡◌, List, [], ◌∷◌, ◌++◌, refl, ap, ◌∙◌, subst}
 use Rattle.std.specs.Iterator.{Yields}
 use Rattle.std.specs.Vec.Iter.{into_iter_items, into_iter_steps}
@@ -6,8 +6,18 @@ use Rattle.std.specs.declared.vec.IntoIter.{IntoIter}
 use Rattle.round_state.specs.EngineState.{EngineState}
 use Rattle.round_state.specs.Legal.{State, Legal, LegalRun}
 use Rattle.round_state.specs.Runs.{StepsLegally, RunsLegally}
+use Rattle.round_state.specs.Steps.{StepsTo, RunsTo}
 use Rattle.round_state.specs.declared.steps.Step.{Step}
 use Rattle.round_state.specs.declared.steps.StepReply.{StepReply}
+
+pub right_none : (old : EngineState) → RunsTo old [] [] old
+right_none old = refl
+
+pub right_more : (old mid new : EngineState) (steps : List Step) (replies : List StepReply) (step : Step) (reply : StepReply) → RunsTo old steps replies mid → StepsTo mid step reply new → RunsTo old (steps ++ step ∷ []) (replies ++ reply ∷ []) new
+right_more old mid new [] [] step reply ran right = (new, subst (λ (engine : EngineState). StepsTo engine step reply new) ran right, refl)
+right_more old mid new (s ∷ steps) (r ∷ replies) step reply ran right = (ran.0, ran.1, right_more ran.0 mid new steps replies step reply ran.2 right)
+right_more old mid new [] (r ∷ replies) step reply ran right = absurd ran
+right_more old mid new (s ∷ steps) [] step reply ran right = absurd ran
 
 legal_more : (before mid after : State) (steps : List Step) (replies : List StepReply) (step : Step) (reply : StepReply) → LegalRun before steps replies mid → Legal mid step reply after → LegalRun before (steps ++ step ∷ []) (replies ++ reply ∷ []) after
 legal_more before mid after [] [] step reply ran legal = (after, subst (λ (state : State). Legal state step reply after) ran legal, refl)

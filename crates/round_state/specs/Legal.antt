@@ -1,27 +1,16 @@
--- Which replies to a step are legal, and what they lead to. The state has whole histories beside the engine: what is said
--- of a verdict is said of them.
-use Rattle.std.specs.Prelude.{◌≡◌, ℕ, ◌+◌, ◌-◌, ◌<◌, ◌≤◌, ◌^◌, ◌⊎◌, ⊤, true, List, [], ◌∷◌, length, map, slice_get, Some, None, IsSome, IsSomeAnd, sum_by}
-use Rattle.txn.specs.declared.transactions.Fragment.{Fragment}
-use Rattle.txn.specs.declared.refusals.Refusal.{Refusal}
-use Rattle.txn.specs.declared.refusals.Refusal.TheVariants.{BadSession, Closed, Gap, Repeat, Backlog, TooLong, RoundOpen, NoRound, BadCertificate, NoMemory}
-use Rattle.txn.specs.Transactions.{IsWellFormedFragment, FragmentFault}
+-- Which replies to a step are legal, and what they lead to, where whole histories stand beside the engine: what a report says
+-- is said of them.
+use Rattle.std.specs.Prelude.{◌≡◌, ⊤, List, [], ◌∷◌, length, map}
 use Rattle.txn.specs.History.{History}
-use Rattle.order_check.specs.declared.remainder.Parts.{Parts}
 use Rattle.order_check.specs.declared.remainder.Kind.{Kind}
-use Rattle.order_check.specs.declared.remainder.Kind.TheVariants as kinds
-use Rattle.order_check.specs.Based.{received_count}
-use Rattle.order_check.specs.Explains.{Explains}
-use Rattle.order_check.specs.StandsFor.{IsOpenSession, IsNextFragment, parts_with, parts_closed, with_fragment}
-use Rattle.order_check.specs.Verdict.{HasOrder}
+use Rattle.order_check.specs.declared.remainder.Kind.TheVariants.{Spent}
+use Rattle.order_check.specs.StandsFor.{with_fragment}
 use Rattle.order_check.specs.Whole.{IsVerdictWhole}
 use Rattle.round_state.specs.EngineState.{EngineState}
-use Rattle.round_state.specs.Solving.{MayBeSpent, IsWrong}
-use Rattle.round_state.specs.declared.solving.Answer.{Answer}
-use Rattle.round_state.specs.declared.reports.Certificate.{Certificate}
-use Rattle.round_state.specs.declared.reports.Certificate.TheVariants.{Order, Refuted, Nothing}
+use Rattle.round_state.specs.Steps.{StepsTo}
 use Rattle.round_state.specs.declared.reports.Report.{Report}
 use Rattle.round_state.specs.declared.steps.Step.{Step}
-use Rattle.round_state.specs.declared.steps.Step.TheVariants.{Offer, Close, Begin, Finish, Abandon}
+use Rattle.round_state.specs.declared.steps.Step.TheVariants.{Offer, Begin}
 use Rattle.round_state.specs.declared.steps.StepReply.{StepReply}
 use Rattle.round_state.specs.declared.steps.StepReply.TheVariants as reply
 
@@ -31,140 +20,43 @@ pub record State : Type 0 where
   pub whole : History
   pub asked : History
 
--- the session is there and receives no more
-abbrev pub IsClosedSession : Parts → ℕ → Type 0
-IsClosedSession parts s = (s < length parts.remain) × (slice_get parts.closed s ≡ Some true)
+-- What a step that was replied to so makes of the whole history that was received: an offer that is done puts its fragment
+-- at the end.
+abbrev pub whole_after : State → Step → StepReply → History
+whole_after old (Offer fragment) reply.Done = with_fragment old.whole fragment
+whole_after old step said = old.whole
 
--- Why a well-formed fragment is refused: each case stands behind the ones above it.
-abbrev pub IntakeFault : Parts → Fragment → Refusal → Type 0
-IntakeFault parts fragment BadSession = length parts.remain ≤ fragment.session
-IntakeFault parts fragment Closed = IsClosedSession parts fragment.session
-IntakeFault parts fragment Gap = IsOpenSession parts fragment.session × (received_count parts fragment.session < fragment.first)
-IntakeFault parts fragment Repeat = IsOpenSession parts fragment.session × (fragment.first < received_count parts fragment.session)
-IntakeFault parts fragment Backlog = IsOpenSession parts fragment.session × (fragment.first ≡ received_count parts fragment.session) × (parts.limit < sum_by length parts.remain + length fragment.txns)
-IntakeFault parts fragment refusal = ⊥
-
--- a fragment that is taken in, unless memory is wanting: it is next in an open session, and there is room for it
-pub record IsAdmitted (parts : Parts) (fragment : Fragment) : Type 0 where
-  pub next : IsNextFragment parts fragment
-  pub room : sum_by length parts.remain + length fragment.txns ≤ parts.limit
-
--- Why an offer is refused: what is wrong with the fragment comes first, and memory is asked for last.
-abbrev pub IsOfferRefusal : Parts → Fragment → Refusal → Type 0
-IsOfferRefusal parts fragment NoMemory = IsAdmitted parts fragment
-IsOfferRefusal parts fragment refusal = FragmentFault fragment refusal ⊎ (IsWellFormedFragment fragment × IntakeFault parts fragment refusal)
-
--- Why a close is refused: the session isn't there, or is closed already.
-abbrev pub IsCloseRefusal : Parts → ℕ → Refusal → Type 0
-IsCloseRefusal parts s BadSession = length parts.remain ≤ s
-IsCloseRefusal parts s Closed = IsClosedSession parts s
-IsCloseRefusal parts s refusal = ⊥
-
--- a round may begin: none is open, and its number is below 2^48
-pub record MayBegin (engine : EngineState) : Type 0 where
-  pub none_open : engine.asked ≡ None
-  pub number : engine.rounds < 2 ^ 48 - 1
-
--- Why a begin is refused: a round is open; else the numbers of rounds are used up; memory is asked for last.
-abbrev pub IsBeginRefusal : EngineState → Refusal → Type 0
-IsBeginRefusal engine RoundOpen = IsSome engine.asked
-IsBeginRefusal engine TooLong = (engine.asked ≡ None) × (2 ^ 48 - 1 ≤ engine.rounds)
-IsBeginRefusal engine NoMemory = MayBegin engine
-IsBeginRefusal engine refusal = ⊥
-
--- Why a finish by this answer is refused: no round is open; or the answer is wrong; and where one is open memory may be
--- wanting.
-abbrev pub IsFinishRefusal : EngineState → Answer → Refusal → Type 0
-IsFinishRefusal engine answer NoRound = engine.asked ≡ None
-IsFinishRefusal engine answer BadCertificate = IsSomeAnd engine.asked (λ parts. IsWrong parts answer)
-IsFinishRefusal engine answer NoMemory = IsSome engine.asked
-IsFinishRefusal engine answer refusal = ⊥
-
--- why a finish by a solver's answer is refused: no round is open, or memory is wanting; a solver's answer is never wrong
-abbrev pub IsSolvedRefusal : EngineState → Refusal → Type 0
-IsSolvedRefusal engine NoRound = engine.asked ≡ None
-IsSolvedRefusal engine NoMemory = IsSome engine.asked
-IsSolvedRefusal engine refusal = ⊥
-
--- why an abandon is refused: no round is open
-abbrev pub IsAbandonRefusal : EngineState → Refusal → Type 0
-IsAbandonRefusal engine NoRound = engine.asked ≡ None
-IsAbandonRefusal engine refusal = ⊥
-
--- The engine after each call that is answered ok.
-
-abbrev pub engine_offered : EngineState → Fragment → EngineState
-engine_offered old fragment = record old { parts = parts_with old.parts fragment }
-
-abbrev pub engine_closed : EngineState → ℕ → EngineState
-engine_closed old s = record old { parts = parts_closed old.parts s }
-
-abbrev pub engine_begun : EngineState → EngineState
-engine_begun old = record old { asked = Some old.parts }
-
-abbrev pub engine_finished : EngineState → EngineState
-engine_finished old = record { parts = old.parts; asked = None; rounds = old.rounds + 1 }
-
-abbrev pub engine_abandoned : EngineState → EngineState
-engine_abandoned old = record old { asked = None }
-
--- The state after each step that is answered ok.
-
-abbrev pub offered : State → Fragment → State
-offered old fragment = record { engine = engine_offered old.engine fragment; whole = with_fragment old.whole fragment; asked = old.asked }
-
-abbrev pub closed : State → ℕ → State
-closed old s = record old { engine = engine_closed old.engine s }
-
-abbrev pub begun : State → State
-begun old = record { engine = engine_begun old.engine; whole = old.whole; asked = old.whole }
-
-abbrev pub finished : State → State
-finished old = record old { engine = engine_finished old.engine }
-
-abbrev pub abandoned : State → State
-abandoned old = record old { engine = engine_abandoned old.engine }
+-- and of the one of the open round: a begin that is done takes what was received
+abbrev pub asked_after : State → Step → StepReply → History
+asked_after old Begin reply.Done = old.whole
+asked_after old step said = old.asked
 
 -- A kind other than spent is the verdict of the whole history.
 abbrev pub IsTrueOf : History → Kind → Type 0
-IsTrueOf whole kinds.Spent = ⊤
+IsTrueOf whole Spent = ⊤
 IsTrueOf whole kind = IsVerdictWhole whole kind
 
--- The certificate shows the kind over the snapshot: an order that explains it, that there is none, or that the search of
--- this budget and depth may be spent.
-abbrev pub Shows : Parts → ℕ → ℕ → Kind → Certificate → Type 0
-Shows parts budget depth kinds.Serial (Order order) = Explains parts order
-Shows parts budget depth kinds.Pending (Order order) = Explains parts order
-Shows parts budget depth kinds.Violated Refuted = ¬ HasOrder parts
-Shows parts budget depth kinds.Spent Nothing = MayBeSpent parts budget depth
-Shows parts budget depth kind certificate = ⊥
+-- A report tells of this whole history: its kind, and how many were received of each session.
+pub record TellsOf (whole : History) (report : Report) : Type 0 where
+  pub counts : report.counts ≡ map length whole
+  pub kind : IsTrueOf whole report.kind
 
--- The report of a round whose snapshot are these parts.
-pub record IsRightReport (old : State) (parts : Parts) (budget depth : ℕ) (report : Report) : Type 0 where
-  pub number : report.round ≡ old.engine.rounds + 1
-  -- how many had been received of each session when the round began
-  pub counts : report.counts ≡ map length old.asked
-  -- the kind is the verdict of all that had been received then
-  pub true_of : IsTrueOf old.asked report.kind
-  pub shown : Shows parts budget depth report.kind report.certificate
+-- a reply that is a report tells of the whole history that had been received when the round began
+abbrev pub IsTrueReply : State → StepReply → Type 0
+IsTrueReply old (reply.Report report) = TellsOf old.asked report
+IsTrueReply old said = ⊤
 
 -- From the old state, this reply to the step is legal, and leads to the new state.
-abbrev pub Legal : State → Step → StepReply → State → Type 0
-Legal old (Offer fragment) reply.Done new = IsAdmitted old.engine.parts fragment × (new ≡ offered old fragment)
-Legal old (Offer fragment) (reply.Refused refusal) new = IsOfferRefusal old.engine.parts fragment refusal × (new ≡ old)
-Legal old (Close s) reply.Done new = IsOpenSession old.engine.parts s × (new ≡ closed old s)
-Legal old (Close s) (reply.Refused refusal) new = IsCloseRefusal old.engine.parts s refusal × (new ≡ old)
-Legal old Begin reply.Done new = MayBegin old.engine × (new ≡ begun old)
-Legal old Begin (reply.Refused refusal) new = IsBeginRefusal old.engine refusal × (new ≡ old)
-Legal old (Finish budget depth workers) (reply.Report report) new = IsSomeAnd old.engine.asked (λ parts. IsRightReport old parts budget depth report) × (new ≡ finished old)
-Legal old (Finish budget depth workers) (reply.Refused refusal) new = IsSolvedRefusal old.engine refusal × (new ≡ old)
-Legal old Abandon reply.Done new = IsSome old.engine.asked × (new ≡ abandoned old)
-Legal old Abandon (reply.Refused refusal) new = IsAbandonRefusal old.engine refusal × (new ≡ old)
-Legal old step other new = ⊥
+pub record Legal (old : State) (step : Step) (said : StepReply) (new : State) : Type 0 where
+  -- it is right by the engine alone, and leads to the new one
+  pub engine : StepsTo old.engine step said new.engine
+  pub true_reply : IsTrueReply old said
+  pub whole : new.whole ≡ whole_after old step said
+  pub asked : new.asked ≡ asked_after old step said
 
 -- Step after step, each reply is legal.
 abbrev pub LegalRun : State → List Step → List StepReply → State → Type 0
 LegalRun old [] [] new = new ≡ old
-LegalRun old (step ∷ steps) (reply ∷ replies) new = (between : State) × Legal old step reply between × LegalRun between steps replies new
-LegalRun old [] (reply ∷ replies) new = ⊥
+LegalRun old (step ∷ steps) (said ∷ replies) new = (between : State) × Legal old step said between × LegalRun between steps replies new
+LegalRun old [] (said ∷ replies) new = ⊥
 LegalRun old (step ∷ steps) [] new = ⊥

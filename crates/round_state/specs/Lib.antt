@@ -5,5 +5,6 @@ pub mod Legal
 pub mod Opening
 pub mod Runs
 pub mod Solving
+pub mod Steps
 pub mod Tracked
 pub mod Trial

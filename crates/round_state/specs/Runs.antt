@@ -1,10 +1,10 @@
 -- Engines that answer legally, whatever whole histories their parts stand for.
 use Rattle.std.specs.Prelude.{◌≡◌, ⊤, List, Some}
 use Rattle.order_check.specs.declared.remainder.Parts.{Parts}
+use Rattle.order_check.specs.Effort.{IsEffort}
 use Rattle.order_check.specs.StandsFor.{StandsFor}
 use Rattle.round_state.specs.EngineState.{EngineState}
 use Rattle.round_state.specs.Legal.{State, Legal, LegalRun}
-use Rattle.round_state.specs.Solving.{AreLimits}
 use Rattle.round_state.specs.declared.steps.Step.{Step}
 use Rattle.round_state.specs.declared.steps.Step.TheVariants.{Finish}
 use Rattle.round_state.specs.declared.steps.StepReply.{StepReply}
@@ -26,5 +26,5 @@ RunsLegally old steps replies new = (before : State) → Holds old before → (a
 
 -- the numbers of a step are within their limits
 abbrev pub HasLimits : Step → Type 0
-HasLimits (Finish budget depth workers) = AreLimits budget depth workers
+HasLimits (Finish budget depth workers) = IsEffort budget depth workers
 HasLimits step = ⊤

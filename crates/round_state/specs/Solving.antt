@@ -1,5 +1,5 @@
 -- What a solver is asked and may answer, and what an engine makes of the answer.
-use Rattle.std.specs.Prelude.{◌≡◌, ℕ, ◌+◌, ◌<◌, ◌≤◌, ◌^◌, ⊤, List, [], length, min}
+use Rattle.std.specs.Prelude.{◌≡◌, ℕ, ◌+◌, ◌<◌, ◌^◌, ⊤, List, [], length, min}
 use Rattle.txn.specs.declared.choices.Choice.{Choice}
 use Rattle.order_check.specs.declared.remainder.Parts.{Parts}
 use Rattle.order_check.specs.declared.remainder.Kind.{Kind}
@@ -15,14 +15,6 @@ use Rattle.round_state.specs.declared.solving.Answer.TheVariants as answers
 use Rattle.round_state.specs.declared.reports.Certificate.{Certificate}
 use Rattle.round_state.specs.declared.reports.Certificate.TheVariants.{Order, Refuted, Nothing}
 use Rattle.round_state.specs.declared.reports.Report.{Report}
-
--- The numbers of a search are within their limits: its budget of nodes, its split depth, and its workers.
-pub record AreLimits (budget depth workers : ℕ) : Type 0 where
-  pub some_budget : 1 ≤ budget
-  pub low_budget : budget ≤ 2 ^ 32
-  pub low_depth : depth ≤ 6
-  pub some_workers : 1 ≤ workers
-  pub few_workers : workers ≤ 16
 
 -- A search may be spent only where its budget doesn't reach: with n choices open, of which it splits the first e, the budget
 -- and 2^e are together below 2^(n+1).

@@ -3,7 +3,7 @@ ghost use Rattle.std.specs.Option.{option_to_list};
 ghost use Rattle.txn.specs.Transactions.{IsWellFormedFragment};
 ghost use Rattle.order_check.specs.Good.{IsGood};
 ghost use Rattle.round_state.specs.Awaiting.{awaited_of, awaited_from, HaveArrived};
-ghost use Rattle.round_state.specs.Legal.{IsAdmitted, IntakeFault};
+ghost use Rattle.round_state.specs.Steps.{IsAdmitted, IntakeFault};
 ghost use Rattle.round_state.specs.Tracked.{AreMarksOf};
 
 use order_check::Parts;

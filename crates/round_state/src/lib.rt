@@ -9,8 +9,6 @@ mod snapshots;
 mod solving;
 mod state;
 mod steps;
-#[cfg(test)]
-mod tests;
 
 pub use problems::Problem;
 pub use reports::{Certificate, Report, received_counts};

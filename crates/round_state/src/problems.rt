@@ -1,4 +1,5 @@
 ghost use Rattle.std.specs.Prelude.{◌≡◌, IfOk};
+ghost use Rattle.order_check.specs.Good.{IsGood};
 ghost use Rattle.round_state.specs.Trial.{CanBeTried};
 
 use order_check::Parts;
@@ -29,7 +30,7 @@ impl Model for Problem {
 
 impl Problem {
     /// The problem of these parts, which are copied.
-    pub fn of(alloc: Global, parts: &Parts) -> Result<Problem, NoMemory>
+    pub(crate) fn of(alloc: Global, parts: &Parts) -> Result<Problem, NoMemory>
         requires { CanBeTried parts.now }
         ensures { IfOk result (λ problem. problem ≡ parts.now) }
     {
@@ -39,6 +40,14 @@ impl Problem {
     }
 
     pub fn parts(&self) -> &Parts
+        ensures value { result.now ≡ self.now }
+        ensures good { IsGood result.now }
+    {
+        &self.parts
+    }
+
+    /// The same, for a trial of all orders.
+    pub(crate) fn parts_to_try(&self) -> &Parts
         ensures value { result.now ≡ self.now }
         ensures fit { CanBeTried result.now }
     {

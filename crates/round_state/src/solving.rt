@@ -1,4 +1,5 @@
-ghost use Rattle.round_state.specs.Solving.{AreLimits, IsLawful};
+ghost use Rattle.order_check.specs.Effort.{IsEffort};
+ghost use Rattle.round_state.specs.Solving.{IsLawful};
 
 use crate::problems::Problem;
 use order_check::find_order;
@@ -28,7 +29,7 @@ pub trait Solver {
         depth: u64,
         workers: u64,
     ) -> Answer
-        requires { AreLimits budget depth workers }
+        requires { IsEffort budget depth workers }
         ensures { IsLawful problem.now budget depth result };
 }
 
@@ -45,7 +46,7 @@ impl Solver for TrialSolver {
         depth: u64,
         workers: u64,
     ) -> Answer {
-        match find_order(alloc, problem.parts()) {
+        match find_order(alloc, problem.parts_to_try()) {
             Ok(Some(order)) => Answer::Yes(order),
             Ok(None) => Answer::No,
             Err(_) => Answer::NoMemory,

@@ -1,9 +1,8 @@
 ghost use Rattle.std.specs.Prelude.{◌≡◌, ◌↔◌, ◌+◌, IsTrue, false, replicate, length, sum_by, Some, IfOk, IfErr, OnOk, MatchResult, IsSome, IsSomeAnd};
 ghost use Rattle.order_check.specs.Good.{IsGood};
 ghost use Rattle.order_check.specs.StandsFor.{IsOpenSession};
-ghost use Rattle.round_state.specs.Trial.{CanBeTried};
 ghost use Rattle.round_state.specs.Opening.{IsSessions, IsLimit, IsOpenRefusal, no_history, empty_parts, fresh, fresh_state};
-ghost use Rattle.round_state.specs.Legal.{IsAdmitted, IsOfferRefusal, IsCloseRefusal, MayBegin, IsBeginRefusal, IsFinishRefusal, IsSolvedRefusal, IsAbandonRefusal, engine_offered, engine_closed, engine_begun, engine_finished, engine_abandoned};
+ghost use Rattle.round_state.specs.Steps.{IsAdmitted, IsOfferRefusal, IsCloseRefusal, MayBegin, IsBeginRefusal, IsFinishRefusal, IsAbandonRefusal, IsFinished, engine_offered, engine_closed, engine_begun, engine_abandoned};
 ghost use Rattle.round_state.specs.Runs.{Holds};
 ghost use Rattle.round_state.specs.Solving.{IsReportOn};
 
@@ -141,7 +140,7 @@ impl Engine {
 
     pub fn parts(&self) -> &Parts
         ensures value { result.now ≡ self.now.parts }
-        ensures fit { CanBeTried result.now }
+        ensures good { IsGood result.now }
     {
         &self.parts
     }
@@ -202,7 +201,7 @@ impl Engine {
 
     /// Finishes the open round by an answer, which is checked here. A wrong answer and want of memory leave it open.
     pub fn finish(&mut self, alloc: Global, answer: Answer) -> Result<Report, Refusal>
-        ensures ok { IfOk result (λ report. IsSomeAnd self.old.asked (λ parts. IsReportOn parts (self.old.rounds + 1) answer report) × (self.new ≡ engine_finished self.old)) }
+        ensures ok { IfOk result (λ report. IsSomeAnd self.old.asked (λ parts. IsReportOn parts (self.old.rounds + 1) answer report) × IsFinished self.old self.new) }
         ensures err { IfErr result (λ refusal. IsFinishRefusal self.old answer refusal × (self.new ≡ self.old)) }
     {
         let Some(snapshot) = &self.asked else {
@@ -220,14 +219,22 @@ impl Engine {
         })
     }
 
-    /// The open round's problem, made anew.
-    pub(crate) fn problem(&self, alloc: Global) -> Result<Problem, Refusal>
-        ensures ok { IfOk result (λ problem. (self.now.asked ≡ Some problem) × IsGood problem) }
-        ensures err { IfErr result (IsSolvedRefusal self.now) }
+    /// The problem of the round that is open, if one is, made anew.
+    pub fn open_problem(&self, alloc: Global) -> Result<Option<Problem>, NoMemory>
+        ensures { IfOk result (λ problem. problem ≡ self.now.asked) }
     {
         match &self.asked {
-            Some(snapshot) => Ok(Problem::of(alloc, snapshot.parts())?),
-            None => Err(Refusal::NoRound),
+            Some(snapshot) => Ok(Some(Problem::of(alloc, snapshot.parts())?)),
+            None => Ok(None),
+        }
+    }
+
+    /// The snapshot of the round that is open keeps the rules.
+    pub(crate) fn has_good_snapshot(&self)
+        ensures { (parts : Parts) → self.now.asked ≡ Some parts → IsGood parts }
+    {
+        if let Some(snapshot) = &self.asked {
+            let _ = snapshot.parts();
         }
     }
 

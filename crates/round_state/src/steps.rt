@@ -1,7 +1,9 @@
 ghost use Rattle.std.specs.Prelude.{◌≡◌, ◌<◌, ◌≤◌, [], ◌∷◌, ◌++◌, All, IfOk, OnErr, vec_len, vec_capacity};
+ghost use Rattle.order_check.specs.Effort.{IsEffort};
 ghost use Rattle.round_state.specs.Runs.{HasLimits, StepsLegally, RunsLegally};
-ghost use Rattle.round_state.specs.Solving.{AreLimits};
+ghost use Rattle.round_state.specs.Steps.{StepsTo, RunsTo};
 
+use crate::problems::Problem;
 use crate::reports::Report;
 use crate::solving::Solver;
 use crate::state::Engine;
@@ -44,9 +46,9 @@ fn note(replies: &mut Vec<StepReply>, reply: StepReply)
 
 impl Engine {
     fn reply_to_offer(&mut self, alloc: Global, fragment: Fragment) -> StepReply
-        ensures { StepsLegally self.old (Step.Offer fragment) result self.new }
+        ensures right { StepsTo self.old (Step.Offer fragment) result self.new }
+        ensures asked { self.new.asked ≡ self.old.asked }
     {
-        offer_keeps_stands_for();
         match self.offer(alloc, fragment) {
             Ok(()) => StepReply::Done,
             Err(refusal) => StepReply::Refused(refusal),
@@ -54,20 +56,25 @@ impl Engine {
     }
 
     fn reply_to_close(&mut self, session: u8) -> StepReply
-        ensures { StepsLegally self.old (Step.Close session) result self.new }
+        ensures right { StepsTo self.old (Step.Close session) result self.new }
+        ensures asked { self.new.asked ≡ self.old.asked }
     {
-        close_keeps_stands_for();
         match self.close(session) {
             Ok(()) => StepReply::Done,
             Err(refusal) => StepReply::Refused(refusal),
         }
     }
 
-    fn reply_to_begin(&mut self, alloc: Global) -> StepReply
-        ensures { StepsLegally self.old Step.Begin result self.new }
+    fn reply_to_begin(&mut self, alloc: Global, kept: &mut Option<Problem>) -> StepReply
+        requires { kept.old ≡ self.old.asked }
+        ensures right { StepsTo self.old Step.Begin result self.new }
+        ensures kept { kept.new ≡ self.new.asked }
     {
         match self.begin(alloc) {
-            Ok(_problem) => StepReply::Done,
+            Ok(problem) => {
+                *kept = Some(problem);
+                StepReply::Done
+            }
             Err(refusal) => StepReply::Refused(refusal),
         }
     }
@@ -78,51 +85,91 @@ impl Engine {
         budget: u64,
         depth: u64,
         workers: u64,
+        kept: &mut Option<Problem>,
         solver: &S,
     ) -> StepReply
-        requires { AreLimits budget depth workers }
-        ensures { StepsLegally self.old (Step.Finish budget depth workers) result self.new }
+        requires effort { IsEffort budget depth workers }
+        requires kept { kept.old ≡ self.old.asked }
+        ensures right { StepsTo self.old (Step.Finish budget depth workers) result self.new }
+        ensures kept { kept.new ≡ self.new.asked }
     {
-        verdict_as_stood_for();
-        let problem = match self.problem(alloc) {
-            Ok(problem) => problem,
-            Err(refusal) => return StepReply::Refused(refusal),
+        let Some(problem) = kept.as_ref() else {
+            return StepReply::Refused(Refusal::NoRound);
         };
-        let answer = solver.solve(alloc, &problem, budget, depth, workers);
+        let answer = solver.solve(alloc, problem, budget, depth, workers);
         match self.finish(alloc, answer) {
-            Ok(report) => StepReply::Report(report),
+            Ok(report) => {
+                *kept = None;
+                StepReply::Report(report)
+            }
             Err(refusal) => StepReply::Refused(refusal),
         }
     }
 
-    fn reply_to_abandon(&mut self) -> StepReply
-        ensures { StepsLegally self.old Step.Abandon result self.new }
+    fn reply_to_abandon(&mut self, kept: &mut Option<Problem>) -> StepReply
+        requires { kept.old ≡ self.old.asked }
+        ensures right { StepsTo self.old Step.Abandon result self.new }
+        ensures kept { kept.new ≡ self.new.asked }
     {
         match self.abandon() {
-            Ok(()) => StepReply::Done,
+            Ok(()) => {
+                *kept = None;
+                StepReply::Done
+            }
             Err(refusal) => StepReply::Refused(refusal),
         }
     }
 
-    /// Makes a step and replies to it. Where the reply is a refusal, nothing has changed.
-    pub fn step<S: Solver>(&mut self, alloc: Global, step: Step, solver: &S) -> StepReply
-        requires { HasLimits step }
-        ensures { StepsLegally self.old step result self.new }
+    /// Makes a step by the call for it.
+    fn reply<S: Solver>(
+        &mut self,
+        alloc: Global,
+        step: Step,
+        kept: &mut Option<Problem>,
+        solver: &S,
+    ) -> StepReply
+        requires limits { HasLimits step }
+        requires kept { kept.old ≡ self.old.asked }
+        ensures right { StepsTo self.old step result self.new }
+        ensures kept { kept.new ≡ self.new.asked }
     {
         match step {
             Step::Offer(fragment) => self.reply_to_offer(alloc, fragment),
             Step::Close(session) => self.reply_to_close(session),
-            Step::Begin => self.reply_to_begin(alloc),
+            Step::Begin => self.reply_to_begin(alloc, kept),
             Step::Finish {
                 budget,
                 depth,
                 workers,
-            } => self.reply_to_finish(alloc, budget, depth, workers, solver),
-            Step::Abandon => self.reply_to_abandon(),
+            } => self.reply_to_finish(alloc, budget, depth, workers, kept, solver),
+            Step::Abandon => self.reply_to_abandon(kept),
         }
     }
 
-    /// Makes a list of steps, and replies to each.
+    /// Makes a step and replies to it. Where the reply is a refusal, nothing has changed. What is kept is the problem of the round
+    /// that is open, and none where none is: a begin puts it there.
+    pub fn step<S: Solver>(
+        &mut self,
+        alloc: Global,
+        step: Step,
+        kept: &mut Option<Problem>,
+        solver: &S,
+    ) -> StepReply
+        requires limits { HasLimits step }
+        requires kept { kept.old ≡ self.old.asked }
+        ensures right { StepsTo self.old step result self.new }
+        ensures legal { StepsLegally self.old step result self.new }
+        ensures kept { kept.new ≡ self.new.asked }
+    {
+        offer_keeps_stands_for();
+        close_keeps_stands_for();
+        verdict_as_stood_for();
+        self.has_good_snapshot();
+        self.reply(alloc, step, kept, solver)
+    }
+
+    /// Makes a list of steps, and replies to each. Room for the replies is made first, and where a round is open its problem: where
+    /// memory is refused for these, nothing has changed.
     pub fn run<S: Solver>(
         &mut self,
         alloc: Global,
@@ -130,12 +177,14 @@ impl Engine {
         solver: &S,
     ) -> Result<Vec<StepReply>, NoMemory>
         requires { All HasLimits steps.items }
+        ensures right { IfOk result (λ replies. RunsTo self.old steps.items replies.items self.new) }
         ensures legal { IfOk result (λ replies. RunsLegally self.old steps.items replies.items self.new) }
         ensures err { OnErr result (self.new ≡ self.old) }
     {
         let mut replies = Vec::with_capacity(alloc, steps.len())?;
+        let mut kept = self.open_problem(alloc)?;
         for step in steps {
-            let reply = self.step(alloc, step, solver);
+            let reply = self.step(alloc, step, &mut kept, solver);
             note(&mut replies, reply);
         }
         Ok(replies)

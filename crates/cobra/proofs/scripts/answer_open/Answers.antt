@@ -1,6 +1,7 @@
-use Rattle.std.proofs.Common.{◌≡◌}
+use Rattle.std.proofs.Common.{◌≡◌, subst}
 use Rattle.std.proofs.lemmas.Result.{IfOk-weaker}
 use Rattle.log_text.specs.declared.commands.Command.TheVariants.{Show}
+use Rattle.round_state.specs.EngineState.{EngineState}
 use Rattle.round_state.specs.declared.steps.Step.TheVariants as step
 use Rattle.cobra.specs.Scripts.{state_told, AnswersOpenLegally}
 use Rattle.cobra.proofs.ScriptRounds.{step_told, round_told, show_told, out_of_place}
@@ -25,7 +26,8 @@ returns-in-Round g c =
 pub returns-in-Show : goal.returns-in-Show
 returns-in-Show g c =
     rw c.in-Show.is
-    (IfOk-weaker c.state_told.result (λ answer. answer ≡ state_told c.args.engine.now) (λ answer. AnswersOpenLegally c.args.engine.now Show answer c.args.engine.now) (show_told c.args.engine.now) c.state_told.ensures)
+    (IfOk-weaker c.state_told.result (λ answer. answer ≡ state_told c.engine.result.now) (λ answer. AnswersOpenLegally c.args.engine.now Show answer c.args.engine.now)
+    (λ answer is. show_told c.args.engine.now answer (subst (λ (engine : EngineState). answer ≡ state_told engine) c.engine.ensures is)) c.state_told.ensures)
 
 pub returns-in-Start : goal.returns-in-Start
 returns-in-Start g c = rw c.in-Start.is (out_of_place c.args.engine.now)

@@ -1,4 +1,4 @@
-use Rattle.std.proofs.Common.{◌≡◌, ◌∙◌, ◌++◌, ◌+◌, [], List, sym, ap, get_or, take}
+use Rattle.std.proofs.Common.{◌≡◌, ◌∙◌, ◌++◌, ◌+◌, List, sym, ap, get_or, take}
 use Rattle.std.proofs.lemmas.List.{get_or_default}
 use Rattle.txn.specs.declared.transactions.Txn.{Txn}
 use Rattle.pending_reads.specs.declared.index.PendingRead.{PendingRead}

@@ -1,4 +1,4 @@
-use Rattle.std.proofs.Common.{◌≡◌, ◌∙◌, sym, subst}
+use Rattle.std.proofs.Common.{◌∙◌, sym, subst}
 use Rattle.order_check.specs.declared.remainder.Parts.{Parts}
 use Rattle.round_state.specs.Tracked.{IsSnapshot}
 use Rattle.round_state.proofs.Indexed.{any_pending}

@@ -4,7 +4,7 @@ use Rattle.order_check.specs.StandsFor.{with_fragment}
 use Rattle.pending_reads.specs.Waiting.{AreNew}
 use Rattle.round_state.specs.Awaiting.{awaited_from}
 use Rattle.round_state.specs.EngineState.{EngineState}
-use Rattle.round_state.specs.Legal.{IsAdmitted}
+use Rattle.round_state.specs.Steps.{IsAdmitted}
 use Rattle.round_state.proofs.Indexed.{awaited_new}
 use Rattle.round_state.proofs.Keeping.{kept_along, kept_index, kept_offered, cut_back_to}
 use Rattle.round_state.proofs.state.Engine.offer.Goals as goal

@@ -1,0 +1,56 @@
+ghost use Rattle.std.specs.Prelude.{◌≡◌, IfOk, IfErr, OnOk};
+ghost use Rattle.round_state.specs.Opening.{IsSessions, IsLimit, IsOpenRefusal, fresh_state};
+ghost use Rattle.round_state.specs.Runs.{HasLimits, Holds, StepsLegally};
+
+use round_state::{Engine, Problem, Solver, Step, StepReply};
+use std::alloc::Global;
+use std::marker::Model;
+use txn::Refusal;
+
+/// An engine, with the problem of the round that is open. Contracts see the engine.
+#[derive(Drop)]
+pub(crate) struct OpenEngine {
+    engine: Engine,
+    kept: Option<Problem>,
+}
+
+impl Model for OpenEngine {
+    ghost use Rattle.std.specs.Coded.{codes};
+    ghost use Rattle.std.specs.Prelude.{◌≡◌};
+    ghost use Rattle.order_check.specs.Codes.{coded_last};
+    ghost use Rattle.round_state.specs.EngineState.{EngineState};
+
+    ghost Value = { EngineState };
+
+    ghost coded = { Prim.hlevel (codes, coded_last) };
+
+    ghost view = { λ e. e.engine };
+
+    ghost invariant = { λ e. e.kept ≡ e.engine.asked };
+}
+
+impl OpenEngine {
+    pub(crate) fn open(alloc: Global, sessions: u64, limit: u64) -> Result<OpenEngine, Refusal>
+        ensures holds { IfOk result (λ engine. Holds engine (fresh_state sessions limit)) }
+        ensures numbers { OnOk result (IsSessions sessions × IsLimit limit) }
+        ensures err { IfErr result (IsOpenRefusal sessions limit) }
+    {
+        Ok(OpenEngine {
+            engine: Engine::open(alloc, sessions, limit)?,
+            kept: None,
+        })
+    }
+
+    pub(crate) fn engine(&self) -> &Engine
+        ensures { result.now ≡ self.now }
+    {
+        &self.engine
+    }
+
+    pub(crate) fn step<S: Solver>(&mut self, alloc: Global, step: Step, solver: &S) -> StepReply
+        requires { HasLimits step }
+        ensures { StepsLegally self.old step result self.new }
+    {
+        self.engine.step(alloc, step, &mut self.kept, solver)
+    }
+}

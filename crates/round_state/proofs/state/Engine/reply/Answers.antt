@@ -1,0 +1,16 @@
+use Rattle.round_state.proofs.state.Engine.reply.Goals as goal
+
+pub returns-in-Offer-clause-right : goal.returns-in-Offer-clause-right
+returns-in-Offer-clause-right g c = rw c.in-Offer.is c.reply_to_offer.ensures.right
+
+pub returns-in-Begin-clause-right : goal.returns-in-Begin-clause-right
+returns-in-Begin-clause-right g c = rw c.in-Begin.is c.reply_to_begin.ensures.right
+
+pub returns-in-Finish-clause-right : goal.returns-in-Finish-clause-right
+returns-in-Finish-clause-right g c = rw c.in-Finish.is c.reply_to_finish.ensures.right
+
+pub returns-in-Abandon-clause-right : goal.returns-in-Abandon-clause-right
+returns-in-Abandon-clause-right g c = rw c.in-Abandon.is c.reply_to_abandon.ensures.right
+
+pub returns-in-Close-clause-right : goal.returns-in-Close-clause-right
+returns-in-Close-clause-right g c = rw c.in-Close.is c.reply_to_close.ensures.right

@@ -1,0 +1,147 @@
+-- Which replies to a step are right, and what they lead to, by the engine alone: whatever parts it has, also such as stand for
+-- no whole history.
+use Rattle.std.specs.Prelude.{◌≡◌, ℕ, ◌+◌, ◌-◌, ◌<◌, ◌≤◌, ◌^◌, ◌⊎◌, ⊤, true, List, [], ◌∷◌, length, slice_get, Some, None, IsSome, IsSomeAnd, sum_by}
+use Rattle.txn.specs.declared.transactions.Fragment.{Fragment}
+use Rattle.txn.specs.declared.refusals.Refusal.{Refusal}
+use Rattle.txn.specs.declared.refusals.Refusal.TheVariants.{BadSession, Closed, Gap, Repeat, Backlog, TooLong, RoundOpen, NoRound, BadCertificate, NoMemory}
+use Rattle.txn.specs.Transactions.{IsWellFormedFragment, FragmentFault}
+use Rattle.order_check.specs.declared.remainder.Parts.{Parts}
+use Rattle.order_check.specs.declared.remainder.Kind.{Kind}
+use Rattle.order_check.specs.declared.remainder.Kind.TheVariants as kinds
+use Rattle.order_check.specs.Based.{received_count, received_counts}
+use Rattle.order_check.specs.Explains.{Explains}
+use Rattle.order_check.specs.StandsFor.{IsOpenSession, IsNextFragment, parts_with, parts_closed}
+use Rattle.order_check.specs.Verdict.{HasOrder, IsVerdict}
+use Rattle.round_state.specs.EngineState.{EngineState}
+use Rattle.round_state.specs.Solving.{MayBeSpent, IsWrong}
+use Rattle.round_state.specs.declared.solving.Answer.{Answer}
+use Rattle.round_state.specs.declared.reports.Certificate.{Certificate}
+use Rattle.round_state.specs.declared.reports.Certificate.TheVariants.{Order, Refuted, Nothing}
+use Rattle.round_state.specs.declared.reports.Report.{Report}
+use Rattle.round_state.specs.declared.steps.Step.{Step}
+use Rattle.round_state.specs.declared.steps.Step.TheVariants.{Offer, Close, Begin, Finish, Abandon}
+use Rattle.round_state.specs.declared.steps.StepReply.{StepReply}
+use Rattle.round_state.specs.declared.steps.StepReply.TheVariants as reply
+
+-- the session is there and receives no more
+abbrev pub IsClosedSession : Parts → ℕ → Type 0
+IsClosedSession parts s = (s < length parts.remain) × (slice_get parts.closed s ≡ Some true)
+
+-- Why a well-formed fragment is refused: each case stands behind the ones above it.
+abbrev pub IntakeFault : Parts → Fragment → Refusal → Type 0
+IntakeFault parts fragment BadSession = length parts.remain ≤ fragment.session
+IntakeFault parts fragment Closed = IsClosedSession parts fragment.session
+IntakeFault parts fragment Gap = IsOpenSession parts fragment.session × (received_count parts fragment.session < fragment.first)
+IntakeFault parts fragment Repeat = IsOpenSession parts fragment.session × (fragment.first < received_count parts fragment.session)
+IntakeFault parts fragment Backlog = IsOpenSession parts fragment.session × (fragment.first ≡ received_count parts fragment.session) × (parts.limit < sum_by length parts.remain + length fragment.txns)
+IntakeFault parts fragment refusal = ⊥
+
+-- a fragment that is taken in, unless memory is wanting: it is next in an open session, and there is room for it
+pub record IsAdmitted (parts : Parts) (fragment : Fragment) : Type 0 where
+  pub next : IsNextFragment parts fragment
+  pub room : sum_by length parts.remain + length fragment.txns ≤ parts.limit
+
+-- Why an offer is refused: what is wrong with the fragment comes first, and memory is asked for last.
+abbrev pub IsOfferRefusal : Parts → Fragment → Refusal → Type 0
+IsOfferRefusal parts fragment NoMemory = IsAdmitted parts fragment
+IsOfferRefusal parts fragment refusal = FragmentFault fragment refusal ⊎ (IsWellFormedFragment fragment × IntakeFault parts fragment refusal)
+
+-- Why a close is refused: the session isn't there, or is closed already.
+abbrev pub IsCloseRefusal : Parts → ℕ → Refusal → Type 0
+IsCloseRefusal parts s BadSession = length parts.remain ≤ s
+IsCloseRefusal parts s Closed = IsClosedSession parts s
+IsCloseRefusal parts s refusal = ⊥
+
+-- a round may begin: none is open, and its number is below 2^48
+pub record MayBegin (engine : EngineState) : Type 0 where
+  pub none_open : engine.asked ≡ None
+  pub number : engine.rounds < 2 ^ 48 - 1
+
+-- Why a begin is refused: a round is open; else the numbers of rounds are used up; memory is asked for last.
+abbrev pub IsBeginRefusal : EngineState → Refusal → Type 0
+IsBeginRefusal engine RoundOpen = IsSome engine.asked
+IsBeginRefusal engine TooLong = (engine.asked ≡ None) × (2 ^ 48 - 1 ≤ engine.rounds)
+IsBeginRefusal engine NoMemory = MayBegin engine
+IsBeginRefusal engine refusal = ⊥
+
+-- Why a finish by this answer is refused: no round is open; or the answer is wrong; and where one is open memory may be
+-- wanting.
+abbrev pub IsFinishRefusal : EngineState → Answer → Refusal → Type 0
+IsFinishRefusal engine answer NoRound = engine.asked ≡ None
+IsFinishRefusal engine answer BadCertificate = IsSomeAnd engine.asked (λ parts. IsWrong parts answer)
+IsFinishRefusal engine answer NoMemory = IsSome engine.asked
+IsFinishRefusal engine answer refusal = ⊥
+
+-- why a finish by a solver's answer is refused: no round is open, or memory is wanting; a solver's answer is never wrong
+abbrev pub IsSolvedRefusal : EngineState → Refusal → Type 0
+IsSolvedRefusal engine NoRound = engine.asked ≡ None
+IsSolvedRefusal engine NoMemory = IsSome engine.asked
+IsSolvedRefusal engine refusal = ⊥
+
+-- why an abandon is refused: no round is open
+abbrev pub IsAbandonRefusal : EngineState → Refusal → Type 0
+IsAbandonRefusal engine NoRound = engine.asked ≡ None
+IsAbandonRefusal engine refusal = ⊥
+
+-- The engine after each call that is answered ok; after a finish it is a relation, since more may change there.
+
+abbrev pub engine_offered : EngineState → Fragment → EngineState
+engine_offered old fragment = record old { parts = parts_with old.parts fragment }
+
+abbrev pub engine_closed : EngineState → ℕ → EngineState
+engine_closed old s = record old { parts = parts_closed old.parts s }
+
+abbrev pub engine_begun : EngineState → EngineState
+engine_begun old = record old { asked = Some old.parts }
+
+abbrev pub engine_abandoned : EngineState → EngineState
+engine_abandoned old = record old { asked = None }
+
+-- no round is open, one more is finished, and the parts are as they were
+pub record IsFinished (old new : EngineState) : Type 0 where
+  pub parts : new.parts ≡ old.parts
+  pub none_open : new.asked ≡ None
+  pub rounds : new.rounds ≡ old.rounds + 1
+
+-- A kind other than spent is the verdict of the parts.
+abbrev pub IsKindOf : Parts → Kind → Type 0
+IsKindOf parts kinds.Spent = ⊤
+IsKindOf parts kind = IsVerdict parts kind
+
+-- The certificate shows the kind over the snapshot: an order that explains it, that there is none, or that the search of
+-- this budget and depth may be spent.
+abbrev pub Shows : Parts → ℕ → ℕ → Kind → Certificate → Type 0
+Shows parts budget depth kinds.Serial (Order order) = Explains parts order
+Shows parts budget depth kinds.Pending (Order order) = Explains parts order
+Shows parts budget depth kinds.Violated Refuted = ¬ HasOrder parts
+Shows parts budget depth kinds.Spent Nothing = MayBeSpent parts budget depth
+Shows parts budget depth kind certificate = ⊥
+
+-- The report of a round whose snapshot are these parts.
+pub record IsRightReport (old : EngineState) (parts : Parts) (budget depth : ℕ) (report : Report) : Type 0 where
+  pub number : report.round ≡ old.rounds + 1
+  -- how many had been received of each session when the round began
+  pub counts : report.counts ≡ received_counts parts
+  pub kind : IsKindOf parts report.kind
+  pub shown : Shows parts budget depth report.kind report.certificate
+
+-- From the old engine, this reply to the step is right, and leads to the new engine.
+abbrev pub StepsTo : EngineState → Step → StepReply → EngineState → Type 0
+StepsTo old (Offer fragment) reply.Done new = IsAdmitted old.parts fragment × (new ≡ engine_offered old fragment)
+StepsTo old (Offer fragment) (reply.Refused refusal) new = IsOfferRefusal old.parts fragment refusal × (new ≡ old)
+StepsTo old (Close s) reply.Done new = IsOpenSession old.parts s × (new ≡ engine_closed old s)
+StepsTo old (Close s) (reply.Refused refusal) new = IsCloseRefusal old.parts s refusal × (new ≡ old)
+StepsTo old Begin reply.Done new = MayBegin old × (new ≡ engine_begun old)
+StepsTo old Begin (reply.Refused refusal) new = IsBeginRefusal old refusal × (new ≡ old)
+StepsTo old (Finish budget depth workers) (reply.Report report) new = IsSomeAnd old.asked (λ parts. IsRightReport old parts budget depth report) × IsFinished old new
+StepsTo old (Finish budget depth workers) (reply.Refused refusal) new = IsSolvedRefusal old refusal × (new ≡ old)
+StepsTo old Abandon reply.Done new = IsSome old.asked × (new ≡ engine_abandoned old)
+StepsTo old Abandon (reply.Refused refusal) new = IsAbandonRefusal old refusal × (new ≡ old)
+StepsTo old step other new = ⊥
+
+-- Step after step, each reply is right.
+abbrev pub RunsTo : EngineState → List Step → List StepReply → EngineState → Type 0
+RunsTo old [] [] new = new ≡ old
+RunsTo old (step ∷ steps) (said ∷ replies) new = (between : EngineState) × StepsTo old step said between × RunsTo between steps replies new
+RunsTo old [] (said ∷ replies) new = ⊥
+RunsTo old (step ∷ steps) [] new = ⊥
