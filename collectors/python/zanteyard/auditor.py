@@ -39,7 +39,11 @@ class Auditor:
             self.program = subprocess.Popen([program], stdin=subprocess.PIPE, stdout=subprocess.PIPE, stderr=subprocess.PIPE, text=True)
         except OSError as error:
             raise Ended(f"{program} can't be started ({error}); README.md says how it is built") from error
-        self.ask(self.lines[0])
+        try:
+            self.ask(self.lines[0])
+        except BaseException:
+            self.end()
+            raise
 
     def ask(self, line):
         text = json.dumps(line, separators=(",", ":"))
