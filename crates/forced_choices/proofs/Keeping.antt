@@ -31,8 +31,8 @@ use Rattle.txn.specs.declared.transactions.Source.TheVariants.{By}
 
 pub kept_of : (parts : Parts) (graph : GraphState) (log : List ForceStep) → IsGood parts → IsSaturationOf parts graph log → IsKept parts graph log
 kept_of parts graph log good is =
-    let end = saturated_end parts (plain_arcs parts) graph.arcs (rules_of (choices_of parts (all_ids parts) (all_ids parts))) [] log (so_far_first parts) is in
-    record { good = good; exact = λ a b. exact parts graph.arcs log a b end; full = full_log parts graph.arcs log end }
+    let end = saturated_end parts [] [] (plain_arcs parts) graph.arcs (rules_of (choices_of parts (all_ids parts) (all_ids parts))) [] log (so_far_first parts) is in
+    record { good = good; exact = λ a b. exact parts [] [] graph.arcs log a b end; full = full_log parts graph.arcs log end }
 
 pub ids_distinct : (parts : Parts) → AreDistinct (all_ids parts)
 ids_distinct parts = distinct_from_ascends (all_ids parts) (listed_ascend parts)

@@ -1,5 +1,5 @@
 -- What saturation leads to is the known relation, and its log is right.
-use Rattle.std.proofs.Common.{◌≡◌, ℕ, ◌+◌, ◌-◌, ◌≤◌, ◌⊎◌, List, [], ◌∷◌, ◌++◌, refl, sym, ap, ◌∙◌, inl, inr, subst, suc, zero, arith, Some}
+use Rattle.std.proofs.Common.{◌≡◌, ℕ, ◌+◌, ◌-◌, ◌≤◌, ◌⊎◌, List, [], ◌∷◌, ◌++◌, get_or, refl, sym, ap, ◌∙◌, inl, inr, subst, suc, zero, arith, Some}
 use Rattle.std.specs.Prelude.{Contains, All, remove, ◌↔◌}
 use Rattle.std.specs.List.{slice_get}
 use Rattle.txn.specs.declared.transactions.TxnId.{TxnId}
@@ -13,33 +13,29 @@ use Rattle.txn.specs.Arcs.{start_of, end_of}
 use Rattle.order_check.specs.declared.remainder.Parts.{Parts}
 use Rattle.order_check.specs.Based.{mark_of, Remains}
 use Rattle.order_check.specs.Known.{Known, IsChoice, by_session, by_read, by_base, by_taken, through, forces_after, forces_before}
-use Rattle.order_check.specs.Cycles.{Sides, IsArc, IsPath, IsCycle, side_taken, side_not_taken, IsForced, AreForced, sides_after, Links, IsFullLog}
+use Rattle.order_check.specs.Cycles.{Sides, IsArc, IsPath, IsCycle, side_taken, side_not_taken, IsForced, AreForced, AreNew, sides_after, Links, IsFullLog}
 use Rattle.forced_choices.specs.declared.rules.Rule.{Rule}
 use Rattle.known_graph.specs.Reach.{Reaches, Leads, IsPathOf}
 use Rattle.known_graph.specs.Reach as reach
 use Rattle.forced_choices.specs.Rules.{premise_of, arc_of_side, premise, conclusion, rules_of}
 use Rattle.forced_choices.specs.Saturates.{IsReady, IsReached, taken_arc, Fires, there, forced, Saturates, ends, goes_on}
 use Rattle.forced_choices.specs.Listing.{all_ids, choices_of, one_before}
-use Rattle.forced_choices.proofs.Members.{In, in_from_contains, contains_from_in, in_left, in_right, in_either, in_flat_map, flat_map_in}
+use Rattle.forced_choices.proofs.Members.{In, in_place, in_from_contains, contains_from_in, in_left, in_right, in_either, in_flat_map, flat_map_in}
 use Rattle.forced_choices.proofs.ListedIds.{same_fields, bounds_of, bounds_remain}
+use Rattle.forced_choices.proofs.Linked.{reaches_more, reaches_by, ordered_reached, links_known, reached_links, links_reached}
 use Rattle.forced_choices.proofs.ListedChoices.{listed_is_choice, choice_listed}
 use Rattle.forced_choices.proofs.ListedArcs.{plain_arcs, plain_right, next_listed, read_listed, base_listed}
 
--- reachability over more arcs
-pub reaches_more : (arcs : List Arc) (arc : Arc) (a b : TxnId) → Reaches arcs a b → Reaches (arcs ++ arc ∷ []) a b
-reaches_more arcs arc a b (reach.by_arc one here) = reach.by_arc one (contains_from_in (arcs ++ arc ∷ []) one (in_left arcs (arc ∷ []) one (in_from_contains arcs one here)))
-reaches_more arcs arc a b (reach.through {b = m} first second) = reach.through (reaches_more arcs arc a m first) (reaches_more arcs arc m b second)
-
-pub reaches_by : (arcs : List Arc) (arc : Arc) → In arcs arc → Reaches arcs (start_of arc) (end_of arc)
-reaches_by arcs arc h = reach.by_arc arc (contains_from_in arcs arc h)
-
--- what holds while sides are forced
-pub record IsSoFar (parts : Parts) (arcs : List Arc) (rules : List Rule) (log : List ForceStep) : Type 0 where
-  pub right : (arc : Arc) → In arcs arc → IsArc parts (sides_after [] log) arc
-  pub known : (arc : Arc) → In arcs arc → Known parts [] (start_of arc) (end_of arc)
+-- What holds while sides are forced, where sides are assumed: the log goes on from the sides that were taken at the start.
+pub record IsSoFar (parts : Parts) (assumed start : Sides) (arcs : List Arc) (rules : List Rule) (log : List ForceStep) : Type 0 where
+  pub right : (arc : Arc) → In arcs arc → IsArc parts (sides_after start log) arc
+  pub known : (arc : Arc) → In arcs arc → Known parts assumed (start_of arc) (end_of arc)
   pub plain : (arc : Arc) → In (plain_arcs parts) arc → In arcs arc
-  pub sides : (side : TxnId × TxnId) → In (sides_after [] log) side → Known parts [] side.0 side.1
-  pub steps : AreForced parts [] log
+  pub there : (side : TxnId × TxnId) → In assumed side → Reaches arcs side.0 side.1
+  pub sides : (side : TxnId × TxnId) → In (sides_after start log) side → Known parts assumed side.0 side.1
+  pub reached : (side : TxnId × TxnId) → In (sides_after start log) side → Reaches arcs side.0 side.1
+  pub steps : AreForced parts start log
+  pub new : AreNew parts start log
   pub pending : (rule : Rule) → IsChoice parts rule.choice → In rules rule ⊎ IsReached arcs rule
   pub choices : (rule : Rule) → In rules rule → IsChoice parts rule.choice
 
@@ -66,26 +62,29 @@ rules_have choices rule h = flat_map_in (λ choice. record { choice = choice; si
     by_side choice Second = inl refl
     by_side choice First = inr (inl refl)
 
-pub so_far_first : (parts : Parts) → IsSoFar parts (plain_arcs parts) (rules_of (choices_of parts (all_ids parts) (all_ids parts))) []
+pub so_far_first : (parts : Parts) → IsSoFar parts [] [] (plain_arcs parts) (rules_of (choices_of parts (all_ids parts) (all_ids parts))) []
 so_far_first parts = record {
   right = plain_right parts;
   known = λ arc h. plain_known parts arc (plain_right parts arc h);
   plain = λ arc h. h;
+  there = λ side h. absurd h;
   sides = λ side h. absurd h;
+  reached = λ side h. absurd h;
   steps = tt;
+  new = tt;
   pending = λ rule is. inl (rules_have (choices_of parts (all_ids parts) (all_ids parts)) rule (choice_listed parts rule.choice is));
   choices = λ rule h. listed_is_choice parts (all_ids parts) rule.choice (in_rules (choices_of parts (all_ids parts) (all_ids parts)) rule h);
 }
 
 -- what is reached is known
-pub reached_known : (parts : Parts) (arcs : List Arc) (a b : TxnId) → ((arc : Arc) → In arcs arc → Known parts [] (start_of arc) (end_of arc)) → Reaches arcs a b → Known parts [] a b
-reached_known parts arcs a b known (reach.by_arc arc here) = known arc (in_from_contains arcs arc here)
-reached_known parts arcs a b known (reach.through {b = m} first second) = through (reached_known parts arcs a m known first) (reached_known parts arcs m b known second)
+pub reached_known : (parts : Parts) (assumed : Sides) (arcs : List Arc) (a b : TxnId) → ((arc : Arc) → In arcs arc → Known parts assumed (start_of arc) (end_of arc)) → Reaches arcs a b → Known parts assumed a b
+reached_known parts assumed arcs a b known (reach.by_arc arc here) = known arc (in_from_contains arcs arc here)
+reached_known parts assumed arcs a b known (reach.through {b = m} first second) = through (reached_known parts assumed arcs a m known first) (reached_known parts assumed arcs m b known second)
 
 -- a rule that is ready is a known fact
-forced_known : (parts : Parts) (choice : Choice) (side : Side) → IsChoice parts choice → Known parts [] (premise_of choice side).0 (premise_of choice side).1 → Known parts [] (arc_of_side choice side).0 (arc_of_side choice side).1
-forced_known parts choice Second is known = forces_after choice is known
-forced_known parts choice First is known = forces_before choice is known
+forced_known : (parts : Parts) (assumed : Sides) (choice : Choice) (side : Side) → IsChoice parts choice → Known parts assumed (premise_of choice side).0 (premise_of choice side).1 → Known parts assumed (arc_of_side choice side).0 (arc_of_side choice side).1
+forced_known parts assumed choice Second is known = forces_after choice is known
+forced_known parts assumed choice First is known = forces_before choice is known
 
 -- the sides of a step
 step_takes : (choice : Choice) (side : Side) (cycle : List Arc) → side_taken (record { choice = choice; side = side; cycle = cycle }) ≡ arc_of_side choice side
@@ -103,6 +102,20 @@ sides_push taken (s ∷ log) step = sides_push (side_taken s ∷ taken) log step
 are_forced_push : (parts : Parts) (taken : Sides) (log : List ForceStep) (step : ForceStep) → AreForced parts taken log → IsForced parts (sides_after taken log) step → AreForced parts taken (log ++ step ∷ [])
 are_forced_push parts taken [] step h is = (is, tt)
 are_forced_push parts taken (s ∷ log) step h is = (h.0, are_forced_push parts (side_taken s ∷ taken) log step h.1 is)
+
+are_new_push : (parts : Parts) (taken : Sides) (log : List ForceStep) (step : ForceStep) → AreNew parts taken log → (¬ Links parts (sides_after taken log) (side_taken step).0 (side_taken step).1) → AreNew parts taken (log ++ step ∷ [])
+are_new_push parts taken [] step h is = (is, tt)
+are_new_push parts taken (s ∷ log) step h is = (h.0, are_new_push parts (side_taken s ∷ taken) log step h.1 is)
+
+-- the side of a step is among those taken after it, and so is what was taken before
+taken_after : (taken : Sides) (log : List ForceStep) (side : TxnId × TxnId) → In taken side → In (sides_after taken log) side
+taken_after taken [] side h = h
+taken_after taken (s ∷ log) side h = taken_after (side_taken s ∷ taken) log side (inr h)
+
+pub step_after : (taken : Sides) (log : List ForceStep) (step : ForceStep) → In log step → In (sides_after taken log) (side_taken step)
+step_after taken [] step h = absurd h
+step_after taken (s ∷ log) step (inl e) = taken_after (side_taken s ∷ taken) log (side_taken step) (inl (ap side_taken e))
+step_after taken (s ∷ log) step (inr h) = step_after (side_taken s ∷ taken) log step h
 
 -- a right arc stays right where one more side is taken
 arc_more : (parts : Parts) (taken : Sides) (side : TxnId × TxnId) (arc : Arc) → IsArc parts taken arc → IsArc parts (side ∷ taken) arc
@@ -141,36 +154,42 @@ at_in (r ∷ rules) zero rule h = inl cc
 at_in (r ∷ rules) (suc place) rule h = inr (at_in rules place rule h)
 
 -- one more rule looked at keeps it so
-fired : (parts : Parts) (arcs between : List Arc) (rules : List Rule) (log then : List ForceStep) (place : ℕ) (rule : Rule) → slice_get rules place ≡ Some rule → IsReady arcs rule → IsSoFar parts arcs rules log → Fires arcs log rule between then → IsSoFar parts between (remove rules place) then
-fired parts arcs between rules log then place rule at ready so (there reached) = record {
+fired : (parts : Parts) (assumed start : Sides) (arcs between : List Arc) (rules : List Rule) (log then : List ForceStep) (place : ℕ) (rule : Rule) → slice_get rules place ≡ Some rule → IsReady arcs rule → IsSoFar parts assumed start arcs rules log → Fires arcs log rule between then → IsSoFar parts assumed start between (remove rules place) then
+fired parts assumed start arcs between rules log then place rule at ready so (there is_there) = record {
   right = so.right;
   known = so.known;
   plain = so.plain;
+  there = so.there;
   sides = so.sides;
+  reached = so.reached;
   steps = so.steps;
+  new = so.new;
   pending = λ other is. by_pending other (so.pending other is);
   choices = λ other h. so.choices other (removed_in rules place other h);
 }
   where
     by_removed : (other : Rule) → (rule ≡ other) ⊎ In (remove rules place) other → In (remove rules place) other ⊎ IsReached arcs other
-    by_removed other (inl e) = inr (subst (λ r. IsReached arcs r) e reached)
+    by_removed other (inl e) = inr (subst (λ r. IsReached arcs r) e is_there)
     by_removed other (inr h) = inl h
 
     by_pending : (other : Rule) → In rules other ⊎ IsReached arcs other → In (remove rules place) other ⊎ IsReached arcs other
     by_pending other (inl h) = by_removed other (in_removed rules place rule other at h)
     by_pending other (inr h) = inr h
-fired parts arcs between rules log then place rule at ready so (forced step is) = record {
+fired parts assumed start arcs between rules log then place rule at ready so (forced step apart is) = record {
   right = λ arc h. by_arc arc (in_either arcs (taken_arc rule ∷ []) arc h);
   known = λ arc h. arc_known arc (in_either arcs (taken_arc rule ∷ []) arc h);
   plain = λ arc h. in_left arcs (taken_arc rule ∷ []) arc (so.plain arc h);
+  there = λ side h. reaches_more arcs (taken_arc rule) side.0 side.1 (so.there side h);
   sides = λ side h. side_known side (subst (λ sides. In sides side) pushed h);
-  steps = are_forced_push parts [] log step so.steps (choice_right, cycle_right);
+  reached = λ side h. side_reached side (subst (λ sides. In sides side) pushed h);
+  steps = are_forced_push parts start log step so.steps (choice_right, cycle_right);
+  new = are_new_push parts start log step so.new (λ links. apart (subst (λ (s : TxnId × TxnId). Reaches arcs s.0 s.1) takes (links_reached parts taken arcs (side_taken step).0 (side_taken step).1 so.plain so.reached links)));
   pending = λ other is. by_pending other (so.pending other is);
   choices = λ other h. so.choices other (removed_in rules place other h);
 }
   where
     taken : Sides
-    taken = sides_after [] log
+    taken = sides_after start log
 
     a_choice : IsChoice parts rule.choice
     a_choice = so.choices rule (at_in rules place rule at)
@@ -184,11 +203,11 @@ fired parts arcs between rules log then place rule at ready so (forced step is) 
     rules_out : side_not_taken step ≡ ((premise rule).1, (premise rule).0)
     rules_out = step_rules_out step.choice step.side step.cycle ∙ ap (λ c. ((premise_of c step.side).1, (premise_of c step.side).0)) is.choice ∙ ap (λ s. ((premise_of rule.choice s).1, (premise_of rule.choice s).0)) is.side
 
-    pushed : sides_after [] (log ++ step ∷ []) ≡ conclusion rule ∷ taken
-    pushed = sides_push [] log step ∙ ap (λ s. s ∷ taken) takes
+    pushed : sides_after start (log ++ step ∷ []) ≡ conclusion rule ∷ taken
+    pushed = sides_push start log step ∙ ap (λ s. s ∷ taken) takes
 
-    conclusion_known : Known parts [] (conclusion rule).0 (conclusion rule).1
-    conclusion_known = forced_known parts rule.choice rule.side a_choice (reached_known parts arcs (premise rule).0 (premise rule).1 so.known ready)
+    conclusion_known : Known parts assumed (conclusion rule).0 (conclusion rule).1
+    conclusion_known = forced_known parts assumed rule.choice rule.side a_choice (reached_known parts assumed arcs (premise rule).0 (premise rule).1 so.known ready)
 
     -- the cycle of the step
     not_taken : TxnId × TxnId
@@ -206,22 +225,26 @@ fired parts arcs between rules log then place rule at ready so (forced step is) 
     cycle_right : IsCycle parts (side_not_taken step ∷ taken) step.cycle
     cycle_right = subst (λ side. IsCycle parts (side ∷ taken) step.cycle) (sym rules_out) (subst (λ cycle. IsCycle parts (not_taken ∷ taken) cycle) (sym is.cycle) cycle_there)
 
-    by_arc : (arc : Arc) → In arcs arc ⊎ In (taken_arc rule ∷ []) arc → IsArc parts (sides_after [] (log ++ step ∷ [])) arc
+    by_arc : (arc : Arc) → In arcs arc ⊎ In (taken_arc rule ∷ []) arc → IsArc parts (sides_after start (log ++ step ∷ [])) arc
     by_arc arc (inl h) = subst (λ sides. IsArc parts sides arc) (sym pushed) (arc_more parts taken (conclusion rule) arc (so.right arc h))
     by_arc arc (inr (inl e)) = subst (λ sides. IsArc parts sides arc) (sym pushed) (subst (λ a. IsArc parts (conclusion rule ∷ taken) a) e (contains_from_in (conclusion rule ∷ taken) (conclusion rule) (inl refl)))
     by_arc arc (inr (inr h)) = absurd h
 
-    arc_known : (arc : Arc) → In arcs arc ⊎ In (taken_arc rule ∷ []) arc → Known parts [] (start_of arc) (end_of arc)
+    arc_known : (arc : Arc) → In arcs arc ⊎ In (taken_arc rule ∷ []) arc → Known parts assumed (start_of arc) (end_of arc)
     arc_known arc (inl h) = so.known arc h
-    arc_known arc (inr (inl e)) = subst (λ a. Known parts [] (start_of a) (end_of a)) e conclusion_known
+    arc_known arc (inr (inl e)) = subst (λ a. Known parts assumed (start_of a) (end_of a)) e conclusion_known
     arc_known arc (inr (inr h)) = absurd h
 
-    side_known : (side : TxnId × TxnId) → In (conclusion rule ∷ taken) side → Known parts [] side.0 side.1
-    side_known side (inl e) = subst (λ (s : TxnId × TxnId). Known parts [] s.0 s.1) e conclusion_known
+    side_known : (side : TxnId × TxnId) → In (conclusion rule ∷ taken) side → Known parts assumed side.0 side.1
+    side_known side (inl e) = subst (λ (s : TxnId × TxnId). Known parts assumed s.0 s.1) e conclusion_known
     side_known side (inr h) = so.sides side h
 
     reached_now : IsReached (arcs ++ taken_arc rule ∷ []) rule
     reached_now = reaches_by (arcs ++ taken_arc rule ∷ []) (taken_arc rule) (in_right arcs (taken_arc rule ∷ []) (taken_arc rule) (inl refl))
+
+    side_reached : (side : TxnId × TxnId) → In (conclusion rule ∷ taken) side → Reaches (arcs ++ taken_arc rule ∷ []) side.0 side.1
+    side_reached side (inl e) = subst (λ (s : TxnId × TxnId). Reaches (arcs ++ taken_arc rule ∷ []) s.0 s.1) e reached_now
+    side_reached side (inr h) = reaches_more arcs (taken_arc rule) side.0 side.1 (so.reached side h)
 
     by_removed : (other : Rule) → (rule ≡ other) ⊎ In (remove rules place) other → In (remove rules place) other ⊎ IsReached (arcs ++ taken_arc rule ∷ []) other
     by_removed other (inl e) = inr (subst (λ r. IsReached (arcs ++ taken_arc rule ∷ []) r) e reached_now)
@@ -232,14 +255,14 @@ fired parts arcs between rules log then place rule at ready so (forced step is) 
     by_pending other (inr h) = inr (reaches_more arcs (taken_arc rule) (conclusion other).0 (conclusion other).1 h)
 
 -- where it ends
-pub record IsEnd (parts : Parts) (arcs : List Arc) (log : List ForceStep) : Type 0 where
+pub record IsEnd (parts : Parts) (assumed start : Sides) (arcs : List Arc) (log : List ForceStep) : Type 0 where
   pub rules : List Rule
-  pub so_far : IsSoFar parts arcs rules log
+  pub so_far : IsSoFar parts assumed start arcs rules log
   pub not_ready : All (λ rule. ¬ IsReady arcs rule) rules
 
-pub saturated_end : (parts : Parts) (arcs last : List Arc) (rules : List Rule) (log final : List ForceStep) → IsSoFar parts arcs rules log → Saturates arcs rules log last final → IsEnd parts last final
-saturated_end parts arcs last rules log final so (ends none) = record { rules = rules; so_far = so; not_ready = none }
-saturated_end parts arcs last rules log final so (goes_on {between = between} {then = then} place rule at ready fires more) = saturated_end parts between last (remove rules place) then final (fired parts arcs between rules log then place rule at ready so fires) more
+pub saturated_end : (parts : Parts) (assumed start : Sides) (arcs last : List Arc) (rules : List Rule) (log final : List ForceStep) → IsSoFar parts assumed start arcs rules log → Saturates arcs rules log last final → IsEnd parts assumed start last final
+saturated_end parts assumed start arcs last rules log final so (ends none) = record { rules = rules; so_far = so; not_ready = none }
+saturated_end parts assumed start arcs last rules log final so (goes_on {between = between} {then = then} place rule at ready fires more) = saturated_end parts assumed start between last (remove rules place) then final (fired parts assumed start arcs between rules log then place rule at ready so fires) more
 
 -- what isn't ready anywhere isn't ready here
 not_in : {X : Type 0} (P : X → Type 0) (xs : List X) (x : X) → All (λ y. ¬ P y) xs → In xs x → P x → ⊥
@@ -248,91 +271,37 @@ not_in {X} P xs x none h p = by_place (contains_from_in xs x h)
     by_place : Contains xs x → ⊥
     by_place (k, within, is) = none k x within (subst P (sym is) p)
 
--- one session's transactions reach one another in order
-session_reached : (parts : Parts) (arcs : List Arc) (n : ℕ) (a b : TxnId) → ((arc : Arc) → In (plain_arcs parts) arc → In arcs arc) → Remains parts a → Remains parts b → a.session ≡ b.session → a.number + suc n ≡ b.number → Reaches arcs a b
-session_reached parts arcs zero a b plain ra rb same e =
-    let before : one_before b ≡ a = same_fields (one_before b) a (sym same) (omega arith) in
-    let remains = subst (λ id. Remains parts id) (sym before) ra in
-    subst (λ id. Reaches arcs id b) before (reaches_by arcs (Session (one_before b) b) (plain (Session (one_before b) b) (next_listed parts b rb remains (omega arith))))
-session_reached parts arcs (suc n) a b plain ra rb same e =
-    let ba = bounds_of parts a ra in
-    let bb = bounds_of parts b rb in
-    let low : mark_of parts b.session ≤ a.number = subst (λ s. mark_of parts s ≤ a.number) same ba.low in
-    let high = bb.high in
-    let remains = bounds_remain parts (one_before b) (record { low = omega arith; high = omega arith }) in
-    reach.through (session_reached parts arcs n a (one_before b) plain ra remains same (omega arith))
-    (reaches_by arcs (Session (one_before b) b) (plain (Session (one_before b) b) (next_listed parts b rb remains (omega arith))))
-
 -- what is known is reached in the end
-pub known_reached : (parts : Parts) (arcs : List Arc) (log : List ForceStep) (a b : TxnId) → IsEnd parts arcs log → Known parts [] a b → Reaches arcs a b
-known_reached parts arcs log a b end (by_session ra rb same below) = session_reached parts arcs (b.number - a.number - 1) a b end.so_far.plain ra rb same (omega arith)
-known_reached parts arcs log a b end (by_read key reads writes) = reaches_by arcs (Read key a b) (end.so_far.plain (Read key a b) (read_listed parts b a key reads writes))
-known_reached parts arcs log a b end (by_base key reads writes apart) = reaches_by arcs (Base key a b) (end.so_far.plain (Base key a b) (base_listed parts a b key reads writes apart))
-known_reached parts arcs log a b end (by_taken h) = absurd (in_from_contains [] (a, b) h)
-known_reached parts arcs log a b end (through {b = m} first second) = reach.through (known_reached parts arcs log a m end first) (known_reached parts arcs log m b end second)
-known_reached parts arcs log a b end (forces_after choice is before) = by_pending (known_reached parts arcs log choice.writer choice.other end before) (end.so_far.pending (record { choice = choice; side = Second }) is)
+pub known_reached : (parts : Parts) (assumed start : Sides) (arcs : List Arc) (log : List ForceStep) (a b : TxnId) → IsEnd parts assumed start arcs log → Known parts assumed a b → Reaches arcs a b
+known_reached parts assumed start arcs log a b end (by_session ra rb same below) = ordered_reached parts arcs a b end.so_far.plain ra rb same below
+known_reached parts assumed start arcs log a b end (by_read key reads writes) = reaches_by arcs (Read key a b) (end.so_far.plain (Read key a b) (read_listed parts b a key reads writes))
+known_reached parts assumed start arcs log a b end (by_base key reads writes apart) = reaches_by arcs (Base key a b) (end.so_far.plain (Base key a b) (base_listed parts a b key reads writes apart))
+known_reached parts assumed start arcs log a b end (by_taken h) = end.so_far.there (a, b) (in_from_contains assumed (a, b) h)
+known_reached parts assumed start arcs log a b end (through {b = m} first second) = reach.through (known_reached parts assumed start arcs log a m end first) (known_reached parts assumed start arcs log m b end second)
+known_reached parts assumed start arcs log a b end (forces_after choice is before) = by_pending (known_reached parts assumed start arcs log choice.writer choice.other end before) (end.so_far.pending (record { choice = choice; side = Second }) is)
   where
     by_pending : Reaches arcs choice.writer choice.other → In end.rules (record { choice = choice; side = Second }) ⊎ IsReached arcs (record { choice = choice; side = Second }) → Reaches arcs choice.reader choice.other
     by_pending ready (inl h) = absurd (not_in (IsReady arcs) end.rules (record { choice = choice; side = Second }) end.not_ready h ready)
     by_pending ready (inr reached) = reached
-known_reached parts arcs log a b end (forces_before choice is before) = by_pending (known_reached parts arcs log choice.other choice.reader end before) (end.so_far.pending (record { choice = choice; side = First }) is)
+known_reached parts assumed start arcs log a b end (forces_before choice is before) = by_pending (known_reached parts assumed start arcs log choice.other choice.reader end before) (end.so_far.pending (record { choice = choice; side = First }) is)
   where
     by_pending : Reaches arcs choice.other choice.reader → In end.rules (record { choice = choice; side = First }) ⊎ IsReached arcs (record { choice = choice; side = First }) → Reaches arcs choice.other choice.writer
     by_pending ready (inl h) = absurd (not_in (IsReady arcs) end.rules (record { choice = choice; side = First }) end.not_ready h ready)
     by_pending ready (inr reached) = reached
 
--- a right arc is known, where the sides taken are
-arc_is_known : (parts : Parts) (taken : Sides) (arc : Arc) → ((side : TxnId × TxnId) → In taken side → Known parts [] side.0 side.1) → IsArc parts taken arc → Known parts [] (start_of arc) (end_of arc)
-arc_is_known parts taken (Session from to) known right = by_session right.0 right.1 right.2 right.3
-arc_is_known parts taken (Read key from to) known right = by_read key right.0 right.1
-arc_is_known parts taken (Base key from to) known right = by_base key right.0 right.1 right.2
-arc_is_known parts taken (Taken from to) known right = known (from, to) (in_from_contains taken (from, to) right)
-
--- where the sides taken are known, a path of right arcs is known
-path_known : (parts : Parts) (taken : Sides) (start : TxnId) (arcs : List Arc) (goal : TxnId) → ((side : TxnId × TxnId) → In taken side → Known parts [] side.0 side.1) → IsPath parts taken start arcs goal → (start ≡ goal) ⊎ Known parts [] start goal
-path_known parts taken start [] goal known h = inl h
-path_known parts taken start (arc ∷ arcs) goal known (begins, right, rest) = inr (by_rest (path_known parts taken (end_of arc) arcs goal known rest))
-  where
-    first : Known parts [] start (end_of arc)
-    first = subst (λ id. Known parts [] id (end_of arc)) begins (arc_is_known parts taken arc known right)
-
-    by_rest : (end_of arc ≡ goal) ⊎ Known parts [] (end_of arc) goal → Known parts [] start goal
-    by_rest (inl e) = subst (λ id. Known parts [] start id) e first
-    by_rest (inr known) = through first known
-
-links_known : (parts : Parts) (taken : Sides) (a b : TxnId) → ((side : TxnId × TxnId) → In taken side → Known parts [] side.0 side.1) → Links parts taken a b → Known parts [] a b
-links_known parts taken a b known (arc, arcs, begins, right, rest) = by_rest (path_known parts taken (end_of arc) arcs b known rest)
-  where
-    first : Known parts [] a (end_of arc)
-    first = subst (λ id. Known parts [] id (end_of arc)) begins (arc_is_known parts taken arc known right)
-
-    by_rest : (end_of arc ≡ b) ⊎ Known parts [] (end_of arc) b → Known parts [] a b
-    by_rest (inl e) = subst (λ id. Known parts [] a id) e first
-    by_rest (inr known) = through first known
-
-path_append : (parts : Parts) (taken : Sides) (start : TxnId) (xs ys : List Arc) (middle goal : TxnId) → IsPath parts taken start xs middle → IsPath parts taken middle ys goal → IsPath parts taken start (xs ++ ys) goal
-path_append parts taken start [] ys middle goal h k = subst (λ id. IsPath parts taken id ys goal) (sym h) k
-path_append parts taken start (arc ∷ xs) ys middle goal (begins, right, rest) k = (begins, right, path_append parts taken (end_of arc) xs ys middle goal rest k)
-
--- what is reached is linked by right arcs
-reached_links : (parts : Parts) (taken : Sides) (arcs : List Arc) (a b : TxnId) → ((arc : Arc) → In arcs arc → IsArc parts taken arc) → Reaches arcs a b → Links parts taken a b
-reached_links parts taken arcs a b right (reach.by_arc arc here) = (arc, [], refl, right arc (in_from_contains arcs arc here), refl)
-reached_links parts taken arcs a b right (reach.through {b = m} first second) = join (reached_links parts taken arcs a m right first) (reached_links parts taken arcs m b right second)
-  where
-    join : Links parts taken a m → Links parts taken m b → Links parts taken a b
-    join (x, xs, bx, rx, px) (y, ys, by, ry, py) = (x, xs ++ y ∷ ys, bx, rx, path_append parts taken (end_of x) xs (y ∷ ys) m b px (by, ry, py))
-
 -- the log is right, and after it nothing more is forced
-pub full_log : (parts : Parts) (arcs : List Arc) (log : List ForceStep) → IsEnd parts arcs log → IsFullLog parts log
+pub full_log : (parts : Parts) (arcs : List Arc) (log : List ForceStep) → IsEnd parts [] [] arcs log → IsFullLog parts log
 full_log parts arcs log end = record {
   forced = end.so_far.steps;
-  after = λ choice is links. linked choice.reader choice.other (forces_after choice is (links_known parts (sides_after [] log) choice.writer choice.other end.so_far.sides links));
-  before = λ choice is links. linked choice.other choice.writer (forces_before choice is (links_known parts (sides_after [] log) choice.other choice.reader end.so_far.sides links));
+  new = end.so_far.new;
+  known = λ k d within. end.so_far.sides (side_taken (get_or log k d)) (step_after [] log (get_or log k d) (in_place log k d within));
+  after = λ choice is links. linked choice.reader choice.other (forces_after choice is (links_known parts [] (sides_after [] log) choice.writer choice.other end.so_far.sides links));
+  before = λ choice is links. linked choice.other choice.writer (forces_before choice is (links_known parts [] (sides_after [] log) choice.other choice.reader end.so_far.sides links));
 }
   where
     linked : (a b : TxnId) → Known parts [] a b → Links parts (sides_after [] log) a b
-    linked a b known = reached_links parts (sides_after [] log) arcs a b end.so_far.right (known_reached parts arcs log a b end known)
+    linked a b known = reached_links parts (sides_after [] log) arcs a b end.so_far.right (known_reached parts [] [] arcs log a b end known)
 
 -- the relation is exact
-pub exact : (parts : Parts) (arcs : List Arc) (log : List ForceStep) (a b : TxnId) → IsEnd parts arcs log → Reaches arcs a b ↔ Known parts [] a b
-exact parts arcs log a b end = (reached_known parts arcs a b end.so_far.known, known_reached parts arcs log a b end)
+pub exact : (parts : Parts) (assumed start : Sides) (arcs : List Arc) (log : List ForceStep) (a b : TxnId) → IsEnd parts assumed start arcs log → Reaches arcs a b ↔ Known parts assumed a b
+exact parts assumed start arcs log a b end = (reached_known parts assumed arcs a b end.so_far.known, known_reached parts assumed start arcs log a b end)

@@ -44,7 +44,7 @@ pub record IsStepOf (arcs : List Arc) (rule : Rule) (step : ForceStep) : Type 0 
 -- one rule is looked at: its side is there already, or its arc and its step are added
 pub data Fires (arcs : List Arc) (log : List ForceStep) (rule : Rule) : List Arc → List ForceStep → Type 0 where
   there : IsReached arcs rule → Fires arcs log rule arcs log
-  forced : (step : ForceStep) → IsStepOf arcs rule step → Fires arcs log rule (arcs ++ taken_arc rule ∷ []) (log ++ step ∷ [])
+  forced : (step : ForceStep) → (¬ IsReached arcs rule) → IsStepOf arcs rule step → Fires arcs log rule (arcs ++ taken_arc rule ∷ []) (log ++ step ∷ [])
 
 -- from these arcs, rules and steps one comes to those arcs and steps, at which no rule that is left is ready
 pub data Saturates : List Arc → List Rule → List ForceStep → List Arc → List ForceStep → Type 0 where

@@ -1,5 +1,5 @@
 -- Paths and cycles of arcs that are right, and choices that they force.
-use Rattle.std.specs.Prelude.{◌≡◌, ◌≢◌, ◌<◌, ⊤, List, [], ◌∷◌, Contains}
+use Rattle.std.specs.Prelude.{◌≡◌, ◌≢◌, ◌<◌, ⊤, List, [], ◌∷◌, All, Contains}
 use Rattle.txn.specs.declared.transactions.TxnId.{TxnId}
 use Rattle.txn.specs.declared.transactions.Source.TheVariants.{By}
 use Rattle.txn.specs.declared.choices.Arc.{Arc}
@@ -12,7 +12,7 @@ use Rattle.txn.specs.Arcs.{start_of, end_of}
 use Rattle.txn.specs.Choices.{first_side, second_side}
 use Rattle.order_check.specs.declared.remainder.Parts.{Parts}
 use Rattle.order_check.specs.Based.{Remains}
-use Rattle.order_check.specs.Known.{ReadsKey, WritesKey, ReadsBase, IsChoice}
+use Rattle.order_check.specs.Known.{Known, ReadsKey, WritesKey, ReadsBase, IsChoice}
 
 -- the arcs of the sides that are taken, each from its first to its second
 abbrev pub Sides : Type 0
@@ -70,9 +70,16 @@ sides_after taken (step ∷ steps) = sides_after (side_taken step ∷ taken) ste
 abbrev pub Links : Parts → Sides → TxnId → TxnId → Type 0
 Links parts taken a b = (arc : Arc) × (arcs : List Arc) × (start_of arc ≡ a) × IsArc parts taken arc × IsPath parts taken (end_of arc) arcs b
 
--- Steps that are forced, one after another, after which nothing more is forced: where the other side of a choice is ruled
--- out, arcs lead along this side.
+-- before each step no right arcs lead along its side
+abbrev pub AreNew : Parts → Sides → List ForceStep → Type 0
+AreNew parts taken [] = ⊤
+AreNew parts taken (step ∷ steps) = (¬ Links parts taken (side_taken step).0 (side_taken step).1) × AreNew parts (side_taken step ∷ taken) steps
+
+-- Steps that are forced, one after another, each new and with a side that is known, after which nothing more is forced:
+-- where the other side of a choice is ruled out, arcs lead along this side.
 pub record IsFullLog (parts : Parts) (steps : List ForceStep) : Type 0 where
   pub forced : AreForced parts [] steps
+  pub new : AreNew parts [] steps
+  pub known : All (λ step. Known parts [] (side_taken step).0 (side_taken step).1) steps
   pub after : (choice : Choice) → IsChoice parts choice → Links parts (sides_after [] steps) choice.writer choice.other → Links parts (sides_after [] steps) choice.reader choice.other
   pub before : (choice : Choice) → IsChoice parts choice → Links parts (sides_after [] steps) choice.other choice.reader → Links parts (sides_after [] steps) choice.other choice.writer

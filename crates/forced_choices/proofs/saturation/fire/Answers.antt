@@ -1,9 +1,10 @@
-use Rattle.std.proofs.Common.{◌≡◌, ◌∷◌, [], ◌++◌, refl, sym, ap, subst, ◌∙◌}
+use Rattle.std.proofs.Common.{◌≡◌, ◌∷◌, [], ◌++◌, false, true, refl, sym, ap, subst, ◌∙◌}
+use Rattle.std.proofs.lemmas.Bool.{false≢true}
 use Rattle.txn.specs.declared.transactions.TxnId.{TxnId}
 use Rattle.txn.specs.declared.choices.Arc.TheVariants.{Taken}
 use Rattle.known_graph.specs.Reach.{Reaches, IsPathOf}
 use Rattle.forced_choices.specs.Rules.{premise}
-use Rattle.forced_choices.specs.Saturates.{IsStepOf, Fires, there, forced, taken_arc}
+use Rattle.forced_choices.specs.Saturates.{IsStepOf, IsReached, Fires, there, forced, taken_arc}
 use Rattle.forced_choices.proofs.saturation.fire.Goals as goal
 
 pub returns-then-reaches-clause-fires : goal.returns-then-reaches-clause-fires
@@ -20,5 +21,6 @@ returns-clause-fires c =
     let found : Reaches old c.premise.result.0 c.premise.result.1 × IsPathOf old c.premise.result.0 c.in-Some.path c.premise.result.1 = rw c.in-Some.is at c.in_ok-path.ensures in
     let leads : IsPathOf old (premise rule).0 c.in-Some.path (premise rule).1 = subst (λ (p : TxnId × TxnId). IsPathOf old p.0 c.in-Some.path p.1) c.premise.ensures found.1 in
     let cycle : step.cycle ≡ Taken (premise rule).1 (premise rule).0 ∷ c.in-Some.path = c.in_ok-step_of.ensures.cycle ∙ ap (λ path. Taken (premise rule).1 (premise rule).0 ∷ path) c.as_slice.ensures in
+    let apart : ¬ IsReached old rule = λ reached. false≢true (sym c.if-reaches.false ∙ c.reaches.ensures.exact.1 (subst (λ (p : TxnId × TxnId). Reaches old p.0 p.1) (sym c.conclusion.ensures) reached)) in
     let is : IsStepOf old rule step = record { choice = c.in_ok-step_of.ensures.choice; side = c.in_ok-step_of.ensures.side; path = c.in-Some.path; leads = leads; cycle = cycle } in
-    subst (λ arcs. Fires old c.args.log.now.items rule arcs c.push.new.self.items) (sym (arcs ∙ taken)) (subst (λ log. Fires old c.args.log.now.items rule (old ++ taken_arc rule ∷ []) log) (sym items) (forced step is))
+    subst (λ arcs. Fires old c.args.log.now.items rule arcs c.push.new.self.items) (sym (arcs ∙ taken)) (subst (λ log. Fires old c.args.log.now.items rule (old ++ taken_arc rule ∷ []) log) (sym items) (forced step apart is))
