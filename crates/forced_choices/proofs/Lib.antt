@@ -9,4 +9,3 @@ pub mod SaturationLaws
 pub mod Distinct
 pub mod OpenSoFar
 pub mod Keeping
-pub mod WholeCuts

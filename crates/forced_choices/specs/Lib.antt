@@ -1,6 +1,5 @@
 pub mod Ascending
 pub mod Between
-pub mod Cuts
 pub mod Kept
 pub mod Listing
 pub mod Rules

@@ -8,6 +8,3 @@ mod saturated;
 mod saturation;
 
 pub use saturated::Saturated;
-
-#[cfg(test)]
-mod tests;

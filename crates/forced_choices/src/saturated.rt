@@ -4,11 +4,11 @@ ghost use Rattle.known_graph.specs.Graphs.{HasNode};
 ghost use Rattle.forced_choices.specs.Kept.{IsKept};
 ghost use Rattle.forced_choices.specs.Rules.{rules_of};
 ghost use Rattle.order_check.specs.Based.{received_count};
+ghost use Rattle.order_check.specs.Cuts.{IsContentCutOff};
 ghost use Rattle.order_check.specs.Cycles.{IsFullLog};
 ghost use Rattle.order_check.specs.Good.{IsGood};
 ghost use Rattle.order_check.specs.Known.{Known, AreOpenChoices};
 ghost use Rattle.order_check.specs.StandsFor.{parts_with};
-ghost use Rattle.forced_choices.specs.Cuts.{IsCutOff};
 ghost use Rattle.forced_choices.specs.Listing.{all_ids, plain_arcs, choices_of};
 ghost use Rattle.forced_choices.specs.Saturation.{IsSaturationOf};
 ghost use Rattle.forced_choices.specs.SaturatedState.{fragment_of};
@@ -22,7 +22,7 @@ use known_graph::Graph;
 use order_check::Parts;
 use std::alloc::Global;
 use std::marker::Model;
-use txn::{Choice, ForceStep, NoMemory, Sequence, Txn, TxnId};
+use txn::{Choice, ForceStep, Fragment, NoMemory, Sequence, Txn, TxnId};
 
 /// The known relation of parts: what every order that explains them has to keep. Contracts see the parts, and the steps
 /// by which sides of choices were forced.
@@ -91,6 +91,24 @@ fn copy_of_parts(parts: &Parts) -> Result<Parts, NoMemory>
 }
 
 /// A whole copy.
+fn copy_of_txns(txns: &Sequence<Txn>) -> Result<Sequence<Txn>, NoMemory>
+    ensures { IfOk result (λ copy. copy ≡ txns.now) }
+{
+    txns.clone()
+}
+
+/// A copy, with the fragment at the end of its session.
+fn with_fragment(parts: &Parts, fragment: &Fragment) -> Result<Parts, NoMemory>
+    requires { fragment.now.session < length parts.now.remain }
+    ensures { IfOk result (λ more. more ≡ parts_with parts.now fragment.now) }
+{
+    let txns = copy_of_txns(&fragment.txns)?;
+    let mut more = copy_of_parts(parts)?;
+    more.remain.append_at(usize::from(fragment.session), txns)?;
+    Ok(more)
+}
+
+/// A whole copy.
 fn copy_of_graph(graph: &Graph) -> Result<Graph, NoMemory>
     ensures { IfOk result (λ copy. copy ≡ graph.now) }
 {
@@ -110,6 +128,16 @@ fn saturated_from(parts: Parts, graph: Graph, log: Sequence<ForceStep>) -> Satur
     ensures log { result.log ≡ log }
 {
     Saturated { parts, graph, log }
+}
+
+/// The known relation of the parts.
+#[tactic(auto, using(crate::proofs::Keeping::kept_of))]
+fn of_whole(alloc: Global, parts: Parts) -> Result<Saturated, NoMemory>
+    requires { IsGood parts }
+    ensures { IfOk result (λ saturated. saturated.parts ≡ parts) }
+{
+    let (graph, log) = saturation_of(alloc, &parts)?;
+    Ok(saturated_from(parts, graph, Sequence::new(log)))
 }
 
 fn is_undecided(graph: &Graph, choice: Choice) -> bool
@@ -140,14 +168,12 @@ fn undecided_among(
 
 impl Saturated {
     /// The known relation of the parts, which are copied.
-    #[tactic(auto, using(crate::proofs::Keeping::kept_of))]
     pub fn of(alloc: Global, parts: &Parts) -> Result<Saturated, NoMemory>
         requires { IsGood parts.now }
         ensures { IfOk result (λ saturated. saturated.parts ≡ parts.now) }
     {
         let copy = copy_of_parts(parts)?;
-        let (graph, log) = saturation_of(alloc, &copy)?;
-        Ok(saturated_from(copy, graph, Sequence::new(log)))
+        of_whole(alloc, copy)
     }
 
     pub fn parts(&self) -> &Parts
@@ -193,22 +219,45 @@ impl Saturated {
     {
         let mut txns = Vec::with_capacity(alloc, 1)?;
         txns.push(txn.clone()?)?;
-        let mut parts = self.parts.clone()?;
-        parts
-            .remain
-            .append_at(usize::from(id.session), Sequence::new(txns))?;
-        *self = Saturated::of(alloc, &parts)?;
-        Ok(())
+        let fragment = Fragment {
+            session: id.session,
+            first: id.number,
+            txns: Sequence::new(txns),
+        };
+        self.add_all(alloc, &fragment)
     }
 
-    /// Goes on with the parts that a cut leaves.
+    /// Adds the transactions of a fragment, all or none.
+    pub fn add_all(&mut self, alloc: Global, fragment: &Fragment) -> Result<(), NoMemory>
+        requires session { fragment.now.session < length self.old.parts.remain }
+        requires next { fragment.now.first ≡ received_count self.old.parts fragment.now.session }
+        requires good { IsGood (parts_with self.old.parts fragment.now) }
+        ensures ok { OnOk result (self.new.parts ≡ parts_with self.old.parts fragment.now) }
+        ensures err { OnErr result (self.new ≡ self.old) }
+    {
+        let parts = with_fragment(&self.parts, fragment)?;
+        self.go_on(alloc, parts)
+    }
+
+    /// Goes on with the parts that a cut leaves. It asks nothing of which sessions are closed, nor of the limit: the cut may be one
+    /// of the same transactions over the same base, closed since.
     pub fn cut(&mut self, alloc: Global, gone: &[TxnId], parts: &Parts) -> Result<(), NoMemory>
         requires good { IsGood parts.now }
-        requires cut_off { IsCutOff self.old.parts gone.now parts.now }
+        requires cut_off { IsContentCutOff self.old.parts gone.now parts.now }
         ensures ok { OnOk result (self.new.parts ≡ parts.now) }
         ensures err { OnErr result (self.new ≡ self.old) }
     {
-        *self = Saturated::of(alloc, parts)?;
+        let copy = copy_of_parts(parts)?;
+        self.go_on(alloc, copy)
+    }
+
+    /// Goes on with the parts.
+    fn go_on(&mut self, alloc: Global, parts: Parts) -> Result<(), NoMemory>
+        requires { IsGood parts }
+        ensures ok { OnOk result (self.new.parts ≡ parts) }
+        ensures err { OnErr result (self.new ≡ self.old) }
+    {
+        *self = of_whole(alloc, parts)?;
         Ok(())
     }
 }
