@@ -1,5 +1,5 @@
 -- What saturation leads to is the known relation, and its log is right.
-use Rattle.std.proofs.Common.{◌≡◌, ℕ, ◌+◌, ◌-◌, ◌≤◌, ◌⊎◌, List, [], ◌∷◌, ◌++◌, get_or, refl, sym, ap, ◌∙◌, inl, inr, subst, suc, zero, arith, Some}
+use Rattle.std.proofs.Common.{◌≡◌, ℕ, ◌⊎◌, List, [], ◌∷◌, ◌++◌, get_or, refl, sym, ap, ◌∙◌, inl, inr, subst, suc, zero, Some}
 use Rattle.std.specs.Prelude.{Contains, All, remove, ◌↔◌}
 use Rattle.std.specs.List.{slice_get}
 use Rattle.txn.specs.declared.transactions.TxnId.{TxnId}
@@ -11,7 +11,6 @@ use Rattle.txn.specs.declared.choices.Side.TheVariants.{First, Second}
 use Rattle.txn.specs.declared.choices.ForceStep.{ForceStep}
 use Rattle.txn.specs.Arcs.{start_of, end_of}
 use Rattle.order_check.specs.declared.remainder.Parts.{Parts}
-use Rattle.order_check.specs.Based.{mark_of, Remains}
 use Rattle.order_check.specs.Known.{Known, IsChoice, by_session, by_read, by_base, by_taken, through, forces_after, forces_before}
 use Rattle.order_check.specs.Cycles.{Sides, IsArc, IsPath, IsCycle, side_taken, side_not_taken, IsForced, AreForced, AreNew, sides_after, Links, IsFullLog}
 use Rattle.forced_choices.specs.declared.rules.Rule.{Rule}
@@ -19,12 +18,11 @@ use Rattle.known_graph.specs.Reach.{Reaches, Leads, IsPathOf}
 use Rattle.known_graph.specs.Reach as reach
 use Rattle.forced_choices.specs.Rules.{premise_of, arc_of_side, premise, conclusion, rules_of}
 use Rattle.forced_choices.specs.Saturates.{IsReady, IsReached, taken_arc, Fires, there, forced, Saturates, ends, goes_on}
-use Rattle.forced_choices.specs.Listing.{all_ids, choices_of, one_before}
+use Rattle.forced_choices.specs.Listing.{all_ids, choices_of}
 use Rattle.forced_choices.proofs.Members.{In, in_place, in_from_contains, contains_from_in, in_left, in_right, in_either, in_flat_map, flat_map_in}
-use Rattle.forced_choices.proofs.ListedIds.{same_fields, bounds_of, bounds_remain}
 use Rattle.forced_choices.proofs.Linked.{reaches_more, reaches_by, ordered_reached, links_known, reached_links, links_reached}
 use Rattle.forced_choices.proofs.ListedChoices.{listed_is_choice, choice_listed}
-use Rattle.forced_choices.proofs.ListedArcs.{plain_arcs, plain_right, next_listed, read_listed, base_listed}
+use Rattle.forced_choices.proofs.ListedArcs.{plain_arcs, plain_right, read_listed, base_listed}
 
 -- What holds while sides are forced, where sides are assumed: the log goes on from the sides that were taken at the start.
 pub record IsSoFar (parts : Parts) (assumed start : Sides) (arcs : List Arc) (rules : List Rule) (log : List ForceStep) : Type 0 where

@@ -16,19 +16,40 @@ use std::test::Fail;
 use txn::Source::{self, By, Init};
 use txn::{NoMemory, Sequence, Txn, TxnId};
 
-const fn id(session: u8, number: u64) -> TxnId
-    ensures { result ≡ record { session = session; number = number } }
-{
-    TxnId { session, number }
-}
+const ID_0_0: TxnId = TxnId {
+    session: 0,
+    number: 0,
+};
 
-const ID_0_0: TxnId = id(0, 0);
-const ID_0_1: TxnId = id(0, 1);
-const ID_0_2: TxnId = id(0, 2);
-const ID_1_0: TxnId = id(1, 0);
-const ID_2_0: TxnId = id(2, 0);
-const ID_3_0: TxnId = id(3, 0);
-const ID_4_0: TxnId = id(4, 0);
+const ID_0_1: TxnId = TxnId {
+    session: 0,
+    number: 1,
+};
+
+const ID_0_2: TxnId = TxnId {
+    session: 0,
+    number: 2,
+};
+
+const ID_1_0: TxnId = TxnId {
+    session: 1,
+    number: 0,
+};
+
+const ID_2_0: TxnId = TxnId {
+    session: 2,
+    number: 0,
+};
+
+const ID_3_0: TxnId = TxnId {
+    session: 3,
+    number: 0,
+};
+
+const ID_4_0: TxnId = TxnId {
+    session: 4,
+    number: 0,
+};
 
 /// A transaction that arrives: its id, what it reads, and which keys it writes.
 type Arrival = (TxnId, &'static [(u64, Source)], &'static [u64]);
@@ -225,7 +246,10 @@ fn arrived(rt: &impl Abort, alloc: Global, arrivals: &[Arrival]) -> Result<Satur
 fn is_chain(rt: &impl Abort, saturated: &Saturated, chain: &[TxnId]) {
     for (place, first) in chain.iter().enumerate() {
         for (other, second) in chain.iter().enumerate() {
-            assert!(rt; saturated.reaches(*first, *second) == (place < other), "{first:?}, {second:?}");
+            assert!(rt;
+                saturated.reaches(*first, *second) == (place < other),
+                "{first:?}, {second:?}"
+            );
         }
     }
 }
@@ -280,10 +304,7 @@ fn second_session(alloc: Global) -> Result<Sequence<Txn>, NoMemory>
     alone(alloc, &fence(alloc, By(ID_0_1))?)
 }
 
-fn both(
-    alloc: Global,
-    first: Sequence<Txn>,
-) -> Result<Sequence<Sequence<Txn>>, NoMemory>
+fn both(alloc: Global, first: Sequence<Txn>) -> Result<Sequence<Sequence<Txn>>, NoMemory>
     ensures { IfOk result (λ remain. remain ≡ first ∷ (record { reads = (0, By (record { session = 0; number = 1 })) ∷ []; writes = 0 ∷ [] } ∷ []) ∷ []) }
 {
     let mut remain = Vec::new(alloc);
