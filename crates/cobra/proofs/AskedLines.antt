@@ -1,6 +1,7 @@
 -- What is told to be next asks for the command that its bytes are.
 use Rattle.std.proofs.Common.{◌≡◌, ℕ, List, Option, refl, sym, ◌∙◌, ◌⊎◌, ⊎_elim, subst, arith, inl, inr}
 use Rattle.std.specs.Global.{Vec}
+use Rattle.std.specs.Str.{IsUtf8}
 use Rattle.txn.specs.declared.refusals.Refusal.{Refusal}
 use Rattle.txn.specs.declared.refusals.Refusal.TheVariants.{BadLine, NoMemory}
 use Rattle.log_text.specs.declared.commands.Command.{Command}
@@ -18,9 +19,9 @@ pub asks_told : (bytes : Vec ℕ) (command : Command) → IsCommand bytes.items 
 asks_told bytes command is line said = record { short = said.1; is = subst (λ given. IsCommand given command) said.0 is }
 
 -- a line that is refused, for no want of memory
-pub asks_none : (bytes : Vec ℕ) (given : List ℕ) (refusal : Refusal) → given ≡ bytes.items → (refusal ≡ NoMemory → ⊥) → (refusal ≡ NoMemory) ⊎ ((refusal ≡ BadLine) × ((command : Command) → ¬ IsCommand given command)) → (line : List ℕ) → IsTold line (Line bytes) → (command : Command) → ¬ Asks line command
+pub asks_none : (bytes : Vec ℕ) (given : List ℕ) (refusal : Refusal) → given ≡ bytes.items → (refusal ≡ NoMemory → ⊥) → ((refusal ≡ NoMemory) × IsUtf8 given) ⊎ ((refusal ≡ BadLine) × ((command : Command) → ¬ IsCommand given command)) → (line : List ℕ) → IsTold line (Line bytes) → (command : Command) → ¬ Asks line command
 asks_none bytes given refusal same found why line said command asks =
-    ⊎_elim found (λ none. none.1 command (subst (λ bs. IsCommand bs command) (sym said.0 ∙ sym same) asks.is)) why
+    ⊎_elim (λ memory. found memory.0) (λ none. none.1 command (subst (λ bs. IsCommand bs command) (sym said.0 ∙ sym same) asks.is)) why
 
 pub long_asks_none : (line : List ℕ) → IsTold line TooLong → (command : Command) → ¬ Asks line command
 long_asks_none line said command asks = omega (arith, said, asks.short)
