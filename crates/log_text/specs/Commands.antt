@@ -1,10 +1,11 @@
 -- Which lines of a script are commands: each is a JSON array, of a word and the command's parts.
-use Rattle.std.specs.Prelude.{◌≡◌, ℕ, ◌≤◌, ◌^◌, ⊤, List, Option, Some, None, IsUtf8, bytes_eq, codes, option_map, if◌then◌else◌}
+use Rattle.std.specs.Prelude.{◌≡◌, ℕ, ◌^◌, ⊤, List, Option, Some, None, IsUtf8, bytes_eq, codes, option_map, if◌then◌else◌}
 use Rattle.serde_json.specs.Data.{Data, string, Items, no_items, item}
 use Rattle.serde_json.specs.Read.{read}
 use Rattle.txn.specs.declared.transactions.Source.{Source}
 use Rattle.txn.specs.declared.transactions.Source.TheVariants.{Init, By}
 use Rattle.txn.specs.declared.transactions.Txn.{Txn}
+use Rattle.order_check.specs.Effort.{IsEffort}
 use Rattle.log_text.specs.declared.commands.Command.{Command}
 use Rattle.log_text.specs.declared.commands.Effort.{Effort}
 use Rattle.log_text.specs.declared.commands.Command.TheVariants.{Start, Offer, Close, Begin, Finish, Round, Show}
@@ -85,15 +86,7 @@ command_in items = None
 abbrev pub command_of : Data → Option Command
 command_of = array_of command_in
 
--- the numbers of a search are within their limits
-pub record IsEffort (budget depth workers : ℕ) : Type 0 where
-  pub some_budget : 1 ≤ budget
-  pub low_budget : budget ≤ 2 ^ 32
-  pub low_depth : depth ≤ 6
-  pub some_workers : 1 ≤ workers
-  pub few_workers : workers ≤ 16
-
--- where a command has such numbers, they are within their limits
+-- the numbers of a search, where a command has them, are within their limits
 abbrev pub HasLimits : Command → Type 0
 HasLimits (Finish budget depth workers) = IsEffort budget depth workers
 HasLimits (Round budget depth workers) = IsEffort budget depth workers

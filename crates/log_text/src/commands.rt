@@ -1,8 +1,9 @@
 ghost use Rattle.std.specs.Prelude.{◌≡◌, ◌⊎◌, IfOk, IfErr, IfSome, IsUtf8};
 ghost use Rattle.serde_json.specs.View.{view, items_view};
+ghost use Rattle.order_check.specs.Effort.{IsEffort};
 ghost use Rattle.log_text.specs.declared.commands.Command.{Command};
 ghost use Rattle.log_text.specs.Items.{alone};
-ghost use Rattle.log_text.specs.Commands.{start_in, offer_in, close_in, effort_in, finish_in, round_in, command_named, command_in, command_of, IsCommand, IsEffort, HasLimits};
+ghost use Rattle.log_text.specs.Commands.{start_in, offer_in, close_in, effort_in, finish_in, round_in, command_named, command_in, command_of, IsCommand, HasLimits};
 
 use crate::fragments::txns_of;
 use crate::numbers::{number_within, session_of, whole_number};
