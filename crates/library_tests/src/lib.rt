@@ -12,4 +12,6 @@ mod orders;
 #[cfg(test)]
 mod sides;
 #[cfg(test)]
+mod tables;
+#[cfg(test)]
 mod waiting;

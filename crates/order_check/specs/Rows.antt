@@ -26,6 +26,10 @@ reads key source = record { reads = (key, source) ∷ []; writes = [] }
 abbrev pub reads_writes : ℕ → Source → ℕ → Txn
 reads_writes key source other = record { reads = (key, source) ∷ []; writes = other ∷ [] }
 
+-- it reads the key from two sources
+abbrev pub reads_both : ℕ → Source → Source → Txn
+reads_both key first second = record { reads = (key, first) ∷ (key, second) ∷ []; writes = [] }
+
 -- a fence that follows the source
 abbrev pub fence : Source → Txn
 fence source = reads_writes 0 source 0
@@ -159,3 +163,27 @@ overwritten_writers = insert (insert empty 0 (id 0 2)) 5 (id 0 1)
 -- the parts that it leaves; with 1.1 they are those of the gone read
 abbrev pub overwritten_rest : Parts
 overwritten_rest = record { base = record { last = overwritten_writers; marks = 3 ∷ 0 ∷ [] }; remain = [] ∷ (fence (By (id 0 2)) ∷ []) ∷ []; closed = false ∷ false ∷ []; limit = 4096 }
+
+-- behind the cut of the first history of fences 1.1 reads key 5 from 0.0, its last gone writer
+abbrev pub base_read : Parts
+base_read = record cut_rest { remain = [] ∷ (fence (By (id 0 1)) ∷ reads 5 (By (id 0 0)) ∷ []) ∷ [] }
+
+-- it reads key 5 from the initial state, though 0.0 is its last gone writer
+abbrev pub overwritten_init : Parts
+overwritten_init = record cut_rest { remain = [] ∷ (fence (By (id 0 1)) ∷ reads 5 Init ∷ []) ∷ [] }
+
+-- it reads key 6 from the initial state, which no gone transaction writes
+abbrev pub unwritten_init : Parts
+unwritten_init = record cut_rest { remain = [] ∷ (fence (By (id 0 1)) ∷ reads 6 Init ∷ []) ∷ [] }
+
+-- 1.0 reads a key from 0.0, and from 0.1, which hasn't come
+abbrev pub second_source_pending : History
+second_source_pending = (writes 5 ∷ []) ∷ (reads_both 5 (By (id 0 0)) (By (id 0 1)) ∷ []) ∷ []
+
+-- it has come, and writes the key
+abbrev pub two_sources : History
+two_sources = (writes 5 ∷ writes 5 ∷ []) ∷ (reads_both 5 (By (id 0 0)) (By (id 0 1)) ∷ []) ∷ []
+
+-- three fences, one after another: 0.0, 0.1 and 1.0
+abbrev pub three_fences : History
+three_fences = (fence Init ∷ fence (By (id 0 0)) ∷ []) ∷ (fence (By (id 0 1)) ∷ []) ∷ []

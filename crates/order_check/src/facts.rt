@@ -7,7 +7,7 @@ ghost use Rattle.order_check.specs.Whole.{ExplainsWhole, IsVerdictWhole};
 ghost use Rattle.order_check.specs.Known.{Known, AreOpenChoices};
 ghost use Rattle.order_check.specs.Settled.{IsSettled, IsLastSettled, IsCutAt, IsCutOf};
 ghost use Rattle.order_check.specs.StandsFor.{IsOpenSession};
-ghost use Rattle.order_check.specs.Rows.{id, fresh, nothing, not_a_writer, real_split, split_choice, silent_session, pending_in_front, reader_first, write_skew, session_order, pending, arrived, lost_update, gone_read, two_writers, two_writers_read, open_choice, first_cut, cut_gone, cut_writers, cut_rest, overwritten, overwritten_read, overwritten_gone, overwritten_writers, overwritten_rest, unordered_writers};
+ghost use Rattle.order_check.specs.Rows.{id, fresh, nothing, not_a_writer, real_split, split_choice, silent_session, pending_in_front, reader_first, write_skew, session_order, pending, arrived, lost_update, gone_read, two_writers, two_writers_read, open_choice, first_cut, cut_gone, cut_writers, cut_rest, overwritten, overwritten_read, overwritten_gone, overwritten_writers, overwritten_rest, unordered_writers, base_read, overwritten_init, unwritten_init, second_source_pending, two_sources, three_fences};
 
 /// A history with nothing in it is serial.
 pub fn row_empty()
@@ -99,4 +99,25 @@ pub fn row_silent_session()
 pub fn row_pending_in_front()
     ensures verdict { IsVerdictWhole pending_in_front Pending }
     ensures not_settled { ¬ IsSettled (fresh pending_in_front) (IsOpenSession (fresh pending_in_front)) (id 0 1) }
+{}
+
+/// A read over a base is met by the key's last gone writer, and one of the initial state where no gone transaction writes
+/// the key.
+pub fn row_base_read()
+    ensures last_writer { IsVerdict base_read Serial }
+    ensures overwritten { IsVerdict overwritten_init Violated }
+    ensures unwritten { IsVerdict unwritten_init Serial }
+{}
+
+/// A read of one key from two sources has no order once both have come.
+pub fn row_two_sources()
+    ensures waiting { IsVerdictWhole second_source_pending Pending }
+    ensures both { IsVerdictWhole two_sources Violated }
+{}
+
+/// Of several settled fences the last is the one that comes after the others.
+pub fn row_three_fences()
+    ensures first { IsSettled (fresh three_fences) (IsOpenSession (fresh three_fences)) (id 0 0) }
+    ensures last { IsLastSettled (fresh three_fences) (IsOpenSession (fresh three_fences)) (id 0 1) }
+    ensures not_past { ¬ IsSettled (fresh three_fences) (IsOpenSession (fresh three_fences)) (id 1 0) }
 {}

@@ -17,9 +17,10 @@ mod waiting;
 pub use cut_laws::{cut_keeps_stands_for, fence_splits_orders, split_law};
 pub use explaining::explains;
 pub use facts::{
-    row_empty, row_first_cut, row_gone_read, row_lost_update, row_not_a_writer, row_open_choice,
-    row_overwritten, row_pending_arrives, row_pending_in_front, row_reader_first, row_real_split,
-    row_session_order, row_silent_session, row_unordered_writers, row_write_skew,
+    row_base_read, row_empty, row_first_cut, row_gone_read, row_lost_update, row_not_a_writer,
+    row_open_choice, row_overwritten, row_pending_arrives, row_pending_in_front, row_reader_first,
+    row_real_split, row_session_order, row_silent_session, row_three_fences, row_two_sources,
+    row_unordered_writers, row_write_skew,
 };
 pub use known_laws::{cycle_leaves_no_order, every_order_keeps_known};
 pub use laws::{
@@ -33,6 +34,3 @@ pub use taken_laws::{
     orders_take_sides,
 };
 pub use trial::{brute, find_order};
-
-#[cfg(test)]
-mod tests;

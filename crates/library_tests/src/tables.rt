@@ -1,5 +1,5 @@
 //! Parts, written down as tables.
-use crate::{Base, LastWriters, Parts};
+use order_check::{Base, LastWriters, Parts};
 use std::alloc::Global;
 use txn::{NoMemory, Sequence, Source, Txn, TxnId};
 
@@ -18,11 +18,6 @@ pub const ID_0_2: TxnId = TxnId {
     number: 2,
 };
 
-pub const ID_0_3: TxnId = TxnId {
-    session: 0,
-    number: 3,
-};
-
 pub const ID_1_0: TxnId = TxnId {
     session: 1,
     number: 0,
@@ -31,11 +26,6 @@ pub const ID_1_0: TxnId = TxnId {
 pub const ID_1_1: TxnId = TxnId {
     session: 1,
     number: 1,
-};
-
-pub const ID_1_2: TxnId = TxnId {
-    session: 1,
-    number: 2,
 };
 
 pub const ID_2_0: TxnId = TxnId {

@@ -1,5 +1,0 @@
-mod fixtures;
-mod histories;
-mod lookups;
-mod refused_memory;
-mod rules;
