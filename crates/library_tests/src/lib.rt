@@ -14,4 +14,6 @@ mod sides;
 #[cfg(test)]
 mod tables;
 #[cfg(test)]
+mod trees;
+#[cfg(test)]
 mod waiting;

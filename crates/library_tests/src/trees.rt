@@ -1,0 +1,321 @@
+//! Trees that refute, forged ones, and deep ones.
+use crate::tables::{EMPTY, ID_0_0, ID_0_1, ID_1_0, ID_1_1, Table};
+use order_check::Parts;
+use refutation::{Leaf, Tree, check, join};
+use std::alloc::Global;
+use std::process::Abort;
+use std::test::*;
+use txn::Source::{By, Init};
+use txn::{Arc, Choice, ForceStep, NoMemory, Sequence, Side, TxnId};
+
+/// 0.0 reads key 5 from the initial state and writes key 6; 1.0 reads key 6 from it and writes key 5.
+const WRITE_SKEW: Table = Table {
+    remain: &[&[(&[(5, Init)], &[6])], &[(&[(6, Init)], &[5])]],
+    ..EMPTY
+};
+
+/// 0.0 writes key 5; 0.1 and 1.0 both read that and write the key.
+const LOST_UPDATE: Table = Table {
+    remain: &[
+        &[(&[], &[5]), (&[(5, By(ID_0_0))], &[5])],
+        &[(&[(5, By(ID_0_0))], &[5])],
+    ],
+    ..EMPTY
+};
+
+/// 0.0 is gone, 0.1 was the last writer of key 5. 0.2 reads the key from 0.0, and key 6 from 1.0, which doesn't write it.
+const GONE: Table = Table {
+    last: &[(5, ID_0_1)],
+    marks: &[2, 0],
+    remain: &[&[(&[(5, By(ID_0_0)), (6, By(ID_1_0))], &[])], &[(&[], &[])]],
+    ..EMPTY
+};
+
+const READER: TxnId = TxnId {
+    session: 0,
+    number: 2,
+};
+
+const SKEWED: [Arc; 2] = [
+    Arc::Base {
+        key: 5,
+        from: ID_0_0,
+        to: ID_1_0,
+    },
+    Arc::Base {
+        key: 6,
+        from: ID_1_0,
+        to: ID_0_0,
+    },
+];
+
+/// Arcs over the write skew that are no cycle, or aren't right.
+static FORGED: [&[Arc]; 5] = [
+    &[],
+    &[Arc::Base {
+        key: 5,
+        from: ID_0_0,
+        to: ID_1_0,
+    }],
+    &[
+        Arc::Base {
+            key: 5,
+            from: ID_0_0,
+            to: ID_1_0,
+        },
+        Arc::Taken {
+            from: ID_1_0,
+            to: ID_0_0,
+        },
+    ],
+    &[
+        Arc::Session {
+            from: ID_0_0,
+            to: ID_0_1,
+        },
+        Arc::Session {
+            from: ID_0_1,
+            to: ID_0_0,
+        },
+    ],
+    &[
+        Arc::Read {
+            key: 5,
+            from: ID_1_0,
+            to: ID_0_0,
+        },
+        Arc::Base {
+            key: 5,
+            from: ID_0_0,
+            to: ID_1_0,
+        },
+    ],
+];
+
+fn forged() -> &'static [&'static [Arc]] {
+    &FORGED
+}
+
+fn cycle(alloc: Global, arcs: &[Arc]) -> Result<Tree, NoMemory> {
+    Ok(Tree::Close(Leaf::Cycle(Sequence::new(arcs.to_vec(alloc)?))))
+}
+
+fn wants(
+    rt: &impl Abort,
+    alloc: Global,
+    parts: &Parts,
+    tree: &Tree,
+    wanted: bool,
+) -> Result<(), Fail> {
+    assert!(rt; parts.is_good());
+    assert_eq!(rt; check(alloc, parts, tree)?, wanted);
+    Ok(())
+}
+
+#[test]
+fn forged_cycles_are_refused(rt: HostRuntime) -> Result<(), Fail> {
+    let alloc = rt.alloc();
+    let parts = WRITE_SKEW.parts(alloc)?;
+    for arcs in forged() {
+        wants(&rt, alloc, &parts, &cycle(alloc, arcs)?, false)?;
+    }
+    Ok(())
+}
+
+#[test]
+fn bad_reads_close(rt: HostRuntime) -> Result<(), Fail> {
+    let alloc = rt.alloc();
+    let skew = WRITE_SKEW.parts(alloc)?;
+    wants(
+        &rt,
+        alloc,
+        &skew,
+        &Tree::Close(Leaf::Gone(ID_0_0, 5)),
+        false,
+    )?;
+    wants(
+        &rt,
+        alloc,
+        &skew,
+        &Tree::Close(Leaf::NoWrite(ID_0_0, 5)),
+        false,
+    )?;
+    wants(
+        &rt,
+        alloc,
+        &skew,
+        &Tree::Close(Leaf::NoWrite(ID_1_1, 5)),
+        false,
+    )?;
+    let gone = GONE.parts(alloc)?;
+    wants(&rt, alloc, &gone, &Tree::Close(Leaf::Gone(READER, 5)), true)?;
+    wants(
+        &rt,
+        alloc,
+        &gone,
+        &Tree::Close(Leaf::NoWrite(READER, 6)),
+        true,
+    )?;
+    wants(
+        &rt,
+        alloc,
+        &gone,
+        &Tree::Close(Leaf::Gone(READER, 6)),
+        false,
+    )?;
+    wants(
+        &rt,
+        alloc,
+        &gone,
+        &Tree::Close(Leaf::NoWrite(READER, 5)),
+        false,
+    )
+}
+
+/// The two readers of the lost update, each with the other as the other writer.
+const EARLIER: Choice = Choice {
+    reader: ID_0_1,
+    key: 5,
+    writer: ID_0_0,
+    other: ID_1_0,
+};
+
+const LATER: Choice = Choice {
+    reader: ID_1_0,
+    key: 5,
+    writer: ID_0_0,
+    other: ID_0_1,
+};
+
+/// The cycle that closes where the other writer stands before the writer that a choice's reader reads from.
+fn before_writer(choice: Choice) -> [Arc; 2] {
+    [
+        Arc::Taken {
+            from: choice.other,
+            to: choice.writer,
+        },
+        Arc::Read {
+            key: 5,
+            from: choice.writer,
+            to: choice.other,
+        },
+    ]
+}
+
+const BOTH_AFTER: [Arc; 2] = [
+    Arc::Taken {
+        from: ID_0_1,
+        to: ID_1_0,
+    },
+    Arc::Taken {
+        from: ID_1_0,
+        to: ID_0_1,
+    },
+];
+
+fn step(alloc: Global, choice: Choice, side: Side) -> Result<ForceStep, NoMemory> {
+    Ok(ForceStep {
+        choice,
+        side,
+        cycle: Sequence::new(before_writer(choice).to_vec(alloc)?),
+    })
+}
+
+fn forced(alloc: Global, side: Side) -> Result<Tree, NoMemory> {
+    let mut steps = Sequence::new(Vec::new(alloc));
+    steps.push(step(alloc, EARLIER, side)?)?;
+    steps.push(step(alloc, LATER, side)?)?;
+    Ok(Tree::Force {
+        steps,
+        rest: Box::new(alloc, cycle(alloc, &BOTH_AFTER)?)?,
+    })
+}
+
+#[test]
+fn forced_sides_close_the_lost_update(rt: HostRuntime) -> Result<(), Fail> {
+    let alloc = rt.alloc();
+    let parts = LOST_UPDATE.parts(alloc)?;
+    wants(&rt, alloc, &parts, &forced(alloc, Side::Second)?, true)?;
+    wants(&rt, alloc, &parts, &forced(alloc, Side::First)?, false)
+}
+
+/// The leaves below the splits of both choices, by the cube's number.
+fn leaves(alloc: Global) -> Result<Vec<Tree>, NoMemory> {
+    let mut trees = Vec::new(alloc);
+    trees.push(cycle(alloc, &before_writer(EARLIER))?)?;
+    trees.push(cycle(alloc, &before_writer(EARLIER))?)?;
+    trees.push(cycle(alloc, &before_writer(LATER))?)?;
+    trees.push(cycle(alloc, &BOTH_AFTER)?)?;
+    Ok(trees)
+}
+
+#[test]
+fn joined_leaves_close_the_lost_update(rt: HostRuntime) -> Result<(), Fail> {
+    let alloc = rt.alloc();
+    let parts = LOST_UPDATE.parts(alloc)?;
+    let trees = leaves(alloc)?;
+    assert!(&rt; trees.len() == 4);
+    let tree = join(alloc, &[EARLIER, LATER], trees)?;
+    wants(&rt, alloc, &parts, &tree, true)?;
+    let trees = leaves(alloc)?;
+    assert!(&rt; trees.len() == 4);
+    let tree = join(alloc, &[LATER, EARLIER], trees)?;
+    wants(&rt, alloc, &parts, &tree, false)
+}
+
+/// The tree below so many nodes without steps.
+fn under(alloc: Global, tree: Tree, nodes: u64) -> Result<Tree, NoMemory> {
+    let mut tree = tree;
+    for _ in 0..nodes {
+        tree = Tree::Force {
+            steps: Sequence::new(Vec::new(alloc)),
+            rest: Box::new(alloc, tree)?,
+        };
+    }
+    Ok(tree)
+}
+
+#[test]
+fn a_tree_is_at_most_4096_deep(rt: HostRuntime) -> Result<(), Fail> {
+    let alloc = rt.alloc();
+    let parts = WRITE_SKEW.parts(alloc)?;
+    let deep = under(alloc, cycle(alloc, &SKEWED)?, 4096)?;
+    wants(&rt, alloc, &parts, &deep, true)?;
+    let deeper = under(alloc, deep, 1)?;
+    wants(&rt, alloc, &parts, &deeper, false)
+}
+
+/// So many splits below one another, turn by turn on the first side and on the second.
+fn zigzag(alloc: Global, splits: u64) -> Result<Tree, NoMemory> {
+    let mut tree = cycle(alloc, &SKEWED)?;
+    for at in 0..splits {
+        let other = Box::new(alloc, Tree::Close(Leaf::Gone(ID_0_0, 5)))?;
+        let below = Box::new(alloc, tree)?;
+        let choice = EARLIER;
+        let (first, second) = if at % 2 == 0 {
+            (below, other)
+        } else {
+            (other, below)
+        };
+        tree = Tree::Split {
+            choice,
+            first,
+            second,
+        };
+    }
+    Ok(tree)
+}
+
+#[test]
+fn very_deep_trees_are_judged_and_let_go(rt: HostRuntime) -> Result<(), Fail> {
+    let alloc = rt.alloc();
+    let parts = LOST_UPDATE.parts(alloc)?;
+    wants(&rt, alloc, &parts, &zigzag(alloc, 100_000)?, false)?;
+    wants(
+        &rt,
+        alloc,
+        &parts,
+        &under(alloc, cycle(alloc, &SKEWED)?, 100_000)?,
+        false,
+    )
+}
