@@ -17,7 +17,7 @@ use Rattle.order_check.specs.declared.remainder.Parts.{Parts}
 use Rattle.order_check.specs.Based.{mark_of, remaining_of, remaining_ids, remaining_at, Remains, IsGone, IsReceived, last_gone}
 use Rattle.order_check.specs.Explains.{Explains, Meets}
 use Rattle.order_check.specs.Known.{ReadsKey}
-use Rattle.order_check.specs.Settled.{IsSettled, IsCutAt, IsCutOf, IsLastIn, InFront, IsBefore}
+use Rattle.order_check.specs.Settled.{IsSettled, IsCutAt, IsCutOf}
 use Rattle.order_check.specs.Cuts.{IsFront}
 use Rattle.order_check.proofs.CutCounts.{AreFrom, are_from, gone_without_gap, fronts_remain, at_contains}
 use Rattle.order_check.proofs.CutReads.{Gone, AreBehind, met_new, met_whole, place_has, contains_left}

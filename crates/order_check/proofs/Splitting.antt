@@ -13,7 +13,7 @@ use Rattle.order_check.specs.declared.remainder.Parts.{Parts}
 use Rattle.order_check.specs.Based.{mark_of, remaining_of, received_count, Remains, IsGone, IsReceived, last_gone, HasPending, HasGoneBase}
 use Rattle.order_check.specs.Explains.{Explains}
 use Rattle.order_check.specs.Known.{ReadsKey}
-use Rattle.order_check.specs.Settled.{IsSettled, IsCutAt, IsCutOf, IsLastIn, InFront, IsBefore}
+use Rattle.order_check.specs.Settled.{IsSettled, IsCutAt, IsCutOf}
 use Rattle.order_check.specs.CutLaws.{SplitsAt}
 use Rattle.order_check.specs.Cuts.{IsFront, GoesOn, IsCutBehind}
 use Rattle.order_check.specs.Verdict.{HasOrder}
