@@ -1,0 +1,3 @@
+pub mod Collectors
+pub mod Counts
+pub mod Delivers
