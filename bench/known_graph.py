@@ -1,0 +1,56 @@
+#!/usr/bin/env python3
+"""How long the calls of known_graph take at 4,096 nodes, and its peak memory.
+
+Run at the top of the repository:
+
+    python3 bench/known_graph.py
+
+It puts bench/graph, a program over txn and known_graph, into a repository of its own in a temporary folder, proves and builds
+it there (some minutes: the two libraries are proved anew), and runs the program. A copy in memory of as many bytes as
+the rows that an arc changes is timed beside the arc, in one run.
+"""
+import pathlib
+import shutil
+import subprocess
+import tempfile
+import time
+
+CRATES = "txn: thiserror\nknown_graph: txn slab\ngraph: txn known_graph\n"
+
+
+def lay_out(top, folder):
+    crates = folder / "crates"
+    for name in ["txn", "known_graph"]:
+        shutil.copytree(top / "crates" / name, crates / name, ignore=shutil.ignore_patterns("out", "must-fail"))
+    shutil.copytree(top / "bench" / "graph", crates / "graph")
+    shutil.copy(top / "HANDLES", folder / "HANDLES")
+    (folder / "crates.txt").write_text(CRATES, encoding="ascii")
+    return crates / "graph"
+
+
+def peak_of(program):
+    """The peak memory in KiB, as last told while it ran."""
+    peak = 0
+    process = subprocess.Popen([program], stdout=subprocess.DEVNULL)
+    while process.poll() is None:
+        with open(f"/proc/{process.pid}/status", encoding="ascii") as status:
+            told = [line.split()[1] for line in status if line.startswith("VmHWM:")]
+        peak = max([peak, *map(int, told)])
+        time.sleep(0.001)
+    return peak
+
+
+def main():
+    top = pathlib.Path.cwd()
+    with tempfile.TemporaryDirectory() as name:
+        crate = lay_out(top, pathlib.Path(name))
+        built = subprocess.run(["rt", "run"], cwd=crate, capture_output=True, text=True, check=False)
+        table = [line for line in built.stdout.splitlines() if line.endswith(" us")]
+        print("\n".join(table) if table else built.stdout + built.stderr)
+        program = next((path for path in (crate / "out").rglob("graph") if path.is_file()), None)
+        if program:
+            print(f"{'peak memory':<34}{peak_of(program):>8} KiB")
+
+
+if __name__ == "__main__":
+    main()
