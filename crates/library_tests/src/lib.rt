@@ -2,6 +2,8 @@
 #![tactic(auto)]
 
 #[cfg(test)]
+mod desks;
+#[cfg(test)]
 mod fragments;
 #[cfg(test)]
 mod graphs;
@@ -11,6 +13,8 @@ mod marks;
 mod orders;
 #[cfg(test)]
 mod sides;
+#[cfg(test)]
+mod stores;
 #[cfg(test)]
 mod tables;
 #[cfg(test)]
