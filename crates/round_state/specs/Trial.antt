@@ -1,4 +1,4 @@
--- Parts that a trial of all orders can take.
+-- For private clauses: parts that a trial of all orders can take.
 use Rattle.std.specs.Prelude.{◌≤◌}
 use Rattle.order_check.specs.declared.remainder.Parts.{Parts}
 use Rattle.order_check.specs.Good.{IsGood}
