@@ -1,7 +1,10 @@
 //! How long a graph's calls take at 4,096 nodes, beside a copy in memory of as many bytes as the rows that an arc changes.
 #![tactic(auto)]
 
-ghost use Rattle.std.specs.Prelude.{◌<◌, ◌^◌};
+ghost use Rattle.std.specs.Prelude.{◌≡◌, ◌<◌, [], ◌≤◌, ◌^◌, All, IfOk, OnOk};
+ghost use Rattle.txn.specs.declared.transactions.TxnId.{TxnId};
+ghost use Rattle.known_graph.specs.Graphs.{HasNode};
+ghost use Rattle.graph.specs.Halves.{IsEarly, EndsLate};
 
 use known_graph::Graph;
 use std::alloc::Global;
@@ -15,11 +18,15 @@ const HALF: u64 = 2048;
 
 const DRAWN: u64 = 16384;
 
-fn id(number: u64) -> TxnId {
+fn id(number: u64) -> TxnId
+    ensures { result ≡ record { session = 0; number = number } }
+{
     TxnId { session: 0, number }
 }
 
-fn add(alloc: Global, graph: &mut Graph, from: u64, to: u64) -> io::Result<()> {
+fn add(alloc: Global, graph: &mut Graph, from: u64, to: u64) -> io::Result<()>
+    ensures { All EndsLate graph.old.arcs → HALF ≤ to → All EndsLate graph.new.arcs }
+{
     let arc = Arc::Taken {
         from: id(from),
         to: id(to),
@@ -30,7 +37,9 @@ fn add(alloc: Global, graph: &mut Graph, from: u64, to: u64) -> io::Result<()> {
     Ok(())
 }
 
-fn with_nodes(alloc: Global) -> io::Result<Graph> {
+fn with_nodes(alloc: Global) -> io::Result<Graph>
+    ensures { IfOk result (λ graph. graph.arcs ≡ []) }
+{
     let mut graph = Graph::new(alloc);
     for number in 0..NODES {
         let node = id(number);
@@ -94,6 +103,58 @@ fn copy_rows(rt: &HostRuntime, alloc: Global) -> io::Result<Duration> {
     begin.elapsed(rt)
 }
 
+// Arcs that end in the second half, two of them from each node of the first.
+fn add_late(alloc: Global, graph: &mut Graph, from: u64, to: u64) -> io::Result<()>
+    requires all { All EndsLate graph.old.arcs }
+    requires late { HALF ≤ to }
+    ensures { OnOk result (All EndsLate graph.new.arcs) }
+{
+    add(alloc, graph, from, to)
+}
+
+fn add_across(alloc: Global, graph: &mut Graph) -> io::Result<()>
+    requires { All EndsLate graph.old.arcs }
+    ensures { OnOk result (All EndsLate graph.new.arcs) }
+{
+    for number in 0..HALF {
+        add_late(alloc, graph, number, HALF + number)?;
+        add_late(alloc, graph, number, HALF + number * 7 % HALF)?;
+    }
+    Ok(())
+}
+
+fn first_half(alloc: Global, graph: &Graph) -> io::Result<Vec<TxnId>>
+    ensures early { IfOk result (λ gone. All IsEarly gone.items) }
+    ensures there { IfOk result (λ gone. All (HasNode graph.now) gone.items) }
+{
+    let mut gone = Vec::new(alloc);
+    for number in 0..HALF {
+        let node = id(number);
+        if !graph.contains(node) {
+            break;
+        }
+        gone.push(node)?;
+    }
+    Ok(gone)
+}
+
+fn drop_early(graph: &mut Graph, gone: &[TxnId])
+    requires there { All (HasNode graph.old) gone.now }
+    requires early { All IsEarly gone.now }
+    requires late { All EndsLate graph.old.arcs }
+{
+    graph.drop_nodes(gone);
+}
+
+fn time_drop(rt: &HostRuntime, alloc: Global) -> io::Result<()> {
+    let mut graph = with_nodes(alloc)?;
+    add_across(alloc, &mut graph)?;
+    let gone = first_half(alloc, &graph)?;
+    let begin = Instant::now(rt)?;
+    drop_early(&mut graph, &gone);
+    tell(rt, "2,048 of them dropped", begin.elapsed(rt)?)
+}
+
 fn tell(rt: &HostRuntime, name: &str, time: Duration) -> io::Result<()> {
     println!(rt; "{name:<34}{:>8} us", time.as_micros())
 }
@@ -147,6 +208,7 @@ fn time_join(rt: &HostRuntime, alloc: Global) -> io::Result<()> {
 fn main(rt: HostRuntime) -> io::Result<()> {
     time_chain(&rt, rt.alloc())?;
     time_drawn(&rt, rt.alloc())?;
+    time_drop(&rt, rt.alloc())?;
     for _ in 0..3 {
         time_join(&rt, rt.alloc())?;
     }
