@@ -122,54 +122,50 @@ fn forged_cycles_are_refused(rt: HostRuntime) -> Result<(), Fail> {
     Ok(())
 }
 
+/// Whether a leaf says that a read is gone, or else that its source doesn't write the key; its reader and key; whether it is right.
+type Row = (bool, TxnId, u64, bool);
+
+static OF_SKEW: [Row; 3] = [
+    (true, ID_0_0, 5, false),
+    (false, ID_0_0, 5, false),
+    (false, ID_1_1, 5, false),
+];
+
+static OF_GONE: [Row; 4] = [
+    (true, READER, 5, true),
+    (false, READER, 6, true),
+    (true, READER, 6, false),
+    (false, READER, 5, false),
+];
+
+fn of_skew() -> &'static [Row] {
+    &OF_SKEW
+}
+
+fn of_gone() -> &'static [Row] {
+    &OF_GONE
+}
+
+fn leaf(gone: bool, reader: TxnId, key: u64) -> Tree {
+    if gone {
+        Tree::Close(Leaf::Gone(reader, key))
+    } else {
+        Tree::Close(Leaf::NoWrite(reader, key))
+    }
+}
+
+fn judges(rt: &impl Abort, alloc: Global, table: &Table, rows: &[Row]) -> Result<(), Fail> {
+    let parts = table.parts(alloc)?;
+    for (gone, reader, key, wanted) in rows {
+        wants(rt, alloc, &parts, &leaf(*gone, *reader, *key), *wanted)?;
+    }
+    Ok(())
+}
+
 #[test]
 fn bad_reads_close(rt: HostRuntime) -> Result<(), Fail> {
-    let alloc = rt.alloc();
-    let skew = WRITE_SKEW.parts(alloc)?;
-    wants(
-        &rt,
-        alloc,
-        &skew,
-        &Tree::Close(Leaf::Gone(ID_0_0, 5)),
-        false,
-    )?;
-    wants(
-        &rt,
-        alloc,
-        &skew,
-        &Tree::Close(Leaf::NoWrite(ID_0_0, 5)),
-        false,
-    )?;
-    wants(
-        &rt,
-        alloc,
-        &skew,
-        &Tree::Close(Leaf::NoWrite(ID_1_1, 5)),
-        false,
-    )?;
-    let gone = GONE.parts(alloc)?;
-    wants(&rt, alloc, &gone, &Tree::Close(Leaf::Gone(READER, 5)), true)?;
-    wants(
-        &rt,
-        alloc,
-        &gone,
-        &Tree::Close(Leaf::NoWrite(READER, 6)),
-        true,
-    )?;
-    wants(
-        &rt,
-        alloc,
-        &gone,
-        &Tree::Close(Leaf::Gone(READER, 6)),
-        false,
-    )?;
-    wants(
-        &rt,
-        alloc,
-        &gone,
-        &Tree::Close(Leaf::NoWrite(READER, 5)),
-        false,
-    )
+    judges(&rt, rt.alloc(), &WRITE_SKEW, of_skew())?;
+    judges(&rt, rt.alloc(), &GONE, of_gone())
 }
 
 /// The two readers of the lost update, each with the other as the other writer.
