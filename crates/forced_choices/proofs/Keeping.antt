@@ -16,8 +16,7 @@ use Rattle.known_graph.specs.Graphs.{GraphState, HasNode}
 use Rattle.forced_choices.specs.Between.{AreDistinct, IsBetween}
 use Rattle.forced_choices.specs.Kept.{IsKept}
 use Rattle.forced_choices.specs.Listing.{all_ids, choices_of}
-use Rattle.forced_choices.specs.Rules.{rules_of}
-use Rattle.forced_choices.specs.Saturates.{IsOn, AreOn}
+use Rattle.forced_choices.specs.Forcing.{IsOn}
 use Rattle.forced_choices.specs.Saturation.{IsSaturationOf}
 use Rattle.forced_choices.specs.Undecided.{IsUndecided, AreUndecided}
 use Rattle.forced_choices.proofs.Members.{in_place, in_from_contains, contains_from_in, rises_of}
@@ -26,19 +25,19 @@ use Rattle.forced_choices.proofs.ListedChoices.{listed_is_choice, choice_listed,
 use Rattle.forced_choices.proofs.ChoicesAscend.{choices_ascend}
 use Rattle.forced_choices.proofs.ListedArcs.{plain_arcs, plain_right, arc_apart, arc_remains}
 use Rattle.forced_choices.proofs.Distinct.{distinct_from_ascends}
-use Rattle.forced_choices.proofs.SaturationLaws.{in_rules, so_far_first, saturated_end, full_log, exact}
+use Rattle.forced_choices.proofs.SaturationLaws.{IsEnd, so_far_first, forces_so_far, full_log, exact}
 use Rattle.txn.specs.declared.transactions.Source.TheVariants.{By}
 
 pub kept_of : (parts : Parts) (graph : GraphState) (log : List ForceStep) → IsGood parts → IsSaturationOf parts graph log → IsKept parts graph log
 kept_of parts graph log good is =
-    let end = saturated_end parts [] [] (plain_arcs parts) graph.arcs (rules_of (choices_of parts (all_ids parts) (all_ids parts))) [] log (so_far_first parts) is in
+    let end : IsEnd parts [] [] graph.arcs log = record { so_far = forces_so_far parts [] [] (plain_arcs parts) [] graph.arcs log is.forces (so_far_first parts); closed = is.closed } in
     record { good = good; exact = λ a b. exact parts [] [] graph.arcs log a b end; full = full_log parts graph.arcs log end }
 
 pub ids_distinct : (parts : Parts) → AreDistinct (all_ids parts)
 ids_distinct parts = distinct_from_ascends (all_ids parts) (listed_ascend parts)
 
 -- the graph has each id that remains
-node_of : (parts : Parts) (graph : GraphState) (id : TxnId) → ((id : TxnId) → HasNode graph id ↔ Contains (all_ids parts) id) → Remains parts id → HasNode graph id
+pub node_of : (parts : Parts) (graph : GraphState) (id : TxnId) → ((id : TxnId) → HasNode graph id ↔ Contains (all_ids parts) id) → Remains parts id → HasNode graph id
 node_of parts graph id nodes remains = (nodes id).1 (contains_from_in (all_ids parts) id (remaining_listed parts id remains))
 
 pub arcs_between : (parts : Parts) (graph : GraphState) → IsGood parts → ((id : TxnId) → HasNode graph id ↔ Contains (all_ids parts) id) → All (IsBetween graph) (plain_arcs parts)
@@ -48,23 +47,17 @@ arcs_between parts graph good nodes k d within =
     let remain = arc_remains parts arc right in
     record { start = node_of parts graph (start_of arc) nodes remain.0; end = node_of parts graph (end_of arc) nodes remain.1; apart = arc_apart parts arc good right }
 
-on_side : (parts : Parts) (graph : GraphState) (choice : Choice) (side : Side) → ((id : TxnId) → HasNode graph id ↔ Contains (all_ids parts) id) → IsChoice parts choice → IsOn graph (record { choice = choice; side = side })
+pub on_side : (parts : Parts) (graph : GraphState) (choice : Choice) (side : Side) → ((id : TxnId) → Remains parts id → HasNode graph id) → IsChoice parts choice → IsOn graph (record { choice = choice; side = side })
 on_side parts graph choice Second nodes is = record {
-  start = node_of parts graph choice.reader nodes (reader_remains parts choice.reader choice.key (By choice.writer) is.reads);
-  end = node_of parts graph choice.other nodes (writer_remains parts choice.other choice.key is.other);
+  start = nodes choice.reader (reader_remains parts choice.reader choice.key (By choice.writer) is.reads);
+  end = nodes choice.other (writer_remains parts choice.other choice.key is.other);
   apart = λ e. is.not_reader (sym e);
 }
 on_side parts graph choice First nodes is = record {
-  start = node_of parts graph choice.other nodes (writer_remains parts choice.other choice.key is.other);
-  end = node_of parts graph choice.writer nodes (writer_remains parts choice.writer choice.key is.written);
+  start = nodes choice.other (writer_remains parts choice.other choice.key is.other);
+  end = nodes choice.writer (writer_remains parts choice.writer choice.key is.written);
   apart = is.not_writer;
 }
-
-pub rules_on : (parts : Parts) (graph : GraphState) → ((id : TxnId) → HasNode graph id ↔ Contains (all_ids parts) id) → AreOn graph (rules_of (choices_of parts (all_ids parts) (all_ids parts)))
-rules_on parts graph nodes k d within =
-    let choices = choices_of parts (all_ids parts) (all_ids parts) in
-    let rule = get_or (rules_of choices) k d in
-    on_side parts graph rule.choice rule.side nodes (listed_is_choice parts (all_ids parts) rule.choice (in_rules choices rule (in_place (rules_of choices) k d within)))
 
 -- the undecided choices are the open ones
 pub open_choices_of : (parts : Parts) (graph : GraphState) (log : List ForceStep) (found : List Choice) → IsKept parts graph log → AreUndecided graph.arcs (choices_of parts (all_ids parts) (all_ids parts)) found → AreOpenChoices parts [] found

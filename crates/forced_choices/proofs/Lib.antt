@@ -5,6 +5,7 @@ pub mod ListedChoices
 pub mod ChoicesAscend
 pub mod Linked
 pub mod ListedArcs
+pub mod Forced
 pub mod SaturationLaws
 pub mod Distinct
 pub mod OpenSoFar

@@ -1,7 +1,6 @@
 -- What saturation leads to is the known relation, and its log is right.
-use Rattle.std.proofs.Common.{◌≡◌, ℕ, ◌⊎◌, List, [], ◌∷◌, ◌++◌, get_or, refl, sym, ap, ◌∙◌, inl, inr, subst, suc, zero, Some}
-use Rattle.std.specs.Prelude.{Contains, All, remove, ◌↔◌}
-use Rattle.std.specs.List.{slice_get}
+use Rattle.std.proofs.Common.{◌≡◌, ◌⊎◌, List, [], ◌∷◌, ◌++◌, get_or, refl, sym, ap, ◌∙◌, inl, inr, subst}
+use Rattle.std.specs.Prelude.{◌↔◌}
 use Rattle.txn.specs.declared.transactions.TxnId.{TxnId}
 use Rattle.txn.specs.declared.choices.Choice.{Choice}
 use Rattle.txn.specs.declared.choices.Arc.{Arc}
@@ -16,16 +15,14 @@ use Rattle.order_check.specs.Cycles.{Sides, IsArc, IsPath, IsCycle, side_taken, 
 use Rattle.forced_choices.specs.declared.rules.Rule.{Rule}
 use Rattle.known_graph.specs.Reach.{Reaches, Leads, IsPathOf}
 use Rattle.known_graph.specs.Reach as reach
-use Rattle.forced_choices.specs.Rules.{premise_of, arc_of_side, premise, conclusion, rules_of}
-use Rattle.forced_choices.specs.Saturates.{IsReady, IsReached, taken_arc, Fires, there, forced, Saturates, ends, goes_on}
-use Rattle.forced_choices.specs.Listing.{all_ids, choices_of}
-use Rattle.forced_choices.proofs.Members.{In, in_place, in_from_contains, contains_from_in, in_left, in_right, in_either, in_flat_map, flat_map_in}
+use Rattle.forced_choices.specs.Rules.{premise_of, arc_of_side, premise, conclusion}
+use Rattle.forced_choices.specs.Forcing.{IsReady, IsReached, IsLeft, taken_arc, IsStepOf, Forces, unforced, forced}
+use Rattle.forced_choices.proofs.Members.{In, in_place, in_from_contains, contains_from_in, in_left, in_right, in_either}
 use Rattle.forced_choices.proofs.Linked.{reaches_more, reaches_by, ordered_reached, links_known, reached_links, links_reached}
-use Rattle.forced_choices.proofs.ListedChoices.{listed_is_choice, choice_listed}
 use Rattle.forced_choices.proofs.ListedArcs.{plain_arcs, plain_right, read_listed, base_listed}
 
 -- What holds while sides are forced, where sides are assumed: the log goes on from the sides that were taken at the start.
-pub record IsSoFar (parts : Parts) (assumed start : Sides) (arcs : List Arc) (rules : List Rule) (log : List ForceStep) : Type 0 where
+pub record IsSoFar (parts : Parts) (assumed start : Sides) (arcs : List Arc) (log : List ForceStep) : Type 0 where
   pub right : (arc : Arc) → In arcs arc → IsArc parts (sides_after start log) arc
   pub known : (arc : Arc) → In arcs arc → Known parts assumed (start_of arc) (end_of arc)
   pub plain : (arc : Arc) → In (plain_arcs parts) arc → In arcs arc
@@ -34,8 +31,6 @@ pub record IsSoFar (parts : Parts) (assumed start : Sides) (arcs : List Arc) (ru
   pub reached : (side : TxnId × TxnId) → In (sides_after start log) side → Reaches arcs side.0 side.1
   pub steps : AreForced parts start log
   pub new : AreNew parts start log
-  pub pending : (rule : Rule) → IsChoice parts rule.choice → In rules rule ⊎ IsReached arcs rule
-  pub choices : (rule : Rule) → In rules rule → IsChoice parts rule.choice
 
 -- an arc that isn't taken is known
 plain_known : (parts : Parts) (arc : Arc) → IsArc parts [] arc → Known parts [] (start_of arc) (end_of arc)
@@ -44,23 +39,7 @@ plain_known parts (Read key from to) right = by_read key right.0 right.1
 plain_known parts (Base key from to) right = by_base key right.0 right.1 right.2
 plain_known parts (Taken from to) right = by_taken right
 
--- both sides of a choice are among the rules, and nothing else is
-pub in_rules : (choices : List Choice) (rule : Rule) → In (rules_of choices) rule → In choices rule.choice
-in_rules choices rule h = by_found (in_flat_map (λ choice. record { choice = choice; side = Second } ∷ record { choice = choice; side = First } ∷ []) choices rule h)
-  where
-    by_found : (choice : Choice) × In choices choice × In (record { choice = choice; side = Second } ∷ record { choice = choice; side = First } ∷ []) rule → In choices rule.choice
-    by_found (choice, among, inl e) = subst (λ c. In choices c) (ap (λ (r : Rule). r.choice) e) among
-    by_found (choice, among, inr (inl e)) = subst (λ c. In choices c) (ap (λ (r : Rule). r.choice) e) among
-    by_found (choice, among, inr (inr h)) = absurd h
-
-rules_have : (choices : List Choice) (rule : Rule) → In choices rule.choice → In (rules_of choices) rule
-rules_have choices rule h = flat_map_in (λ choice. record { choice = choice; side = Second } ∷ record { choice = choice; side = First } ∷ []) choices rule.choice rule h (by_side rule.choice rule.side)
-  where
-    by_side : (choice : Choice) (side : Side) → In {X = Rule} (record { choice = choice; side = Second } ∷ record { choice = choice; side = First } ∷ []) (record { choice = choice; side = side })
-    by_side choice Second = inl refl
-    by_side choice First = inr (inl refl)
-
-pub so_far_first : (parts : Parts) → IsSoFar parts [] [] (plain_arcs parts) (rules_of (choices_of parts (all_ids parts) (all_ids parts))) []
+pub so_far_first : (parts : Parts) → IsSoFar parts [] [] (plain_arcs parts) []
 so_far_first parts = record {
   right = plain_right parts;
   known = λ arc h. plain_known parts arc (plain_right parts arc h);
@@ -70,8 +49,6 @@ so_far_first parts = record {
   reached = λ side h. absurd h;
   steps = tt;
   new = tt;
-  pending = λ rule is. inl (rules_have (choices_of parts (all_ids parts) (all_ids parts)) rule (choice_listed parts rule.choice is));
-  choices = λ rule h. listed_is_choice parts (all_ids parts) rule.choice (in_rules (choices_of parts (all_ids parts) (all_ids parts)) rule h);
 }
 
 -- what is reached is known
@@ -127,53 +104,9 @@ leads_path : (parts : Parts) (taken : Sides) (arcs : List Arc) (start : TxnId) (
 leads_path parts taken arcs start [] goal right h = h
 leads_path parts taken arcs start (arc ∷ path) goal right h = (h.0, right arc (in_from_contains arcs arc h.1), leads_path parts taken arcs (end_of arc) path goal right h.2)
 
--- what is removed is the rule at the place
-in_removed : (rules : List Rule) (place : ℕ) (rule other : Rule) → slice_get rules place ≡ Some rule → In rules other → (rule ≡ other) ⊎ In (remove rules place) other
-in_removed [] place rule other at h = absurd h
-in_removed (r ∷ rules) zero rule other at (inl e) = inl (let same : r ≡ rule = cc in sym same ∙ e)
-in_removed (r ∷ rules) zero rule other at (inr h) = inr h
-in_removed (r ∷ rules) (suc place) rule other at (inl e) = inr (inl e)
-in_removed (r ∷ rules) (suc place) rule other at (inr h) = more (in_removed rules place rule other at h)
-  where
-    more : (rule ≡ other) ⊎ In (remove rules place) other → (rule ≡ other) ⊎ In (remove (r ∷ rules) (suc place)) other
-    more (inl e) = inl e
-    more (inr h) = inr (inr h)
-
-pub removed_in : (rules : List Rule) (place : ℕ) (other : Rule) → In (remove rules place) other → In rules other
-removed_in [] zero other h = h
-removed_in [] (suc place) other h = h
-removed_in (r ∷ rules) zero other h = inr h
-removed_in (r ∷ rules) (suc place) other (inl e) = inl e
-removed_in (r ∷ rules) (suc place) other (inr h) = inr (removed_in rules place other h)
-
-at_in : (rules : List Rule) (place : ℕ) (rule : Rule) → slice_get rules place ≡ Some rule → In rules rule
-at_in [] place rule h = absurd cc
-at_in (r ∷ rules) zero rule h = inl cc
-at_in (r ∷ rules) (suc place) rule h = inr (at_in rules place rule h)
-
--- one more rule looked at keeps it so
-fired : (parts : Parts) (assumed start : Sides) (arcs between : List Arc) (rules : List Rule) (log then : List ForceStep) (place : ℕ) (rule : Rule) → slice_get rules place ≡ Some rule → IsReady arcs rule → IsSoFar parts assumed start arcs rules log → Fires arcs log rule between then → IsSoFar parts assumed start between (remove rules place) then
-fired parts assumed start arcs between rules log then place rule at ready so (there is_there) = record {
-  right = so.right;
-  known = so.known;
-  plain = so.plain;
-  there = so.there;
-  sides = so.sides;
-  reached = so.reached;
-  steps = so.steps;
-  new = so.new;
-  pending = λ other is. by_pending other (so.pending other is);
-  choices = λ other h. so.choices other (removed_in rules place other h);
-}
-  where
-    by_removed : (other : Rule) → (rule ≡ other) ⊎ In (remove rules place) other → In (remove rules place) other ⊎ IsReached arcs other
-    by_removed other (inl e) = inr (subst (λ r. IsReached arcs r) e is_there)
-    by_removed other (inr h) = inl h
-
-    by_pending : (other : Rule) → In rules other ⊎ IsReached arcs other → In (remove rules place) other ⊎ IsReached arcs other
-    by_pending other (inl h) = by_removed other (in_removed rules place rule other at h)
-    by_pending other (inr h) = inr h
-fired parts assumed start arcs between rules log then place rule at ready so (forced step apart is) = record {
+-- one more side that is forced keeps it so
+fired : (parts : Parts) (assumed start : Sides) (arcs : List Arc) (log : List ForceStep) (rule : Rule) (step : ForceStep) → IsChoice parts rule.choice → IsLeft arcs rule → IsStepOf arcs rule step → IsSoFar parts assumed start arcs log → IsSoFar parts assumed start (arcs ++ taken_arc rule ∷ []) (log ++ step ∷ [])
+fired parts assumed start arcs log rule step a_choice left is so = record {
   right = λ arc h. by_arc arc (in_either arcs (taken_arc rule ∷ []) arc h);
   known = λ arc h. arc_known arc (in_either arcs (taken_arc rule ∷ []) arc h);
   plain = λ arc h. in_left arcs (taken_arc rule ∷ []) arc (so.plain arc h);
@@ -181,16 +114,11 @@ fired parts assumed start arcs between rules log then place rule at ready so (fo
   sides = λ side h. side_known side (subst (λ sides. In sides side) pushed h);
   reached = λ side h. side_reached side (subst (λ sides. In sides side) pushed h);
   steps = are_forced_push parts start log step so.steps (choice_right, cycle_right);
-  new = are_new_push parts start log step so.new (λ links. apart (subst (λ (s : TxnId × TxnId). Reaches arcs s.0 s.1) takes (links_reached parts taken arcs (side_taken step).0 (side_taken step).1 so.plain so.reached links)));
-  pending = λ other is. by_pending other (so.pending other is);
-  choices = λ other h. so.choices other (removed_in rules place other h);
+  new = are_new_push parts start log step so.new (λ links. left.1 (subst (λ (s : TxnId × TxnId). Reaches arcs s.0 s.1) takes (links_reached parts taken arcs (side_taken step).0 (side_taken step).1 so.plain so.reached links)));
 }
   where
     taken : Sides
     taken = sides_after start log
-
-    a_choice : IsChoice parts rule.choice
-    a_choice = so.choices rule (at_in rules place rule at)
 
     choice_right : IsChoice parts step.choice
     choice_right = subst (λ c. IsChoice parts c) (sym is.choice) a_choice
@@ -205,7 +133,7 @@ fired parts assumed start arcs between rules log then place rule at ready so (fo
     pushed = sides_push start log step ∙ ap (λ s. s ∷ taken) takes
 
     conclusion_known : Known parts assumed (conclusion rule).0 (conclusion rule).1
-    conclusion_known = forced_known parts assumed rule.choice rule.side a_choice (reached_known parts assumed arcs (premise rule).0 (premise rule).1 so.known ready)
+    conclusion_known = forced_known parts assumed rule.choice rule.side a_choice (reached_known parts assumed arcs (premise rule).0 (premise rule).1 so.known left.0)
 
     -- the cycle of the step
     not_taken : TxnId × TxnId
@@ -244,30 +172,15 @@ fired parts assumed start arcs between rules log then place rule at ready so (fo
     side_reached side (inl e) = subst (λ (s : TxnId × TxnId). Reaches (arcs ++ taken_arc rule ∷ []) s.0 s.1) e reached_now
     side_reached side (inr h) = reaches_more arcs (taken_arc rule) side.0 side.1 (so.reached side h)
 
-    by_removed : (other : Rule) → (rule ≡ other) ⊎ In (remove rules place) other → In (remove rules place) other ⊎ IsReached (arcs ++ taken_arc rule ∷ []) other
-    by_removed other (inl e) = inr (subst (λ r. IsReached (arcs ++ taken_arc rule ∷ []) r) e reached_now)
-    by_removed other (inr h) = inl h
+-- sides that are forced, one after another, keep it so
+pub forces_so_far : (parts : Parts) (assumed start : Sides) (arcs : List Arc) (log : List ForceStep) (new : List Arc) (then : List ForceStep) → Forces parts arcs log new then → IsSoFar parts assumed start arcs log → IsSoFar parts assumed start new then
+forces_so_far parts assumed start arcs log new then unforced so = so
+forces_so_far parts assumed start arcs log new then (forced {between = between} {some = some} rule step before is left step_is) so = fired parts assumed start between some rule step is left step_is (forces_so_far parts assumed start arcs log between some before so)
 
-    by_pending : (other : Rule) → In rules other ⊎ IsReached arcs other → In (remove rules place) other ⊎ IsReached (arcs ++ taken_arc rule ∷ []) other
-    by_pending other (inl h) = by_removed other (in_removed rules place rule other at h)
-    by_pending other (inr h) = inr (reaches_more arcs (taken_arc rule) (conclusion other).0 (conclusion other).1 h)
-
--- where it ends
+-- where it ends: no side is left
 pub record IsEnd (parts : Parts) (assumed start : Sides) (arcs : List Arc) (log : List ForceStep) : Type 0 where
-  pub rules : List Rule
-  pub so_far : IsSoFar parts assumed start arcs rules log
-  pub not_ready : All (λ rule. ¬ IsReady arcs rule) rules
-
-pub saturated_end : (parts : Parts) (assumed start : Sides) (arcs last : List Arc) (rules : List Rule) (log final : List ForceStep) → IsSoFar parts assumed start arcs rules log → Saturates arcs rules log last final → IsEnd parts assumed start last final
-saturated_end parts assumed start arcs last rules log final so (ends none) = record { rules = rules; so_far = so; not_ready = none }
-saturated_end parts assumed start arcs last rules log final so (goes_on {between = between} {then = then} place rule at ready fires more) = saturated_end parts assumed start between last (remove rules place) then final (fired parts assumed start arcs between rules log then place rule at ready so fires) more
-
--- what isn't ready anywhere isn't ready here
-not_in : {X : Type 0} (P : X → Type 0) (xs : List X) (x : X) → All (λ y. ¬ P y) xs → In xs x → P x → ⊥
-not_in {X} P xs x none h p = by_place (contains_from_in xs x h)
-  where
-    by_place : Contains xs x → ⊥
-    by_place (k, within, is) = none k x within (subst P (sym is) p)
+  pub so_far : IsSoFar parts assumed start arcs log
+  pub closed : (rule : Rule) → IsChoice parts rule.choice → IsReady arcs rule → IsReached arcs rule
 
 -- what is known is reached in the end
 pub known_reached : (parts : Parts) (assumed start : Sides) (arcs : List Arc) (log : List ForceStep) (a b : TxnId) → IsEnd parts assumed start arcs log → Known parts assumed a b → Reaches arcs a b
@@ -276,16 +189,8 @@ known_reached parts assumed start arcs log a b end (by_read key reads writes) = 
 known_reached parts assumed start arcs log a b end (by_base key reads writes apart) = reaches_by arcs (Base key a b) (end.so_far.plain (Base key a b) (base_listed parts a b key reads writes apart))
 known_reached parts assumed start arcs log a b end (by_taken h) = end.so_far.there (a, b) (in_from_contains assumed (a, b) h)
 known_reached parts assumed start arcs log a b end (through {b = m} first second) = reach.through (known_reached parts assumed start arcs log a m end first) (known_reached parts assumed start arcs log m b end second)
-known_reached parts assumed start arcs log a b end (forces_after choice is before) = by_pending (known_reached parts assumed start arcs log choice.writer choice.other end before) (end.so_far.pending (record { choice = choice; side = Second }) is)
-  where
-    by_pending : Reaches arcs choice.writer choice.other → In end.rules (record { choice = choice; side = Second }) ⊎ IsReached arcs (record { choice = choice; side = Second }) → Reaches arcs choice.reader choice.other
-    by_pending ready (inl h) = absurd (not_in (IsReady arcs) end.rules (record { choice = choice; side = Second }) end.not_ready h ready)
-    by_pending ready (inr reached) = reached
-known_reached parts assumed start arcs log a b end (forces_before choice is before) = by_pending (known_reached parts assumed start arcs log choice.other choice.reader end before) (end.so_far.pending (record { choice = choice; side = First }) is)
-  where
-    by_pending : Reaches arcs choice.other choice.reader → In end.rules (record { choice = choice; side = First }) ⊎ IsReached arcs (record { choice = choice; side = First }) → Reaches arcs choice.other choice.writer
-    by_pending ready (inl h) = absurd (not_in (IsReady arcs) end.rules (record { choice = choice; side = First }) end.not_ready h ready)
-    by_pending ready (inr reached) = reached
+known_reached parts assumed start arcs log a b end (forces_after choice is before) = end.closed (record { choice = choice; side = Second }) is (known_reached parts assumed start arcs log choice.writer choice.other end before)
+known_reached parts assumed start arcs log a b end (forces_before choice is before) = end.closed (record { choice = choice; side = First }) is (known_reached parts assumed start arcs log choice.other choice.reader end before)
 
 -- the log is right, and after it nothing more is forced
 pub full_log : (parts : Parts) (arcs : List Arc) (log : List ForceStep) → IsEnd parts [] [] arcs log → IsFullLog parts log

@@ -1,9 +1,9 @@
 pub mod Ascending
 pub mod Between
+pub mod Forcing
 pub mod Kept
 pub mod Listing
 pub mod Rules
 pub mod SaturatedState
-pub mod Saturates
 pub mod Saturation
 pub mod Undecided

@@ -1,6 +1,4 @@
 -- For private clauses: when a side of a choice is forced, and which arc it takes.
-use Rattle.std.specs.Prelude.{List, [], ◌∷◌}
-use Rattle.std.specs.List.{flat_map}
 use Rattle.txn.specs.declared.transactions.TxnId.{TxnId}
 use Rattle.txn.specs.declared.choices.Choice.{Choice}
 use Rattle.txn.specs.declared.choices.Side.{Side}
@@ -24,7 +22,3 @@ premise rule = premise_of rule.choice rule.side
 
 abbrev pub conclusion : Rule → TxnId × TxnId
 conclusion rule = arc_of_side rule.choice rule.side
-
--- both sides of each choice
-abbrev pub rules_of : List Choice → List Rule
-rules_of choices = flat_map (λ choice. record { choice = choice; side = Second } ∷ record { choice = choice; side = First } ∷ []) choices

@@ -3,11 +3,10 @@ use Rattle.std.specs.Prelude.{List, []}
 use Rattle.txn.specs.declared.choices.ForceStep.{ForceStep}
 use Rattle.order_check.specs.declared.remainder.Parts.{Parts}
 use Rattle.known_graph.specs.Graphs.{GraphState}
-use Rattle.forced_choices.specs.Listing.{all_ids, plain_arcs, choices_of}
-use Rattle.forced_choices.specs.Rules.{rules_of}
-use Rattle.forced_choices.specs.Saturates.{Saturates}
+use Rattle.forced_choices.specs.Listing.{plain_arcs}
+use Rattle.forced_choices.specs.Forcing.{Forces, IsClosed}
 
--- from the arcs of sessions and reads, forcing the sides of the choices comes to this graph and this log
-abbrev pub IsSaturationOf : Parts → GraphState → List ForceStep → Type 0
-IsSaturationOf parts graph log =
-    Saturates (plain_arcs parts) (rules_of (choices_of parts (all_ids parts) (all_ids parts))) [] graph.arcs log
+-- from the arcs of sessions and reads, forcing sides comes to this graph and this log, at which none is left
+pub record IsSaturationOf (parts : Parts) (graph : GraphState) (log : List ForceStep) : Type 0 where
+  pub forces : Forces parts (plain_arcs parts) [] graph.arcs log
+  pub closed : IsClosed parts graph.arcs

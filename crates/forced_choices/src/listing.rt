@@ -101,7 +101,7 @@ fn push_choices_of_read(
     }
 }
 
-fn push_choices_of_reader(
+pub fn push_choices_of_reader(
     choices: &mut Vec<Choice>,
     parts: &Parts,
     ids: &[TxnId],

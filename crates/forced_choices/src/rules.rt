@@ -1,12 +1,10 @@
-ghost use Rattle.std.specs.Prelude.{◌≡◌, ◌↔◌, ◌<◌, ◌++◌, length, slice_get, slice_index_or, IsTrue, IfOk, OnOk, All, MatchOption, Some};
-ghost use Rattle.std.specs.List.{flat_map};
+ghost use Rattle.std.specs.Prelude.{◌≡◌, ◌↔◌, true, false, IsTrue};
 ghost use Rattle.txn.specs.declared.transactions.TxnId.{TxnId};
-ghost use Rattle.forced_choices.specs.Rules.{premise_of, arc_of_side, premise, conclusion, rules_of};
-ghost use Rattle.forced_choices.specs.Saturates.{IsReady, IsReadyAt};
+ghost use Rattle.forced_choices.specs.Rules.{premise, conclusion};
+ghost use Rattle.forced_choices.specs.Forcing.{IsReady, IsReached, IsLeft, IsThere};
 
 use known_graph::Graph;
-use std::alloc::Global;
-use txn::{Choice, NoMemory, Side, TxnId};
+use txn::{Choice, Side, TxnId};
 
 /// A side of a choice, which is forced where the other side is ruled out.
 #[derive(Clone, Copy, Debug)]
@@ -37,24 +35,6 @@ impl Rule {
     }
 }
 
-/// Both sides of each choice.
-pub fn rules_of(alloc: Global, choices: &[Choice]) -> Result<Vec<Rule>, NoMemory>
-    ensures { IfOk result (λ rules. rules.items ≡ rules_of choices.now) }
-{
-    let mut rules = Vec::new(alloc);
-    for choice in choices {
-        rules.push(Rule {
-            choice: *choice,
-            side: Side::Second,
-        })?;
-        rules.push(Rule {
-            choice: *choice,
-            side: Side::First,
-        })?;
-    }
-    Ok(rules)
-}
-
 fn is_ready(graph: &Graph, rule: Rule) -> bool
     ensures { IsTrue result ↔ IsReady graph.now.arcs rule }
 {
@@ -62,14 +42,17 @@ fn is_ready(graph: &Graph, rule: Rule) -> bool
     graph.reaches(from, to)
 }
 
-/// The place of the first rule whose side is forced.
-pub fn find_ready(graph: &Graph, rules: &[Rule]) -> Option<usize>
-    ensures { MatchOption result (All (λ rule. ¬ IsReady graph.now.arcs rule) rules.now) (IsReadyAt graph.now.arcs rules.now) }
+fn is_reached(graph: &Graph, rule: Rule) -> bool
+    ensures { IsTrue result ↔ IsReached graph.now.arcs rule }
 {
-    for (place, rule) in rules.iter().enumerate() {
-        if is_ready(graph, *rule) {
-            return Some(place);
-        }
-    }
-    None
+    let (from, to) = rule.conclusion();
+    graph.reaches(from, to)
+}
+
+/// Whether the side is forced, and isn't there yet.
+pub fn is_left(graph: &Graph, rule: Rule) -> bool
+    ensures left { result ≡ true → IsLeft graph.now.arcs rule }
+    ensures there { result ≡ false → IsThere graph.now.arcs rule }
+{
+    is_ready(graph, rule) && !is_reached(graph, rule)
 }

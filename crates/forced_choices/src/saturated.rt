@@ -2,21 +2,19 @@ ghost use Rattle.std.specs.Prelude.{◌≡◌, ◌↔◌, ◌<◌, [], ◌∷◌
 ghost use Rattle.txn.specs.declared.transactions.TxnId.{TxnId};
 ghost use Rattle.known_graph.specs.Graphs.{HasNode};
 ghost use Rattle.forced_choices.specs.Kept.{IsKept};
-ghost use Rattle.forced_choices.specs.Rules.{rules_of};
 ghost use Rattle.order_check.specs.Based.{received_count};
 ghost use Rattle.order_check.specs.Cuts.{IsContentCutOff};
 ghost use Rattle.order_check.specs.Cycles.{IsFullLog};
 ghost use Rattle.order_check.specs.Good.{IsGood};
 ghost use Rattle.order_check.specs.Known.{Known, AreOpenChoices};
 ghost use Rattle.order_check.specs.StandsFor.{parts_with};
-ghost use Rattle.forced_choices.specs.Listing.{all_ids, plain_arcs, choices_of};
+ghost use Rattle.forced_choices.specs.Listing.{all_ids, plain_arcs};
 ghost use Rattle.forced_choices.specs.Saturation.{IsSaturationOf};
 ghost use Rattle.forced_choices.specs.SaturatedState.{fragment_of};
 ghost use Rattle.forced_choices.specs.Undecided.{IsUndecided, AreUndecided};
 
 use crate::building::{add_arcs, graph_of_nodes};
 use crate::listing::{arcs_among, choices_among, remaining_ids_of};
-use crate::rules::{Rule, rules_of};
 use crate::saturation::saturate;
 use known_graph::Graph;
 use order_check::Parts;
@@ -62,24 +60,15 @@ fn plain_graph(alloc: Global, parts: &Parts, ids: &[TxnId]) -> Result<Graph, NoM
     Ok(graph)
 }
 
-/// The rules of all choices.
-fn rules_among(alloc: Global, parts: &Parts, ids: &[TxnId]) -> Result<Vec<Rule>, NoMemory>
-    ensures { IfOk result (λ rules. rules.items ≡ rules_of (choices_of parts.now ids.now ids.now)) }
-{
-    let choices = choices_among(alloc, parts, ids)?;
-    rules_of(alloc, choices.as_slice())
-}
-
 /// The graph of the known relation, and the steps that were forced.
 fn saturation_of(alloc: Global, parts: &Parts) -> Result<(Graph, Vec<ForceStep>), NoMemory>
     requires { IsGood parts.now }
     ensures { IfOk result (λ made. IsSaturationOf parts.now made.0 made.1.items) }
 {
     let ids = remaining_ids_of(alloc, parts)?;
-    let rules = rules_among(alloc, parts, ids.as_slice())?;
     let mut graph = plain_graph(alloc, parts, ids.as_slice())?;
     let mut log = Vec::new(alloc);
-    saturate(alloc, &mut graph, &mut log, rules)?;
+    saturate(alloc, parts, ids.as_slice(), &mut graph, &mut log)?;
     Ok((graph, log))
 }
 

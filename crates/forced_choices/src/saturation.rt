@@ -1,14 +1,22 @@
-ghost use Rattle.std.specs.Prelude.{◌≡◌, ◌≢◌, ◌↔◌, [], ◌∷◌, ◌++◌, All, Contains, IfOk, OnOk};
-ghost use Rattle.txn.specs.Arcs.{start_of, end_of};
+ghost use Rattle.std.specs.Prelude.{◌≡◌, [], ◌∷◌, ◌++◌, IfOk, OnOk};
+ghost use Rattle.std.specs.List.{flat_map};
+ghost use Rattle.txn.specs.declared.transactions.TxnId.{TxnId};
+ghost use Rattle.txn.specs.declared.choices.Side.{Side};
+ghost use Rattle.txn.specs.declared.choices.ForceStep.{ForceStep};
+ghost use Rattle.order_check.specs.declared.remainder.Parts.{Parts};
+ghost use Rattle.order_check.specs.Based.{Remains};
+ghost use Rattle.order_check.specs.Known.{IsChoice};
 ghost use Rattle.known_graph.specs.Graphs.{HasNode};
-ghost use Rattle.known_graph.specs.Reach.{IsPathOf};
+ghost use Rattle.forced_choices.specs.Forcing.{IsLeft, IsOn, IsStepOf, Forces, HasLookedAt, HasLooked, IsClosed, taken_arc};
+ghost use Rattle.forced_choices.specs.Listing.{all_ids, reads_of, choices_of_read, choices_of};
 ghost use Rattle.forced_choices.specs.Rules.{premise, conclusion};
-ghost use Rattle.forced_choices.specs.Saturates.{IsReady, IsStepOf, Fires, Saturates, AreOn, IsOn};
 
-use crate::rules::{Rule, find_ready};
+use crate::listing::push_choices_of_reader;
+use crate::rules::{Rule, is_left};
 use known_graph::Graph;
+use order_check::Parts;
 use std::alloc::Global;
-use txn::{Arc, ForceStep, NoMemory, Sequence, TxnId};
+use txn::{Arc, Choice, ForceStep, NoMemory, Sequence, Side, TxnId};
 
 /// The step that takes the rule's side: the other side's arc and the path close a cycle.
 fn step_of(alloc: Global, rule: Rule, path: &[Arc]) -> Result<ForceStep, NoMemory>
@@ -27,22 +35,20 @@ fn step_of(alloc: Global, rule: Rule, path: &[Arc]) -> Result<ForceStep, NoMemor
     })
 }
 
-/// Takes the side of a rule that is ready, unless its arc is reached already.
+/// Takes a side that is left.
 fn fire(
     alloc: Global,
     graph: &mut Graph,
     log: &mut Vec<ForceStep>,
     rule: Rule,
 ) -> Result<(), NoMemory>
-    requires ready { IsReady graph.old.arcs rule }
+    requires left { IsLeft graph.old.arcs rule }
     requires on { IsOn graph.old rule }
-    ensures fires { OnOk result (Fires graph.old.arcs log.old.items rule graph.new.arcs log.new.items) }
+    ensures fires { OnOk result ((step : ForceStep) × IsStepOf graph.old.arcs rule step
+        × (graph.new.arcs ≡ graph.old.arcs ++ taken_arc rule ∷ []) × (log.new.items ≡ log.old.items ++ step ∷ [])) }
     ensures nodes { OnOk result (graph.new.nodes ≡ graph.old.nodes) }
 {
     let (from, to) = rule.conclusion();
-    if graph.reaches(from, to) {
-        return Ok(());
-    }
     let (start, end) = rule.premise();
     let Some(path) = graph.path(alloc, start, end)? else {
         unreachable!()
@@ -52,20 +58,111 @@ fn fire(
     Ok(())
 }
 
-/// Takes sides that are forced until none is that isn't taken.
-pub fn saturate(
+/// Takes the side if it is left.
+fn look_at_side(
     alloc: Global,
     graph: &mut Graph,
     log: &mut Vec<ForceStep>,
-    rules: Vec<Rule>,
+    rule: Rule,
 ) -> Result<(), NoMemory>
-    requires { AreOn graph.old rules.items }
-    ensures { OnOk result (Saturates graph.old.arcs rules.items log.old.items graph.new.arcs log.new.items) }
+    requires { IsOn graph.old rule }
+    ensures looked { OnOk result ((parts : Parts) → IsChoice parts rule.choice
+        → HasLookedAt parts graph.old.arcs log.old.items graph.new.arcs log.new.items rule) }
+    ensures nodes { OnOk result (graph.new.nodes ≡ graph.old.nodes) }
 {
-    let mut rules = rules;
-    while let Some(place) = find_ready(graph, rules.as_slice()) {
-        let rule = rules.remove(place);
+    if is_left(graph, rule) {
         fire(alloc, graph, log, rule)?;
+    }
+    Ok(())
+}
+
+/// Takes each side of the choice that is left.
+fn look_at_choice(
+    alloc: Global,
+    graph: &mut Graph,
+    log: &mut Vec<ForceStep>,
+    choice: Choice,
+) -> Result<(), NoMemory>
+    requires { (side : Side) → IsOn graph.old (record { choice = choice; side = side }) }
+    ensures looked { OnOk result ((parts : Parts) → IsChoice parts choice
+        → HasLooked parts graph.old.arcs log.old.items graph.new.arcs log.new.items (choice ∷ [])) }
+    ensures nodes { OnOk result (graph.new.nodes ≡ graph.old.nodes) }
+{
+    let second = Rule {
+        choice,
+        side: Side::Second,
+    };
+    look_at_side(alloc, graph, log, second)?;
+    let first = Rule {
+        choice,
+        side: Side::First,
+    };
+    look_at_side(alloc, graph, log, first)?;
+    Ok(())
+}
+
+/// Takes each side that is left of the choices of a reader. These alone are listed.
+fn look_at_reader(
+    alloc: Global,
+    parts: &Parts,
+    ids: &[TxnId],
+    graph: &mut Graph,
+    log: &mut Vec<ForceStep>,
+    reader: TxnId,
+) -> Result<(), NoMemory>
+    requires ids { ids.now ≡ all_ids parts.now }
+    requires nodes { (id : TxnId) → Remains parts.now id → HasNode graph.old id }
+    ensures looked { OnOk result (HasLooked parts.now graph.old.arcs log.old.items graph.new.arcs log.new.items
+        (flat_map (choices_of_read parts.now ids.now reader) (reads_of parts.now reader))) }
+    ensures nodes { OnOk result (graph.new.nodes ≡ graph.old.nodes) }
+{
+    let mut choices = Vec::new(alloc);
+    push_choices_of_reader(&mut choices, parts, ids, reader)?;
+    for choice in &choices {
+        look_at_choice(alloc, graph, log, *choice)?;
+    }
+    Ok(())
+}
+
+/// Takes each side that is left, choice by choice.
+fn look_at_all(
+    alloc: Global,
+    parts: &Parts,
+    ids: &[TxnId],
+    graph: &mut Graph,
+    log: &mut Vec<ForceStep>,
+) -> Result<(), NoMemory>
+    requires ids { ids.now ≡ all_ids parts.now }
+    requires nodes { (id : TxnId) → Remains parts.now id → HasNode graph.old id }
+    ensures looked { OnOk result (HasLooked parts.now graph.old.arcs log.old.items graph.new.arcs log.new.items
+        (choices_of parts.now ids.now ids.now)) }
+    ensures nodes { OnOk result (graph.new.nodes ≡ graph.old.nodes) }
+{
+    for reader in ids {
+        look_at_reader(alloc, parts, ids, graph, log, *reader)?;
+    }
+    Ok(())
+}
+
+/// Takes sides that are forced until none is left.
+pub fn saturate(
+    alloc: Global,
+    parts: &Parts,
+    ids: &[TxnId],
+    graph: &mut Graph,
+    log: &mut Vec<ForceStep>,
+) -> Result<(), NoMemory>
+    requires ids { ids.now ≡ all_ids parts.now }
+    requires nodes { (id : TxnId) → Remains parts.now id → HasNode graph.old id }
+    ensures forces { OnOk result (Forces parts.now graph.old.arcs log.old.items graph.new.arcs log.new.items) }
+    ensures closed { OnOk result (IsClosed parts.now graph.new.arcs) }
+    ensures nodes { OnOk result (graph.new.nodes ≡ graph.old.nodes) }
+{
+    let mut goes_on = true;
+    while goes_on {
+        let before = log.len();
+        look_at_all(alloc, parts, ids, graph, log)?;
+        goes_on = log.len() > before;
     }
     Ok(())
 }

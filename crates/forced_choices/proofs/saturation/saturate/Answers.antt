@@ -1,60 +1,44 @@
-use Rattle.std.proofs.Common.{◌≡◌, ℕ, ◌<◌, List, length, get_or, sym, ap, subst, ◌∙◌, Some}
-use Rattle.std.specs.Prelude.{remove, All}
-use Rattle.std.specs.List.{slice_get}
-use Rattle.std.proofs.lemmas.Option.{get_or_from_slice_get}
-use Rattle.known_graph.specs.Graphs.{GraphState, HasNode}
-use Rattle.forced_choices.specs.declared.rules.Rule.{Rule}
-use Rattle.forced_choices.specs.Rules.{conclusion}
-use Rattle.forced_choices.specs.Saturates.{ends, goes_on, IsReady, IsReadyAt, IsOn, AreOn, Saturates}
-use Rattle.forced_choices.proofs.Members.{in_place, contains_from_in}
-use Rattle.forced_choices.proofs.SaturationLaws.{removed_in}
+use Rattle.std.proofs.Common.{◌≡◌, ℕ, ◌<◌, ◌≤◌, ◌+◌, ◌-◌, ◌*◌, Bool, true, false, length, nat_lt, arith, refl, sym, subst, ◌∙◌, if◌then◌else◌}
+use Rattle.std.proofs.lemmas.Bool.{false≢true, ltb-true, ltb-false}
+use Rattle.forced_choices.specs.Forcing.{HasLooked, Forces, unforced}
+use Rattle.forced_choices.specs.Listing.{all_ids, choices_of}
+use Rattle.forced_choices.proofs.Forced.{forces_both, forces_length, forces_bounded, closed_of, pairs_of}
 use Rattle.forced_choices.proofs.saturation.saturate.Goals as goal
 
--- rules stay on the graph where one is removed, and where the graph keeps its nodes
-on_removed : (old new : GraphState) (rules : List Rule) (place : ℕ) → new.nodes ≡ old.nodes → AreOn old rules → AreOn new (remove rules place)
-on_removed old new rules place nodes on k d within =
-    let rule = get_or (remove rules place) k d in
-    by_place rule (contains_from_in rules rule (removed_in rules place rule (in_place (remove rules place) k d within)))
-  where
-    by_place : (rule : Rule) → (j : ℕ) × (j < length rules) × (get_or rules j rule ≡ rule) → IsOn new rule
-    by_place rule (j, inside, is) =
-        let there = subst (IsOn old) is (on j rule inside) in
-        record {
-          start = subst (λ nodes. HasNode (record new { nodes = nodes }) (conclusion rule).0) (sym nodes) there.start;
-          end = subst (λ nodes. HasNode (record new { nodes = nodes }) (conclusion rule).1) (sym nodes) there.end;
-          apart = there.apart;
-        }
+pub loop-goes_on-init : goal.loop-goes_on-init
+loop-goes_on-init c = record { forces = unforced; ended = λ e. absurd (false≢true (sym e)); nodes = refl }
 
--- the rule at a place that is ready
-ready_rule : (c : goal.In_ok-fire) → IsReady c.loop-place.graph.arcs c.remove-rule.result × (slice_get c.loop-place.rules.items c.in-Some.place ≡ Some c.remove-rule.result)
-ready_rule c = by_found c.in-Some.ensures
-  where
-    items : List Rule
-    items = c.loop-place.rules.items
+-- the measure falls, where steps were added or it doesn't go on
+falls : (bound before after b a : ℕ) (t u : Bool) → u ≡ true → nat_lt b a ≡ t → before ≡ b → after ≡ a → before ≤ after → after ≤ bound → (bound - after) * 2 + (if t then 1 else 0) < (bound - before) * 2 + (if u then 1 else 0)
+falls bound before after b a true true e test eb ea more most = let up = ltb-true b a test in omega arith
+falls bound before after b a false true e test eb ea more most = let same = ltb-false b a test in omega arith
+falls bound before after b a t false e test eb ea more most = absurd (false≢true e)
 
-    slice : c.as_slice.result.now ≡ items
-    slice = c.as_slice.ensures.value
+-- the sides that were forced so far
+so_far : (c : goal.After-len) → Forces c.args.parts.now c.args.graph.now.arcs c.args.log.now.items c.look_at_all.new.graph.arcs c.look_at_all.new.log.items
+so_far c = forces_both c.args.parts.now c.args.graph.now.arcs c.args.log.now.items c.loop-goes_on.graph.arcs c.loop-goes_on.log.items c.look_at_all.new.graph.arcs c.look_at_all.new.log.items c.loop-goes_on.invariant.forces c.in_ok-look_at_all.ensures.looked.forces
 
-    value : c.remove-rule.result ≡ get_or items c.in-Some.place c.remove-rule.result
-    value = c.remove-rule.ensures.value
+pub loop-goes_on-smaller : goal.loop-goes_on-smaller
+loop-goes_on-smaller c =
+    let parts = c.args.parts.now in
+    let before = c.loop-goes_on.log in
+    let after = c.look_at_all.new.log in
+    falls (length c.args.log.now.items + length (pairs_of (all_ids parts))) (length before.items) (length after.items) c.len-before.result c.len.result (nat_lt c.len-before.result c.len.result) c.loop-goes_on.goes_on c.loop-goes_on-test.true refl
+    (sym (c.len-before.ensures ∙ before.ok.0)) (sym (c.len.ensures ∙ after.ok.0))
+    (forces_length parts c.loop-goes_on.graph.arcs before.items c.look_at_all.new.graph.arcs after.items c.in_ok-look_at_all.ensures.looked.forces)
+    (forces_bounded parts c.args.graph.now.arcs c.args.log.now.items c.look_at_all.new.graph.arcs after.items (so_far c))
 
-    by_found : IsReadyAt c.loop-place.graph.arcs c.as_slice.result.now c.in-Some.place → IsReady c.loop-place.graph.arcs c.remove-rule.result × (slice_get items c.in-Some.place ≡ Some c.remove-rule.result)
-    by_found (rule, at, ready) =
-        let here = subst (λ rules. slice_get rules c.in-Some.place ≡ Some rule) slice at in
-        let same : c.remove-rule.result ≡ rule = value ∙ get_or_from_slice_get items c.in-Some.place rule c.remove-rule.result here in
-        (subst (IsReady c.loop-place.graph.arcs) (sym same) ready, here ∙ ap Some (sym same))
-
-pub loop-place-preserved : goal.loop-place-preserved
-loop-place-preserved c =
-    let items : c.remove-rule.new.self.items ≡ remove c.loop-place.rules.items c.in-Some.place = c.remove-rule.ensures.items in
-    let now = ready_rule c in
+pub loop-goes_on-preserved : goal.loop-goes_on-preserved
+loop-goes_on-preserved c =
+    let parts = c.args.parts.now in
+    let before = c.loop-goes_on.log in
+    let after = c.look_at_all.new.log in
+    let looked = subst (λ ids. HasLooked parts c.loop-goes_on.graph.arcs before.items c.look_at_all.new.graph.arcs after.items (choices_of parts ids ids)) c.requires.ids c.in_ok-look_at_all.ensures.looked in
+    let more = forces_length parts c.loop-goes_on.graph.arcs before.items c.look_at_all.new.graph.arcs after.items looked.forces in
+    let first : length before.items ≡ c.len-before.result = sym (c.len-before.ensures ∙ before.ok.0) in
+    let last : length after.items ≡ c.len.result = sym (c.len.ensures ∙ after.ok.0) in
     record {
-      on = subst (λ rules. AreOn c.fire.new.graph rules) (sym items) (on_removed c.loop-place.graph c.fire.new.graph c.loop-place.rules.items c.in-Some.place c.in_ok-fire.ensures.nodes c.loop-place.invariant.on);
-      way = λ arcs log more. c.loop-place.invariant.way arcs log (goes_on c.in-Some.place c.remove-rule.result now.1 now.0 c.in_ok-fire.ensures.fires (subst (λ rules. Saturates c.fire.new.graph.arcs rules c.fire.new.log.items arcs log) items more));
+      forces = so_far c;
+      ended = λ e. closed_of parts c.loop-goes_on.graph.arcs before.items c.look_at_all.new.graph.arcs after.items looked (let least = ltb-false c.len-before.result c.len.result e in omega arith);
+      nodes = c.in_ok-look_at_all.ensures.nodes ∙ c.loop-goes_on.invariant.nodes;
     }
-
-pub returns : goal.returns
-returns c =
-    let none : All (λ rule. ¬ IsReady c.loop-place.graph.arcs rule) c.as_slice.result.now = c.in_default.ensures in
-    let slice : c.as_slice.result.now ≡ c.loop-place.rules.items = c.as_slice.ensures.value in
-    c.loop-place.invariant.way c.loop-place.graph.arcs c.loop-place.log.items (ends (subst (λ rules. All (λ rule. ¬ IsReady c.loop-place.graph.arcs rule) rules) slice none))

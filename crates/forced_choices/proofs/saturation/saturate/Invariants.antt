@@ -1,15 +1,17 @@
-use Rattle.std.proofs.Common.{List, vec_len}
-use Rattle.txn.specs.declared.choices.Arc.{Arc}
-use Rattle.txn.specs.declared.choices.ForceStep.{ForceStep}
-use Rattle.forced_choices.specs.Saturates.{Saturates, AreOn}
+use Rattle.std.proofs.Common.{◌≡◌, ◌+◌, ◌*◌, ◌-◌, false, length, if◌then◌else◌}
+use Rattle.forced_choices.specs.Forcing.{Forces, IsClosed}
+use Rattle.forced_choices.specs.Listing.{all_ids}
+use Rattle.forced_choices.proofs.Forced.{pairs_of}
 use Rattle.forced_choices.proofs.saturation.saturate.Given as goal
 
--- where one comes to from here, one comes to from the start
-abbrev pub invariant-loop-place : goal.invariant-loop-place
-invariant-loop-place l = record {
-  on : AreOn l.graph l.rules.items;
-  way : (arcs : List Arc) (log : List ForceStep) → Saturates l.graph.arcs l.rules.items l.log.items arcs log → Saturates l.initial.graph.arcs l.initial.rules.items l.initial.log.items arcs log;
+-- sides were forced; where it doesn't go on, none is left
+abbrev pub invariant-loop-goes_on : goal.invariant-loop-goes_on
+invariant-loop-goes_on l = record {
+  forces : Forces l.parts l.initial.graph.arcs l.initial.log.items l.graph.arcs l.log.items;
+  ended : l.goes_on ≡ false → IsClosed l.parts l.graph.arcs;
+  nodes : l.graph.nodes ≡ l.initial.graph.nodes;
 }
 
-abbrev pub decreases-loop-place : goal.decreases-loop-place
-decreases-loop-place l = vec_len l.rules
+-- no more sides are forced than there are pairs of ids
+abbrev pub decreases-loop-goes_on : goal.decreases-loop-goes_on
+decreases-loop-goes_on l = (length l.initial.log.items + length (pairs_of (all_ids l.parts)) - length l.log.items) * 2 + (if l.goes_on then 1 else 0)
