@@ -31,7 +31,7 @@ use Rattle.txn.specs.declared.transactions.Source.TheVariants.{By}
 pub kept_of : (parts : Parts) (graph : GraphState) (log : List ForceStep) → IsGood parts → IsSaturationOf parts graph log → IsKept parts graph log
 kept_of parts graph log good is =
     let end : IsEnd parts [] [] graph.arcs log = record { so_far = forces_so_far parts [] [] (plain_arcs parts) [] graph.arcs log is.forces (so_far_first parts); closed = is.closed } in
-    record { good = good; exact = λ a b. exact parts [] [] graph.arcs log a b end; full = full_log parts graph.arcs log end }
+    record { good = good; exact = λ a b. exact parts [] [] graph.arcs log a b end; full = full_log parts graph.arcs log end; relation = record { nodes = is.nodes; so_far = end.so_far; closed = is.closed } }
 
 pub ids_distinct : (parts : Parts) → AreDistinct (all_ids parts)
 ids_distinct parts = distinct_from_ascends (all_ids parts) (listed_ascend parts)

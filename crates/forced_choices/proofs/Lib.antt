@@ -10,3 +10,7 @@ pub mod SaturationLaws
 pub mod Distinct
 pub mod OpenSoFar
 pub mod Keeping
+pub mod Stacked
+pub mod SessionOrder
+pub mod KnownRemain
+pub mod FirstOpen

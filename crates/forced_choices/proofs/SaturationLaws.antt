@@ -16,21 +16,11 @@ use Rattle.forced_choices.specs.declared.rules.Rule.{Rule}
 use Rattle.known_graph.specs.Reach.{Reaches, Leads, IsPathOf}
 use Rattle.known_graph.specs.Reach as reach
 use Rattle.forced_choices.specs.Rules.{premise_of, arc_of_side, premise, conclusion}
+use Rattle.forced_choices.specs.SoFar.{IsSoFar}
 use Rattle.forced_choices.specs.Forcing.{IsReady, IsReached, IsLeft, taken_arc, IsStepOf, Forces, unforced, forced}
 use Rattle.forced_choices.proofs.Members.{In, in_place, in_from_contains, contains_from_in, in_left, in_right, in_either}
 use Rattle.forced_choices.proofs.Linked.{reaches_more, reaches_by, ordered_reached, links_known, reached_links, links_reached}
 use Rattle.forced_choices.proofs.ListedArcs.{plain_arcs, plain_right, read_listed, base_listed}
-
--- What holds while sides are forced, where sides are assumed: the log goes on from the sides that were taken at the start.
-pub record IsSoFar (parts : Parts) (assumed start : Sides) (arcs : List Arc) (log : List ForceStep) : Type 0 where
-  pub right : (arc : Arc) → In arcs arc → IsArc parts (sides_after start log) arc
-  pub known : (arc : Arc) → In arcs arc → Known parts assumed (start_of arc) (end_of arc)
-  pub plain : (arc : Arc) → In (plain_arcs parts) arc → In arcs arc
-  pub there : (side : TxnId × TxnId) → In assumed side → Reaches arcs side.0 side.1
-  pub sides : (side : TxnId × TxnId) → In (sides_after start log) side → Known parts assumed side.0 side.1
-  pub reached : (side : TxnId × TxnId) → In (sides_after start log) side → Reaches arcs side.0 side.1
-  pub steps : AreForced parts start log
-  pub new : AreNew parts start log
 
 -- an arc that isn't taken is known
 plain_known : (parts : Parts) (arc : Arc) → IsArc parts [] arc → Known parts [] (start_of arc) (end_of arc)
@@ -100,7 +90,7 @@ arc_more parts taken side (Base key from to) right = right
 arc_more parts taken side (Taken from to) right = contains_from_in (side ∷ taken) (from, to) (inr (in_from_contains taken (from, to) right))
 
 -- arcs that lead somewhere are a path
-leads_path : (parts : Parts) (taken : Sides) (arcs : List Arc) (start : TxnId) (path : List Arc) (goal : TxnId) → ((arc : Arc) → In arcs arc → IsArc parts taken arc) → Leads arcs start path goal → IsPath parts taken start path goal
+pub leads_path : (parts : Parts) (taken : Sides) (arcs : List Arc) (start : TxnId) (path : List Arc) (goal : TxnId) → ((arc : Arc) → In arcs arc → IsArc parts taken arc) → Leads arcs start path goal → IsPath parts taken start path goal
 leads_path parts taken arcs start [] goal right h = h
 leads_path parts taken arcs start (arc ∷ path) goal right h = (h.0, right arc (in_from_contains arcs arc h.1), leads_path parts taken arcs (end_of arc) path goal right h.2)
 
@@ -176,6 +166,63 @@ fired parts assumed start arcs log rule step a_choice left is so = record {
 pub forces_so_far : (parts : Parts) (assumed start : Sides) (arcs : List Arc) (log : List ForceStep) (new : List Arc) (then : List ForceStep) → Forces parts arcs log new then → IsSoFar parts assumed start arcs log → IsSoFar parts assumed start new then
 forces_so_far parts assumed start arcs log new then unforced so = so
 forces_so_far parts assumed start arcs log new then (forced {between = between} {some = some} rule step before is left step_is) so = fired parts assumed start between some rule step is left step_is (forces_so_far parts assumed start arcs log between some before so)
+
+-- what is known stays known where one more side is taken
+pub known_more : (parts : Parts) (taken : Sides) (side : TxnId × TxnId) (a b : TxnId) → Known parts taken a b → Known parts (side ∷ taken) a b
+known_more parts taken side a b (by_session ra rb same below) = by_session ra rb same below
+known_more parts taken side a b (by_read key reads writes) = by_read key reads writes
+known_more parts taken side a b (by_base key reads writes apart) = by_base key reads writes apart
+known_more parts taken side a b (by_taken h) = by_taken (contains_from_in (side ∷ taken) (a, b) (inr (in_from_contains taken (a, b) h)))
+known_more parts taken side a b (through {b = m} first second) = through (known_more parts taken side a m first) (known_more parts taken side m b second)
+known_more parts taken side a b (forces_after choice is before) = forces_after choice is (known_more parts taken side choice.writer choice.other before)
+known_more parts taken side a b (forces_before choice is before) = forces_before choice is (known_more parts taken side choice.other choice.reader before)
+
+-- one more side that is assumed, with its arc
+pub so_far_assumed : (parts : Parts) (assumed start : Sides) (arcs : List Arc) (log : List ForceStep) (side : TxnId × TxnId) → IsSoFar parts assumed start arcs log → IsSoFar parts (side ∷ assumed) (side ∷ sides_after start log) (arcs ++ Taken side.0 side.1 ∷ []) []
+so_far_assumed parts assumed start arcs log side so = record {
+  right = λ arc h. by_arc arc (in_either arcs (own ∷ []) arc h);
+  known = λ arc h. arc_known arc (in_either arcs (own ∷ []) arc h);
+  plain = λ arc h. in_left arcs (own ∷ []) arc (so.plain arc h);
+  there = λ other h. side_there other h;
+  sides = λ other h. side_known other h;
+  reached = λ other h. side_reached other h;
+  steps = tt;
+  new = tt;
+}
+  where
+    own : Arc
+    own = Taken side.0 side.1
+
+    taken : Sides
+    taken = sides_after start log
+
+    own_known : Known parts (side ∷ assumed) side.0 side.1
+    own_known = by_taken (contains_from_in (side ∷ assumed) side (inl refl))
+
+    own_reached : Reaches (arcs ++ own ∷ []) side.0 side.1
+    own_reached = reaches_by (arcs ++ own ∷ []) own (in_right arcs (own ∷ []) own (inl refl))
+
+    by_arc : (arc : Arc) → In arcs arc ⊎ In (own ∷ []) arc → IsArc parts (side ∷ taken) arc
+    by_arc arc (inl h) = arc_more parts taken side arc (so.right arc h)
+    by_arc arc (inr (inl e)) = subst (λ a. IsArc parts (side ∷ taken) a) e (contains_from_in (side ∷ taken) side (inl refl))
+    by_arc arc (inr (inr h)) = absurd h
+
+    arc_known : (arc : Arc) → In arcs arc ⊎ In (own ∷ []) arc → Known parts (side ∷ assumed) (start_of arc) (end_of arc)
+    arc_known arc (inl h) = known_more parts assumed side (start_of arc) (end_of arc) (so.known arc h)
+    arc_known arc (inr (inl e)) = subst (λ a. Known parts (side ∷ assumed) (start_of a) (end_of a)) e own_known
+    arc_known arc (inr (inr h)) = absurd h
+
+    side_there : (other : TxnId × TxnId) → In (side ∷ assumed) other → Reaches (arcs ++ own ∷ []) other.0 other.1
+    side_there other (inl e) = subst (λ (s : TxnId × TxnId). Reaches (arcs ++ own ∷ []) s.0 s.1) e own_reached
+    side_there other (inr h) = reaches_more arcs own other.0 other.1 (so.there other h)
+
+    side_known : (other : TxnId × TxnId) → In (side ∷ taken) other → Known parts (side ∷ assumed) other.0 other.1
+    side_known other (inl e) = subst (λ (s : TxnId × TxnId). Known parts (side ∷ assumed) s.0 s.1) e own_known
+    side_known other (inr h) = known_more parts assumed side other.0 other.1 (so.sides other h)
+
+    side_reached : (other : TxnId × TxnId) → In (side ∷ taken) other → Reaches (arcs ++ own ∷ []) other.0 other.1
+    side_reached other (inl e) = subst (λ (s : TxnId × TxnId). Reaches (arcs ++ own ∷ []) s.0 s.1) e own_reached
+    side_reached other (inr h) = reaches_more arcs own other.0 other.1 (so.reached other h)
 
 -- where it ends: no side is left
 pub record IsEnd (parts : Parts) (assumed start : Sides) (arcs : List Arc) (log : List ForceStep) : Type 0 where

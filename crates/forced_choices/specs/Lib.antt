@@ -1,9 +1,12 @@
 pub mod Ascending
 pub mod Between
+pub mod BranchState
 pub mod Forcing
 pub mod Kept
 pub mod Listing
 pub mod Rules
 pub mod SaturatedState
 pub mod Saturation
+pub mod SoFar
+pub mod Stacks
 pub mod Undecided

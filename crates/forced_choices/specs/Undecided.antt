@@ -1,5 +1,5 @@
 -- For private clauses: choices that a graph leaves undecided.
-use Rattle.std.specs.Prelude.{List, Contains}
+use Rattle.std.specs.Prelude.{◌≡◌, ℕ, ◌<◌, List, length, slice_index_or, Contains}
 use Rattle.txn.specs.declared.choices.Arc.{Arc}
 use Rattle.txn.specs.declared.choices.Choice.{Choice}
 use Rattle.forced_choices.specs.Ascending.{Ascends}
@@ -18,3 +18,11 @@ pub record AreUndecided (arcs : List Arc) (choices undecided : List Choice) : Ty
   pub each : (choice : Choice) → Contains undecided choice → Contains choices choice × IsUndecided arcs choice
   pub all : (choice : Choice) → Contains choices choice → IsUndecided arcs choice → Contains undecided choice
   pub rise : Ascends choice_below choices → Ascends choice_below undecided
+
+-- the first of the choices that is undecided: it stands at a place before which none is
+pub record IsFirstUndecided (arcs : List Arc) (choices : List Choice) (choice : Choice) : Type 0 where
+  pub place : ℕ
+  pub within : place < length choices
+  pub is : (d : Choice) → slice_index_or choices place d ≡ choice
+  pub undecided : IsUndecided arcs choice
+  pub first : (k : ℕ) (d : Choice) → k < place → ¬ IsUndecided arcs (slice_index_or choices k d)

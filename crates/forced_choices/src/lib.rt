@@ -1,10 +1,12 @@
 //! What every order has to keep, kept up to date as transactions arrive, and the choices that it leaves open.
 #![tactic(auto)]
 
+mod branch;
 mod building;
 mod listing;
 mod rules;
 mod saturated;
 mod saturation;
 
+pub use branch::Branch;
 pub use saturated::Saturated;

@@ -11,6 +11,7 @@ ghost use Rattle.order_check.specs.StandsFor.{parts_with};
 ghost use Rattle.forced_choices.specs.Listing.{all_ids, plain_arcs};
 ghost use Rattle.forced_choices.specs.Saturation.{IsSaturationOf};
 ghost use Rattle.forced_choices.specs.SaturatedState.{fragment_of};
+ghost use Rattle.forced_choices.specs.SoFar.{IsRelation};
 ghost use Rattle.forced_choices.specs.Undecided.{IsUndecided, AreUndecided};
 
 use crate::building::{add_arcs, graph_of_nodes};
@@ -129,7 +130,7 @@ fn of_whole(alloc: Global, parts: Parts) -> Result<Saturated, NoMemory>
     Ok(saturated_from(parts, graph, Sequence::new(log)))
 }
 
-fn is_undecided(graph: &Graph, choice: Choice) -> bool
+pub fn is_undecided(graph: &Graph, choice: Choice) -> bool
     ensures { IsTrue result ↔ IsUndecided graph.now.arcs choice }
 {
     !graph.reaches(choice.writer, choice.other)
@@ -170,6 +171,19 @@ impl Saturated {
         ensures good { IsGood result.now }
     {
         &self.parts
+    }
+
+    /// Whole copies of the parts, of the graph and of the log.
+    pub(crate) fn copies(&self) -> Result<(Parts, Graph, Sequence<ForceStep>), NoMemory>
+        ensures parts { IfOk result (λ copies. copies.0 ≡ self.now.parts) }
+        ensures good { IfOk result (λ copies. IsGood copies.0) }
+        ensures relation { IfOk result (λ copies. IsRelation self.now.parts [] [] copies.1 self.now.log) }
+        ensures log { IfOk result (λ copies. copies.2 ≡ self.now.log) }
+    {
+        let parts = copy_of_parts(&self.parts)?;
+        let graph = copy_of_graph(&self.graph)?;
+        let log = copy_of_log(&self.log)?;
+        Ok((parts, graph, log))
     }
 
     /// Whether every order that explains the parts is known to have the one before the other. Where the relation has a

@@ -1,5 +1,15 @@
+use Rattle.std.proofs.Common.{sym, subst, subst₂}
+use Rattle.known_graph.specs.Graphs.{HasKey}
+use Rattle.forced_choices.specs.Forcing.{Forces}
 use Rattle.forced_choices.proofs.Keeping.{node_of}
 use Rattle.forced_choices.proofs.saturated.saturation_of.Goals as goal
 
 pub saturate-requires-clause-nodes : goal.saturate-requires-clause-nodes
 saturate-requires-clause-nodes c = λ id remains. node_of c.args.parts.now c.in_ok-graph.graph id c.in_ok-graph.ensures.nodes remains
+
+pub returns : goal.returns
+returns c = record {
+  forces = subst₂ (λ arcs log. Forces c.args.parts.now arcs log c.saturate.new.graph.arcs c.saturate.new.log.items) c.in_ok-graph.ensures.arcs c.new-log.ensures.items c.in_ok-saturate.ensures.forces;
+  closed = c.in_ok-saturate.ensures.closed;
+  nodes = λ id remains. subst (λ nodes. HasKey nodes id) (sym c.in_ok-saturate.ensures.nodes) (node_of c.args.parts.now c.in_ok-graph.graph id c.in_ok-graph.ensures.nodes remains);
+}

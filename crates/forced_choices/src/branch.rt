@@ -1,0 +1,225 @@
+ghost use Rattle.std.specs.Prelude.{◌≡◌, ◌↔◌, ◌≢◌, [], ◌∷◌, All, Contains, IfOk, OnOk, OnErr, IsTrue, List, MatchOption, drop, length};
+ghost use Rattle.txn.specs.declared.transactions.TxnId.{TxnId};
+ghost use Rattle.txn.specs.declared.choices.Choice.{Choice};
+ghost use Rattle.txn.specs.declared.choices.ForceStep.{ForceStep};
+ghost use Rattle.order_check.specs.Cycles.{Sides, IsCycle, sides_after};
+ghost use Rattle.order_check.specs.Explains.{KeepsSessions};
+ghost use Rattle.order_check.specs.Search.{HasCycle, IsFirstOpen};
+ghost use Rattle.known_graph.specs.Reach.{Reaches};
+ghost use Rattle.order_check.specs.Known.{Known, IsChoice, IsOpen};
+ghost use Rattle.order_check.specs.Based.{Remains};
+ghost use Rattle.known_graph.specs.Graphs.{HasNode};
+ghost use Rattle.order_check.specs.Good.{IsGood};
+ghost use Rattle.forced_choices.specs.BranchState.{arc_of, assumed, all_taken, last_steps, AreForcedBy};
+ghost use Rattle.forced_choices.specs.Stacks.{IsRelationAt};
+ghost use Rattle.forced_choices.specs.Undecided.{IsUndecided, IsFirstUndecided};
+ghost use Rattle.forced_choices.specs.SoFar.{IsRelation};
+
+use crate::listing::{choices_among, remaining_ids_of};
+use crate::rules::Rule;
+use crate::saturated::{Saturated, is_undecided};
+use crate::saturation::saturate;
+use known_graph::Graph;
+use order_check::Parts;
+use std::alloc::Global;
+use std::marker::Model;
+use txn::{Arc, Choice, ForceStep, NoMemory, Sequence, Side, TxnId};
+
+/// A side that is assumed, the steps that it forces, and the relation with it.
+#[derive(Drop, Debug)]
+struct Top {
+    choice: Choice,
+    side: Side,
+    steps: Sequence<ForceStep>,
+    graph: Graph,
+}
+
+/// The known relation where sides of choices are assumed, one after another. Each assumed side has a relation of its own, so
+/// that coming back takes no memory.
+#[derive(Drop, Debug)]
+pub struct Branch {
+    parts: Parts,
+    log: Sequence<ForceStep>,
+    graph: Graph,
+    tops: Vec<Top>,
+}
+
+impl Model for Branch {
+    ghost use Rattle.std.specs.Prelude.{[]};
+    ghost use Rattle.std.specs.Coded.{codes};
+    ghost use Rattle.order_check.specs.Codes.{coded_last};
+    ghost use Rattle.forced_choices.specs.BranchState.{BranchState};
+    ghost use Rattle.forced_choices.specs.Stacks.{IsBranch, levels_onto};
+
+    ghost Value = { BranchState };
+
+    ghost coded = { Prim.hlevel (codes, coded_last) };
+
+    ghost view = { λ b. record { parts = b.parts; log = b.log; levels = levels_onto [] b.tops.items } };
+
+    ghost invariant = { λ b. IsBranch b.parts b.log b.graph b.tops.items };
+}
+
+/// The relation with one more side assumed, and the steps that it forces.
+fn relation_with(
+    alloc: Global,
+    parts: &Parts,
+    graph: &Graph,
+    rule: Rule,
+) -> Result<(Graph, Vec<ForceStep>), NoMemory>
+    requires good { IsGood parts.now }
+    requires choice { IsChoice parts.now rule.choice }
+    requires nodes { (id : TxnId) → Remains parts.now id → HasNode graph.now id }
+    ensures { IfOk result (λ made. (taken start : Sides) (log : List ForceStep)
+        → IsRelation parts.now taken start graph.now log
+        → IsRelation parts.now (arc_of rule.choice rule.side ∷ taken) (arc_of rule.choice rule.side ∷ sides_after start log) made.0 made.1.items) }
+{
+    let ids = remaining_ids_of(alloc, parts)?;
+    let mut graph = graph.clone()?;
+    let (from, to) = rule.conclusion();
+    graph.add_arc(alloc, Arc::Taken { from, to })?;
+    let mut steps = Vec::new(alloc);
+    saturate(alloc, parts, ids.as_slice(), &mut graph, &mut steps)?;
+    Ok((graph, steps))
+}
+
+/// One that reaches itself.
+fn on_cycle(graph: &Graph, ids: &[TxnId]) -> Option<TxnId>
+    ensures { MatchOption result (All (λ id. ¬ Reaches graph.now.arcs id id) ids.now) (λ id. Reaches graph.now.arcs id id) }
+{
+    for id in ids {
+        if graph.reaches(*id, *id) {
+            return Some(*id);
+        }
+    }
+    None
+}
+
+/// The first of the choices that the graph leaves undecided.
+fn first_undecided(graph: &Graph, choices: &[Choice]) -> Option<Choice>
+    ensures { MatchOption result (All (λ choice. ¬ IsUndecided graph.now.arcs choice) choices.now) (IsFirstUndecided graph.now.arcs choices.now) }
+{
+    for choice in choices {
+        if is_undecided(graph, *choice) {
+            return Some(*choice);
+        }
+    }
+    None
+}
+
+impl Branch {
+    /// No side is assumed yet.
+    pub fn of(alloc: Global, known: &Saturated) -> Result<Branch, NoMemory>
+        ensures { IfOk result (λ branch. branch ≡ record { parts = known.now.parts; log = known.now.log; levels = [] }) }
+    {
+        let (parts, graph, log) = known.copies()?;
+        Ok(Branch {
+            parts,
+            log,
+            graph,
+            tops: Vec::new(alloc),
+        })
+    }
+
+    /// The relation with all sides that are assumed.
+    fn last(&self) -> &Graph
+        ensures { IsRelationAt self.now.parts self.now.log self.now.levels result.now }
+    {
+        match self.tops.last() {
+            Some(top) => &top.graph,
+            None => &self.graph,
+        }
+    }
+
+    /// What remains, in order of id.
+    pub fn ids(&self, alloc: Global) -> Result<Vec<TxnId>, NoMemory>
+        ensures sessions { IfOk result (λ ids. KeepsSessions self.now.parts ids.items) }
+        ensures members { IfOk result (λ ids. (id : TxnId) → Remains self.now.parts id → Contains ids.items id) }
+        ensures known { IfOk result (λ ids. (a b : TxnId) → Known self.now.parts (assumed self.now.levels) a b → Contains ids.items a × Contains ids.items b) }
+    {
+        let ids = remaining_ids_of(alloc, &self.parts)?;
+        Ok(ids)
+    }
+
+    /// A cycle of right arcs, where what is known has one.
+    pub fn cycle(&self, alloc: Global) -> Result<Option<Sequence<Arc>>, NoMemory>
+        ensures { IfOk result (λ found. MatchOption found
+            (¬ HasCycle self.now.parts (assumed self.now.levels))
+            (λ arcs. HasCycle self.now.parts (assumed self.now.levels) × IsCycle self.now.parts (all_taken self.now.log self.now.levels) arcs)) }
+    {
+        let ids = self.ids(alloc)?;
+        let Some(id) = on_cycle(self.last(), ids.as_slice()) else {
+            return Ok(None);
+        };
+        let found = self.last().path(alloc, id, id)?;
+        Ok(found)
+    }
+
+    /// The first choice that is open, where one is.
+    pub fn first_open(&self, alloc: Global) -> Result<Option<Choice>, NoMemory>
+        ensures { IfOk result (λ found. MatchOption found
+            ((choice : Choice) → ¬ IsOpen self.now.parts (assumed self.now.levels) choice)
+            (IsFirstOpen self.now.parts (assumed self.now.levels))) }
+    {
+        let ids = remaining_ids_of(alloc, &self.parts)?;
+        let choices = choices_among(alloc, &self.parts, ids.as_slice())?;
+        let found = first_undecided(self.last(), choices.as_slice());
+        Ok(found)
+    }
+
+    /// Assumes a side of a choice, and forces what it forces.
+    pub fn assume(&mut self, alloc: Global, choice: Choice, side: Side) -> Result<(), NoMemory>
+        requires { IsChoice self.old.parts choice }
+        ensures ok { OnOk result ((steps : List ForceStep) × AreForcedBy self.old choice side steps × (self.new ≡ record self.old { levels = record { choice = choice; side = side; steps = steps } ∷ self.old.levels })) }
+        ensures err { OnErr result (self.new ≡ self.old) }
+    {
+        let rule = Rule { choice, side };
+        let (graph, steps) = relation_with(alloc, &self.parts, self.last(), rule)?;
+        self.tops.push(Top {
+            choice,
+            side,
+            steps: Sequence::new(steps),
+            graph,
+        })?;
+        Ok(())
+    }
+
+    /// Takes back the side that was assumed last. It takes no memory.
+    pub fn back(&mut self)
+        requires { self.old.levels ≢ [] }
+        ensures { self.new ≡ record self.old { levels = drop 1 self.old.levels } }
+    {
+        let _last = self.tops.pop();
+    }
+
+    pub fn parts(&self) -> &Parts
+        ensures value { result.now ≡ self.now.parts }
+        ensures good { IsGood result.now }
+    {
+        &self.parts
+    }
+
+    /// How many sides are assumed.
+    pub fn depth(&self) -> usize
+        ensures { result ≡ length self.now.levels }
+    {
+        self.tops.len()
+    }
+
+    /// Whether the one is known to come before the other. It takes no memory.
+    pub fn reaches(&self, earlier: TxnId, later: TxnId) -> bool
+        ensures { IsTrue result ↔ Known self.now.parts (assumed self.now.levels) earlier later }
+    {
+        self.last().reaches(earlier, later)
+    }
+
+    /// The steps that the last side assumed forces; where none is assumed, those forced before.
+    pub fn steps(&self) -> &[ForceStep]
+        ensures { result.now ≡ last_steps self.now.log self.now.levels }
+    {
+        match self.tops.last() {
+            Some(top) => top.steps.as_slice(),
+            None => self.log.as_slice(),
+        }
+    }
+}
