@@ -3,18 +3,19 @@ ghost use Rattle.std.specs.Prelude.{◌≡◌, ◌<◌, [], ◌∷◌, ◌++◌,
 ghost use Rattle.std.specs.FinMap as map;
 ghost use Rattle.order_check.specs.Based.{received_count};
 ghost use Rattle.order_check.specs.Good.{IsGood};
+ghost use Rattle.order_check.specs.Known.{IsChoice};
 ghost use Rattle.order_check.specs.Rows.{fresh, first_cut, cut_rest};
 ghost use Rattle.order_check.specs.StandsFor.{parts_with};
 ghost use Rattle.forced_choices.specs.SaturatedState.{fragment_of};
 ghost use Rattle.txn.specs.declared.transactions.Source.TheVariants.{By, Init};
 
-use forced_choices::Saturated;
+use forced_choices::{Branch, Saturated};
 use order_check::{Base, LastWriters, Parts, row_first_cut};
 use std::alloc::Global;
 use std::process::Abort;
 use std::test::Fail;
 use txn::Source::{self, By, Init};
-use txn::{NoMemory, Sequence, Txn, TxnId};
+use txn::{Choice, NoMemory, Sequence, Side, Txn, TxnId};
 
 const ID_0_0: TxnId = TxnId {
     session: 0,
@@ -401,5 +402,50 @@ fn cuts_after_close(rt: &impl Abort, alloc: Global, rest: &Parts) -> Result<(), 
 fn a_saturation_is_cut_after_a_close(rt: HostRuntime) -> Result<(), Fail> {
     let rest = closed_rest(rt.alloc())?;
     cuts_after_close(&rt, rt.alloc(), &rest)?;
+    Ok(())
+}
+
+fn first_open(rt: &impl Abort, alloc: Global, branch: &Branch) -> Result<Choice, NoMemory>
+    ensures { IfOk result (IsChoice branch.now.parts) }
+{
+    let open = branch.first_open(alloc)?;
+    Ok(open.expect(rt, "a choice is open"))
+}
+
+/// Takes the first side of the choice, and comes back.
+fn assumes(
+    rt: &impl Abort,
+    alloc: Global,
+    branch: &mut Branch,
+    choice: Choice,
+) -> Result<(), NoMemory>
+    requires { IsChoice branch.old.parts choice }
+{
+    branch.assume(alloc, choice, Side::First)?;
+    assert!(rt; branch.depth() == 1 && branch.reaches(choice.other, choice.writer));
+    branch.back();
+    assert!(rt; !branch.reaches(choice.other, choice.writer));
+    Ok(())
+}
+
+fn branches(rt: &impl Abort, alloc: Global, saturated: &Saturated) -> Result<(), NoMemory> {
+    let mut branch = Branch::of(alloc, saturated)?;
+    let choice = first_open(rt, alloc, &branch)?;
+    assumes(rt, alloc, &mut branch, choice)?;
+    let cycle = branch.cycle(alloc)?;
+    assert!(rt; cycle.is_none());
+    Ok(())
+}
+
+fn branches_of(rt: &impl Abort, alloc: Global, row: &Row) -> Result<(), NoMemory> {
+    let saturated = arrived(rt, alloc, row.arrivals)?;
+    branches(rt, alloc, &saturated)
+}
+
+#[test]
+fn a_side_is_assumed_and_taken_back(rt: HostRuntime) -> Result<(), Fail> {
+    if let Some(row) = rows().first() {
+        branches_of(&rt, rt.alloc(), row)?;
+    }
     Ok(())
 }
