@@ -14,8 +14,9 @@ const VERSION: &str = "cobra_audit 0.1.0\n";
 const USAGE: &str = "usage: cobra_audit [--help | --version] < SCRIPT";
 
 const HELP: &str =
-    r#"cobra_audit is the auditor of Zanteyard: it checks from logs that a transactional key-value store is
-serializable. It reads a script on standard input, and writes the reply to each line on standard output.
+    r#"cobra_audit is the auditor of Zanteyard: it checks from logs that a transactional key-value store was
+serializable, each session's order kept. It reads a script on standard input, and writes the reply to
+each line on standard output.
 
   cobra_audit < SCRIPT     serves the script to its end
   cobra_audit --help       writes this
