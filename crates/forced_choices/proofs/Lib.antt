@@ -14,3 +14,6 @@ pub mod Stacked
 pub mod SessionOrder
 pub mod KnownRemain
 pub mod FirstOpen
+pub mod Counting
+pub mod RankedNodes
+pub mod RankedIds

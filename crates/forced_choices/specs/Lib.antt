@@ -10,3 +10,5 @@ pub mod Saturation
 pub mod SoFar
 pub mod Stacks
 pub mod Undecided
+pub mod Ranks
+pub mod Nodes

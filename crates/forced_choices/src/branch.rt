@@ -38,7 +38,7 @@ struct Top {
 /// that coming back takes no memory.
 #[derive(Drop, Debug)]
 pub struct Branch {
-    parts: Parts,
+    pub(crate) parts: Parts,
     log: Sequence<ForceStep>,
     graph: Graph,
     tops: Vec<Top>,
@@ -122,7 +122,7 @@ impl Branch {
     }
 
     /// The relation with all sides that are assumed.
-    fn last(&self) -> &Graph
+    pub(crate) fn last(&self) -> &Graph
         ensures { IsRelationAt self.now.parts self.now.log self.now.levels result.now }
     {
         match self.tops.last() {

@@ -4,9 +4,11 @@
 mod branch;
 mod building;
 mod listing;
+mod ranks;
 mod rules;
 mod saturated;
 mod saturation;
 
 pub use branch::Branch;
+pub use ranks::Rank;
 pub use saturated::Saturated;

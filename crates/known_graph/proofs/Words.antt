@@ -177,6 +177,38 @@ HasBit-without old less new fits is j = elim (cases_lt (j / 64) (length less)) [
       (λ has. (sym word ∙ has, no_bit less j past), λ was. word ∙ was.0)
 ]
 
+-- the same, where each word of the row is
+pub HasBit-without_whole : (old less new : List ℕ) → AreWords less → (done : ℕ) → length old ≤ done → WithoutBelow old less new done → (j : ℕ) → HasBit new j ↔ (HasBit old j × ¬ HasBit less j)
+HasBit-without_whole old less new fits done all is j = elim (cases_lt (j / 64) done) [
+  | inl below ↦
+      let word = ap (λ w. bit_at w (j % 64)) (is.without (j / 64) below) in
+      let without = bit_and_not (get_or old (j / 64) 0) (get_or less (j / 64) 0) (j % 64) (fits (j / 64)) (omega arith) in
+      (λ has. without.0 (sym word ∙ has), λ was. word ∙ without.1 was)
+  | inr past ↦ (λ has. absurd (no_bit new j (omega (arith, is.len)) has), λ was. absurd (no_bit old j (omega arith) was.0))
+]
+
+bit_and-both : (a b i : ℕ) → (bit_at (bit_and a b) i ≡ 1) ↔ ((bit_at a i ≡ 1) × (bit_at b i ≡ 1))
+bit_and-both a b i =
+    let both = bit_at_and a b i in
+    let first = bit_at-lt a i in
+    let second = bit_at-lt b i in
+    (λ is. (omega (arith, is, both, first, second), omega (arith, is, both, first, second)), λ was. let one = was.0 in let other = was.1 in omega (arith, one, other, both))
+
+-- a row whose words are met with those of another
+pub record MetBelow (old other new : List ℕ) (done : ℕ) : Type 0 where
+  pub len : length new ≡ length old
+  pub met : (i : ℕ) → i < done → get_or new i 0 ≡ bit_and (get_or old i 0) (get_or other i 0)
+  pub rest : (i : ℕ) → done ≤ i → get_or new i 0 ≡ get_or old i 0
+
+pub HasBit-met : (old other new : List ℕ) (done : ℕ) → length old ≤ done → MetBelow old other new done → (j : ℕ) → HasBit new j ↔ (HasBit old j × HasBit other j)
+HasBit-met old other new done all is j = elim (cases_lt (j / 64) done) [
+  | inl below ↦
+      let word = ap (λ w. bit_at w (j % 64)) (is.met (j / 64) below) in
+      let both = bit_and-both (get_or old (j / 64) 0) (get_or other (j / 64) 0) (j % 64) in
+      (λ has. both.0 (sym word ∙ has), λ was. word ∙ both.1 was)
+  | inr past ↦ (λ has. absurd (no_bit new j (omega (arith, is.len)) has), λ was. absurd (no_bit old j (omega arith) was.0))
+]
+
 bit_at-shifted : (n s i : ℕ) → bit_at (n / 2 ^ s) i ≡ bit_at n (s + i)
 bit_at-shifted n s i = ap (λ m. m % 2) (div-div-eq-div-mul n (2 ^ s) (2 ^ i) ∙ ap (λ d. n / d) (sym (pow-add 2 s i)))
 
@@ -222,6 +254,19 @@ module _ (row : List ℕ) (at : ℕ) (fits : AreWords row) where
             let none = first.2 (j - at) (omega (arith, on, before)) in
             omega (arith, none, in_word j on in_it, has),
       )
+
+-- a word with a bit set has a column
+pub bit_in_word : (row : List ℕ) (k : ℕ) → AreWords row → get_or row k 0 ≢ 0 → (j : ℕ) × HasBit row j
+bit_in_word row k fits some =
+    let at = 64 * k in
+    let place : at / 64 ≡ k = omega arith in
+    let start : at % 64 ≡ 0 = omega arith in
+    let whole : left row at fits ≡ get_or row k 0 = ap (λ i. get_or row (at / 64) 0 / 2 ^ i) start ∙ div-one (get_or row (at / 64) 0) ∙ ap (λ i. get_or row i 0) place in
+    let found = next_in_word row at fits (λ none. some (sym whole ∙ none)) in
+    (at + trailing_zeros w64 (left row at fits), found.1)
+  where
+    div-one : (n : ℕ) → n / 1 ≡ n
+    div-one n = omega arith
 
 pub bit_within : (row : List ℕ) (j : ℕ) → HasBit row j → j < 64 * length row
 bit_within row j has = elim (cases_lt (j / 64) (length row)) [

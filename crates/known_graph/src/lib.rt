@@ -10,4 +10,5 @@ mod nodes;
 mod paths;
 mod rows;
 
+pub use bits::{clear_bit, clear_bits, has_bit, is_clear, keep_bits, or_into, set_bit};
 pub use digraph::{Addition, Graph};
