@@ -1,99 +1,135 @@
--- An order by the number of predecessors keeps what is known.
-use Rattle.std.proofs.Common.{◌≡◌, ℕ, ◌+◌, ◌<◌, ◌≤◌, ◌⊎◌, Bool, true, false, cond, List, [], ◌∷◌, length, get_or, Some, sym, ap, subst, inl, inr, zero, suc, refl, ◌∙◌, arith}
-use Rattle.std.specs.Prelude.{Contains}
-use Rattle.std.specs.List.{count_by}
+-- A stable sort by how many are known to come before each keeps what is known, and the sessions.
+use Rattle.std.proofs.Common.{◌≡◌, ℕ, ◌+◌, ◌<◌, ◌≤◌, ◌⊎◌, Bool, true, false, cond, List, [], ◌∷◌, length, get_or, filter, nat_cmp, Some, sym, ap, subst, inl, inr, zero, suc, refl, ◌∙◌, arith}
+use Rattle.std.specs.Prelude.{◌↔◌, All, Contains}
+use Rattle.std.specs.List.Sorted.{IsNonDecreasingBy, IsPermutation, IsStableByKey}
 use Rattle.std.proofs.lemmas.Bool.{cases_lt}
-use Rattle.std.proofs.lemmas.List.Sums.{sum_by-cons}
+use Rattle.std.proofs.lemmas.List.{get_or-map, length-map}
+use Rattle.std.proofs.lemmas.List.Sorted.{All-permutation, Contains-permutation, IsPermutation-map}
 use Rattle.std.proofs.lemmas.Option.{slice_get-get_or}
 use Rattle.txn.specs.declared.transactions.TxnId.{TxnId}
+use Rattle.txn.specs.declared.transactions.Txn.{Txn}
+use Rattle.txn.specs.History.{in_session, ids_from}
 use Rattle.order_check.specs.declared.remainder.Parts.{Parts}
+use Rattle.order_check.specs.Based.{Remains, mark_of, remaining_of}
 use Rattle.order_check.specs.Cycles.{Sides}
-use Rattle.order_check.specs.Known.{Known, through}
+use Rattle.order_check.specs.Explains.{KeepsSessions}
+use Rattle.order_check.specs.Known.{Known, by_session, through}
 use Rattle.order_check.specs.Precedes.{Precedes}
 use Rattle.order_check.specs.Search.{HasCycle}
 use Rattle.order_check.specs.TakenSides.{KeepsAllKnown}
+use Rattle.forced_choices.specs.declared.ranks.Rank.{Rank}
+use Rattle.forced_choices.specs.Ranks.{Counts, none, one_more, not_this, ids_of, AreRanked}
+use Rattle.polygraph.proofs.StableSort.{Each, Climbs, each_at, each_filter, sort_keeps}
 
-both_cases : (b : Bool) → (b ≡ true) ⊎ (b ≡ false)
-both_cases true = inl refl
-both_cases false = inr refl
+-- where one property implies another, no more have it
+counts_least : {X : Type 0} (P Q : X → Type 0) (xs : List X) (m n : ℕ) → ((x : X) → P x → Q x) → Counts P xs m → Counts Q xs n → m ≤ n
+counts_least P Q [] m n all none none = omega arith
+counts_least P Q (x ∷ xs) (suc m) (suc n) all (one_more p ps) (one_more q qs) = let rest = counts_least P Q xs m n all ps qs in omega arith
+counts_least P Q (x ∷ xs) (suc m) n all (one_more p ps) (not_this q qs) = absurd (q (all x p))
+counts_least P Q (x ∷ xs) m (suc n) all (not_this p ps) (one_more q qs) = let rest = counts_least P Q xs m n all ps qs in omega arith
+counts_least P Q (x ∷ xs) m n all (not_this p ps) (not_this q qs) = counts_least P Q xs m n all ps qs
 
--- one test implies the other
-abbrev Implies : {X : Type 0} → (X → Bool) → (X → Bool) → Type 0
-Implies {X} p q = (x : X) → p x ≡ true → q x ≡ true
+-- and where some element has the other alone, fewer have it
+counts_fewer : {X : Type 0} (P Q : X → Type 0) (xs : List X) (m n : ℕ) (x : X) → ((y : X) → P y → Q y) → Contains xs x → (¬ P x) → Q x → Counts P xs m → Counts Q xs n → m < n
+counts_fewer P Q [] m n x all (k, within, is) lacks has ps qs = absurd (omega arith)
+counts_fewer P Q (y ∷ xs) (suc m) n x all (zero, within, is) lacks has (one_more p ps) qs = absurd (lacks (subst P is p))
+counts_fewer P Q (y ∷ xs) m (suc n) x all (zero, within, is) lacks has (not_this p ps) (one_more q qs) = let rest = counts_least P Q xs m n all ps qs in omega arith
+counts_fewer P Q (y ∷ xs) m n x all (zero, within, is) lacks has (not_this p ps) (not_this q qs) = absurd (q (subst Q (sym is) has))
+counts_fewer P Q (y ∷ xs) (suc m) (suc n) x all (suc k, within, is) lacks has (one_more p ps) (one_more q qs) = let rest = counts_fewer P Q xs m n x all (k, omega arith, is) lacks has ps qs in omega arith
+counts_fewer P Q (y ∷ xs) (suc m) n x all (suc k, within, is) lacks has (one_more p ps) (not_this q qs) = absurd (q (all y p))
+counts_fewer P Q (y ∷ xs) m (suc n) x all (suc k, within, is) lacks has (not_this p ps) (one_more q qs) = let rest = counts_fewer P Q xs m n x all (k, omega arith, is) lacks has ps qs in omega arith
+counts_fewer P Q (y ∷ xs) m n x all (suc k, within, is) lacks has (not_this p ps) (not_this q qs) = counts_fewer P Q xs m n x all (k, omega arith, is) lacks has ps qs
 
-cond_true : (b : Bool) (m n : ℕ) → b ≡ true → cond b m n ≡ m
-cond_true true m n e = refl
-cond_true false m n e = absurd cc
+-- one of the ids, with how many of them are known to come before it
+pub record IsRanked (parts : Parts) (taken : Sides) (ids : List TxnId) (rank : Rank) : Type 0 where
+  pub listed : Contains ids rank.id
+  pub remains : Remains parts rank.id
+  pub counts : Counts (λ id. Known parts taken id rank.id) ids rank.count
 
-cond_false : (b : Bool) (m n : ℕ) → b ≡ false → cond b m n ≡ n
-cond_false true m n e = absurd cc
-cond_false false m n e = refl
+-- what is known to come before another has a lower count
+lower : (parts : Parts) (taken : Sides) (ids : List TxnId) (a b : Rank) → (¬ HasCycle parts taken) → IsRanked parts taken ids a → IsRanked parts taken ids b → Known parts taken a.id b.id → a.count < b.count
+lower parts taken ids a b none_is is_a is_b known = counts_fewer (λ id. Known parts taken id a.id) (λ id. Known parts taken id b.id) ids a.count b.count a.id (λ x before. through before known) is_a.listed (λ cycle. none_is (a.id, cycle)) known is_a.counts is_b.counts
 
-count_cons : {X : Type 0} (p : X → Bool) (x : X) (xs : List X) → count_by p (x ∷ xs) ≡ cond (p x) 1 0 + count_by p xs
-count_cons p x xs = sum_by-cons (λ y. cond (p y) 1 0) x xs
+-- all are ranked
+all_ranked : (parts : Parts) (taken : Sides) (ranks : List Rank) → ((id : TxnId) → Contains (ids_of ranks) id ↔ Remains parts id) → AreRanked parts taken ranks → All (IsRanked parts taken (ids_of ranks)) ranks
+all_ranked parts taken ranks members ranked k d within =
+    let rank : Rank = get_or ranks k d in
+    let long = length-map ranks (λ (r : Rank). r.id) in
+    let here : Contains (ids_of ranks) rank.id = (k, omega (arith, long), get_or-map (λ (r : Rank). r.id) ranks k d rank.id within) in
+    record { listed = here; remains = (members rank.id).0 here; counts = ranked k d within }
 
-count_yes : {X : Type 0} (p : X → Bool) (x : X) (xs : List X) → p x ≡ true → count_by p (x ∷ xs) ≡ 1 + count_by p xs
-count_yes p x xs e = count_cons p x xs ∙ ap (λ n. n + count_by p xs) (cond_true (p x) 1 0 e)
+-- where one stands in front of those of its session, with a lower number, its count is no higher
+above : (parts : Parts) (taken : Sides) (ids : List TxnId) (rank : Rank) (s number : ℕ) (txns : List Txn) (ranks : List Rank) → (¬ HasCycle parts taken) → IsRanked parts taken ids rank → Each (IsRanked parts taken ids) ranks → rank.id.session ≡ s → rank.id.number < number → ids_of ranks ≡ ids_from s number txns → Each (λ (other : Rank). rank.count ≤ other.count) ranks
+above parts taken ids rank s number txns [] none_is is each same below listed = tt
+above parts taken ids rank s number [] (other ∷ ranks) none_is is each same below listed = absurd cc
+above parts taken ids rank s number (txn ∷ txns) (other ∷ ranks) none_is is each same below listed =
+    let here : TxnId = record { session = s; number = number } in
+    let first : other.id ≡ here = cc in
+    let rest : ids_of ranks ≡ ids_from s (number + 1) txns = cc in
+    let session : rank.id.session ≡ other.id.session = same ∙ sym (ap (λ (id : TxnId). id.session) first) in
+    let at : other.id.number ≡ number = ap (λ (id : TxnId). id.number) first in
+    let known : Known parts taken rank.id other.id = by_session is.remains each.0.remains session (omega (arith, below, at)) in
+    let less = lower parts taken ids rank other none_is is each.0 known in
+    (omega (arith, less), above parts taken ids rank s (number + 1) txns ranks none_is is each.1 same (omega (arith, below)) rest)
 
-count_no : {X : Type 0} (p : X → Bool) (x : X) (xs : List X) → p x ≡ false → count_by p (x ∷ xs) ≡ count_by p xs
-count_no p x xs e = count_cons p x xs ∙ ap (λ n. n + count_by p xs) (cond_false (p x) 1 0 e) ∙ omega arith
+-- the counts of a session's ids don't fall
+session_climbs : (parts : Parts) (taken : Sides) (ids : List TxnId) (s number : ℕ) (txns : List Txn) (ranks : List Rank) → (¬ HasCycle parts taken) → Each (IsRanked parts taken ids) ranks → ids_of ranks ≡ ids_from s number txns → Climbs (λ (rank : Rank). rank.count) ranks
+session_climbs parts taken ids s number txns [] none_is each listed = tt
+session_climbs parts taken ids s number [] (rank ∷ ranks) none_is each listed = absurd cc
+session_climbs parts taken ids s number (txn ∷ txns) (rank ∷ ranks) none_is each listed =
+    let here : TxnId = record { session = s; number = number } in
+    let first : rank.id ≡ here = cc in
+    let rest : ids_of ranks ≡ ids_from s (number + 1) txns = cc in
+    let session : rank.id.session ≡ s = ap (λ (id : TxnId). id.session) first in
+    let at : rank.id.number ≡ number = ap (λ (id : TxnId). id.number) first in
+    (above parts taken ids rank s (number + 1) txns ranks none_is each.0 each.1 session (omega (arith, at)) rest, session_climbs parts taken ids s (number + 1) txns ranks none_is each.1 rest)
 
-count_most : {X : Type 0} (p q : X → Bool) (xs : List X) → Implies p q → count_by p xs ≤ count_by q xs
-count_most p q [] all = omega arith
-count_most {X} p q (x ∷ xs) all = by_test (both_cases (p x)) (both_cases (q x)) (count_most p q xs all)
+-- the ids of a session among those that are ranked
+session_ids : (s : ℕ) (ranks : List Rank) → filter (in_session s) (ids_of ranks) ≡ ids_of (filter (λ (rank : Rank). in_session s rank.id) ranks)
+session_ids s [] = refl
+session_ids s (rank ∷ ranks) = by_test (in_session s rank.id) (session_ids s ranks)
   where
-    by_test : (p x ≡ true) ⊎ (p x ≡ false) → (q x ≡ true) ⊎ (q x ≡ false) → count_by p xs ≤ count_by q xs → count_by p (x ∷ xs) ≤ count_by q (x ∷ xs)
-    by_test (inl a) (inl b) rest = let m = count_yes p x xs a in let n = count_yes q x xs b in omega (arith, m, n, rest)
-    by_test (inl a) (inr b) rest = let e = all x a in absurd cc
-    by_test (inr a) (inl b) rest = let m = count_no p x xs a in let n = count_yes q x xs b in omega (arith, m, n, rest)
-    by_test (inr a) (inr b) rest = let m = count_no p x xs a in let n = count_no q x xs b in omega (arith, m, n, rest)
+    by_test : (t : Bool) → filter (in_session s) (ids_of ranks) ≡ ids_of (filter (λ (r : Rank). in_session s r.id) ranks) → cond t (rank.id ∷ filter (in_session s) (ids_of ranks)) (filter (in_session s) (ids_of ranks)) ≡ ids_of (cond t (rank ∷ filter (λ (r : Rank). in_session s r.id) ranks) (filter (λ (r : Rank). in_session s r.id) ranks))
+    by_test true rest = ap (λ ids. rank.id ∷ ids) rest
+    by_test false rest = rest
 
--- a test that another implies, and that some element passes alone, counts more
-pub count_fewer : {X : Type 0} (p q : X → Bool) (xs : List X) (x : X) → Implies p q → Contains xs x → p x ≡ false → q x ≡ true → count_by p xs < count_by q xs
-count_fewer p q [] x all (k, within, is) no' yes' = absurd (omega arith)
-count_fewer {X} p q (y ∷ xs) x all (zero, within, is) no' yes' =
-    let m = count_no p y xs (subst (λ z. p z ≡ false) (sym is) no') in
-    let n = count_yes q y xs (subst (λ z. q z ≡ true) (sym is) yes') in
-    let rest = count_most p q xs all in
-    omega (arith, m, n, rest)
-count_fewer {X} p q (y ∷ xs) x all (suc k, within, is) no' yes' = by_test (both_cases (p y)) (both_cases (q y)) (count_fewer p q xs x all (k, omega arith, is) no' yes')
+-- how ranks stand before and after they are sorted by their counts
+pub record AreSorted (old new : List Rank) : Type 0 where
+  pub permutation : IsPermutation old new
+  pub sorted : IsNonDecreasingBy (λ (rank : Rank). rank.count) new
+  pub stable : IsStableByKey (λ (rank : Rank). rank.count) nat_cmp old new
+
+pub sorted_sessions : (parts : Parts) (taken : Sides) (old new : List Rank) → (¬ HasCycle parts taken) → KeepsSessions parts (ids_of old) → ((id : TxnId) → Contains (ids_of old) id ↔ Remains parts id) → AreRanked parts taken old → AreSorted old new → KeepsSessions parts (ids_of new)
+sorted_sessions parts taken old new none_is sessions members ranked are s =
+    let test : Rank → Bool = λ (rank : Rank). in_session s rank.id in
+    let listed = sym (session_ids s old) ∙ sessions s in
+    let each = each_filter (IsRanked parts taken (ids_of old)) test old (each_at (IsRanked parts taken (ids_of old)) old (all_ranked parts taken old members ranked)) in
+    let climbs = session_climbs parts taken (ids_of old) s (mark_of parts s) (remaining_of parts s) (filter test old) none_is each listed in
+    let kept = sort_keeps (λ (rank : Rank). rank.count) test old new are.sorted are.stable climbs in
+    session_ids s new ∙ ap ids_of kept ∙ listed
+
+pub sorted_known : (parts : Parts) (taken : Sides) (old new : List Rank) → (¬ HasCycle parts taken) → ((id : TxnId) → Contains (ids_of old) id ↔ Remains parts id) → ((a b : TxnId) → Known parts taken a b → Contains (ids_of old) a × Contains (ids_of old) b) → AreRanked parts taken old → AreSorted old new → KeepsAllKnown parts taken (ids_of new)
+sorted_known parts taken old new none_is members listed ranked are a b known = place (stands a (listed a b known).0) (stands b (listed a b known).1)
   where
-    by_test : (p y ≡ true) ⊎ (p y ≡ false) → (q y ≡ true) ⊎ (q y ≡ false) → count_by p xs < count_by q xs → count_by p (y ∷ xs) < count_by q (y ∷ xs)
-    by_test (inl a) (inl b) rest = let m = count_yes p y xs a in let n = count_yes q y xs b in omega (arith, m, n, rest)
-    by_test (inl a) (inr b) rest = let e = all y a in absurd cc
-    by_test (inr a) (inl b) rest = let m = count_no p y xs a in let n = count_yes q y xs b in omega (arith, m, n, rest)
-    by_test (inr a) (inr b) rest = let m = count_no p y xs a in let n = count_no q y xs b in omega (arith, m, n, rest)
+    all : All (IsRanked parts taken (ids_of old)) new
+    all = All-permutation (IsRanked parts taken (ids_of old)) old new are.permutation (all_ranked parts taken old members ranked)
 
--- a test says what is known, and the order is by how many it has before each
-pub record IsRanked (parts : Parts) (taken : Sides) (before : TxnId → TxnId → Bool) (ids order : List TxnId) : Type 0 where
-  pub test : (a b : TxnId) → before a b ≡ true → Known parts taken a b
-  pub tests : (a b : TxnId) → Known parts taken a b → before a b ≡ true
-  pub listed : (a b : TxnId) → Known parts taken a b → Contains ids a
-  pub ordered : (a b : TxnId) → Known parts taken a b → Contains order a × Contains order b
-  pub rising : (i j : ℕ) (d : TxnId) → i ≤ j → j < length order → count_by (λ x. before x (get_or order i d)) ids ≤ count_by (λ x. before x (get_or order j d)) ids
+    stands : (id : TxnId) → Contains (ids_of old) id → Contains (ids_of new) id
+    stands id there = Contains-permutation (ids_of old) (ids_of new) id (IsPermutation-map (λ (rank : Rank). rank.id) old new are.permutation) there
 
-pub ranked_keeps : (parts : Parts) (taken : Sides) (before : TxnId → TxnId → Bool) (ids order : List TxnId) → (¬ HasCycle parts taken) → IsRanked parts taken before ids order → KeepsAllKnown parts taken order
-ranked_keeps parts taken before ids order none is a b known = place (is.ordered a b known).0 (is.ordered a b known).1
-  where
-    not_itself : (t : Bool) → before a a ≡ t → before a a ≡ false
-    not_itself true e = absurd (none (a, is.test a a e))
-    not_itself false e = e
-
-    fewer : count_by (λ x. before x a) ids < count_by (λ x. before x b) ids
-    fewer = count_fewer (λ x. before x a) (λ x. before x b) ids a (λ x e. is.tests x b (through (is.test x a e) known)) (is.listed a b known) (not_itself (before a a) refl) (is.tests a b known)
-
-    place : Contains order a → Contains order b → Precedes order a b
+    place : Contains (ids_of new) a → Contains (ids_of new) b → Precedes (ids_of new) a b
     place (i, within_i, is_a) (j, within_j, is_b) = by_place (cases_lt i j)
       where
-        by_place : (i < j) ⊎ (j ≤ i) → Precedes order a b
-        by_place (inl below) = (i, j, below, slice_get-get_or order i a within_i ∙ ap Some is_a, slice_get-get_or order j b within_j ∙ ap Some is_b)
+        by_place : (i < j) ⊎ (j ≤ i) → Precedes (ids_of new) a b
+        by_place (inl below) = (i, j, below, slice_get-get_or (ids_of new) i a within_i ∙ ap Some is_a, slice_get-get_or (ids_of new) j b within_j ∙ ap Some is_b)
         by_place (inr past) =
-            let rise = is.rising j i b past within_i in
-            let at_b : count_by (λ x. before x (get_or order j b)) ids ≡ count_by (λ x. before x b) ids = ap (λ y. count_by (λ x. before x y) ids) is_b in
-            let at_a : count_by (λ x. before x (get_or order i b)) ids ≡ count_by (λ x. before x a) ids = ap (λ y. count_by (λ x. before x y) ids) (same_at order i a b within_i ∙ is_a) in
-            absurd (omega (arith, rise, at_a, at_b, fewer))
-          where
-            same_at : (xs : List TxnId) (n : ℕ) (c d : TxnId) → n < length xs → get_or xs n d ≡ get_or xs n c
-            same_at [] n c d within = absurd (omega arith)
-            same_at (x ∷ xs) zero c d within = refl
-            same_at (x ∷ xs) (suc n) c d within = same_at xs n c d (omega arith)
+            let d : Rank = record { id = a; count = 0 } in
+            let long = length-map new (λ (rank : Rank). rank.id) in
+            let w_i : i < length new = omega (arith, within_i, long) in
+            let w_j : j < length new = omega (arith, within_j, long) in
+            let id_i : (get_or new i d).id ≡ a = sym (get_or-map (λ (rank : Rank). rank.id) new i d a w_i) ∙ is_a in
+            let id_j : (get_or new j d).id ≡ b = sym (get_or-map (λ (rank : Rank). rank.id) new j d b w_j) ∙ is_b in
+            let known_at = subst (λ x. Known parts taken x (get_or new j d).id) (sym id_i) (subst (λ y. Known parts taken a y) (sym id_j) known) in
+            let less = lower parts taken (ids_of old) (get_or new i d) (get_or new j d) none_is (all i d w_i) (all j d w_j) known_at in
+            let rise = are.sorted j i d past w_i in
+            absurd (omega (arith, less, rise))
