@@ -6,6 +6,8 @@ pub mod ChoicesAscend
 pub mod Linked
 pub mod ListedArcs
 pub mod Forced
+pub mod SettledReads
+pub mod WriterRows
 pub mod SaturationLaws
 pub mod Distinct
 pub mod OpenSoFar

@@ -4,6 +4,7 @@ pub mod BranchState
 pub mod Forcing
 pub mod Kept
 pub mod Listing
+pub mod Masks
 pub mod Rules
 pub mod SaturatedState
 pub mod Saturation

@@ -3,11 +3,14 @@
 
 mod branch;
 mod building;
+mod columns;
 mod listing;
 mod ranks;
+mod reads;
 mod rules;
 mod saturated;
 mod saturation;
+mod writers;
 
 pub use branch::Branch;
 pub use ranks::Rank;

@@ -4,7 +4,9 @@ ghost use Rattle.std.specs.List.{flat_map};
 ghost use Rattle.order_check.specs.Based.{remaining_at, remaining_ids};
 ghost use Rattle.order_check.specs.Good.{IsGood};
 ghost use Rattle.forced_choices.specs.Listing.{all_ids, writes_here, is_other, choices_with, choices_of_read, choices_of, reads_of, session_arc, session_arcs, base_arcs, is_base_source, arcs_from_writer, arcs_of_read, arcs_of_reads};
+ghost use Rattle.forced_choices.specs.Masks.{is_third};
 
+use crate::reads::Read;
 use order_check::Parts;
 use std::alloc::Global;
 use txn::{Arc, Choice, NoMemory, Source, TxnId};
@@ -45,7 +47,7 @@ pub fn writes(parts: &Parts, key: u64, id: TxnId) -> bool
 }
 
 /// What a remaining transaction reads.
-fn reads_of(parts: &Parts, id: TxnId) -> &[(u64, Source)]
+pub fn reads_of(parts: &Parts, id: TxnId) -> &[(u64, Source)]
     ensures { result.now ≡ reads_of parts.now id }
 {
     match parts.remaining_at(id) {
@@ -58,6 +60,13 @@ fn is_other(parts: &Parts, reader: TxnId, key: u64, other: TxnId) -> bool
     ensures { result ≡ is_other parts.now reader key other }
 {
     other != reader && writes(parts, key, other)
+}
+
+/// Whether the transaction is another writer of the key than the reader and the writer.
+pub fn is_third(parts: &Parts, read: Read, other: TxnId) -> bool
+    ensures { result ≡ is_third parts.now read other }
+{
+    other != read.writer && is_other(parts, read.reader, read.key, other)
 }
 
 fn push_choices_with(

@@ -3,7 +3,7 @@ use Rattle.std.proofs.lemmas.Bool.{false≢true, ltb-true, ltb-false}
 use Rattle.forced_choices.specs.Forcing.{HasLooked, Forces, unforced}
 use Rattle.forced_choices.specs.Listing.{all_ids, choices_of}
 use Rattle.forced_choices.proofs.Forced.{forces_both, forces_length, forces_bounded, closed_of, pairs_of}
-use Rattle.forced_choices.proofs.saturation.saturate.Goals as goal
+use Rattle.forced_choices.proofs.saturation.saturate_by.Goals as goal
 
 pub loop-goes_on-init : goal.loop-goes_on-init
 loop-goes_on-init c = record { forces = unforced; ended = λ e. absurd (false≢true (sym e)); nodes = refl }

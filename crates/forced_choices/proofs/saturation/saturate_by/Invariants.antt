@@ -2,7 +2,7 @@ use Rattle.std.proofs.Common.{◌≡◌, ◌+◌, ◌*◌, ◌-◌, false, lengt
 use Rattle.forced_choices.specs.Forcing.{Forces, IsClosed}
 use Rattle.forced_choices.specs.Listing.{all_ids}
 use Rattle.forced_choices.proofs.Forced.{pairs_of}
-use Rattle.forced_choices.proofs.saturation.saturate.Given as goal
+use Rattle.forced_choices.proofs.saturation.saturate_by.Given as goal
 
 -- sides were forced; where it doesn't go on, none is left
 abbrev pub invariant-loop-goes_on : goal.invariant-loop-goes_on

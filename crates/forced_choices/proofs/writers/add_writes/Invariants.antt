@@ -1,0 +1,10 @@
+use Rattle.std.proofs.Common.{ℕ, ◌<◌, get_or}
+use Rattle.known_graph.specs.Bits.{HasBit}
+use Rattle.forced_choices.specs.Masks.{mask_of}
+use Rattle.forced_choices.proofs.writers.add_writes.Given as goal
+
+abbrev pub invariant-loop-key : goal.invariant-loop-key
+invariant-loop-key l = record {
+  kept : (other j : ℕ) → HasBit (mask_of l.initial.masks other) j → HasBit (mask_of l.masks other) j;
+  added : (k : ℕ) → k < l.key-index → HasBit (mask_of l.masks (get_or l.keys k 0)) l.column;
+}

@@ -1,0 +1,5 @@
+use Rattle.forced_choices.specs.Masks.{AreColumns}
+use Rattle.forced_choices.proofs.writers.writers_of.Given as goal
+
+abbrev pub invariant-loop-id : goal.invariant-loop-id
+invariant-loop-id l = AreColumns l.parts l.graph.nodes l.ids l.masks l.columns.items l.id-index
