@@ -11,19 +11,19 @@ use Rattle.polygraph.specs.declared.solving.Cube.TheVariants as cubes
 use Rattle.polygraph.specs.declared.solving.Answer.{Answer}
 use Rattle.polygraph.specs.declared.solving.Answer.TheVariants as answers
 
--- the choices that a search of this depth splits first
+-- the choices that a search of this depth splits first: the first so many that are open, or all where there are fewer
 abbrev pub split_choices : ProblemState → ℕ → List Choice
 split_choices problem depth = take depth problem.choices
 
--- so many cubes
+-- How many cubes there are: each way to take a side of each choice that is split. A cube's number is below that.
 abbrev pub cube_count : ProblemState → ℕ → ℕ
 cube_count problem depth = 2 ^ length (split_choices problem depth)
 
--- a search of the cube within so many nodes finds this
+-- a search from the cube's sides, within so many nodes, finds this
 abbrev pub Finds : ProblemState → ℕ → ℕ → ℕ → Outcome → Type 0
 Finds problem depth share cube outcome = (left : ℕ) × Scans problem.known.parts (cube_sides (split_choices problem depth) cube []) share outcome left
 
--- A tree refutes the parts where the cube's sides are taken. With the splits above it, it is no deeper than a checker allows.
+-- A tree refutes the parts where the cube's sides are taken, and leaves room for the splits above it: a checker allows 4,096.
 pub record RefutesCube (problem : ProblemState) (depth cube : ℕ) (tree : Rattle.refutation.specs.declared.trees.Tree.Tree) : Type 0 where
   pub right : Refutes problem.known.parts tree (cube_sides (split_choices problem depth) cube [])
   pub shallow : depth_of tree + 2 * length (split_choices problem depth) ≤ 4095
@@ -47,10 +47,12 @@ pub record IsLeastYes (problem : ProblemState) (depth share cube : ℕ) : Type 0
   pub found : Finds problem depth share cube has_order
   pub least : (lower : ℕ) → lower < cube → ¬ Finds problem depth share lower has_order
 
+-- the nodes that each cube may take: the budget is shared out evenly, and what is left over is not used
 abbrev pub share_of : ProblemState → ℕ → ℕ → ℕ
 share_of problem budget depth = budget / cube_count problem depth
 
--- the answer is what the cubes come to; an order is one of the least cube that has one, and a refutation is joined of the cubes'
+-- The answer is what the cubes come to, each within its share: where one has an order there is a least such cube, and the order told
+-- explains the parts; where there is none in any the tree told refutes them. Want of memory may always be answered.
 abbrev pub IsPicked : ProblemState → ℕ → ℕ → Answer → Type 0
 IsPicked problem budget depth (answers.Yes order) = Explains problem.known.parts order × ((cube : ℕ) × IsLeastYes problem depth (share_of problem budget depth) cube)
 IsPicked problem budget depth (answers.No tree) = IsRefutation problem.known.parts tree × ComesTo problem depth (share_of problem budget depth) no_order

@@ -12,6 +12,7 @@ pub record IsGoodRead (parts : Parts) (read : ℕ × Source) : Type 0 where
   pub heard : ¬ IsSilent parts read.0 read.1
   pub met : ¬ IsOverwritten parts read.0 read.1
 
+-- none of the reads is bad
 pub record AreGoodReads (parts : Parts) (reads : List (ℕ × Source)) : Type 0 where
   pub each : All (IsGoodRead parts) reads
 

@@ -16,10 +16,12 @@ use Rattle.polygraph.specs.declared.bad_reads.BadRead.TheVariants as bad_reads
 use Rattle.polygraph.specs.declared.solving.Cube.{Cube}
 use Rattle.polygraph.specs.declared.solving.Cube.TheVariants as cubes
 
+-- the read is one that no order explains
 abbrev pub IsBadRead : Parts → BadRead → Type 0
 IsBadRead parts (bad_reads.Silent reader key) = IsNoWrite parts reader key
 IsBadRead parts (bad_reads.Overwritten reader key) = IsGoneRead parts reader key
 
+-- the leaf that shows it
 abbrev pub leaf_of : BadRead → Leaf
 leaf_of (bad_reads.Silent reader key) = leaves.NoWrite reader key
 leaf_of (bad_reads.Overwritten reader key) = leaves.Gone reader key
@@ -29,6 +31,7 @@ pub record IsClosedBy (branch : BranchState) (leaf : Leaf) : Type 0 where
   pub hopeless : IsHopeless branch.parts (assumed branch.levels)
   pub shown : IsClosed branch.parts (all_taken branch.log branch.levels) leaf
 
+-- what a search found, without what shows it
 abbrev pub outcome_of : Cube → Outcome
 outcome_of (cubes.Yes order) = has_order
 outcome_of (cubes.No tree) = no_order

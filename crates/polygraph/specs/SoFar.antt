@@ -26,6 +26,7 @@ pub record IsUsedUp (problem : ProblemState) (depth share cube : ℕ) : Type 0 w
   pub finds : Finds problem depth share at used_up
   pub small : IsTooSmall problem depth share
 
+-- no cube below this number has an order; unless one was used up each is refuted
 pub record IsSoFar (problem : ProblemState) (depth share cube : ℕ) (trees : List Tree) (spent : Bool) : Type 0 where
   pub no_yes : (lower : ℕ) → lower < cube → ¬ Finds problem depth share lower has_order
   pub refuted : spent ≡ false → AreRefuted problem depth share cube trees

@@ -36,11 +36,16 @@ impl Problem {
         ensures known { IfOk result (λ problem. problem.known ≡ known.now) }
         ensures choices { IfOk result (λ problem. AreOpenChoices known.now.parts [] problem.choices) }
     {
+        Problem::about(alloc, known.clone()?)
+    }
+
+    /// The same of a relation that is moved in.
+    pub fn about(alloc: Global, known: Saturated) -> Result<Problem, NoMemory>
+        ensures known { IfOk result (λ problem. problem.known ≡ known) }
+        ensures choices { IfOk result (λ problem. AreOpenChoices known.parts [] problem.choices) }
+    {
         let choices = known.open_choices(alloc)?;
-        Ok(Problem {
-            known: known.clone()?,
-            choices,
-        })
+        Ok(Problem { known, choices })
     }
 
     pub fn parts(&self) -> &Parts

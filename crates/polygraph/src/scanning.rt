@@ -1,15 +1,14 @@
-ghost use Rattle.std.specs.Prelude.{◌≡◌, ◌≢◌, ℕ, suc, ◌+◌, ◌*◌, ◌<◌, ◌≤◌, [], ◌∷◌, ◌++◌, length, Contains, IfOk, OnOk, List, MatchOption};
+ghost use Rattle.std.specs.Prelude.{◌≡◌, ℕ, suc, ◌+◌, ◌*◌, ◌<◌, ◌≤◌, ◌∷◌, ◌++◌, length, IfOk, OnOk, List, MatchOption};
 ghost use Rattle.txn.specs.declared.transactions.TxnId.{TxnId};
 ghost use Rattle.txn.specs.declared.choices.Choice.{Choice};
 ghost use Rattle.order_check.specs.declared.remainder.Parts as PartsState;
 ghost use Rattle.order_check.specs.BadReads.{HasBadRead};
 ghost use Rattle.order_check.specs.Cycles.{AreForced, sides_after};
-ghost use Rattle.order_check.specs.Explains.{Explains, KeepsSessions};
+ghost use Rattle.order_check.specs.Explains.{Explains};
 ghost use Rattle.order_check.specs.Known.{IsChoice, IsOpen};
-ghost use Rattle.order_check.specs.Search.{Scans, HasCycle, IsHopeless, IsFirstOpen};
-ghost use Rattle.order_check.specs.TakenSides.{KeepsAllKnown};
-ghost use Rattle.refutation.specs.Refutes.{Refutes, depth_of, IsClosed};
-ghost use Rattle.forced_choices.specs.BranchState.{arc_of, assumed, all_taken};
+ghost use Rattle.order_check.specs.Search.{Scans, IsHopeless, IsFirstOpen};
+ghost use Rattle.refutation.specs.Refutes.{Refutes, depth_of};
+ghost use Rattle.forced_choices.specs.BranchState.{arc_of, assumed};
 ghost use Rattle.polygraph.specs.Shown.{IsBadRead, IsClosedBy, outcome_of, IsShown, IsShownBeyond, IsAbove};
 
 use crate::bad_reads::{BadRead, leaf_of};

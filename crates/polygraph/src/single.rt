@@ -1,4 +1,4 @@
-ghost use Rattle.std.specs.Prelude.{◌≡◌, ◌+◌, ◌^◌, ◌<◌, ◌≤◌, ⊤, IfOk, MatchOption, length};
+ghost use Rattle.std.specs.Prelude.{◌≡◌, ◌+◌, ◌<◌, ◌≤◌, ⊤, IfOk, MatchOption};
 ghost use Rattle.order_check.specs.Effort.{IsEffort};
 ghost use Rattle.order_check.specs.Explains.{Explains};
 ghost use Rattle.refutation.specs.Refutes.{IsRefutation};
