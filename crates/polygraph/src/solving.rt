@@ -14,8 +14,11 @@ use txn::{NoMemory, Sequence, TxnId};
 /// What a search of one cube finds.
 #[derive(Drop, Debug)]
 pub enum Cube {
+    /// This order explains the parts.
     Yes(Sequence<TxnId>),
+    /// No order that keeps the cube's sides explains the parts, as this tree shows.
     No(Tree),
+    /// The nodes were used up, or the sides more than 2,047.
     Spent,
 }
 
@@ -50,7 +53,8 @@ pub trait Solver {
         ensures { IsLawful problem.now.known.parts budget depth result };
 }
 
-/// Searches one cube, within so many nodes.
+/// Searches one cube, within `share` nodes. A search of this depth splits the first so many open choices, of which the cube takes a side each:
+/// bit 0 of its number is the first side, and the highest bit is the first choice's.
 pub fn solve_cube(
     alloc: Global,
     problem: &Problem,
