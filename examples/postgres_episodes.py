@@ -1,6 +1,7 @@
-"""Audits a PostgreSQL of its own: clients that run at the same time, in episodes of eight transactions, as many as one run of cobra_audit takes today.
+"""Audits a PostgreSQL of its own: clients that run at the same time, in episodes of so many transactions, each audited by itself.
 
-    python3 examples/postgres_episodes.py [--level serializable|repeatable|committed] [--workload counter|skew|mixed] [--episodes N] [--clients N]
+    python3 examples/postgres_episodes.py [--level serializable|repeatable|committed] [--workload counter|skew|mixed] [--episodes N]
+        [--transactions N] [--clients N]
 """
 import argparse
 import os
@@ -15,7 +16,6 @@ from zanteyard import Aborted, Auditor, Ended, Session, audited, reasons, smalle
 from zanteyard.cluster import Cluster, program
 
 LEVELS = {"serializable": "serializable", "repeatable": "repeatable read", "committed": "read committed"}
-TRANSACTIONS = 8
 
 
 def number_at(transaction, key):
@@ -58,9 +58,9 @@ class OwnKeys:
         self.store.write(self.prefix + key, value, name)
 
 
-def client_runs(session, client, workload, failures):
+def client_runs(session, client, workload, count, failures):
     try:
-        for _ in range(TRANSACTIONS // session.auditor.sessions):
+        for _ in range(count):
             try:
                 session.run(lambda transaction: workload(transaction, client), attempts=1)
             except Aborted:
@@ -69,12 +69,13 @@ def client_runs(session, client, workload, failures):
         failures.append(error)
 
 
-def episode(stores, name, workload):
+def episode(stores, name, workload, transactions):
     """What was logged, and the verdict."""
-    with Auditor(len(stores), TRANSACTIONS) as auditor:
+    with Auditor(len(stores), transactions) as auditor:
         failures = []
         sessions = [Session(auditor, client, OwnKeys(store, f"{name}/"), name) for client, store in enumerate(stores)]
-        threads = [threading.Thread(target=client_runs, args=(it, it.number, workload, failures)) for it in sessions]
+        each = transactions // len(stores)
+        threads = [threading.Thread(target=client_runs, args=(it, it.number, workload, each, failures)) for it in sessions]
         for thread in threads:
             thread.start()
         for thread in threads:
@@ -101,7 +102,8 @@ def main():
     asked = argparse.ArgumentParser(description=__doc__.splitlines()[0])
     asked.add_argument("--level", choices=LEVELS, default="serializable")
     asked.add_argument("--workload", choices=WORKLOADS, default="mixed")
-    asked.add_argument("--episodes", type=int, default=100)
+    asked.add_argument("--episodes", type=int, default=10)
+    asked.add_argument("--transactions", type=int, default=400, help="of an episode, at most 4096")
     asked.add_argument("--clients", type=int, choices=(2, 4, 8), default=4)
     asked = asked.parse_args()
     try:
@@ -115,13 +117,13 @@ def main():
         prepare(cluster.dsn)
         began, kinds, aborted = time.monotonic(), Counter(), 0
         for number in range(asked.episodes):
-            history, kind = episode(stores, f"episode-{number}", WORKLOADS[asked.workload])
+            history, kind = episode(stores, f"episode-{number}", WORKLOADS[asked.workload], asked.transactions)
             aborted += sum(logged.outcome == "aborted" for txns in history for logged in txns)
             kinds[kind] += 1
             if kind == "violated" and kinds[kind] == 1:
                 tell(history, f"episode-{number}")
         took = time.monotonic() - began
-    count = asked.episodes * TRANSACTIONS
+    count = asked.episodes * (asked.transactions // asked.clients) * asked.clients
     told = ", ".join(f"{how_many} {kind}" for kind, how_many in sorted(kinds.items()))
     print(f"{asked.workload} at {LEVELS[asked.level]}: of {asked.episodes} episodes {told}; {aborted} of {count} transactions aborted; {took:.1f} s")
     sys.exit(0 if kinds["serial"] == asked.episodes else 1)

@@ -31,10 +31,10 @@ class Examples(unittest.TestCase):
             self.skipTest("psycopg2 is not installed")
         if not program("initdb"):
             self.skipTest("PostgreSQL is not installed")
-        status, lines, files = self.told("postgres_episodes.py", "--episodes", "10")
+        status, lines, files = self.told("postgres_episodes.py", "--episodes", "5", "--transactions", "80")
         self.assertEqual((status, files), (0, []))
-        self.assertIn("10 serial", lines[-1])
-        status, lines, files = self.told("postgres_episodes.py", "--level", "committed", "--workload", "counter", "--episodes", "30")
+        self.assertIn("5 serial", lines[-1])
+        status, lines, files = self.told("postgres_episodes.py", "--level", "committed", "--workload", "counter", "--episodes", "5", "--transactions", "80")
         self.assertEqual((status, len(files)), (1, 1))
         self.assertIn("violated", lines[0])
 

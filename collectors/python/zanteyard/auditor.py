@@ -8,7 +8,9 @@ from collections import namedtuple
 BUILT = os.path.join(os.path.dirname(__file__), "../../../crates/cobra_audit/out/cobra_audit")
 PROGRAM = os.environ.get("COBRA_AUDIT", os.path.normpath(BUILT))
 
-Report = namedtuple("Report", "number kind counts order")
+# The certificate is an order where the kind is serial or pending, and the items of a refutation where it is violated.
+Report = namedtuple("Report", "number kind counts certificate", defaults=(None,))
+LIMIT, BUDGET = 4096, 4096  # the most transactions that one run of the program takes; nodes of the search that a round may look at
 # What one transaction did: reads are pairs of a key's name and a source, which is "init" or (session, number); writes are names of keys.
 Logged = namedtuple("Logged", "reads writes outcome", defaults=("committed",))
 ABORTED = Logged((), (), "aborted")
@@ -29,7 +31,7 @@ class Ended(Exception):
 class Auditor:
     """For threads: each call is one line and its reply."""
 
-    def __init__(self, sessions, limit=8, program=PROGRAM):
+    def __init__(self, sessions, limit=LIMIT, program=PROGRAM):
         self.sessions, self.limit = sessions, limit
         self.numbers = {}  # of each key, by its name; key 0 is for fences
         self.history = [[] for _ in range(sessions)]  # what was taken in, as Logged
@@ -76,8 +78,8 @@ class Auditor:
     def close(self, session):
         self.ask(["close", session])
 
-    def round(self):
-        return Report(*self.ask(["round", 32, 0, 1])[1:])
+    def round(self, budget=BUDGET):
+        return Report(*self.ask(["round", budget, 0, 1])[1:])
 
     def end(self):
         """Ends the program, and gives its status."""
@@ -104,8 +106,32 @@ def audited(history, program=PROGRAM):
         for session, txns in enumerate(history):
             for number, logged in enumerate(txns):
                 auditor.offer(session, number, logged)
-        script = [*auditor.lines, ["round", 32, 0, 1]]
+        script = [*auditor.lines, ["round", BUDGET, 0, 1]]
         return auditor.round(), "".join(json.dumps(line, separators=(",", ":")) + "\n" for line in script)
+
+
+def named(items):
+    """The transactions that the items of a refutation name."""
+    found = set()
+    for kind, first, *rest in items:
+        if kind in ("nowrite", "gone"):
+            found.add((first, rest[0]))
+        if kind in ("force", "split"):
+            found.update([(first[0], first[1]), (first[3], first[4]), (first[5], first[6])])
+        for arc in {"force": rest[-1:], "cycle": [first]}.get(kind, [[]])[0]:
+            found.update([tuple(arc[-4:-2]), tuple(arc[-2:])])
+    return found
+
+
+def only(history, ids):
+    """The same, where no other transaction did anything. A refutation that names no other is one of this history too."""
+    nothing = Logged((), ())
+    return [[logged if (session, number) in ids else nothing for number, logged in enumerate(txns)] for session, txns in enumerate(history)]
+
+
+def without_ends(history):
+    """The same without the last transactions of sessions that did nothing."""
+    return [txns[: max([number + 1 for number, logged in enumerate(txns) if logged.reads or logged.writes], default=0)] for txns in history]
 
 
 def less(history):
@@ -121,7 +147,10 @@ def less(history):
 
 
 def smaller(history, program=PROGRAM):
-    """A part of a violated history that is violated too, while nothing that has one thing less is."""
+    """A part of a violated history that is violated too, while nothing that has one thing less is. It begins with what a refutation names."""
+    report = audited(history, program)[0]
+    if report.kind == "violated":
+        history = without_ends(only(history, named(report.certificate)))
     while True:
         for candidate in less(history):
             if audited(candidate, program)[0].kind == "violated":
@@ -135,6 +164,8 @@ def words(history):
     """A line for each transaction."""
     for session, txns in enumerate(history):
         for number, logged in enumerate(txns):
+            if not (logged.reads or logged.writes) and logged.outcome == "committed":
+                continue  # it is there for its number alone
             reads = [f"read {key} " + ("as it was at first" if source == "init" else f"from {source[0]}.{source[1]}") for key, source in logged.reads]
             did = reads + [f"wrote {key}" for key in logged.writes]
-            yield f"{session}.{number} " + ("aborted" if logged.outcome == "aborted" else ", ".join(did) or "is needed only for its number")
+            yield f"{session}.{number} " + ("aborted" if logged.outcome == "aborted" else ", ".join(did))
