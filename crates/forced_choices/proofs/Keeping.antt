@@ -18,8 +18,8 @@ use Rattle.forced_choices.specs.Kept.{IsKept}
 use Rattle.forced_choices.specs.Listing.{all_ids, choices_of}
 use Rattle.forced_choices.specs.Forcing.{IsOn}
 use Rattle.forced_choices.specs.Saturation.{IsSaturationOf}
-use Rattle.forced_choices.specs.Undecided.{IsUndecided, AreUndecided}
-use Rattle.forced_choices.proofs.Members.{in_place, in_from_contains, contains_from_in, rises_of}
+use Rattle.forced_choices.specs.Undecided.{IsUndecided, AreFound}
+use Rattle.forced_choices.proofs.Members.{In, in_place, contains_from_in, rises_of}
 use Rattle.forced_choices.proofs.ListedIds.{remaining_listed, listed_ascend}
 use Rattle.forced_choices.proofs.ListedChoices.{listed_is_choice, choice_listed, writer_remains, reader_remains}
 use Rattle.forced_choices.proofs.ChoicesAscend.{choices_ascend}
@@ -60,24 +60,24 @@ on_side parts graph choice First nodes is = record {
 }
 
 -- the undecided choices are the open ones
-pub open_choices_of : (parts : Parts) (graph : GraphState) (log : List ForceStep) (found : List Choice) → IsKept parts graph log → AreUndecided graph.arcs (choices_of parts (all_ids parts) (all_ids parts)) found → AreOpenChoices parts [] found
+pub open_choices_of : (parts : Parts) (graph : GraphState) (log : List ForceStep) (found : List Choice) → IsKept parts graph log → AreFound graph.arcs (choices_of parts (all_ids parts) (all_ids parts)) found → AreOpenChoices parts [] found
 open_choices_of parts graph log found kept are = record {
-  rise = rises_of choice_below found (are.rise (choices_ascend parts kept.good));
-  each = λ k d within. open_one (get_or found k d) (are.each (get_or found k d) (contains_from_in found (get_or found k d) (in_place found k d within)));
-  all = λ choice is. are.all choice (contains_from_in choices choice (choice_listed parts choice is.choice_of)) (record {
+  rise = rises_of choice_below found (are.ascend (choices_ascend parts kept.good));
+  each = λ k d within. open_one (get_or found k d) (are.each (get_or found k d) (in_place found k d within));
+  all = λ choice is. contains_from_in found choice (are.all choice (choice_listed parts choice is.choice_of) (record {
     writer_other = λ r. is.writer_other ((kept.exact choice.writer choice.other).0 r);
     other_reader = λ r. is.other_reader ((kept.exact choice.other choice.reader).0 r);
     other_writer = λ r. is.other_writer ((kept.exact choice.other choice.writer).0 r);
     reader_other = λ r. is.reader_other ((kept.exact choice.reader choice.other).0 r);
-  });
+  }));
 }
   where
     choices : List Choice
     choices = choices_of parts (all_ids parts) (all_ids parts)
 
-    open_one : (choice : Choice) → Contains choices choice × IsUndecided graph.arcs choice → IsOpen parts [] choice
+    open_one : (choice : Choice) → In choices choice × IsUndecided graph.arcs choice → IsOpen parts [] choice
     open_one choice (among, und) = record {
-      choice_of = listed_is_choice parts (all_ids parts) choice (in_from_contains choices choice among);
+      choice_of = listed_is_choice parts (all_ids parts) choice among;
       writer_other = λ k. und.writer_other ((kept.exact choice.writer choice.other).1 k);
       other_reader = λ k. und.other_reader ((kept.exact choice.other choice.reader).1 k);
       other_writer = λ k. und.other_writer ((kept.exact choice.other choice.writer).1 k);

@@ -7,10 +7,10 @@ pub mod Linked
 pub mod ListedArcs
 pub mod Forced
 pub mod SettledReads
+pub mod OpenReads
 pub mod WriterRows
 pub mod SaturationLaws
 pub mod Distinct
-pub mod OpenSoFar
 pub mod Keeping
 pub mod Stacked
 pub mod SessionOrder

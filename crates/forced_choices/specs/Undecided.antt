@@ -1,5 +1,5 @@
 -- For private clauses: choices that a graph leaves undecided.
-use Rattle.std.specs.Prelude.{◌≡◌, ◌≢◌, ℕ, ◌<◌, true, List, ◌++◌, length, slice_index_or, Contains}
+use Rattle.std.specs.Prelude.{◌≡◌, ◌≢◌, ℕ, true, List, ◌++◌}
 use Rattle.txn.specs.declared.choices.Arc.{Arc}
 use Rattle.txn.specs.declared.choices.Choice.{Choice}
 use Rattle.forced_choices.specs.Ascending.{In, Ascends}
@@ -37,17 +37,3 @@ pub record IsFirstFound (arcs : List Arc) (choices : List Choice) (choice : Choi
 pub record TellsOpen (arcs : List Arc) (row : List ℕ) (column : ℕ) (choice : Choice) : Type 0 where
   pub told : HasBit row column → IsUndecided arcs choice
   pub all : IsUndecided arcs choice → HasBit row column
-
--- the undecided ones, by place
-pub record AreUndecided (arcs : List Arc) (choices undecided : List Choice) : Type 0 where
-  pub each : (choice : Choice) → Contains undecided choice → Contains choices choice × IsUndecided arcs choice
-  pub all : (choice : Choice) → Contains choices choice → IsUndecided arcs choice → Contains undecided choice
-  pub rise : Ascends choice_below choices → Ascends choice_below undecided
-
--- the first of the choices that is undecided: it stands at a place before which none is
-pub record IsFirstUndecided (arcs : List Arc) (choices : List Choice) (choice : Choice) : Type 0 where
-  pub place : ℕ
-  pub within : place < length choices
-  pub is : (d : Choice) → slice_index_or choices place d ≡ choice
-  pub undecided : IsUndecided arcs choice
-  pub first : (k : ℕ) (d : Choice) → k < place → ¬ IsUndecided arcs (slice_index_or choices k d)

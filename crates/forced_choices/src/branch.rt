@@ -12,12 +12,12 @@ ghost use Rattle.known_graph.specs.Graphs.{HasNode};
 ghost use Rattle.order_check.specs.Good.{IsGood};
 ghost use Rattle.forced_choices.specs.BranchState.{arc_of, assumed, all_taken, last_steps, AreForcedBy};
 ghost use Rattle.forced_choices.specs.Stacks.{IsRelationAt};
-ghost use Rattle.forced_choices.specs.Undecided.{IsUndecided, IsFirstUndecided};
 ghost use Rattle.forced_choices.specs.SoFar.{IsRelation};
 
-use crate::listing::{choices_among, remaining_ids_of};
+use crate::listing::remaining_ids_of;
+use crate::open::first_open_in;
 use crate::rules::Rule;
-use crate::saturated::{Saturated, is_undecided};
+use crate::saturated::Saturated;
 use crate::saturation::saturate;
 use known_graph::Graph;
 use order_check::Parts;
@@ -95,18 +95,6 @@ fn on_cycle(graph: &Graph, ids: &[TxnId]) -> Option<TxnId>
     None
 }
 
-/// The first of the choices that the graph leaves undecided.
-fn first_undecided(graph: &Graph, choices: &[Choice]) -> Option<Choice>
-    ensures { MatchOption result (All (λ choice. ¬ IsUndecided graph.now.arcs choice) choices.now) (IsFirstUndecided graph.now.arcs choices.now) }
-{
-    for choice in choices {
-        if is_undecided(graph, *choice) {
-            return Some(*choice);
-        }
-    }
-    None
-}
-
 impl Branch {
     /// No side is assumed yet.
     pub fn of(alloc: Global, known: &Saturated) -> Result<Branch, NoMemory>
@@ -162,8 +150,7 @@ impl Branch {
             (IsFirstOpen self.now.parts (assumed self.now.levels))) }
     {
         let ids = remaining_ids_of(alloc, &self.parts)?;
-        let choices = choices_among(alloc, &self.parts, ids.as_slice())?;
-        let found = first_undecided(self.last(), choices.as_slice());
+        let found = first_open_in(alloc, &self.parts, ids.as_slice(), self.last())?;
         Ok(found)
     }
 

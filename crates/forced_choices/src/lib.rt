@@ -5,6 +5,7 @@ mod branch;
 mod building;
 mod columns;
 mod listing;
+mod open;
 mod ranks;
 mod reads;
 mod rules;

@@ -3,13 +3,13 @@ ghost use Rattle.txn.specs.History.{writes_key};
 ghost use Rattle.std.specs.List.{flat_map};
 ghost use Rattle.order_check.specs.Based.{remaining_at, remaining_ids};
 ghost use Rattle.order_check.specs.Good.{IsGood};
-ghost use Rattle.forced_choices.specs.Listing.{all_ids, writes_here, is_other, choices_with, choices_of_read, choices_of, reads_of, session_arc, session_arcs, base_arcs, is_base_source, arcs_from_writer, arcs_of_read, arcs_of_reads};
+ghost use Rattle.forced_choices.specs.Listing.{all_ids, writes_here, is_other, reads_of, session_arc, session_arcs, base_arcs, is_base_source, arcs_from_writer, arcs_of_read, arcs_of_reads};
 ghost use Rattle.forced_choices.specs.Masks.{is_third};
 
 use crate::reads::Read;
 use order_check::Parts;
 use std::alloc::Global;
-use txn::{Arc, Choice, NoMemory, Source, TxnId};
+use txn::{Arc, NoMemory, Source, TxnId};
 
 /// Puts the ids of what remains of the session at the end.
 fn push_ids(ids: &mut Vec<TxnId>, parts: &Parts, session: u8) -> Result<(), NoMemory>
@@ -67,72 +67,6 @@ pub fn is_third(parts: &Parts, read: Read, other: TxnId) -> bool
     ensures { result ≡ is_third parts.now read other }
 {
     other != read.writer && is_other(parts, read.reader, read.key, other)
-}
-
-fn push_choices_with(
-    choices: &mut Vec<Choice>,
-    parts: &Parts,
-    ids: &[TxnId],
-    reader: TxnId,
-    key: u64,
-    writer: TxnId,
-) -> Result<(), NoMemory>
-    ensures { OnOk result (choices.new.items ≡ choices.old.items ++ choices_with parts.now ids.now reader key writer) }
-{
-    for id in ids {
-        let other = *id;
-        if other != writer && is_other(parts, reader, key, other) {
-            choices.push(Choice {
-                reader,
-                key,
-                writer,
-                other,
-            })?;
-        }
-    }
-    Ok(())
-}
-
-fn push_choices_of_read(
-    choices: &mut Vec<Choice>,
-    parts: &Parts,
-    ids: &[TxnId],
-    reader: TxnId,
-    read: (u64, Source),
-) -> Result<(), NoMemory>
-    ensures { OnOk result (choices.new.items ≡ choices.old.items ++ choices_of_read parts.now ids.now reader read) }
-{
-    match read.1 {
-        Source::By(writer) if writes(parts, read.0, writer) => {
-            push_choices_with(choices, parts, ids, reader, read.0, writer)
-        }
-        _ => Ok(()),
-    }
-}
-
-pub fn push_choices_of_reader(
-    choices: &mut Vec<Choice>,
-    parts: &Parts,
-    ids: &[TxnId],
-    reader: TxnId,
-) -> Result<(), NoMemory>
-    ensures { OnOk result (choices.new.items ≡ choices.old.items ++ flat_map (choices_of_read parts.now ids.now reader) (reads_of parts.now reader)) }
-{
-    for read in reads_of(parts, reader) {
-        push_choices_of_read(choices, parts, ids, reader, *read)?;
-    }
-    Ok(())
-}
-
-/// All choices, in order of reader, key, writer, other writer.
-pub fn choices_among(alloc: Global, parts: &Parts, ids: &[TxnId]) -> Result<Vec<Choice>, NoMemory>
-    ensures { IfOk result (λ choices. choices.items ≡ choices_of parts.now ids.now ids.now) }
-{
-    let mut choices = Vec::new(alloc);
-    for reader in ids {
-        push_choices_of_reader(&mut choices, parts, ids, *reader)?;
-    }
-    Ok(choices)
 }
 
 fn push_session_arc(arcs: &mut Vec<Arc>, parts: &Parts, id: TxnId) -> Result<(), NoMemory>

@@ -12,10 +12,10 @@ ghost use Rattle.forced_choices.specs.Listing.{all_ids, plain_arcs};
 ghost use Rattle.forced_choices.specs.Saturation.{IsSaturationOf};
 ghost use Rattle.forced_choices.specs.SaturatedState.{fragment_of};
 ghost use Rattle.forced_choices.specs.SoFar.{IsRelation};
-ghost use Rattle.forced_choices.specs.Undecided.{IsUndecided, AreUndecided};
 
 use crate::building::{add_arcs, graph_of_nodes};
-use crate::listing::{arcs_among, choices_among, remaining_ids_of};
+use crate::listing::{arcs_among, remaining_ids_of};
+use crate::open::open_in;
 use crate::saturation::saturate;
 use known_graph::Graph;
 use order_check::Parts;
@@ -130,32 +130,6 @@ fn of_whole(alloc: Global, parts: Parts) -> Result<Saturated, NoMemory>
     Ok(saturated_from(parts, graph, Sequence::new(log)))
 }
 
-pub fn is_undecided(graph: &Graph, choice: Choice) -> bool
-    ensures { IsTrue result ↔ IsUndecided graph.now.arcs choice }
-{
-    !graph.reaches(choice.writer, choice.other)
-        && !graph.reaches(choice.other, choice.reader)
-        && !graph.reaches(choice.other, choice.writer)
-        && !graph.reaches(choice.reader, choice.other)
-}
-
-/// The choices that the graph leaves undecided.
-fn undecided_among(
-    alloc: Global,
-    graph: &Graph,
-    choices: &[Choice],
-) -> Result<Vec<Choice>, NoMemory>
-    ensures { IfOk result (λ found. AreUndecided graph.now.arcs choices.now found.items) }
-{
-    let mut undecided = Vec::new(alloc);
-    for choice in choices {
-        if is_undecided(graph, *choice) {
-            undecided.push(*choice)?;
-        }
-    }
-    Ok(undecided)
-}
-
 impl Saturated {
     /// The known relation of the parts, which are copied.
     pub fn of(alloc: Global, parts: &Parts) -> Result<Saturated, NoMemory>
@@ -199,9 +173,8 @@ impl Saturated {
         ensures { IfOk result (AreOpenChoices self.now.parts []) }
     {
         let ids = remaining_ids_of(alloc, &self.parts)?;
-        let choices = choices_among(alloc, &self.parts, ids.as_slice())?;
-        let undecided = undecided_among(alloc, &self.graph, choices.as_slice())?;
-        Ok(Sequence::new(undecided))
+        let found = open_in(alloc, &self.parts, ids.as_slice(), &self.graph)?;
+        Ok(Sequence::new(found))
     }
 
     /// The sides that were forced, one after another, each with the cycle that the other side would close.

@@ -40,10 +40,10 @@ module _ (rows : List (Vec ℕ Global)) (i : ℕ) (d : Vec ℕ Global) (words sh
   abbrev written : Vec ℕ Global
   written = with_items (get_or rows i d) words
 
-  was : shown ≡ row_at rows i
+  pub was : shown ≡ row_at rows i
   was = is ∙ row_at-get rows i d within
 
-  now : row_at (set rows i written) i ≡ words
+  pub now : row_at (set rows i written) i ≡ words
   now = row_at-set_same rows i written within ∙ with_items_is (get_or rows i d) words (len ∙ ap length is ∙ sym ((get_or rows i d).ok.0))
 
   pub lengths-set : HaveSameLengths rows (set rows i written)

@@ -108,4 +108,16 @@ impl Index {
             self.last[end] = place;
         }
     }
+
+    /// Forgets the arcs behind the first so many, the last first. It takes no memory.
+    pub fn take_back(&mut self, len: usize) {
+        for _ in len..self.links.len() {
+            let Some(link) = self.links.pop() else {
+                break;
+            };
+            if link.end < self.last.len() {
+                self.last[link.end] = link.before;
+            }
+        }
+    }
 }

@@ -5,10 +5,12 @@ mod bits;
 mod digraph;
 mod drops;
 mod index;
+mod joins;
 mod nearest;
 mod nodes;
 mod paths;
 mod rows;
+mod trail;
 
 pub use bits::{clear_bit, clear_bits, has_bit, is_clear, keep_bits, or_into, set_bit};
 pub use digraph::{Addition, Graph};

@@ -1,4 +1,4 @@
-use Rattle.std.proofs.Common.{false, true, refl, sym, arith}
+use Rattle.std.proofs.Common.{refl, arith}
 use Rattle.std.proofs.lemmas.Bool.{false≢true}
 use Rattle.std.proofs.Math.Facts.{Fits-lt-pow}
 use Rattle.known_graph.proofs.Words.{bit_in_word, no_bit_zeroed}

@@ -1,44 +1,84 @@
-use Rattle.std.proofs.Common.{length, ap, arith}
-use Rattle.std.proofs.lemmas.List.{with_items_is}
-use Rattle.known_graph.proofs.Closures.{IsKept-push}
-use Rattle.known_graph.proofs.KeyRows.{place_there}
+use Rattle.std.proofs.Common.{◌≢◌, [], sym, subst, subst₂}
+use Rattle.known_graph.specs.Joining.{HaveRows, AreJoins, CanJoin}
+use Rattle.known_graph.specs.SavedWords.{IsMoreOf, AreSaved, since}
+use Rattle.known_graph.proofs.Joinable.{have_rows, can_join_onto, can_join_from, IsMarkedGraph-push}
+use Rattle.known_graph.proofs.Marked.{IsTrail-saved}
 use Rattle.known_graph.proofs.digraph.Graph.add_arc.Goals as goal
 
-pub join_all-requires-clause-within : goal.join_all-requires-clause-within
-join_all-requires-clause-within c =
+pub joins_of-requires : goal.joins_of-requires
+joins_of-requires c =
     let graph = c.self.inside in
-    let kept = c.self.invariant in
     let at_start = rw c.start.ensures at c.key_there-start.ensures in
-    let is_source = rw c.deref-2.ensures.value at c.in_ok-sources.ensures.bits in
-    let is_new = rw c.deref-3.ensures.value at c.in_ok-new_sources.ensures.bits in
-    rw (c.deref-7.ensures.value, c.deref_mut.ensures.value)
-    (λ i has. place_there graph.nodes.slots _ _ graph.onto.items graph.from.items c.key_there-start.result _ at_start kept.forwards kept.backwards i ((is_source i).0 ((is_new i).0 has).0))
-
-pub join_all-requires-2-clause-within : goal.join_all-requires-2-clause-within
-join_all-requires-2-clause-within c =
-    let graph = c.self.inside in
-    let kept = c.self.invariant in
     let at_end = rw c.end.ensures at c.key_there-end.ensures in
-    let is_target = rw c.deref.ensures.value at c.in_ok-targets.ensures.bits in
-    let is_new = rw c.deref-5.ensures.value at c.in_ok-new_targets.ensures.bits in
-    rw (c.deref-9.ensures.value, c.deref_mut-2.ensures.value)
-    (λ i has. place_there graph.nodes.slots _ _ graph.from.items graph.onto.items c.key_there-end.result _ at_end kept.backwards kept.forwards i ((is_target i).0 ((is_new i).0 has).0))
+    subst₂ (λ onto from. HaveRows onto from c.key_there-start.result c.key_there-end.result) (sym c.deref.ensures.value) (sym c.deref-2.ensures.value)
+    (have_rows graph.nodes.slots graph.arcs.items c.args.arc c.key_there-start.result c.key_there-end.result graph.onto.items graph.from.items at_start at_end c.self.invariant.kept)
+
+pub save-requires-clause-onto : goal.save-requires-clause-onto
+save-requires-clause-onto c =
+    let graph = c.self.inside in
+    let at_start = rw c.start.ensures at c.key_there-start.ensures in
+    let at_end = rw c.end.ensures at c.key_there-end.ensures in
+    let are = subst₂ (λ onto from. AreJoins onto from c.key_there-start.result c.key_there-end.result c.in_ok-joins.joins) c.deref.ensures.value c.deref-2.ensures.value c.in_ok-joins.ensures in
+    subst (λ rows. CanJoin rows c.in_ok-joins.joins.new_sources.items c.in_ok-joins.joins.targets.items) (sym c.deref-3.ensures.value) (can_join_onto graph.nodes.slots graph.arcs.items c.args.arc c.key_there-start.result c.key_there-end.result graph.onto.items graph.from.items at_start at_end c.self.invariant.kept c.in_ok-joins.joins are)
+
+pub save-requires-clause-from : goal.save-requires-clause-from
+save-requires-clause-from c =
+    let graph = c.self.inside in
+    let at_start = rw c.start.ensures at c.key_there-start.ensures in
+    let at_end = rw c.end.ensures at c.key_there-end.ensures in
+    let are = subst₂ (λ onto from. AreJoins onto from c.key_there-start.result c.key_there-end.result c.in_ok-joins.joins) c.deref.ensures.value c.deref-2.ensures.value c.in_ok-joins.ensures in
+    subst (λ rows. CanJoin rows c.in_ok-joins.joins.new_targets.items c.in_ok-joins.joins.sources.items) (sym c.deref-4.ensures.value) (can_join_from graph.nodes.slots graph.arcs.items c.args.arc c.key_there-start.result c.key_there-end.result graph.onto.items graph.from.items at_start at_end c.self.invariant.kept c.in_ok-joins.joins are)
+
+pub join_onto-requires : goal.join_onto-requires
+join_onto-requires c =
+    let graph = c.self.inside in
+    let at_start = rw c.start.ensures at c.key_there-start.ensures in
+    let at_end = rw c.end.ensures at c.key_there-end.ensures in
+    let are = subst₂ (λ onto from. AreJoins onto from c.key_there-start.result c.key_there-end.result c.in_ok-joins.joins) c.deref.ensures.value c.deref-2.ensures.value c.in_ok-joins.ensures in
+    can_join_onto graph.nodes.slots graph.arcs.items c.args.arc c.key_there-start.result c.key_there-end.result graph.onto.items graph.from.items at_start at_end c.self.invariant.kept c.in_ok-joins.joins are
+
+pub join_from-requires : goal.join_from-requires
+join_from-requires c =
+    let graph = c.self.inside in
+    let at_start = rw c.start.ensures at c.key_there-start.ensures in
+    let at_end = rw c.end.ensures at c.key_there-end.ensures in
+    let are = subst₂ (λ onto from. AreJoins onto from c.key_there-start.result c.key_there-end.result c.in_ok-joins.joins) c.deref.ensures.value c.deref-2.ensures.value c.in_ok-joins.ensures in
+    can_join_from graph.nodes.slots graph.arcs.items c.args.arc c.key_there-start.result c.key_there-end.result graph.onto.items graph.from.items at_start at_end c.self.invariant.kept c.in_ok-joins.joins are
+
+pub invariant_of-self-in_err-save : goal.invariant_of-self-in_err-save
+invariant_of-self-in_err-save c =
+    let graph = c.self.inside in
+    record {
+      kept = c.self.invariant.kept;
+      marked = IsTrail-saved graph.nodes.slots graph.arcs.items graph.onto.items graph.from.items graph.trail c.save.new.self c.save.ensures.marks
+          (subst (λ rows. IsMoreOf rows graph.trail.onto.items c.save.new.self.onto.items) c.deref-3.ensures.value c.save.ensures.onto)
+          (subst (λ rows. IsMoreOf rows graph.trail.from.items c.save.new.self.from.items) c.deref-4.ensures.value c.save.ensures.from) c.self.invariant.marked;
+    }
+
+pub invariant_of-self-in_err-push : goal.invariant_of-self-in_err-push
+invariant_of-self-in_err-push c =
+    let graph = c.self.inside in
+    rw c.in_err-push.ensures.items record {
+      kept = c.self.invariant.kept;
+      marked = IsTrail-saved graph.nodes.slots graph.arcs.items graph.onto.items graph.from.items graph.trail c.save.new.self c.save.ensures.marks
+          (subst (λ rows. IsMoreOf rows graph.trail.onto.items c.save.new.self.onto.items) c.deref-3.ensures.value c.save.ensures.onto)
+          (subst (λ rows. IsMoreOf rows graph.trail.from.items c.save.new.self.from.items) c.deref-4.ensures.value c.save.ensures.from) c.self.invariant.marked;
+    }
 
 pub invariant_of-self-2 : goal.invariant_of-self-2
 invariant_of-self-2 c =
     let graph = c.self.inside in
     let at_start = rw c.start.ensures at c.key_there-start.ensures in
     let at_end = rw c.end.ensures at c.key_there-end.ensures in
-    let onto_is = with_items_is graph.onto c.join_all.new.rows (omega (arith, c.join_all.ensures.lengths.0, ap length c.deref_mut.ensures.value, graph.onto.ok.0)) in
-    let from_is = with_items_is graph.from c.join_all-2.new.rows (omega (arith, c.join_all-2.ensures.lengths.0, ap length c.deref_mut-2.ensures.value, graph.from.ok.0)) in
-    rw (onto_is, from_is, c.in_ok-push.ensures.items)
-    (IsKept-push graph.nodes.slots graph.arcs.items c.args.arc c.key_there-start.result c.key_there-end.result graph.onto.items graph.from.items c.join_all.new.rows c.join_all-2.new.rows
-    c.in_ok-sources.sources.items c.in_ok-targets.targets.items c.in_ok-new_sources.new_sources.items c.in_ok-new_targets.new_targets.items at_start at_end c.self.invariant
-    (rw c.deref.ensures.value at c.in_ok-targets.ensures.bits)
-    (rw c.deref-2.ensures.value at c.in_ok-sources.ensures.bits)
-    (rw (c.deref-3.ensures.value, c.words_at.ensures, c.deref-4.ensures.value) at c.in_ok-new_sources.ensures.bits)
-    (rw (c.deref-5.ensures.value, c.words_at-2.ensures, c.deref-6.ensures.value) at c.in_ok-new_targets.ensures.bits)
-    (rw c.deref_mut.ensures.value at c.join_all.ensures.lengths)
-    (rw (c.deref_mut.ensures.value, c.deref-7.ensures.value, c.deref-8.ensures.value) at c.join_all.ensures.bits)
-    (rw c.deref_mut-2.ensures.value at c.join_all-2.ensures.lengths)
-    (rw (c.deref_mut-2.ensures.value, c.deref-9.ensures.value, c.deref-10.ensures.value) at c.join_all-2.ensures.bits))
+    let are = subst₂ (λ onto from. AreJoins onto from c.key_there-start.result c.key_there-end.result c.in_ok-joins.joins) c.deref.ensures.value c.deref-2.ensures.value c.in_ok-joins.ensures in
+    let joins = c.in_ok-joins.joins in
+    let trail = graph.trail in
+    let new = c.save.new.self in
+    rw c.in_ok-push.ensures.items
+    (IsMarkedGraph-push graph.nodes.slots graph.arcs.items c.args.arc c.key_there-start.result c.key_there-end.result graph.onto.items graph.from.items at_start at_end c.self.invariant.kept joins are
+    c.join_onto.new.onto.items c.join_from.new.from.items trail new c.join_onto.ensures c.join_from.ensures c.save.ensures.marks
+    (subst (λ rows. IsMoreOf rows trail.onto.items new.onto.items) c.deref-3.ensures.value c.save.ensures.onto)
+    (subst (λ rows. trail.marks.items ≢ [] → AreSaved rows (since trail.onto.items new.onto.items) joins.new_sources.items joins.targets.items) c.deref-3.ensures.value c.in_ok-save.ensures.onto_saved)
+    (subst (λ rows. IsMoreOf rows trail.from.items new.from.items) c.deref-4.ensures.value c.save.ensures.from)
+    (subst (λ rows. trail.marks.items ≢ [] → AreSaved rows (since trail.from.items new.from.items) joins.new_targets.items joins.sources.items) c.deref-4.ensures.value c.in_ok-save.ensures.from_saved)
+    c.self.invariant.marked)
