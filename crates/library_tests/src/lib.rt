@@ -6,11 +6,19 @@ mod desks;
 #[cfg(test)]
 mod fragments;
 #[cfg(test)]
+mod generated;
+#[cfg(test)]
 mod graphs;
 #[cfg(test)]
 mod marks;
 #[cfg(test)]
 mod orders;
+#[cfg(test)]
+mod plain;
+#[cfg(test)]
+mod scans;
+#[cfg(test)]
+mod searches;
 #[cfg(test)]
 mod sides;
 #[cfg(test)]

@@ -1,0 +1,160 @@
+//! A plain search, from the definitions alone: what it finds within how many nodes is compared with the solver's answers, over generated
+//! histories of at most eight transactions.
+use crate::generated::{Dice, parts_by};
+use crate::plain::{Facts, Node, Pair, facts_of, is_open, known_with, look};
+use crate::searches::{Said, problem_of, solved};
+use order_check::{Parts, find_order};
+use polygraph::Problem;
+use std::alloc::Global;
+use std::process::Abort;
+use std::test::*;
+use txn::{Choice, NoMemory};
+
+fn with_side(sides: &Vec<Pair>, side: Pair) -> Result<Vec<Pair>, NoMemory> {
+    let mut more = sides.clone()?;
+    more.push(side)?;
+    Ok(more)
+}
+
+fn first_side(choice: Choice) -> Pair {
+    (choice.other, choice.writer)
+}
+
+fn second_side(choice: Choice) -> Pair {
+    (choice.reader, choice.other)
+}
+
+/// What is found from these sides, and how many nodes were looked at. Nodes that wait are on a stack.
+fn scan(alloc: Global, facts: &Facts, sides: Vec<Pair>) -> Result<(Said, u64), NoMemory> {
+    let mut waiting = Vec::new(alloc);
+    waiting.push(sides)?;
+    for looked in 0..1000 {
+        let Some(sides) = waiting.pop() else {
+            return Ok(("no", looked));
+        };
+        match look(alloc, facts, sides.as_slice())? {
+            Node::Closed => {}
+            Node::Decided => return Ok(("yes", looked + 1)),
+            Node::Open(choice) => {
+                waiting.push(with_side(&sides, second_side(choice))?)?;
+                waiting.push(with_side(&sides, first_side(choice))?)?;
+            }
+        }
+    }
+    Ok(("too many nodes", 0))
+}
+
+/// The sides of the cubes that the first open choices split, in order.
+fn cubes_of(alloc: Global, facts: &Facts, depth: usize) -> Result<Vec<Vec<Pair>>, NoMemory> {
+    let known = known_with(alloc, facts, &[])?;
+    let mut cubes = Vec::new(alloc);
+    cubes.push(Vec::new(alloc))?;
+    let mut split = 0;
+    for choice in &facts.choices {
+        if split < depth && is_open(known.as_slice(), *choice) {
+            cubes = halved(alloc, cubes, *choice)?;
+            split += 1;
+        }
+    }
+    Ok(cubes)
+}
+
+fn halved(
+    alloc: Global,
+    cubes: Vec<Vec<Pair>>,
+    choice: Choice,
+) -> Result<Vec<Vec<Pair>>, NoMemory> {
+    let mut halves = Vec::new(alloc);
+    for sides in &cubes {
+        halves.push(with_side(sides, first_side(choice))?)?;
+        halves.push(with_side(sides, second_side(choice))?)?;
+    }
+    Ok(halves)
+}
+
+/// What is found in each cube, and within how many nodes.
+fn found_in_cubes(
+    alloc: Global,
+    facts: &Facts,
+    depth: usize,
+) -> Result<Vec<(Said, u64)>, NoMemory> {
+    let cubes = cubes_of(alloc, facts, depth)?;
+    let mut found = Vec::new(alloc);
+    for sides in cubes {
+        found.push(scan(alloc, facts, sides)?)?;
+    }
+    Ok(found)
+}
+
+/// What the cubes come to where the budget is shared among them.
+fn picked(cubes: &[(Said, u64)], budget: u64) -> Said {
+    let share = budget.checked_div(cubes.len() as u64).unwrap_or(0);
+    let mut spent = false;
+    for (said, nodes) in cubes {
+        if *nodes > share {
+            spent = true;
+        } else if *said == "yes" {
+            return "yes";
+        }
+    }
+    if spent { "spent" } else { "no" }
+}
+
+/// With too few nodes the plain search and the solver are spent, and with enough they find the same.
+fn finds_the_same(
+    rt: &impl Abort,
+    alloc: Global,
+    problem: &Problem,
+    facts: &Facts,
+) -> Result<(), Fail> {
+    for depth in 0..3 {
+        let cubes = found_in_cubes(alloc, facts, depth as usize)?;
+        for budget in 1..10 {
+            assert_eq!(rt;
+                solved(rt, alloc, problem, budget, depth),
+                picked(cubes.as_slice(), budget)
+            );
+        }
+    }
+    Ok(())
+}
+
+/// With enough nodes an order is found where a trial of all orders finds one.
+fn has_its_verdict(
+    rt: &impl Abort,
+    alloc: Global,
+    parts: &Parts,
+    problem: &Problem,
+) -> Result<(), Fail> {
+    assert!(rt; parts.is_good() && parts.remaining_count() <= 8);
+    let wanted = find_order(alloc, parts)?.is_some();
+    assert_eq!(rt;
+        solved(rt, alloc, problem, 1_000_000, 0),
+        if wanted { "yes" } else { "no" }
+    );
+    Ok(())
+}
+
+/// Tells how many choices are open.
+fn agrees(rt: &impl Abort, alloc: Global, parts: &Parts) -> Result<usize, Fail> {
+    let problem = problem_of(rt, alloc, parts)?;
+    has_its_verdict(rt, alloc, parts, &problem)?;
+    let facts = facts_of(alloc, parts)?;
+    finds_the_same(rt, alloc, &problem, &facts)?;
+    Ok(problem.open_choices())
+}
+
+#[test]
+fn generated_histories_are_searched_as_defined(rt: HostRuntime) -> Result<(), Fail> {
+    let mut dice = Dice::of(1);
+    let mut open = Vec::new(rt.alloc());
+    for _ in 0..60 {
+        let parts = parts_by(rt.alloc(), &mut dice)?;
+        if parts.is_good() && parts.remaining_count() <= 8 {
+            open.push(agrees(&rt, rt.alloc(), &parts)?)?;
+        }
+    }
+    // not all of them are decided at the root
+    assert!(&rt; open.len() >= 20 && open.as_slice().contains(&1) && open.as_slice().contains(&5));
+    Ok(())
+}
