@@ -28,7 +28,7 @@ certified_kind round counts parts budget depth kinds.Serial (Order order) shows 
 certified_kind round counts parts budget depth kinds.Pending (Order order) shows = tt
 certified_kind round counts parts budget depth kinds.Violated (Order order) shows = absurd shows
 certified_kind round counts parts budget depth kinds.Spent (Order order) shows = absurd shows
-certified_kind round counts parts budget depth kind Refuted shows = tt
+certified_kind round counts parts budget depth kind (Refuted tree) shows = tt
 certified_kind round counts parts budget depth kind Nothing shows = tt
 
 reported_kind : (old : EngineState) (asked : Option Parts) (budget depth : ℕ) (report : Report) → IsSomeAnd asked (λ parts. IsRightReport old parts budget depth report) → HasKindOfOrder (report_of report)

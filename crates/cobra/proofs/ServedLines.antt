@@ -18,7 +18,8 @@ use Rattle.cobra.specs.Outputs.{Replies, RepliesAll, IsOutputOf, IsOutput, lines
 use Rattle.cobra.specs.Scripts.{HoldsScript, IsUnderWay}
 use Rattle.cobra.proofs.LineCounts.{lf_count-append, lf_count-le-lines, no_lines, lf_count-line, lf_count-last, lf_count-stopped}
 
-if_told : (told : Option (List ℕ)) (P : List ℕ → Type 0) → ((bytes : List ℕ) → told ≡ Some bytes → P bytes) → IfSome told P
+-- what is said of bytes where they are told
+pub if_told : (told : Option (List ℕ)) (P : List ℕ → Type 0) → ((bytes : List ℕ) → told ≡ Some bytes → P bytes) → IfSome told P
 if_told None P h = tt
 if_told (Some bytes) P h = h bytes refl
 
@@ -30,6 +31,11 @@ where_told Says a b old new h = if_told a (λ input. (output : List ℕ) × Says
 pub is_device : (error : Failure) → (error ≡ NoMemory → ⊥) → error ≡ Device
 is_device Device not = refl
 is_device NoMemory not = absurd (not refl)
+
+-- nor one of a device
+pub is_memory : (error : Failure) → (error ≡ Device → ⊥) → error ≡ NoMemory
+is_memory Device not = absurd (not refl)
+is_memory NoMemory not = refl
 
 -- one more line is answered
 

@@ -10,7 +10,7 @@ use Rattle.round_state.specs.declared.steps.StepReply.TheVariants as reply
 -- a report with this certificate
 abbrev pub certified : Report → Certificate → Reply
 certified report (Order order) = told.Order report.round report.kind report.counts order
-certified report Refuted = told.Violated report.round report.counts
+certified report (Refuted tree) = told.Violated report.round report.counts tree
 certified report Nothing = told.Spent report.round report.counts
 
 abbrev pub report_of : Report → Reply

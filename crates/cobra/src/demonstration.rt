@@ -5,7 +5,8 @@ ghost use Rattle.cobra.specs.Demonstration.{shown_txns, shown_fragment, shown_st
 use crate::replies::reply_of;
 use byte_lines::{ByteSink, Failure, write_all};
 use log_text::write_reply;
-use round_state::{Engine, Report, Step, StepReply, TrialSolver};
+use polygraph::Single;
+use round_state::{Engine, Report, Step, StepReply};
 use std::alloc::{AllocError, Global};
 use txn::{Fragment, NoMemory, Sequence, Source, Txn, TxnId};
 
@@ -75,7 +76,7 @@ fn shown_report(alloc: Global) -> Result<Report, NoMemory>
     let Ok(mut engine) = Engine::open(alloc, 1, 8) else {
         return Err(AllocError);
     };
-    let replies = engine.run(alloc, steps, &TrialSolver)?;
+    let replies = engine.run(alloc, steps, &Single)?;
     match last_report(replies) {
         Some(report) => Ok(report),
         None => Err(AllocError),

@@ -2,7 +2,8 @@ ghost use Rattle.std.specs.Prelude.{◌≡◌, IfOk, IfErr, OnOk};
 ghost use Rattle.round_state.specs.Opening.{IsSessions, IsLimit, IsOpenRefusal, fresh_state};
 ghost use Rattle.round_state.specs.Runs.{HasLimits, Holds, StepsLegally};
 
-use round_state::{Engine, Problem, Solver, Step, StepReply};
+use polygraph::{Problem, Solver};
+use round_state::{Engine, Step, StepReply};
 use std::alloc::Global;
 use std::marker::Model;
 use txn::Refusal;
@@ -18,7 +19,7 @@ impl Model for OpenEngine {
     ghost use Rattle.std.specs.Coded.{codes};
     ghost use Rattle.std.specs.Prelude.{◌≡◌};
     ghost use Rattle.order_check.specs.Codes.{coded_last};
-    ghost use Rattle.round_state.specs.EngineState.{EngineState};
+    ghost use Rattle.round_state.specs.EngineState.{EngineState, parts_asked};
 
     ghost Value = { EngineState };
 
@@ -26,7 +27,7 @@ impl Model for OpenEngine {
 
     ghost view = { λ e. e.engine };
 
-    ghost invariant = { λ e. e.kept ≡ e.engine.asked };
+    ghost invariant = { λ e. parts_asked e.kept ≡ e.engine.asked };
 }
 
 impl OpenEngine {
@@ -48,7 +49,8 @@ impl OpenEngine {
     }
 
     pub(crate) fn step<S: Solver>(&mut self, alloc: Global, step: Step, solver: &S) -> StepReply
-        requires { HasLimits step }
+        requires ready { S.ready }
+        requires limits { HasLimits step }
         ensures { StepsLegally self.old step result self.new }
     {
         self.engine.step(alloc, step, &mut self.kept, solver)

@@ -20,7 +20,11 @@ fn report_of(report: Report) -> Reply
             counts,
             order,
         },
-        Certificate::Refuted => Reply::Violated { round, counts },
+        Certificate::Refuted(tree) => Reply::Violated {
+            round,
+            counts,
+            tree,
+        },
         Certificate::Nothing => Reply::Spent { round, counts },
     }
 }

@@ -10,7 +10,8 @@ use crate::replies::reply_of;
 use crate::showing::state_told;
 use byte_lines::Next;
 use log_text::{Command, Reply, read_line, write_reply};
-use round_state::{Solver, Step, StepReply};
+use polygraph::Solver;
+use round_state::{Step, StepReply};
 use std::alloc::{AllocError, Global};
 use txn::{NoMemory, Refusal};
 
@@ -30,7 +31,8 @@ fn end_round<S: Solver>(
     workers: u64,
     solver: &S,
 ) -> StepReply
-    requires { IsEffort budget depth workers }
+    requires ready { S.ready }
+    requires effort { IsEffort budget depth workers }
     ensures { EndsLegally engine.old budget depth workers result engine.new }
 {
     let finish = Step::Finish {
@@ -55,7 +57,8 @@ fn make_round<S: Solver>(
     workers: u64,
     solver: &S,
 ) -> StepReply
-    requires { IsEffort budget depth workers }
+    requires ready { S.ready }
+    requires effort { IsEffort budget depth workers }
     ensures { RoundsLegally engine.old budget depth workers result engine.new }
 {
     match engine.step(alloc, Step::Begin, solver) {
@@ -70,7 +73,8 @@ fn answer_open<S: Solver>(
     command: Command,
     solver: &S,
 ) -> Result<Reply, NoMemory>
-    requires { HasLimits command }
+    requires ready { S.ready }
+    requires limits { HasLimits command }
     ensures { IfOk result (λ answer. AnswersOpenLegally engine.old command answer engine.new) }
 {
     match command {
@@ -157,7 +161,8 @@ impl Script {
         command: Command,
         solver: &S,
     ) -> Result<Reply, NoMemory>
-        requires { HasLimits command }
+        requires ready { S.ready }
+        requires limits { HasLimits command }
         ensures { IfOk result (λ answer. AnswersLegally self.old.engine command answer self.new.engine) }
     {
         if let Some(engine) = &mut self.engine {
@@ -175,7 +180,8 @@ impl Script {
         next: &Next,
         solver: &S,
     ) -> Result<Reply, NoMemory>
-        requires { IsUnderWay self.old.engine }
+        requires ready { S.ready }
+        requires under_way { IsUnderWay self.old.engine }
         ensures answers { IfOk result (λ answer. AnswersLineLegally self.old.engine next.now answer self.new.engine) }
         ensures under_way { IfOk result (λ answer. IsUnderWay self.new.engine) }
         ensures kind { IfOk result HasKindOfOrder }
@@ -193,7 +199,8 @@ impl Script {
         next: &Next,
         solver: &S,
     ) -> Result<Vec<u8>, NoMemory>
-        requires { IsUnderWay self.old.engine }
+        requires ready { S.ready }
+        requires under_way { IsUnderWay self.old.engine }
         ensures replies { IfOk result (λ text. RepliesLegally self.old.engine next.now text.items self.new.engine) }
         ensures under_way { IfOk result (λ text. IsUnderWay self.new.engine) }
     {

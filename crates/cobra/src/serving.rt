@@ -1,11 +1,38 @@
-ghost use Rattle.std.specs.Prelude.{◌≡◌, ℕ, ◌+◌, ◌<◌, ◌⊎◌, List, [], Some, IfSome, OnOk, IsErrOf};
-ghost use Rattle.std.specs.Io.KnownBytes.{Appends};
-ghost use Rattle.cobra.specs.Outputs.{IsOutput, StopsForMemory, StopsReading, StopsWriting};
+ghost use Rattle.std.specs.Prelude.{◌≡◌, ℕ, ◌+◌, ◌<◌, ◌⊎◌, List, [], length, take, Some, IfSome, OnOk, IsErrOf};
+ghost use Rattle.std.specs.Io.KnownBytes.{Appends, Keeps};
+ghost use Rattle.cobra.specs.Outputs.{IsOutput, StopsForMemory, StopsReading, StopsWriting, RepliesLegally};
+ghost use Rattle.cobra.specs.Scripts.{IsUnderWay};
 
 use crate::scripts::Script;
 use byte_lines::{ByteSink, ByteSource, Failure, LONGEST_LINE, LineReader, Next, write_all};
-use round_state::Solver;
+use polygraph::Solver;
 use std::alloc::Global;
+
+/// Writes the reply to what was read.
+fn reply_to<W: ByteSink, S: Solver>(
+    alloc: Global,
+    script: &mut Script,
+    next: &Next,
+    sink: &mut W,
+    solver: &S,
+) -> Result<(), Failure>
+    requires ready { S.ready }
+    requires under_way { IsUnderWay script.old.engine }
+    ensures under_way { OnOk result (IsUnderWay script.new.engine) }
+    ensures written { OnOk result ((text : List ℕ) × RepliesLegally script.old.engine next.now text script.new.engine × Appends (W.contents sink.old) (W.contents sink.new) text) }
+    ensures ok { OnOk result (W.faults sink.new ≡ W.faults sink.old) }
+
+    // A proper front of the reply is written.
+    ensures front { IsErrOf result Failure.Device → ((text : List ℕ) × (n : ℕ) × RepliesLegally script.old.engine next.now text script.new.engine × (n < length text) × Appends (W.contents sink.old) (W.contents sink.new) (take n text)) }
+    ensures failed { IsErrOf result Failure.Device → W.faults sink.new ≡ W.faults sink.old + 1 }
+
+    ensures unwritten { IsErrOf result Failure.NoMemory → Keeps (W.contents sink.old) (W.contents sink.new) }
+    ensures unfailed { IsErrOf result Failure.NoMemory → W.faults sink.new ≡ W.faults sink.old }
+{
+    let text = script.answer_line(alloc, next, solver)?;
+    write_all(sink, &text)?;
+    Ok(())
+}
 
 /// Reads a script to the end of input, and writes the reply to each line before it reads on. What a failure of a device or
 /// want of memory leaves half done isn't tried again.
@@ -15,6 +42,8 @@ pub fn serve<R: ByteSource, W: ByteSink, S: Solver>(
     sink: &mut W,
     solver: &S,
 ) -> Result<(), Failure>
+    requires { S.ready }
+
     // All of the input is read, and an output of it is written.
     ensures at_end { OnOk result (IfSome (R.remaining source.old) (λ input. R.remaining source.new ≡ Some [])) }
     ensures whole { OnOk result (IfSome (R.remaining source.old) (λ input. (output : List ℕ) × IsOutput input output × Appends (W.contents sink.old) (W.contents sink.new) output)) }
@@ -35,7 +64,6 @@ pub fn serve<R: ByteSource, W: ByteSink, S: Solver>(
         if let Next::End = next {
             return Ok(());
         }
-        let text = script.answer_line(alloc, &next, solver)?;
-        write_all(sink, &text)?;
+        reply_to(alloc, &mut script, &next, sink, solver)?;
     }
 }

@@ -4,7 +4,7 @@
 use cobra::{
     Asked, ByteSink, Exit, Failure, ReaderSource, WriterSink, asked_of, exit_of, serve, write_all,
 };
-use round_state::TrialSolver;
+use polygraph::Single;
 use std::env;
 use std::io::ErrorKind;
 use std::process::ExitCode;
@@ -63,7 +63,7 @@ fn main(rt: HostRuntime) -> ExitCode {
     let mut output = WriterSink::new(rt.stdout());
     let alloc = rt.alloc();
     let exit = match asked(&rt) {
-        Ok(Asked::Work) => exit_of(serve(alloc, &mut input, &mut output, &TrialSolver)),
+        Ok(Asked::Work) => exit_of(serve(alloc, &mut input, &mut output, &Single)),
         Ok(Asked::Help) => exit_of(told(&mut output, HELP)),
         Ok(Asked::Version) => exit_of(told(&mut output, VERSION)),
         Ok(Asked::Unknown) => Exit {

@@ -4,7 +4,7 @@
 ghost use Rattle.std.specs.Prelude.{◌<◌};
 
 use cobra::{MemorySink, MemorySource, Pace, serve};
-use round_state::TrialSolver;
+use polygraph::Single;
 use std::alloc::Global;
 use std::{env, fs, io};
 
@@ -20,7 +20,7 @@ fn is_answered(alloc: Global, script: &[u8], replies: &[u8], most: usize) -> boo
         bytes: Vec::new(alloc),
         pace: Pace::new(most, 0),
     };
-    let end = serve(alloc, &mut source, &mut sink, &TrialSolver);
+    let end = serve(alloc, &mut source, &mut sink, &Single);
     end.is_ok() && sink.bytes.as_slice() == replies
 }
 

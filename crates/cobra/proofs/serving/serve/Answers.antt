@@ -1,10 +1,10 @@
 use Rattle.std.proofs.Common.{◌≡◌, [], ◌++◌, take, Err, refl, ap, ◌∙◌, inr, arith}
-use Rattle.std.proofs.KnownBytes.{Appends-nil, Appends-trans}
+use Rattle.std.proofs.KnownBytes.{Appends-nil, Appends-trans, Appends-kept}
 use Rattle.std.proofs.lemmas.Result.{err_from_is_err_and}
 use Rattle.byte_lines.specs.declared.failures.Failure.{Failure}
-use Rattle.byte_lines.specs.declared.failures.Failure.TheVariants.{Device}
+use Rattle.byte_lines.specs.declared.failures.Failure.TheVariants.{Device, NoMemory}
 use Rattle.cobra.specs.Outputs.{IsOutput, StopsForMemory, StopsReading, StopsWriting}
-use Rattle.cobra.proofs.ServedLines.{where_told, is_device, under_way_first, serving_first, serving_read, serving_on, stops_first, stops_for_memory, stops_for_memory_at_line, stops_reading, stops_writing, ends_whole}
+use Rattle.cobra.proofs.ServedLines.{if_told, where_told, is_device, is_memory, under_way_first, serving_first, serving_read, serving_on, stops_first, stops_for_memory, stops_for_memory_at_line, stops_reading, stops_writing, ends_whole}
 use Rattle.cobra.proofs.serving.serve.Goals as goal
 
 pub returns-in_err-reader-clause-stops_for_memory : goal.returns-in_err-reader-clause-stops_for_memory
@@ -45,76 +45,91 @@ returns-in-End-clause-whole g c =
     let front = c.loop-script.invariant.told input told in
     (front.0, (ends_whole input c.loop-script.reader c.next_line.new.self _ _ front.0 c.loop-script.script.engine line.0 front.2 line.1 next).1, front.1))
 
-pub returns-in_err-text : goal.returns-in_err-text
-returns-in_err-text g c =
-    let line = c.in_ok-next.ensures.line in
-    let next = c.in_ok-next.ensures.next c.loop-script.invariant.fresh in
-    let read = c.in_ok-next.ensures.ok ∙ c.loop-script.invariant.read in
-    let p = err_from_is_err_and c.from_residual-in_err-text.result c.from_residual-in_err-text.ensures.1 in
-    rw (p.1, p.2) record {
-      at_end = tt;
-      whole = tt;
-      stops_reading = λ failed. absurd (omega (arith, failed, read));
-      stops_writing = λ failed. absurd (omega (arith, failed, c.loop-script.invariant.written));
-      stops_for_memory = λ memory. where_told StopsForMemory _ _ _ _ (λ input told.
-          let front = c.loop-script.invariant.told input told in
-          let taken = serving_read input c.loop-script.reader c.next_line.new.self _ _ front.0 c.loop-script.script.engine line.0 c.in_ok-next.next front.2 line.1 line.2 c.loop-script.invariant.limit next c.in_default.not-End in
-          (front.0, stops_for_memory_at_line input c.next_line.new.self _ front.0 c.loop-script.script.engine _ taken.2, front.1));
-      device = λ e. cc;
-      none_failed = λ not. (read, c.loop-script.invariant.written);
-    }
+pub returns-in_err-reply_to-clause-stops_reading : goal.returns-in_err-reply_to-clause-stops_reading
+returns-in_err-reply_to-clause-stops_reading g c = λ failed. absurd (omega (arith, failed, c.in_ok-next.ensures.ok, c.loop-script.invariant.read))
 
-pub returns-in_err-write_all : goal.returns-in_err-write_all
-returns-in_err-write_all g c =
+pub returns-in_err-reply_to-clause-stops_writing : goal.returns-in_err-reply_to-clause-stops_writing
+returns-in_err-reply_to-clause-stops_writing g c = λ failed.
+    let error : Failure = c.in_err-reply_to.field-0.0 in
+    let device : error ≡ Device = is_device error (λ memory. absurd (omega (arith, failed, c.in_err-reply_to.ensures.unfailed (ap (λ (e : Failure). Err e) memory), c.loop-script.invariant.written))) in
+    let part = c.in_err-reply_to.ensures.front (ap (λ (e : Failure). Err e) device) in
     let line = c.in_ok-next.ensures.line in
     let next = c.in_ok-next.ensures.next c.loop-script.invariant.fresh in
-    let read = c.in_ok-next.ensures.ok ∙ c.loop-script.invariant.read in
-    let part = rw c.deref.ensures.value at c.in_err-write_all.ensures.front in
-    let p = err_from_is_err_and c.from_residual-in_err-write_all.result c.from_residual-in_err-write_all.ensures.1 in
-    rw (p.1, p.2) record {
-      at_end = tt;
-      whole = tt;
-      stops_reading = λ failed. absurd (omega (arith, failed, read));
-      stops_writing = λ failed. where_told StopsWriting _ _ _ _ (λ input told.
-          let front = c.loop-script.invariant.told input told in
-          let taken = serving_read input c.loop-script.reader c.next_line.new.self _ _ front.0 c.loop-script.script.engine line.0 c.in_ok-next.next front.2 line.1 line.2 c.loop-script.invariant.limit next c.in_default.not-End in (
-            front.0 ++ take part.0 c.in_ok-text.text.items,
-            stops_writing input c.next_line.new.self _ front.0 c.loop-script.script.engine c.answer_line.new.self.engine taken.0 c.in_ok-text.text.items c.in_ok-next.next part.0 taken.2 taken.1 c.in_ok-text.ensures.replies part.1,
-            Appends-trans _ _ _ _ _ front.1 part.2,
-          ));
-      stops_for_memory = λ memory. cc;
-      device = λ e. inr (read, omega (arith, c.in_err-write_all.ensures.failed, c.loop-script.invariant.written));
-      none_failed = λ not. absurd (not refl);
-    }
+    where_told StopsWriting _ _ _ _ (λ input told.
+    let front = c.loop-script.invariant.told input told in
+    let taken = serving_read input c.loop-script.reader c.next_line.new.self _ _ front.0 c.loop-script.script.engine line.0 c.in_ok-next.next front.2 line.1 line.2 c.loop-script.invariant.limit next c.in_default.not-End in (
+      front.0 ++ take part.1 part.0,
+      stops_writing input c.next_line.new.self _ front.0 c.loop-script.script.engine c.reply_to.new.script.engine taken.0 part.0 c.in_ok-next.next part.1 taken.2 taken.1 part.2 part.3,
+      Appends-trans _ _ _ _ _ front.1 part.4,
+    ))
 
-pub loop-script-preserved-in_ok-write_all : goal.loop-script-preserved-in_ok-write_all
-loop-script-preserved-in_ok-write_all g c =
+pub returns-in_err-reply_to-clause-stops_for_memory : goal.returns-in_err-reply_to-clause-stops_for_memory
+returns-in_err-reply_to-clause-stops_for_memory g c =
+    let p = err_from_is_err_and c.from_residual-in_err-reply_to.result c.from_residual-in_err-reply_to.ensures.1 in
     let line = c.in_ok-next.ensures.line in
     let next = c.in_ok-next.ensures.next c.loop-script.invariant.fresh in
-    let written = rw c.deref.ensures.value at c.in_ok-write_all.ensures.written in
-    record {
-      script = c.in_ok-text.ensures.under_way;
-      fresh = line.2.fresh;
-      limit = c.in_ok-next.ensures.limit ∙ c.loop-script.invariant.limit;
-      told = λ input told.
-          let front = c.loop-script.invariant.told input told in
-          serving_on input c.loop-script.reader c.next_line.new.self _ _ _ _ _ front.0 c.loop-script.script.engine c.answer_line.new.self.engine line.0 c.in_ok-next.next c.in_ok-text.text.items front.2 line.1 line.2 c.loop-script.invariant.limit next c.in_default.not-End c.in_ok-text.ensures.replies front.1 written;
-      read = c.in_ok-next.ensures.ok ∙ c.loop-script.invariant.read;
-      written = c.in_ok-write_all.ensures.ok ∙ c.loop-script.invariant.written;
-    }
+    rw (p.1, p.2) (λ memory. where_told StopsForMemory _ _ _ _ (λ input told.
+    let front = c.loop-script.invariant.told input told in
+    let taken = serving_read input c.loop-script.reader c.next_line.new.self _ _ front.0 c.loop-script.script.engine line.0 c.in_ok-next.next front.2 line.1 line.2 c.loop-script.invariant.limit next c.in_default.not-End in
+    (front.0, stops_for_memory_at_line input c.next_line.new.self _ front.0 c.loop-script.script.engine _ taken.2, Appends-kept _ _ _ _ front.1 (c.in_err-reply_to.ensures.unwritten memory))))
+
+pub returns-in_err-reply_to-clause-device : goal.returns-in_err-reply_to-clause-device
+returns-in_err-reply_to-clause-device g c =
+    let p = err_from_is_err_and c.from_residual-in_err-reply_to.result c.from_residual-in_err-reply_to.ensures.1 in
+    rw (p.1, p.2) (λ device. inr (c.in_ok-next.ensures.ok ∙ c.loop-script.invariant.read, omega (arith, c.in_err-reply_to.ensures.failed device, c.loop-script.invariant.written)))
+
+pub returns-in_err-reply_to-clause-none_failed : goal.returns-in_err-reply_to-clause-none_failed
+returns-in_err-reply_to-clause-none_failed g c =
+    let p = err_from_is_err_and c.from_residual-in_err-reply_to.result c.from_residual-in_err-reply_to.ensures.1 in
+    let error : Failure = c.in_err-reply_to.field-0.0 in
+    rw (p.1, p.2) (λ not.
+    let memory : error ≡ NoMemory = is_memory error (λ device. not (ap (λ (e : Failure). Err e) device)) in
+    (c.in_ok-next.ensures.ok ∙ c.loop-script.invariant.read, c.in_err-reply_to.ensures.unfailed (ap (λ (e : Failure). Err e) memory) ∙ c.loop-script.invariant.written))
+
+pub returns-in_err-next-clause-none_failed : goal.returns-in_err-next-clause-none_failed
+returns-in_err-next-clause-none_failed g c =
+    let p = err_from_is_err_and c.from_residual-in_err-next.result c.from_residual-in_err-next.ensures.1 in
+    let error : Failure = c.in_err-next.field-0.0 in
+    rw (p.1, p.2) (λ not.
+    let memory : error ≡ NoMemory = is_memory error (λ device. not (ap (λ (e : Failure). Err e) device)) in
+    (c.in_err-next.ensures.memory (ap (λ (e : Failure). Err e) memory) ∙ c.loop-script.invariant.read, c.loop-script.invariant.written))
+
+pub returns-in-End-clause-at_end : goal.returns-in-End-clause-at_end
+returns-in-End-clause-at_end g c =
+    let line = c.in_ok-next.ensures.line in
+    let next = rw c.in-End.is at (c.in_ok-next.ensures.next c.loop-script.invariant.fresh) in
+    if_told _ _ (λ input told.
+    let front = c.loop-script.invariant.told input told in
+    (ends_whole input c.loop-script.reader c.next_line.new.self _ (g.R.ByteSource.remaining c.next_line.new.source) front.0 c.loop-script.script.engine line.0 front.2 line.1 next).0)
 
 pub loop-script-preserved : goal.loop-script-preserved
 loop-script-preserved g c =
     let line = c.in_ok-next.ensures.line in
     let next = c.in_ok-next.ensures.next c.loop-script.invariant.fresh in
-    let written = rw c.deref.ensures.value at c.in_ok-write_all.ensures.written in
+    let replied = c.in_ok-reply_to.ensures.written in
     record {
-      script = c.in_ok-text.ensures.under_way;
+      script = c.in_ok-reply_to.ensures.under_way;
       fresh = line.2.fresh;
       limit = c.in_ok-next.ensures.limit ∙ c.loop-script.invariant.limit;
       told = λ input told.
           let front = c.loop-script.invariant.told input told in
-          serving_on input c.loop-script.reader c.next_line.new.self _ _ _ _ _ front.0 c.loop-script.script.engine c.answer_line.new.self.engine line.0 c.in_ok-next.next c.in_ok-text.text.items front.2 line.1 line.2 c.loop-script.invariant.limit next c.in_default.not-End c.in_ok-text.ensures.replies front.1 written;
+          serving_on input c.loop-script.reader c.next_line.new.self _ _ _ _ _ front.0 c.loop-script.script.engine c.reply_to.new.script.engine line.0 c.in_ok-next.next replied.0 front.2 line.1 line.2 c.loop-script.invariant.limit next c.in_default.not-End replied.1 front.1 replied.2;
       read = c.in_ok-next.ensures.ok ∙ c.loop-script.invariant.read;
-      written = c.in_ok-write_all.ensures.ok ∙ c.loop-script.invariant.written;
+      written = c.in_ok-reply_to.ensures.ok ∙ c.loop-script.invariant.written;
+    }
+
+pub loop-script-preserved-in_ok-reply_to : goal.loop-script-preserved-in_ok-reply_to
+loop-script-preserved-in_ok-reply_to g c =
+    let line = c.in_ok-next.ensures.line in
+    let next = c.in_ok-next.ensures.next c.loop-script.invariant.fresh in
+    let replied = c.in_ok-reply_to.ensures.written in
+    record {
+      script = c.in_ok-reply_to.ensures.under_way;
+      fresh = line.2.fresh;
+      limit = c.in_ok-next.ensures.limit ∙ c.loop-script.invariant.limit;
+      told = λ input told.
+          let front = c.loop-script.invariant.told input told in
+          serving_on input c.loop-script.reader c.next_line.new.self _ _ _ _ _ front.0 c.loop-script.script.engine c.reply_to.new.script.engine line.0 c.in_ok-next.next replied.0 front.2 line.1 line.2 c.loop-script.invariant.limit next c.in_default.not-End replied.1 front.1 replied.2;
+      read = c.in_ok-next.ensures.ok ∙ c.loop-script.invariant.read;
+      written = c.in_ok-reply_to.ensures.ok ∙ c.loop-script.invariant.written;
     }

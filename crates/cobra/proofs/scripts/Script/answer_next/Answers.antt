@@ -1,7 +1,9 @@
 use Rattle.std.proofs.lemmas.Result.{IfOk-weaker}
+use Rattle.log_text.specs.Replies.{HasKindOfOrder}
 use Rattle.cobra.specs.Outputs.{AnswersLineLegally}
 use Rattle.cobra.specs.Scripts.{AnswersLegally}
 use Rattle.cobra.proofs.AskedLines.{answers_asked, answers_none}
+use Rattle.cobra.proofs.ReplyKinds.{answered_kind}
 use Rattle.cobra.proofs.scripts.Script.answer_next.Goals as goal
 
 pub returns-in-Some-clause-answers : goal.returns-in-Some-clause-answers
@@ -12,3 +14,8 @@ returns-in-Some-clause-answers g c =
 
 pub returns-in-None-clause-answers : goal.returns-in-None-clause-answers
 returns-in-None-clause-answers g c = answers_none c.args.self.now.engine c.args.next.now (rw c.in-None.is at c.in_ok-command.ensures.none)
+
+pub returns-in-Some-clause-kind : goal.returns-in-Some-clause-kind
+returns-in-Some-clause-kind g c =
+    IfOk-weaker c.answer.result (λ answer. AnswersLegally c.args.self.now.engine c.in-Some.command answer c.answer.new.self.engine) HasKindOfOrder
+    (λ answer legal. answered_kind c.args.self.now.engine c.answer.new.self.engine c.in-Some.command answer legal c.requires.under_way) c.answer.ensures
