@@ -3,9 +3,9 @@ ghost use Rattle.std.specs.Prelude.{All, IfOk};
 ghost use Rattle.round_state.specs.Runs.{HasLimits};
 
 use order_check::Kind::{self, Pending, Serial, Spent, Violated};
-use round_state::{
-    Answer, Certificate, Engine, Report, Solver, Step, StepReply, TrialSolver, received_counts,
-};
+use polygraph::{Answer, Single, Solver};
+use refutation::{Leaf, Tree};
+use round_state::{Certificate, Engine, Report, Step, StepReply, received_counts};
 use std::alloc::Global;
 use std::process::Abort;
 use std::test::*;
@@ -175,7 +175,7 @@ fn assert_replies(rt: &impl Abort, row: Row, replies: &[StepReply]) {
 
 fn run(alloc: Global, engine: &mut Engine, row: Row) -> Result<Vec<StepReply>, txn::NoMemory> {
     let steps = steps_of(alloc, row)?;
-    engine.run(alloc, steps, &TrialSolver)
+    engine.run(alloc, steps, &Single)
 }
 
 fn replies_to(alloc: Global, row: Row) -> Result<Vec<StepReply>, Refusal> {
@@ -234,6 +234,7 @@ fn a_list_of_steps_finishes_a_round_opened_before(rt: HostRuntime) -> Result<(),
 #[derive(Clone, Copy)]
 enum Told {
     Yes(&'static [TxnId]),
+    /// A cycle of no arcs.
     No,
     Spent,
     NoMemory,
@@ -256,7 +257,7 @@ fn answers() -> &'static [(Told, Want)] {
 fn answer_of(alloc: Global, told: Told) -> Result<Answer, txn::NoMemory> {
     match told {
         Told::Yes(ids) => Ok(Answer::Yes(Sequence::new(ids.to_vec(alloc)?))),
-        Told::No => Ok(Answer::No),
+        Told::No => Ok(Answer::No(Tree::Close(Leaf::Cycle(Sequence::new(Vec::new(alloc)))))),
         Told::Spent => Ok(Answer::Spent),
         Told::NoMemory => Ok(Answer::NoMemory),
     }
@@ -295,7 +296,7 @@ fn a_wrong_answer_leaves_the_round_open(rt: HostRuntime) -> Result<(), Fail> {
 /// The answer to the open round's problem, where one is open.
 fn solved(alloc: Global, engine: &Engine) -> Result<Option<Answer>, txn::NoMemory> {
     match engine.open_problem(alloc)? {
-        Some(problem) => Ok(Some(TrialSolver.solve(alloc, &problem, 1, 0, 1))),
+        Some(problem) => Ok(Some(Single.solve(alloc, &problem, 1, 0, 1))),
         None => Ok(None),
     }
 }
@@ -321,11 +322,11 @@ fn what_an_engine_shows(rt: HostRuntime) -> Result<(), Fail> {
 /// Sessions, a limit, and how an engine of them is refused.
 static NUMBERS: [(u64, u64, Option<Refusal>); 6] = [
     (1, 1, None),
-    (64, 8, None),
-    (0, 9, Some(BadSession)),
-    (65, 8, Some(BadSession)),
+    (64, 4096, None),
+    (0, 4097, Some(BadSession)),
+    (65, 4096, Some(BadSession)),
     (1, 0, Some(TooLong)),
-    (64, 9, Some(TooLong)),
+    (64, 4097, Some(TooLong)),
 ];
 
 fn numbers() -> &'static [(u64, u64, Option<Refusal>)] {

@@ -7,3 +7,5 @@ mod engines;
 mod lines;
 #[cfg(test)]
 mod scripts;
+#[cfg(test)]
+mod splits;

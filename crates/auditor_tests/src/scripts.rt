@@ -4,7 +4,7 @@ use cobra::{
     Asked, ByteSink, ByteSource, DeviceFault, Failure, LONGEST_LINE, LineReader, MemorySink,
     MemorySource, Next, Pace, ReaderSource, WriterSink, asked_of, demo, exit_of, serve, write_all,
 };
-use round_state::TrialSolver;
+use polygraph::Single;
 use std::alloc::{AllocError, Global};
 use std::cell::Cell;
 use std::io::{self, ErrorKind, Read, Write};
@@ -230,7 +230,7 @@ fn demonstration(rt: HostRuntime) {
 }
 
 /// The script `three_rounds.jsonl` of the examples.
-const SCRIPT: &str = r#"["open",2,8]
+const SCRIPT: &str = r#"["open",2,16]
 ["offer",1,0,[[[[5,0,0]],[]]]]
 ["round",32,0,1]
 ["offer",0,0,[[[],[5]]]]
@@ -246,7 +246,7 @@ const REPLIES: &str = r#"["ok"]
 ["ok"]
 ["report",2,"serial",[1,1],[[0,0],[1,0]]]
 ["ok"]
-["report",3,"violated",[1,2],[]]
+["report",3,"violated",[1,2],[["cycle",[["read",5,0,0,1,0],["session",1,0,1,1],["base",5,1,1,0,0]]]]]
 "#;
 
 /// How the script is served, and what is written, where the devices move so many bytes a call and one call of each fails.
@@ -267,7 +267,7 @@ fn served(
         bytes: Vec::new(alloc),
         pace: Pace::new(most, failing_write),
     };
-    let end = serve(alloc, &mut source, &mut sink, &TrialSolver);
+    let end = serve(alloc, &mut source, &mut sink, &Single);
     (end, sink.bytes)
 }
 
@@ -318,7 +318,7 @@ fn fails_in_turn(rt: &(impl AllocGlobal + Abort), most: usize, is_read: bool) ->
 #[test]
 fn stops_at_a_failure(rt: HostRuntime) {
     // The last read finds the end, and the call after the last one can't fail.
-    for (most, reads, writes) in [(1, 156, 141), (7, 24, 22), (4096, 3, 8)] {
+    for (most, reads, writes) in [(1, 157, 210), (7, 25, 32), (4096, 3, 8)] {
         assert_eq!(rt; fails_in_turn(&rt, most, true), reads);
         assert_eq!(rt; fails_in_turn(&rt, most, false), writes);
     }
