@@ -16,6 +16,9 @@ const SMALL: usize = 12;
 // Columns in a first, a second and a third word.
 const LARGE: usize = 150;
 
+// So few that most pairs of 150 are not joined.
+const DRAWN: usize = 90;
+
 const FIRST: TxnId = TxnId {
     session: 0,
     number: 0,
@@ -57,7 +60,8 @@ fn add(
     from: usize,
     to: usize,
 ) -> Result<bool, Fail>
-    ensures { OnOk result (graph.new.arcs ≡ graph.old.arcs ++ Taken (record { session = 0; number = from }) (record { session = 0; number = to }) ∷ []) }
+    ensures arcs { OnOk result (graph.new.arcs ≡ graph.old.arcs ++ Taken (record { session = 0; number = from }) (record { session = 0; number = to }) ∷ []) }
+    ensures marks { graph.new.marks ≡ graph.old.marks }
 {
     let arc = Arc::Taken {
         from: id(from),
@@ -114,9 +118,11 @@ fn add_drawn(
     seed: u64,
     nodes: usize,
     arcs: usize,
-) -> Result<(), Fail> {
+) -> Result<(), Fail>
+    ensures { OnOk result (graph.new.marks ≡ graph.old.marks) }
+{
     let mut state = seed;
-    for _ in 0..arcs {
+    for _turn in 0..arcs {
         let from = next(&mut state, nodes);
         let to = next(&mut state, nodes);
         if from != to {
@@ -169,6 +175,54 @@ fn small_closures(rt: HostRuntime) -> Result<(), Fail> {
 fn closures_past_two_words(rt: HostRuntime) -> Result<(), Fail> {
     for seed in 0..4 {
         assert_closure(&rt, rt.alloc(), seed, LARGE, 200)?;
+    }
+    Ok(())
+}
+
+// The graph against the closure of the arcs drawn from these seeds.
+fn assert_drawn(
+    rt: &impl Abort,
+    alloc: Global,
+    graph: &Graph,
+    seeds: &[u64],
+    arcs: usize,
+) -> Result<(), Fail> {
+    let mut again = with_nodes(rt, alloc, LARGE)?;
+    let mut table = Vec::new(alloc);
+    table.resize(LARGE * LARGE, false)?;
+    let reached = table.as_mut_slice();
+    for seed in seeds {
+        add_drawn(rt, alloc, &mut again, reached, *seed, LARGE, arcs)?;
+    }
+    close(reached, LARGE);
+    for i in 0..LARGE {
+        assert_row(rt, graph, reached, LARGE, i);
+    }
+    Ok(())
+}
+
+// Two marks, each with arcs behind it, to which the graph comes back.
+fn assert_backs(rt: &impl Abort, alloc: Global, graph: &mut Graph, seed: u64) -> Result<(), Fail> {
+    let mut table = Vec::new(alloc);
+    table.resize(LARGE * LARGE, false)?;
+    let unread = table.as_mut_slice();
+    graph.mark()?;
+    add_drawn(rt, alloc, graph, unread, seed, LARGE, DRAWN)?;
+    graph.mark()?;
+    add_drawn(rt, alloc, graph, unread, seed ^ 1, LARGE, DRAWN)?;
+    assert_drawn(rt, alloc, graph, &[seed, seed ^ 1], DRAWN)?;
+    graph.back();
+    assert_drawn(rt, alloc, graph, &[seed], DRAWN)?;
+    graph.back();
+    assert_drawn(rt, alloc, graph, &[], DRAWN)
+}
+
+#[test]
+fn going_back_leaves_what_stood_at_the_mark(rt: HostRuntime) -> Result<(), Fail> {
+    let alloc = rt.alloc();
+    let mut graph = with_nodes(&rt, alloc, LARGE)?;
+    for seed in 0..4 {
+        assert_backs(&rt, alloc, &mut graph, 2 * seed)?;
     }
     Ok(())
 }

@@ -18,5 +18,5 @@ ends_later arc = end_of arc ≢ FIRST
 
 pub returns : goal.returns
 returns g c =
-    rw (c.in_ok-add-2.ensures, c.in_ok-add.ensures, c.in_ok-graph.ensures)
+    rw (c.in_ok-add-2.ensures.arcs, c.in_ok-add.ensures.arcs, c.in_ok-graph.ensures)
     (All-push ends_later ([] ++ Taken (id 0) (id 1) ∷ []) (Taken (id 1) (id 2)) (All-push ends_later [] (Taken (id 0) (id 1)) (All-nil ends_later) (not_first 1 (omega arith))) (not_first 2 (omega arith)))
