@@ -4,6 +4,8 @@
 #[cfg(test)]
 mod desks;
 #[cfg(test)]
+mod fences;
+#[cfg(test)]
 mod fragments;
 #[cfg(test)]
 mod graphs;
