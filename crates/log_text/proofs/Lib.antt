@@ -1,3 +1,4 @@
 pub mod Arity
 pub mod EachItem
 pub mod ValueTexts
+pub mod WaitingTrees

@@ -1,5 +1,5 @@
 -- Values beside the texts that they are written as.
-use Rattle.std.proofs.Common.{◌≡◌, ℕ, List, [], ◌∷◌, ◌++◌, Vec, Global, Bool, true, false, codes, decimal, map, take, length, get_or, ◌+◌, ◌<◌, ◌≤◌, refl, sym, ap, subst, append_assoc}
+use Rattle.std.proofs.Common.{◌≡◌, ℕ, List, [], ◌∷◌, ◌++◌, Vec, Global, Bool, true, false, codes, decimal, map, take, length, get_or, ◌+◌, ◌<◌, ◌≤◌, refl, sym, ap, subst, ◌∙◌, append_assoc}
 use Rattle.std.proofs.lemmas.List.{take_all, map_more}
 use Rattle.std.specs.List.{join_with_byte}
 use Rattle.serde_json.specs.Data.{Data, boolean, number, string, array, unsigned, Items, no_items, item}
@@ -13,8 +13,10 @@ use Rattle.txn.specs.declared.refusals.Refusal.TheVariants as refusal
 use Rattle.order_check.specs.declared.remainder.Kind.{Kind}
 use Rattle.order_check.specs.declared.remainder.Kind.TheVariants as kind
 use Rattle.serde_json.proofs.OnLiterals.{serde_json_on_literals}
-use Rattle.log_text.specs.Replies.{list_text, word_text, flag_text, kind_name}
+use Rattle.log_text.specs.Lists.{list_text, word_text, numbers_text}
+use Rattle.log_text.specs.Replies.{flag_text, kind_name}
 use Rattle.log_text.specs.Texts.{HasText, IsWrittenAs, HaveTexts}
+use Rattle.log_text.specs.Trees.{named_text}
 
 pub number_written : (n : ℕ) → HasText (number (unsigned n)) (decimal n)
 number_written n = record { no_float = refl; text_is = refl }
@@ -70,6 +72,43 @@ report_written = word_written _ refl
 pub show_written : HasText (string (codes "show")) (word_text (codes "show"))
 unfolding serde_json_on_literals
 show_written = word_written _ refl
+
+-- the words of the items of a tree, and of arcs
+pub session_written : HasText (string (codes "session")) (word_text (codes "session"))
+unfolding serde_json_on_literals
+session_written = word_written _ refl
+
+pub read_written : HasText (string (codes "read")) (word_text (codes "read"))
+unfolding serde_json_on_literals
+read_written = word_written _ refl
+
+pub base_written : HasText (string (codes "base")) (word_text (codes "base"))
+unfolding serde_json_on_literals
+base_written = word_written _ refl
+
+pub taken_written : HasText (string (codes "taken")) (word_text (codes "taken"))
+unfolding serde_json_on_literals
+taken_written = word_written _ refl
+
+pub force_written : HasText (string (codes "force")) (word_text (codes "force"))
+unfolding serde_json_on_literals
+force_written = word_written _ refl
+
+pub split_written : HasText (string (codes "split")) (word_text (codes "split"))
+unfolding serde_json_on_literals
+split_written = word_written _ refl
+
+pub cycle_written : HasText (string (codes "cycle")) (word_text (codes "cycle"))
+unfolding serde_json_on_literals
+cycle_written = word_written _ refl
+
+pub nowrite_written : HasText (string (codes "nowrite")) (word_text (codes "nowrite"))
+unfolding serde_json_on_literals
+nowrite_written = word_written _ refl
+
+pub gone_written : HasText (string (codes "gone")) (word_text (codes "gone"))
+unfolding serde_json_on_literals
+gone_written = word_written _ refl
 
 flag_written : (b : Bool) → HasText (boolean b) (flag_text b)
 flag_written true = record { no_float = refl; text_is = refl }
@@ -129,3 +168,33 @@ pub HaveTexts-more : {X : Type 0} (text : X → List ℕ) (vs ws : List Value) (
 HaveTexts-more text vs ws v xs i d h within is w =
     let more = HaveTexts-push vs v (map text (take i xs)) (text (get_or xs i d)) h w in
     subst (λ us. HaveTexts (items_view us) (map text (take (i + 1) xs))) (sym is) (subst (HaveTexts (items_view (vs ++ v ∷ []))) (sym (map_more text xs i d within)) more)
+
+-- ---- numbers
+
+-- numbers as data
+abbrev pub numbers_given : List ℕ → Items
+numbers_given [] = no_items
+numbers_given (n ∷ ns) = item (number (unsigned n)) (numbers_given ns)
+
+have_decimals : (ns : List ℕ) → HaveTexts (numbers_given ns) (map decimal ns)
+have_decimals [] = tt
+have_decimals (n ∷ ns) = (number_written n, have_decimals ns)
+
+pub numbers_written : (v : Value) (ns : List ℕ) → view v ≡ array (numbers_given ns) → IsWrittenAs v (numbers_text ns)
+numbers_written v ns is = value_written v (numbers_given ns) (map decimal ns) is (have_decimals ns)
+
+-- a word and numbers
+pub named_written : (v : Value) (word : List ℕ) (ns : List ℕ) → HasText (string word) (word_text word) → view v ≡ array (item (string word) (numbers_given ns)) → IsWrittenAs v (named_text word ns)
+named_written v word ns w is = value_written v (item (string word) (numbers_given ns)) (word_text word ∷ map decimal ns) is (w, have_decimals ns)
+
+-- a word and one value
+pub word_and_written : (v one : Value) (word text : List ℕ) → HasText (string word) (word_text word) → IsWrittenAs one text → view v ≡ array (item (string word) (item (view one) no_items)) → IsWrittenAs v (list_text (word_text word ∷ text ∷ []))
+word_and_written v one word text w is e = value_written v (item (string word) (item (view one) no_items)) (word_text word ∷ text ∷ []) e (w, (is, tt))
+
+-- the value of one more element, behind others
+pub HaveTexts-on : {X : Type 0} (text : X → List ℕ) (vs ws : List Value) (v : Value) (before : List (List ℕ)) (xs : List X) (i : ℕ) (d : X) → HaveTexts (items_view vs) (before ++ map text (take i xs)) → i < length xs → ws ≡ vs ++ v ∷ []
+    → IsWrittenAs v (text (get_or xs i d)) → HaveTexts (items_view ws) (before ++ map text (take (i + 1) xs))
+HaveTexts-on text vs ws v before xs i d h within is w =
+    let more = HaveTexts-push vs v (before ++ map text (take i xs)) (text (get_or xs i d)) h w in
+    let same = append_assoc before (map text (take i xs)) (text (get_or xs i d) ∷ []) ∙ ap (λ (ts : List (List ℕ)). before ++ ts) (sym (map_more text xs i d within)) in
+    subst (λ us. HaveTexts (items_view us) (before ++ map text (take (i + 1) xs))) (sym is) (subst (HaveTexts (items_view (vs ++ v ∷ []))) same more)

@@ -1,5 +1,8 @@
 pub mod Commands
 pub mod Items
+pub mod Lists
 pub mod Numbers
 pub mod Replies
 pub mod Texts
+pub mod Trees
+pub mod Waiting

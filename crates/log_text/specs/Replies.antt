@@ -1,24 +1,13 @@
 -- The text of replies: each is one JSON array, with no space in it.
 use Rattle.std.specs.Prelude.{ℕ, List, [], ◌∷◌, ◌++◌, Bool, true, false, map, codes, decimal, ⊤}
-use Rattle.std.specs.List.{join_with_byte}
 use Rattle.txn.specs.declared.transactions.TxnId.{TxnId}
 use Rattle.txn.specs.Refusals.{number_of, name_of}
 use Rattle.order_check.specs.declared.remainder.Kind.{Kind}
 use Rattle.order_check.specs.declared.remainder.Kind.TheVariants as kind
 use Rattle.log_text.specs.declared.replies.Reply.{Reply}
 use Rattle.log_text.specs.declared.replies.Reply.TheVariants as reply
-
--- texts in brackets, with a comma (44) between each two
-abbrev pub list_text : List (List ℕ) → List ℕ
-list_text texts = codes "[" ++ join_with_byte 44 texts ++ codes "]"
-
--- a word in quotation marks
-abbrev pub word_text : List ℕ → List ℕ
-word_text word = codes "\"" ++ word ++ codes "\""
-
--- numbers in decimal: [2,1]
-abbrev pub numbers_text : List ℕ → List ℕ
-numbers_text numbers = list_text (map decimal numbers)
+use Rattle.log_text.specs.Lists.{list_text, word_text, numbers_text}
+use Rattle.log_text.specs.Trees.{tree_text}
 
 -- an id: [session,number]
 abbrev pub id_text : TxnId → List ℕ
@@ -46,7 +35,7 @@ abbrev pub text_of : Reply → List ℕ
 text_of reply.Done = list_text (word_text (codes "ok") ∷ [])
 text_of (reply.No refusal) = list_text (word_text (codes "no") ∷ decimal (number_of refusal) ∷ word_text (name_of refusal) ∷ [])
 text_of (reply.Order round kind counts order) = report_text round kind (numbers_text counts ∷ list_text (map id_text order) ∷ [])
-text_of (reply.Violated round counts) = report_text round kind.Violated (numbers_text counts ∷ list_text [] ∷ [])
+text_of (reply.Violated round counts tree) = report_text round kind.Violated (numbers_text counts ∷ tree_text tree ∷ [])
 text_of (reply.Spent round counts) = report_text round kind.Spent (numbers_text counts ∷ [])
 text_of (reply.Show marks received closed last remaining) = list_text (word_text (codes "show") ∷ numbers_text marks ∷ numbers_text received ∷ list_text (map flag_text closed) ∷ list_text (map writer_text last) ∷ decimal remaining ∷ [])
 

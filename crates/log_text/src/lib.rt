@@ -5,6 +5,7 @@ mod commands;
 mod fragments;
 mod numbers;
 mod replies;
+mod trees;
 
 pub use commands::{Command, read_line};
 pub use replies::{Reply, write_reply};

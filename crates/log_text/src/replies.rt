@@ -1,8 +1,11 @@
 ghost use Rattle.std.specs.Prelude.{◌≡◌, IfOk, map, codes, decimal};
-ghost use Rattle.log_text.specs.Replies.{line_of, text_of, HasKindOfOrder, numbers_text, id_text, writer_text, flag_text, list_text, kind_name};
+ghost use Rattle.log_text.specs.Lists.{list_text, numbers_text};
+ghost use Rattle.log_text.specs.Replies.{line_of, text_of, HasKindOfOrder, id_text, writer_text, flag_text, kind_name};
 ghost use Rattle.log_text.specs.Texts.{IsWrittenAs};
 
+use crate::trees::tree_value;
 use order_check::Kind;
+use refutation::Tree;
 use serde_json::{Value, json};
 use std::alloc::Global;
 use txn::{NoMemory, Refusal, Sequence, TxnId};
@@ -21,10 +24,11 @@ pub enum Reply {
         counts: Sequence<u64>,
         order: Sequence<TxnId>,
     },
-    /// A round found that no order explains the history.
+    /// A round found that no order explains the history, and a tree shows it.
     Violated {
         round: u64,
         counts: Sequence<u64>,
+        tree: Tree,
     },
     /// A round used its budget up.
     Spent {
@@ -130,11 +134,17 @@ fn ordered(
     json!(in alloc; ["report", round, kind_name(kind), counts, order])
 }
 
-fn violated(alloc: Global, round: u64, counts: &Sequence<u64>) -> Result<Value, NoMemory>
-    ensures { IfOk result (λ value. IsWrittenAs value (text_of (Reply.Violated round counts.now))) }
+fn violated(
+    alloc: Global,
+    round: u64,
+    counts: &Sequence<u64>,
+    tree: &Tree,
+) -> Result<Value, NoMemory>
+    ensures { IfOk result (λ value. IsWrittenAs value (text_of (Reply.Violated round counts.now tree.now))) }
 {
     let counts = numbers(alloc, counts.as_slice())?;
-    json!(in alloc; ["report", round, kind_name(Kind::Violated), counts, []])
+    let tree = tree_value(alloc, tree)?;
+    json!(in alloc; ["report", round, kind_name(Kind::Violated), counts, tree])
 }
 
 fn spent(alloc: Global, round: u64, counts: &Sequence<u64>) -> Result<Value, NoMemory>
@@ -173,7 +183,11 @@ fn value_of(alloc: Global, reply: &Reply) -> Result<Value, NoMemory>
             counts,
             order,
         } => ordered(alloc, *round, *kind, counts, order),
-        Reply::Violated { round, counts } => violated(alloc, *round, counts),
+        Reply::Violated {
+            round,
+            counts,
+            tree,
+        } => violated(alloc, *round, counts, tree),
         Reply::Spent { round, counts } => spent(alloc, *round, counts),
         Reply::Show {
             marks,

@@ -28,7 +28,6 @@ use Rattle.round_state.specs.Runs.{Holds}
 use Rattle.round_state.specs.Kept.{IsKept}
 use Rattle.round_state.specs.Steps.{IsAdmitted}
 use Rattle.round_state.specs.Opening.{IsSessions, IsLimit, empty_parts, fresh, fresh_state}
-use Rattle.round_state.specs.Trial.{CanBeTried}
 use Rattle.round_state.specs.Awaiting.{awaited_from, HaveArrived}
 use Rattle.round_state.specs.Tracked.{AreMarksOf, IsIndexOf}
 use Rattle.round_state.proofs.Grown.{good_with, good_closed}
@@ -42,7 +41,7 @@ kept_along parts marks waits asked rounds remain e kept = subst (λ (sessions : 
 -- an index in which the same reads wait
 pub kept_index : (parts : Parts) (marks : List SessionMark) (old new : Index) (asked : Option Parts) (rounds : ℕ) → WaitsAsBefore old new → IsKept parts marks old asked rounds → IsKept parts marks new asked rounds
 kept_index parts marks old new asked rounds same kept = record {
-  parts_fit = kept.parts_fit;
+  good = kept.good;
   marks_fit = kept.marks_fit;
   waits_fit = index_as_before parts old new kept.waits_fit same;
   numbers = kept.numbers;
@@ -53,7 +52,7 @@ kept_index parts marks old new asked rounds same kept = record {
 pub kept_with : (parts : Parts) (marks : List SessionMark) (old mid new : Index) (asked : Option Parts) (rounds : ℕ) (f : Fragment) (remain : List (List Txn)) → remain ≡ with_fragment parts.remain f → IsKept parts marks old asked rounds → IsAdmitted parts f → WaitsAlso old mid (awaited_from marks f.session f.first f.txns) → HaveArrived mid new f.session f.first (length f.txns) → IsKept (record parts { remain = remain }) (with_received marks f.session (length f.txns)) new asked rounds
 kept_with parts marks old mid new asked rounds f remain e kept fits also come =
     kept_along (parts_with parts f) (with_received marks f.session (length f.txns)) new asked rounds remain e (record {
-      parts_fit = record { good = good_with parts f kept.parts_fit.good fits; low_limit = kept.parts_fit.low_limit };
+      good = good_with parts f kept.good fits;
       marks_fit = marks_with marks parts f kept.marks_fit fits.next.session.0;
       waits_fit = index_with marks parts old mid new f kept.marks_fit kept.waits_fit fits also come;
       numbers = kept.numbers;
@@ -83,8 +82,8 @@ cut_back_to remain grown cut place s n txns before p within b e g c =
 -- a session closed
 pub kept_closed : (parts : Parts) (marks : List SessionMark) (waits : Index) (asked : Option Parts) (rounds s : ℕ) (closed : List Bool) → closed ≡ slice_set parts.closed s true → s < length parts.remain → IsKept parts marks waits asked rounds → IsKept (record parts { closed = closed }) (with_closed marks s) waits asked rounds
 kept_closed parts marks waits asked rounds s closed e within kept = subst (λ (flags : List Bool). IsKept (record parts { closed = flags }) (with_closed marks s) waits asked rounds) (sym e) (record {
-  parts_fit = record { good = good_closed parts s kept.parts_fit.good; low_limit = kept.parts_fit.low_limit };
-  marks_fit = marks_closed marks parts s kept.marks_fit kept.parts_fit.good within;
+  good = good_closed parts s kept.good;
+  marks_fit = marks_closed marks parts s kept.marks_fit kept.good within;
   waits_fit = kept.waits_fit;
   numbers = kept.numbers;
   number = kept.number;
@@ -150,9 +149,8 @@ marks_fresh sessions limit =
 
 pub kept_fresh : (sessions limit : ℕ) (parts : Parts) (marks : List SessionMark) → parts ≡ empty_parts sessions limit → marks ≡ replicate sessions fresh_mark → IsSessions sessions → IsLimit limit → IsKept parts marks [] None 0
 kept_fresh sessions limit parts marks e m many low =
-    let fits : CanBeTried (empty_parts sessions limit) = record { good = good_empty sessions limit many low; low_limit = low.1 } in
     record {
-      parts_fit = subst CanBeTried (sym e) fits;
+      good = subst IsGood (sym e) (good_empty sessions limit many low);
       marks_fit = subst (λ (p : Parts). AreMarksOf marks p) (sym e) (subst (λ (ms : List SessionMark). AreMarksOf ms (empty_parts sessions limit)) (sym m) (marks_fresh sessions limit));
       waits_fit = subst (λ (p : Parts). IsIndexOf [] p) (sym e) (index_fresh sessions limit);
       numbers = omega arith;

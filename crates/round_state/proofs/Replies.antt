@@ -11,13 +11,16 @@ use Rattle.order_check.specs.Laws.{SameVerdictAsStoodFor, OfferKeepsStandsFor, C
 use Rattle.order_check.specs.StandsFor.{StandsFor}
 use Rattle.order_check.specs.Verdict.{IsVerdict}
 use Rattle.order_check.specs.Whole.{IsVerdictWhole}
+use Rattle.refutation.specs.Laws.{RefutedHasNoOrder}
+use Rattle.refutation.specs.Refutes.{IsRefutation}
+use Rattle.polygraph.specs.Solving.{IsLawful}
+use Rattle.polygraph.specs.declared.solving.Answer.{Answer}
+use Rattle.polygraph.specs.declared.solving.Answer.TheVariants as answers
 use Rattle.round_state.specs.EngineState.{EngineState}
 use Rattle.round_state.specs.Legal.{State, Legal, IsTrueOf, TellsOf, IsTrueReply, whole_after, asked_after}
 use Rattle.round_state.specs.Runs.{Holds, StepsLegally}
-use Rattle.round_state.specs.Solving.{IsLawful, IsRight, IsReportOn}
+use Rattle.round_state.specs.Solving.{IsRight, IsReportOn}
 use Rattle.round_state.specs.Steps.{IsFinished, IsKindOf, Shows, IsRightReport, StepsTo}
-use Rattle.round_state.specs.declared.solving.Answer.{Answer}
-use Rattle.round_state.specs.declared.solving.Answer.TheVariants as answers
 use Rattle.round_state.specs.declared.reports.Certificate.{Certificate}
 use Rattle.round_state.specs.declared.reports.Certificate.TheVariants.{Order, Refuted, Nothing}
 use Rattle.round_state.specs.declared.reports.Report.{Report}
@@ -31,27 +34,28 @@ none_or_some : (parts : Parts) → None ≡ Some parts → ⊥
 none_or_some parts e = cc
 
 -- what a lawful answer earns is the verdict, and shown
-earned : (parts : Parts) (budget depth : ℕ) (answer : Answer) (kind : Kind) (certificate : Certificate) → IsLawful parts budget depth answer → IsRight parts answer kind certificate → IsKindOf parts kind × Shows parts budget depth kind certificate
-earned parts budget depth (answers.Yes order) kinds.Serial (Order shown) lawful right = (right.2, subst (Explains parts) (sym right.0) right.1)
-earned parts budget depth (answers.Yes order) kinds.Pending (Order shown) lawful right = (right.2, subst (Explains parts) (sym right.0) right.1)
-earned parts budget depth (answers.Yes order) kinds.Violated (Order shown) lawful right = absurd (right.2 (order, right.1))
-earned parts budget depth (answers.Yes order) kinds.Spent (Order shown) lawful right = absurd right.2
-earned parts budget depth answers.No kind Refuted lawful right =
-    subst (λ (k : Kind). IsKindOf parts k × Shows parts budget depth k Refuted) (sym right.0) (right.1, right.1)
-earned parts budget depth answers.Spent kind Nothing lawful right =
+earned : (parts : Parts) (budget depth : ℕ) (answer : Answer) (kind : Kind) (certificate : Certificate) → RefutedHasNoOrder → IsGood parts → IsLawful parts budget depth answer → IsRight parts answer kind certificate → IsKindOf parts kind × Shows parts budget depth kind certificate
+earned parts budget depth (answers.Yes order) kinds.Serial (Order shown) law good lawful right = (right.2, subst (Explains parts) (sym right.0) right.1)
+earned parts budget depth (answers.Yes order) kinds.Pending (Order shown) law good lawful right = (right.2, subst (Explains parts) (sym right.0) right.1)
+earned parts budget depth (answers.Yes order) kinds.Violated (Order shown) law good lawful right = absurd (right.2 (order, right.1))
+earned parts budget depth (answers.Yes order) kinds.Spent (Order shown) law good lawful right = absurd right.2
+earned parts budget depth (answers.No tree) kind (Refuted shown) law good lawful right =
+    let refuted : IsRefutation parts shown = subst (IsRefutation parts) (sym right.0) right.2 in
+    subst (λ (k : Kind). IsKindOf parts k × Shows parts budget depth k (Refuted shown)) (sym right.1) (law parts shown good refuted, refuted)
+earned parts budget depth answers.Spent kind Nothing law good lawful right =
     subst (λ (k : Kind). IsKindOf parts k × Shows parts budget depth k Nothing) (sym right) (tt, lawful)
-earned parts budget depth answer kind certificate lawful right = absurd right
+earned parts budget depth answer kind certificate law good lawful right = absurd right
 
-right_report : (old : EngineState) (asked : Option Parts) (parts : Parts) (budget depth : ℕ) (answer : Answer) (report : Report) → asked ≡ Some parts → IsLawful parts budget depth answer → IsSomeAnd asked (λ p. IsReportOn p (old.rounds + 1) answer report) → IsSomeAnd asked (λ p. IsRightReport old p budget depth report)
-right_report old None parts budget depth answer report e lawful said = absurd said
-right_report old (Some snapshot) parts budget depth answer report e lawful said =
+right_report : (old : EngineState) (asked : Option Parts) (parts : Parts) (budget depth : ℕ) (answer : Answer) (report : Report) → RefutedHasNoOrder → IsGood parts → asked ≡ Some parts → IsLawful parts budget depth answer → IsSomeAnd asked (λ p. IsReportOn p (old.rounds + 1) answer report) → IsSomeAnd asked (λ p. IsRightReport old p budget depth report)
+right_report old None parts budget depth answer report law good e lawful said = absurd said
+right_report old (Some snapshot) parts budget depth answer report law good e lawful said =
     let same : parts ≡ snapshot = cc in
-    let earns = earned snapshot budget depth answer report.kind report.certificate (subst (λ (p : Parts). IsLawful p budget depth answer) same lawful) said.right in
+    let earns = earned snapshot budget depth answer report.kind report.certificate law (subst IsGood same good) (subst (λ (p : Parts). IsLawful p budget depth answer) same lawful) said.right in
     record { number = said.number; counts = said.counts; kind = earns.0; shown = earns.1 }
 
-pub finish_reported : (old new : EngineState) (parts : Parts) (budget depth workers : ℕ) (answer : Answer) (report : Report) → old.asked ≡ Some parts → IsLawful parts budget depth answer → IsSomeAnd old.asked (λ p. IsReportOn p (old.rounds + 1) answer report) → IsFinished old new → StepsTo old (Finish budget depth workers) (reply.Report report) new
-finish_reported old new parts budget depth workers answer report open_round lawful said done =
-    (right_report old old.asked parts budget depth answer report open_round lawful said, done)
+pub finish_reported : (old new : EngineState) (parts : Parts) (budget depth workers : ℕ) (answer : Answer) (report : Report) → RefutedHasNoOrder → ((parts : Parts) → old.asked ≡ Some parts → IsGood parts) → old.asked ≡ Some parts → IsLawful parts budget depth answer → IsSomeAnd old.asked (λ p. IsReportOn p (old.rounds + 1) answer report) → IsFinished old new → StepsTo old (Finish budget depth workers) (reply.Report report) new
+finish_reported old new parts budget depth workers answer report law good open_round lawful said done =
+    (right_report old old.asked parts budget depth answer report law (good parts open_round) open_round lawful said, done)
 
 -- Whole histories.
 

@@ -3,11 +3,11 @@ use Rattle.std.specs.Prelude.{◌≡◌, ℕ, ◌-◌, ◌<◌, ◌≤◌, ◌^�
 use Rattle.session_marks.specs.declared.marks.SessionMark.{SessionMark}
 use Rattle.pending_reads.specs.Waiting.{Index}
 use Rattle.order_check.specs.declared.remainder.Parts.{Parts}
+use Rattle.order_check.specs.Good.{IsGood}
 use Rattle.round_state.specs.Tracked.{AreMarksOf, IsIndexOf}
-use Rattle.round_state.specs.Trial.{CanBeTried}
 
 pub record IsKept (parts : Parts) (marks : List SessionMark) (waits : Index) (asked : Option Parts) (rounds : ℕ) : Type 0 where
-  pub parts_fit : CanBeTried parts
+  pub good : IsGood parts
   pub marks_fit : AreMarksOf marks parts
   pub waits_fit : IsIndexOf waits parts
   -- rounds are numbered below 2^48, that of an open round too

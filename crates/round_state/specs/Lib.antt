@@ -7,4 +7,3 @@ pub mod Runs
 pub mod Solving
 pub mod Steps
 pub mod Tracked
-pub mod Trial

@@ -33,9 +33,9 @@ fresh_state sessions limit = record { engine = fresh sessions limit; whole = no_
 abbrev pub IsSessions : ℕ → Type 0
 IsSessions sessions = (1 ≤ sessions) × (sessions ≤ 64)
 
--- so many transactions may be let remain: as many as a trial of all orders can take
+-- so many transactions may be let remain
 abbrev pub IsLimit : ℕ → Type 0
-IsLimit limit = (1 ≤ limit) × (limit ≤ 8)
+IsLimit limit = (1 ≤ limit) × (limit ≤ 4096)
 
 -- Why no engine is given: the number of sessions is judged before the limit, and memory is asked for last.
 abbrev pub IsOpenRefusal : ℕ → ℕ → Refusal → Type 0

@@ -11,10 +11,12 @@ use Rattle.order_check.specs.declared.remainder.Kind.TheVariants as kinds
 use Rattle.order_check.specs.Based.{received_count, received_counts}
 use Rattle.order_check.specs.Explains.{Explains}
 use Rattle.order_check.specs.StandsFor.{IsOpenSession, IsNextFragment, parts_with, parts_closed}
-use Rattle.order_check.specs.Verdict.{HasOrder, IsVerdict}
+use Rattle.order_check.specs.Verdict.{IsVerdict}
+use Rattle.refutation.specs.Refutes.{IsRefutation}
+use Rattle.polygraph.specs.Solving.{MayBeSpent}
+use Rattle.polygraph.specs.declared.solving.Answer.{Answer}
 use Rattle.round_state.specs.EngineState.{EngineState}
-use Rattle.round_state.specs.Solving.{MayBeSpent, IsWrong}
-use Rattle.round_state.specs.declared.solving.Answer.{Answer}
+use Rattle.round_state.specs.Solving.{IsWrong}
 use Rattle.round_state.specs.declared.reports.Certificate.{Certificate}
 use Rattle.round_state.specs.declared.reports.Certificate.TheVariants.{Order, Refuted, Nothing}
 use Rattle.round_state.specs.declared.reports.Report.{Report}
@@ -108,12 +110,12 @@ abbrev pub IsKindOf : Parts → Kind → Type 0
 IsKindOf parts kinds.Spent = ⊤
 IsKindOf parts kind = IsVerdict parts kind
 
--- The certificate shows the kind over the snapshot: an order that explains it, that there is none, or that the search of
+-- The certificate shows the kind over the snapshot: an order that explains it, a tree that refutes it, or that the search of
 -- this budget and depth may be spent.
 abbrev pub Shows : Parts → ℕ → ℕ → Kind → Certificate → Type 0
 Shows parts budget depth kinds.Serial (Order order) = Explains parts order
 Shows parts budget depth kinds.Pending (Order order) = Explains parts order
-Shows parts budget depth kinds.Violated Refuted = ¬ HasOrder parts
+Shows parts budget depth kinds.Violated (Refuted tree) = IsRefutation parts tree
 Shows parts budget depth kinds.Spent Nothing = MayBeSpent parts budget depth
 Shows parts budget depth kind certificate = ⊥
 

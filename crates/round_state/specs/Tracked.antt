@@ -7,8 +7,8 @@ use Rattle.session_marks.specs.declared.marks.SessionMark.{SessionMark}
 use Rattle.session_marks.specs.Marks.{mark_at}
 use Rattle.pending_reads.specs.Waiting.{Index, Waits}
 use Rattle.order_check.specs.declared.remainder.Parts.{Parts}
+use Rattle.order_check.specs.Good.{IsGood}
 use Rattle.order_check.specs.Based.{mark_of, received_count, received_counts, remaining_at, IsReceived, HasPending}
-use Rattle.round_state.specs.Trial.{CanBeTried}
 
 -- The marks tell of each session of the parts how many are gone, how many were received, and whether it is closed.
 pub record AreMarksOf (marks : List SessionMark) (parts : Parts) : Type 0 where
@@ -25,8 +25,8 @@ IsPendingRead parts reader key writer = Reads (remaining_at parts) reader key (B
 abbrev pub IsIndexOf : Index → Parts → Type 0
 IsIndexOf index parts = (reader writer : TxnId) (key : ℕ) → Waits index reader key writer ↔ IsPendingRead parts reader key writer
 
--- What is kept with a snapshot, parts that a trial can take: how many were received of each session, and whether a read was pending.
+-- What is kept with a snapshot of good parts: how many were received of each session, and whether a read was pending.
 pub record IsSnapshot (parts : Parts) (told : List ℕ) (some : Bool) : Type 0 where
-  pub fit : CanBeTried parts
+  pub good : IsGood parts
   pub counts : told ≡ received_counts parts
   pub pending : IsTrue some ↔ HasPending parts

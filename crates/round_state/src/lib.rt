@@ -3,15 +3,11 @@
 #![tactic(auto)]
 
 mod intake;
-mod problems;
 mod reports;
 mod snapshots;
-mod solving;
 mod state;
 mod steps;
 
-pub use problems::Problem;
 pub use reports::{Certificate, Report, received_counts};
-pub use solving::{Answer, Solver, TrialSolver};
 pub use state::Engine;
 pub use steps::{Step, StepReply};

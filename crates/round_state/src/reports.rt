@@ -3,11 +3,11 @@ ghost use Rattle.order_check.specs.Based.{received_counts};
 ghost use Rattle.order_check.specs.Good.{IsGood};
 ghost use Rattle.order_check.specs.Verdict.{HasOrder, IsVerdict};
 ghost use Rattle.round_state.specs.Solving.{IsRight, IsReportRefusal};
-ghost use Rattle.round_state.specs.Trial.{CanBeTried};
 
 use crate::snapshots::Snapshot;
-use crate::solving::Answer;
-use order_check::{Kind, Parts, explains, find_order};
+use order_check::{Kind, Parts, explains};
+use polygraph::Answer;
+use refutation::{Tree, check};
 use std::alloc::Global;
 use txn::{NoMemory, Refusal, Sequence, TxnId};
 
@@ -16,8 +16,8 @@ use txn::{NoMemory, Refusal, Sequence, TxnId};
 pub enum Certificate {
     /// The order explains the snapshot.
     Order(Sequence<TxnId>),
-    /// No order explains the snapshot.
-    Refuted,
+    /// No order explains the snapshot, as the tree shows.
+    Refuted(Tree),
     /// The round was spent: nothing is shown.
     Nothing,
 }
@@ -72,11 +72,11 @@ pub(crate) fn judge(
             }
             Ok((kind_of_explained(snapshot), Certificate::Order(order)))
         }
-        Answer::No => {
-            if find_order(alloc, snapshot.parts())?.is_some() {
+        Answer::No(tree) => {
+            if !check(alloc, snapshot.parts(), &tree)? {
                 return Err(Refusal::BadCertificate);
             }
-            Ok((Kind::Violated, Certificate::Refuted))
+            Ok((Kind::Violated, Certificate::Refuted(tree)))
         }
         Answer::Spent => Ok((Kind::Spent, Certificate::Nothing)),
         Answer::NoMemory => Err(Refusal::NoMemory),

@@ -1,7 +1,7 @@
 ghost use Rattle.std.specs.Prelude.{◌≡◌, ◌↔◌, IfOk, IsTrue};
 ghost use Rattle.order_check.specs.Based.{received_counts, HasPending};
+ghost use Rattle.order_check.specs.Good.{IsGood};
 ghost use Rattle.round_state.specs.Tracked.{AreMarksOf, IsIndexOf};
-ghost use Rattle.round_state.specs.Trial.{CanBeTried};
 
 use order_check::Parts;
 use pending_reads::PendingReads;
@@ -42,7 +42,7 @@ impl Snapshot {
         marks: &Marks,
         waits: &PendingReads,
     ) -> Result<Snapshot, NoMemory>
-        requires fit { CanBeTried parts.now }
+        requires good { IsGood parts.now }
         requires marks { AreMarksOf marks.now parts.now }
         requires index { IsIndexOf waits.now parts.now }
         ensures { IfOk result (λ snapshot. snapshot ≡ parts.now) }
@@ -56,7 +56,7 @@ impl Snapshot {
 
     pub fn parts(&self) -> &Parts
         ensures value { result.now ≡ self.now }
-        ensures fit { CanBeTried result.now }
+        ensures good { IsGood result.now }
     {
         &self.parts
     }

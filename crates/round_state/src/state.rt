@@ -3,16 +3,17 @@ ghost use Rattle.order_check.specs.Good.{IsGood};
 ghost use Rattle.order_check.specs.StandsFor.{IsOpenSession};
 ghost use Rattle.round_state.specs.Opening.{IsSessions, IsLimit, IsOpenRefusal, no_history, empty_parts, fresh, fresh_state};
 ghost use Rattle.round_state.specs.Steps.{IsAdmitted, IsOfferRefusal, IsCloseRefusal, MayBegin, IsBeginRefusal, IsFinishRefusal, IsAbandonRefusal, IsFinished, engine_offered, engine_closed, engine_begun, engine_abandoned};
+ghost use Rattle.round_state.specs.EngineState.{parts_asked};
 ghost use Rattle.round_state.specs.Runs.{Holds};
 ghost use Rattle.round_state.specs.Solving.{IsReportOn};
 
 use crate::intake::{admit, arrive_all, awaited_reads};
-use crate::problems::Problem;
 use crate::reports::{Report, judge};
 use crate::snapshots::Snapshot;
-use crate::solving::Answer;
+use forced_choices::Saturated;
 use order_check::{Base, LastWriters, Parts, stands_for_what_remains};
 use pending_reads::PendingReads;
+use polygraph::{Answer, Problem};
 use session_marks::Marks;
 use std::alloc::Global;
 use std::marker::Model;
@@ -21,8 +22,8 @@ use txn::{Fragment, NoMemory, Refusal, Sequence, Txn, check_fragment};
 /// The greatest number of sessions.
 const GREATEST_SESSIONS: u64 = 64;
 
-/// The greatest number of transactions that may remain: as many as a trial of all orders can take.
-const GREATEST_LIMIT: u64 = 8;
+/// The greatest number of transactions that may remain.
+const GREATEST_LIMIT: u64 = 4096;
 
 /// The number of the last round.
 const LAST_ROUND: u64 = (1 << 48) - 1;
@@ -107,6 +108,15 @@ fn empty_parts(alloc: Global, sessions: u64, limit: u64) -> Result<Parts, NoMemo
     })
 }
 
+/// The problem of these parts, whose known relation is built here.
+fn problem_of(alloc: Global, parts: &Parts) -> Result<Problem, NoMemory>
+    requires { IsGood parts.now }
+    ensures { IfOk result (λ problem. problem.known.parts ≡ parts.now) }
+{
+    let known = Saturated::of(alloc, parts)?;
+    Problem::about(alloc, known)
+}
+
 impl Engine {
     /// A fresh engine of so many sessions, which lets at most so many transactions remain.
     pub fn open(alloc: Global, sessions: u64, limit: u64) -> Result<Engine, Refusal>
@@ -184,7 +194,7 @@ impl Engine {
 
     /// Opens a round on what has been received, and gives the problem that an answer finishes it by.
     pub fn begin(&mut self, alloc: Global) -> Result<Problem, Refusal>
-        ensures ok { IfOk result (λ problem. MayBegin self.old × (problem ≡ self.old.parts) × (self.new ≡ engine_begun self.old)) }
+        ensures ok { IfOk result (λ problem. MayBegin self.old × (problem.known.parts ≡ self.old.parts) × (self.new ≡ engine_begun self.old)) }
         ensures err { IfErr result (λ refusal. IsBeginRefusal self.old refusal × (self.new ≡ self.old)) }
     {
         if self.asked.is_some() {
@@ -193,7 +203,7 @@ impl Engine {
         if self.round >= LAST_ROUND {
             return Err(Refusal::TooLong);
         }
-        let problem = Problem::of(alloc, &self.parts)?;
+        let problem = problem_of(alloc, &self.parts)?;
         let snapshot = Snapshot::of(alloc, &self.parts, &self.marks, &self.waits)?;
         self.asked = Some(snapshot);
         Ok(problem)
@@ -221,10 +231,10 @@ impl Engine {
 
     /// The problem of the round that is open, if one is, made anew.
     pub fn open_problem(&self, alloc: Global) -> Result<Option<Problem>, NoMemory>
-        ensures { IfOk result (λ problem. problem ≡ self.now.asked) }
+        ensures { IfOk result (λ problem. parts_asked problem ≡ self.now.asked) }
     {
         match &self.asked {
-            Some(snapshot) => Ok(Some(Problem::of(alloc, snapshot.parts())?)),
+            Some(snapshot) => Ok(Some(problem_of(alloc, snapshot.parts())?)),
             None => Ok(None),
         }
     }

@@ -1,13 +1,14 @@
 ghost use Rattle.std.specs.Prelude.{◌≡◌, ◌<◌, ◌≤◌, [], ◌∷◌, ◌++◌, All, IfOk, OnErr, vec_len, vec_capacity};
 ghost use Rattle.order_check.specs.Effort.{IsEffort};
+ghost use Rattle.round_state.specs.EngineState.{EngineState, parts_asked};
 ghost use Rattle.round_state.specs.Runs.{HasLimits, StepsLegally, RunsLegally};
 ghost use Rattle.round_state.specs.Steps.{StepsTo, RunsTo};
 
-use crate::problems::Problem;
 use crate::reports::Report;
-use crate::solving::Solver;
 use crate::state::Engine;
 use order_check::{close_keeps_stands_for, offer_keeps_stands_for, verdict_as_stood_for};
+use polygraph::{Problem, Solver};
+use refutation::refuted_has_no_order;
 use std::alloc::Global;
 use txn::{Fragment, NoMemory, Refusal};
 
@@ -66,9 +67,9 @@ impl Engine {
     }
 
     fn reply_to_begin(&mut self, alloc: Global, kept: &mut Option<Problem>) -> StepReply
-        requires { kept.old ≡ self.old.asked }
+        requires { parts_asked kept.old ≡ self.old.asked }
         ensures right { StepsTo self.old Step.Begin result self.new }
-        ensures kept { kept.new ≡ self.new.asked }
+        ensures kept { parts_asked kept.new ≡ self.new.asked }
     {
         match self.begin(alloc) {
             Ok(problem) => {
@@ -88,14 +89,17 @@ impl Engine {
         kept: &mut Option<Problem>,
         solver: &S,
     ) -> StepReply
+        requires ready { S.ready }
         requires effort { IsEffort budget depth workers }
-        requires kept { kept.old ≡ self.old.asked }
+        requires kept { parts_asked kept.old ≡ self.old.asked }
         ensures right { StepsTo self.old (Step.Finish budget depth workers) result self.new }
-        ensures kept { kept.new ≡ self.new.asked }
+        ensures kept { parts_asked kept.new ≡ self.new.asked }
     {
         let Some(problem) = kept.as_ref() else {
             return StepReply::Refused(Refusal::NoRound);
         };
+        refuted_has_no_order();
+        self.has_good_snapshot();
         let answer = solver.solve(alloc, problem, budget, depth, workers);
         match self.finish(alloc, answer) {
             Ok(report) => {
@@ -107,9 +111,9 @@ impl Engine {
     }
 
     fn reply_to_abandon(&mut self, kept: &mut Option<Problem>) -> StepReply
-        requires { kept.old ≡ self.old.asked }
+        requires { parts_asked kept.old ≡ self.old.asked }
         ensures right { StepsTo self.old Step.Abandon result self.new }
-        ensures kept { kept.new ≡ self.new.asked }
+        ensures kept { parts_asked kept.new ≡ self.new.asked }
     {
         match self.abandon() {
             Ok(()) => {
@@ -120,19 +124,33 @@ impl Engine {
         }
     }
 
-    /// Makes a step by the call for it.
-    fn reply<S: Solver>(
+    /// What is right by the engine alone is legal for all whole histories that it stands for.
+    fn right_is_legal(&self)
+        ensures { (step : Step) (reply : StepReply) (new : EngineState) → StepsTo self.now step reply new → StepsLegally self.now step reply new }
+    {
+        offer_keeps_stands_for();
+        close_keeps_stands_for();
+        verdict_as_stood_for();
+        self.has_good_snapshot();
+    }
+
+    /// Makes a step by the call for it, and replies to it. Where the reply is a refusal, nothing has changed. What is kept is the problem
+    /// of the round that is open, and none where none is: a begin puts it there.
+    pub fn step<S: Solver>(
         &mut self,
         alloc: Global,
         step: Step,
         kept: &mut Option<Problem>,
         solver: &S,
     ) -> StepReply
+        requires ready { S.ready }
         requires limits { HasLimits step }
-        requires kept { kept.old ≡ self.old.asked }
+        requires kept { parts_asked kept.old ≡ self.old.asked }
         ensures right { StepsTo self.old step result self.new }
-        ensures kept { kept.new ≡ self.new.asked }
+        ensures legal { StepsLegally self.old step result self.new }
+        ensures kept { parts_asked kept.new ≡ self.new.asked }
     {
+        self.right_is_legal();
         match step {
             Step::Offer(fragment) => self.reply_to_offer(alloc, fragment),
             Step::Close(session) => self.reply_to_close(session),
@@ -146,28 +164,6 @@ impl Engine {
         }
     }
 
-    /// Makes a step and replies to it. Where the reply is a refusal, nothing has changed. What is kept is the problem of the round
-    /// that is open, and none where none is: a begin puts it there.
-    pub fn step<S: Solver>(
-        &mut self,
-        alloc: Global,
-        step: Step,
-        kept: &mut Option<Problem>,
-        solver: &S,
-    ) -> StepReply
-        requires limits { HasLimits step }
-        requires kept { kept.old ≡ self.old.asked }
-        ensures right { StepsTo self.old step result self.new }
-        ensures legal { StepsLegally self.old step result self.new }
-        ensures kept { kept.new ≡ self.new.asked }
-    {
-        offer_keeps_stands_for();
-        close_keeps_stands_for();
-        verdict_as_stood_for();
-        self.has_good_snapshot();
-        self.reply(alloc, step, kept, solver)
-    }
-
     /// Makes a list of steps, and replies to each. Room for the replies is made first, and where a round is open its problem: where
     /// memory is refused for these, nothing has changed.
     pub fn run<S: Solver>(
@@ -176,7 +172,8 @@ impl Engine {
         steps: Vec<Step>,
         solver: &S,
     ) -> Result<Vec<StepReply>, NoMemory>
-        requires { All HasLimits steps.items }
+        requires ready { S.ready }
+        requires limits { All HasLimits steps.items }
         ensures right { IfOk result (λ replies. RunsTo self.old steps.items replies.items self.new) }
         ensures legal { IfOk result (λ replies. RunsLegally self.old steps.items replies.items self.new) }
         ensures err { OnErr result (self.new ≡ self.old) }

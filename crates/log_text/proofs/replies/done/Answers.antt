@@ -1,7 +1,7 @@
 use Rattle.std.proofs.Common.{rules, codes, [], ◌∷◌}
 use Rattle.serde_json.specs.Data.{string, item, no_items}
 use Rattle.serde_json.specs.declared.value.Value.{the_lemmas}
-use Rattle.log_text.specs.Replies.{word_text}
+use Rattle.log_text.specs.Lists.{word_text}
 use Rattle.log_text.proofs.ValueTexts.{value_written, ok_written}
 use Rattle.log_text.proofs.replies.done.Goals as goal
 

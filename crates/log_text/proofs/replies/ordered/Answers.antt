@@ -2,7 +2,8 @@ use Rattle.std.proofs.Common.{rules, codes, decimal, map, [], ◌∷◌}
 use Rattle.serde_json.specs.Data.{string, number, unsigned, item, no_items}
 use Rattle.serde_json.specs.View.{view}
 use Rattle.serde_json.specs.declared.value.Value.{the_lemmas}
-use Rattle.log_text.specs.Replies.{list_text, word_text, id_text, kind_name, numbers_text}
+use Rattle.log_text.specs.Lists.{list_text, word_text, numbers_text}
+use Rattle.log_text.specs.Replies.{id_text, kind_name}
 use Rattle.log_text.proofs.ValueTexts.{value_written, report_written, number_written, kind_written}
 use Rattle.log_text.proofs.replies.ordered.Goals as goal
 

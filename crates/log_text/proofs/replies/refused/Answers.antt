@@ -2,7 +2,7 @@ use Rattle.std.proofs.Common.{rules, codes, decimal, [], ◌∷◌}
 use Rattle.serde_json.specs.Data.{string, number, unsigned, item, no_items}
 use Rattle.serde_json.specs.declared.value.Value.{the_lemmas}
 use Rattle.txn.specs.Refusals.{number_of, name_of}
-use Rattle.log_text.specs.Replies.{word_text}
+use Rattle.log_text.specs.Lists.{word_text}
 use Rattle.log_text.proofs.ValueTexts.{value_written, no_written, number_written, name_written}
 use Rattle.log_text.proofs.replies.refused.Goals as goal
 

@@ -3,7 +3,8 @@ use Rattle.serde_json.specs.Data.{string, number, unsigned, item, no_items}
 use Rattle.serde_json.specs.View.{view}
 use Rattle.serde_json.specs.declared.value.Value.{the_lemmas}
 use Rattle.order_check.specs.declared.remainder.Kind.TheVariants.{Spent}
-use Rattle.log_text.specs.Replies.{word_text, kind_name, numbers_text}
+use Rattle.log_text.specs.Lists.{word_text, numbers_text}
+use Rattle.log_text.specs.Replies.{kind_name}
 use Rattle.log_text.proofs.ValueTexts.{value_written, report_written, number_written, kind_written}
 use Rattle.log_text.proofs.replies.spent.Goals as goal
 

@@ -10,7 +10,7 @@ invariant_of-result c =
     let parts : Parts = c.args.parts.now in
     let told = any_pending parts c.args.waits.now c.requires.index in
     subst (λ (copy : Parts). IsSnapshot copy c.in_ok-received_counts.field-0 c.any.result) (sym c.in_ok-clone.ensures.cases) (record {
-      fit = c.requires.fit;
-      counts = c.in_ok-received_counts.ensures ∙ counts_told c.args.marks.now parts c.requires.marks c.requires.fit.good;
+      good = c.requires.good;
+      counts = c.in_ok-received_counts.ensures ∙ counts_told c.args.marks.now parts c.requires.marks c.requires.good;
       pending = (λ some. told.0 (c.any.ensures.0 some), λ has. c.any.ensures.1 (told.1 has));
     })

@@ -1,8 +1,31 @@
-use Rattle.round_state.proofs.Replies.{legal_of}
 use Rattle.round_state.proofs.state.Engine.step.Goals as goal
 
-pub returns-clause-legal : goal.returns-clause-legal
-returns-clause-legal g c =
-    legal_of c.args.self.now c.reply.new.self c.args.step c.reply.result
-    (record { offers = c.offer_keeps_stands_for.ensures; closes = c.close_keeps_stands_for.ensures; verdicts = c.verdict_as_stood_for.ensures; snapshot = c.has_good_snapshot.ensures })
-    c.reply.ensures.right
+pub returns-in-Offer-clause-right : goal.returns-in-Offer-clause-right
+returns-in-Offer-clause-right g c = rw c.in-Offer.is c.reply_to_offer.ensures.right
+
+pub returns-in-Offer-clause-legal : goal.returns-in-Offer-clause-legal
+returns-in-Offer-clause-legal g c = c.right_is_legal.ensures c.args.step c.reply_to_offer.result c.reply_to_offer.new.self (rw c.in-Offer.is c.reply_to_offer.ensures.right)
+
+pub returns-in-Begin-clause-right : goal.returns-in-Begin-clause-right
+returns-in-Begin-clause-right g c = rw c.in-Begin.is c.reply_to_begin.ensures.right
+
+pub returns-in-Begin-clause-legal : goal.returns-in-Begin-clause-legal
+returns-in-Begin-clause-legal g c = c.right_is_legal.ensures c.args.step c.reply_to_begin.result c.reply_to_begin.new.self (rw c.in-Begin.is c.reply_to_begin.ensures.right)
+
+pub returns-in-Finish-clause-right : goal.returns-in-Finish-clause-right
+returns-in-Finish-clause-right g c = rw c.in-Finish.is c.reply_to_finish.ensures.right
+
+pub returns-in-Finish-clause-legal : goal.returns-in-Finish-clause-legal
+returns-in-Finish-clause-legal g c = c.right_is_legal.ensures c.args.step c.reply_to_finish.result c.reply_to_finish.new.self (rw c.in-Finish.is c.reply_to_finish.ensures.right)
+
+pub returns-in-Abandon-clause-right : goal.returns-in-Abandon-clause-right
+returns-in-Abandon-clause-right g c = rw c.in-Abandon.is c.reply_to_abandon.ensures.right
+
+pub returns-in-Abandon-clause-legal : goal.returns-in-Abandon-clause-legal
+returns-in-Abandon-clause-legal g c = c.right_is_legal.ensures c.args.step c.reply_to_abandon.result c.reply_to_abandon.new.self (rw c.in-Abandon.is c.reply_to_abandon.ensures.right)
+
+pub returns-in-Close-clause-right : goal.returns-in-Close-clause-right
+returns-in-Close-clause-right g c = rw c.in-Close.is c.reply_to_close.ensures.right
+
+pub returns-in-Close-clause-legal : goal.returns-in-Close-clause-legal
+returns-in-Close-clause-legal g c = c.right_is_legal.ensures c.args.step c.reply_to_close.result c.reply_to_close.new.self (rw c.in-Close.is c.reply_to_close.ensures.right)

@@ -1,0 +1,124 @@
+-- What cubes come to.
+use Rattle.std.proofs.Common.{◌≡◌, ℕ, ◌+◌, ◌-◌, ◌*◌, ◌/◌, ◌<◌, ◌≤◌, ◌^◌, ◌⊎◌, Bool, true, false, List, [], ◌∷◌, ◌++◌, length, get_or, Some, sym, ap, subst, inl, inr, zero, suc, refl, ◌∙◌, arith}
+use Rattle.std.specs.Prelude.{All}
+use Rattle.std.specs.List.{slice_get}
+use Rattle.std.proofs.lemmas.Bool.{cases_lt}
+use Rattle.std.proofs.lemmas.List.{length-take}
+use Rattle.std.proofs.lemmas.Nat.{pow-add, pow_pos}
+use Rattle.std.proofs.Math.Nat.{add-mul, lt-div-mul-add, mul-le-mul_right}
+use Rattle.std.proofs.lemmas.Option.{slice_get-get_or}
+use Rattle.order_check.specs.Known.{AreOpenChoices}
+use Rattle.order_check.specs.Search.{Outcome, has_order, no_order, used_up}
+use Rattle.order_check.specs.SearchLaws.{ScansFindOne}
+use Rattle.refutation.specs.declared.trees.Tree.{Tree}
+use Rattle.refutation.specs.Joining.{cube_sides, IsJoin}
+use Rattle.refutation.specs.Laws.{JoinedTreesRefute, JoinedDepth}
+use Rattle.refutation.specs.Refutes.{depth_of, IsRefutation}
+use Rattle.polygraph.specs.ProblemState.{ProblemState}
+use Rattle.polygraph.specs.declared.solving.Answer.{Answer}
+use Rattle.polygraph.specs.declared.solving.Answer.TheVariants.{Yes, No, Spent, NoMemory}
+use Rattle.polygraph.specs.Outcomes.{split_choices, cube_count, share_of, Finds, IsLeastYes, RefutesCube, IsPicked}
+use Rattle.polygraph.specs.Solving.{IsLawful}
+use Rattle.polygraph.specs.SoFar.{AreRefuted, IsTooSmall, IsSoFar, IsPickedOf}
+use Rattle.polygraph.proofs.CubeBounds.{split_are_choices}
+
+finds_one : (law : ScansFindOne) (problem : ProblemState) (depth share cube : ℕ) (one other : Outcome) → Finds problem depth share cube one → Finds problem depth share cube other → one ≡ other
+finds_one law problem depth share cube one other (left, a) (rest, b) = (law problem.known.parts (cube_sides (split_choices problem depth) cube []) share left rest one other a b).0
+
+none_next : (problem : ProblemState) (depth share cube : ℕ) → ((lower : ℕ) → lower < cube → ¬ Finds problem depth share lower has_order) → (¬ Finds problem depth share cube has_order) → (lower : ℕ) → lower < cube + 1 → ¬ Finds problem depth share lower has_order
+none_next problem depth share cube before here lower below finds = by_place (cases_lt lower cube)
+  where
+    by_place : (lower < cube) ⊎ (cube ≤ lower) → ⊥
+    by_place (inl less) = before lower less finds
+    by_place (inr same) = let e : lower ≡ cube = omega arith in here (subst (λ k. Finds problem depth share k has_order) e finds)
+
+pub so_far_first : (problem : ProblemState) (depth share : ℕ) → IsSoFar problem depth share 0 [] false
+so_far_first problem depth share = record {
+  no_yes = λ lower below. absurd (omega arith);
+  refuted = λ e. record { one_each = refl; each = λ k tree is. absurd cc; finds = λ k below. absurd (omega arith) };
+  used = λ e. absurd cc;
+}
+
+at_end : (trees : List Tree) (tree other : Tree) (k : ℕ) → slice_get (trees ++ tree ∷ []) k ≡ Some other → (slice_get trees k ≡ Some other) ⊎ ((k ≡ length trees) × (tree ≡ other))
+at_end [] tree other zero is = inr (refl, cc)
+at_end [] tree other (suc k) is = absurd cc
+at_end (here ∷ trees) tree other zero is = inl is
+at_end (here ∷ trees) tree other (suc k) is = more (at_end trees tree other k is)
+  where
+    more : (slice_get trees k ≡ Some other) ⊎ ((k ≡ length trees) × (tree ≡ other)) → (slice_get trees k ≡ Some other) ⊎ ((suc k ≡ suc (length trees)) × (tree ≡ other))
+    more (inl h) = inl h
+    more (inr (e, same)) = inr (ap suc e, same)
+
+length_end : (trees : List Tree) (tree : Tree) → length (trees ++ tree ∷ []) ≡ length trees + 1
+length_end [] tree = refl
+length_end (here ∷ trees) tree = let more = length_end trees tree in omega (arith, more)
+
+pub so_far_no : (law : ScansFindOne) (problem : ProblemState) (depth share cube : ℕ) (trees : List Tree) (spent : Bool) (tree : Tree) → IsSoFar problem depth share cube trees spent → Finds problem depth share cube no_order → RefutesCube problem depth cube tree → IsSoFar problem depth share (cube + 1) (trees ++ tree ∷ []) spent
+so_far_no law problem depth share cube trees spent tree before finds refutes = record {
+  no_yes = none_next problem depth share cube before.no_yes (λ other. let e = finds_one law problem depth share cube no_order has_order finds other in cc);
+  refuted = λ e. refuted_more (before.refuted e);
+  used = λ e. let is = before.used e in let low = is.below in record { at = is.at; below = omega arith; finds = is.finds; small = is.small };
+}
+  where
+    refuted_more : AreRefuted problem depth share cube trees → AreRefuted problem depth share (cube + 1) (trees ++ tree ∷ [])
+    refuted_more are = record { one_each = length_end trees tree ∙ ap (λ n. n + 1) are.one_each; each = λ k other is. each_more k other (at_end trees tree other k is); finds = λ k below. finds_more k below (cases_lt k cube) }
+      where
+        each_more : (k : ℕ) (other : Tree) → (slice_get trees k ≡ Some other) ⊎ ((k ≡ length trees) × (tree ≡ other)) → RefutesCube problem depth k other
+        each_more k other (inl is) = are.each k other is
+        each_more k other (inr (e, same)) = subst (λ n. RefutesCube problem depth n other) (sym are.one_each ∙ sym e) (subst (λ t. RefutesCube problem depth cube t) same refutes)
+
+        finds_more : (k : ℕ) → k < cube + 1 → (k < cube) ⊎ (cube ≤ k) → Finds problem depth share k no_order
+        finds_more k below (inl less) = are.finds k less
+        finds_more k below (inr past) = let e : cube ≡ k = omega arith in subst (λ n. Finds problem depth share n no_order) e finds
+
+pub so_far_spent : (law : ScansFindOne) (problem : ProblemState) (depth share cube : ℕ) (trees : List Tree) (spent : Bool) → IsSoFar problem depth share cube trees spent → Finds problem depth share cube used_up → IsTooSmall problem depth share → IsSoFar problem depth share (cube + 1) trees true
+so_far_spent law problem depth share cube trees spent before finds small = record {
+  no_yes = none_next problem depth share cube before.no_yes (λ other. let e = finds_one law problem depth share cube used_up has_order finds other in cc);
+  refuted = λ e. absurd cc;
+  used = λ e. record { at = cube; below = omega arith; finds = finds; small = small };
+}
+
+pub least_yes : (problem : ProblemState) (depth share cube : ℕ) (trees : List Tree) (spent : Bool) → IsSoFar problem depth share cube trees spent → cube < cube_count problem depth → Finds problem depth share cube has_order → IsLeastYes problem depth share cube
+least_yes problem depth share cube trees spent before within finds = record { within = within; found = finds; least = before.no_yes }
+
+pub all_spent : (problem : ProblemState) (depth share cube : ℕ) (trees : List Tree) (spent : Bool) → cube ≡ cube_count problem depth → spent ≡ true → IsSoFar problem depth share cube trees spent → IsPickedOf problem depth share Spent
+all_spent problem depth share cube trees spent end e far = let is = far.used e in ((is.at, subst (λ n. is.at < n) end is.below, is.finds, λ other within. far.no_yes other (subst (λ n. other < n) (sym end) within)), is.small)
+
+pub all_refuted : (problem : ProblemState) (depth share cube : ℕ) (trees : List Tree) (spent : Bool) → cube ≡ cube_count problem depth → spent ≡ false → IsSoFar problem depth share cube trees spent → AreRefuted problem depth share (cube_count problem depth) trees
+all_refuted problem depth share cube trees spent end e far = subst (λ n. AreRefuted problem depth share n trees) end (far.refuted e)
+
+pub picked_of : (problem : ProblemState) (budget depth : ℕ) (answer : Answer) → IsPickedOf problem depth (share_of problem budget depth) answer → IsPicked problem budget depth answer
+picked_of problem budget depth (Yes order) h = h
+picked_of problem budget depth (No tree) h = h
+picked_of problem budget depth Spent h = h.0
+picked_of problem budget depth NoMemory h = h
+
+budget_bound : (budget e c share : ℕ) → e ≤ c → share ≡ budget / 2 ^ e → share + 1 < 2 ^ (c - e + 1) → budget + 2 ^ e < 2 ^ (c + 1)
+budget_bound budget e c share low is small =
+    let some : 0 < 2 ^ e = pow_pos e in
+    let place : c + 1 ≡ (c - e + 1) + e = omega arith in
+    let whole : 2 ^ (c + 1) ≡ 2 ^ (c - e + 1) * 2 ^ e = ap (λ k. 2 ^ k) place ∙ pow-add 2 (c - e + 1) e in
+    let reach : share + 2 ≤ 2 ^ (c - e + 1) = omega arith in
+    let more : (share + 2) * 2 ^ e ≤ 2 ^ (c - e + 1) * 2 ^ e = mul-le-mul_right (2 ^ e) reach in
+    let split : (share + 2) * 2 ^ e ≡ share * 2 ^ e + 2 * 2 ^ e = add-mul share 2 (2 ^ e) in
+    let parts : budget < budget / 2 ^ e * 2 ^ e + 2 ^ e = lt-div-mul-add some in
+    let moved : budget < share * 2 ^ e + 2 ^ e = subst (λ n. budget < n * 2 ^ e + 2 ^ e) (sym is) parts in
+    omega (arith, whole, more, split, moved)
+
+pub lawful_of : (problem : ProblemState) (budget depth : ℕ) (answer : Answer) → AreOpenChoices problem.known.parts [] problem.choices → IsPickedOf problem depth (share_of problem budget depth) answer → IsLawful problem.known.parts budget depth answer
+lawful_of problem budget depth (Yes order) open_choices h = h.0
+lawful_of problem budget depth (No tree) open_choices h = h.0
+lawful_of problem budget depth Spent open_choices h =
+    let few = length-take depth problem.choices in
+    let bound = budget_bound budget (length (split_choices problem depth)) (length problem.choices) (share_of problem budget depth) (omega (arith, few)) refl h.1 in
+    (problem.choices, open_choices, subst (λ n. budget + 2 ^ n < 2 ^ (length problem.choices + 1)) few bound)
+lawful_of problem budget depth NoMemory open_choices h = h
+
+pub trees_joined : (refute : JoinedTreesRefute) (deep : JoinedDepth) (problem : ProblemState) (depth share cube : ℕ) (trees : List Tree) (tree : Tree) → depth ≤ 6 → AreOpenChoices problem.known.parts [] problem.choices → AreRefuted problem depth share cube trees → IsJoin (split_choices problem depth) trees tree → IsRefutation problem.known.parts tree
+trees_joined refute deep problem depth share cube trees tree low open_choices are is = record {
+  right = refute problem.known.parts (split_choices problem depth) [] trees tree (split_are_choices problem.known.parts problem.choices depth open_choices) (λ k t at. (are.each k t at).right) is;
+  shallow = let few = length-take depth problem.choices in let d = deep (split_choices problem depth) trees tree (4095 - 2 * length (split_choices problem depth)) all_low is in omega (arith, few, d);
+}
+  where
+    all_low : All (λ below. depth_of below ≤ 4095 - 2 * length (split_choices problem depth)) trees
+    all_low k d within = let here = (are.each k (get_or trees k d) (slice_get-get_or trees k d within)).shallow in omega (arith, here)

@@ -1,0 +1,52 @@
+use Rattle.std.proofs.Common.{ap, ◌∙◌, arith, rules}
+use Rattle.order_check.specs.Search.{has_order, no_order, used_up}
+use Rattle.forced_choices.specs.BranchState.{BranchState, last_steps}
+use Rattle.polygraph.specs.Shown.{outcome_of}
+use Rattle.polygraph.proofs.Scanned.{nothing_left, deep_scan, closed_scan, decided_scan, first_scan, both_scan, shown_beyond}
+use Rattle.polygraph.proofs.scanning.+scanning.Goals as goal
+
+pub scan-returns-in-Some-clause-scans : goal.scan-returns-in-Some-clause-scans
+scan-returns-in-Some-clause-scans t c = closed_scan c.args.branch.now c.args.nodes.now c.in-Some.leaf c.if-nodes-eq0.false (omega arith) (rw c.in-Some.is at c.in_ok-leaf.ensures)
+
+pub scan-returns-in_ok-explaining_order-in-None-clause-scans :
+    goal.scan-returns-in_ok-explaining_order-in-None-clause-scans
+scan-returns-in_ok-explaining_order-in-None-clause-scans t c = decided_scan c.args.branch.now c.args.nodes.now c.if-nodes-eq0.false (omega arith) (rw c.in_default.is at c.in_ok-leaf.ensures) (rw c.in-None.is at c.in_ok-choice.ensures)
+
+pub scan_side-scan-requires : goal.scan_side-scan-requires
+scan_side-scan-requires t c =
+    let e = ap (λ (b : BranchState). b.parts) c.in_ok-assume.ensures.ok.2 in
+    (search rules, rw e c.requires.bad)
+
+pub scan_side-returns-clause-shown : goal.scan_side-returns-clause-shown
+scan_side-returns-clause-shown t c =
+    let made = c.in_ok-assume.ensures.ok in
+    let back = ap (λ (b : BranchState). last_steps b.log b.levels) (c.in_ok-found.ensures.kept ∙ made.2) in
+    let e = c.steps.ensures ∙ back in
+    shown_beyond c.args.branch.now c.assume.new.self c.args.choice c.args.side made.0 c.in_ok-found.found c.in_ok-found-2.found made.1 made.2 c.in_ok-found.ensures.shown (rw e at c.in_ok-found-2.ensures.above)
+
+pub split-returns-in-Yes-clause-scans : goal.split-returns-in-Yes-clause-scans
+split-returns-in-Yes-clause-scans t c = first_scan c.args.branch.now c.args.choice c.args.nodes.now _ c.in_ok-tree.field-0 has_order (ap outcome_of c.in-Yes.is) (λ e. cc) c.requires.low c.requires.hopeful c.requires.first c.in_ok-tree.ensures.scans
+
+pub split-returns-in-Spent-clause-scans : goal.split-returns-in-Spent-clause-scans
+split-returns-in-Spent-clause-scans t c = first_scan c.args.branch.now c.args.choice c.args.nodes.now _ c.in_ok-tree.field-0 used_up (ap outcome_of c.in-Spent.is) (λ e. cc) c.requires.low c.requires.hopeful c.requires.first c.in_ok-tree.ensures.scans
+
+pub split-scan_side-requires-2 : goal.split-scan_side-requires-2
+split-scan_side-requires-2 t c =
+    let e = ap (λ (b : BranchState). b.parts) c.in_ok-tree.ensures.kept in
+    (search rules, (rw e c.requires.bad, rw e c.requires.first.is_open.choice_of))
+
+pub split-returns-in-Yes-2-clause-scans : goal.split-returns-in-Yes-2-clause-scans
+split-returns-in-Yes-2-clause-scans t c = both_scan c.args.branch.now c.scan_side.new.branch c.args.choice c.args.nodes.now c.scan_side.new.nodes _ c.in_ok-tree.field-0 c.in_ok-tree-2.field-0 has_order c.in_ok-tree.ensures.kept (ap outcome_of c.in-No.is) (ap outcome_of c.in-Yes-2.is) c.requires.low c.requires.hopeful c.requires.first c.in_ok-tree.ensures.scans c.in_ok-tree-2.ensures.scans
+
+pub split-returns-in-Spent-2-clause-scans : goal.split-returns-in-Spent-2-clause-scans
+split-returns-in-Spent-2-clause-scans t c = both_scan c.args.branch.now c.scan_side.new.branch c.args.choice c.args.nodes.now c.scan_side.new.nodes _ c.in_ok-tree.field-0 c.in_ok-tree-2.field-0 used_up c.in_ok-tree.ensures.kept (ap outcome_of c.in-No.is) (ap outcome_of c.in-Spent-2.is) c.requires.low c.requires.hopeful c.requires.first c.in_ok-tree.ensures.scans c.in_ok-tree-2.ensures.scans
+
+pub split-returns-clause-scans : goal.split-returns-clause-scans
+split-returns-clause-scans t c = both_scan c.args.branch.now c.scan_side.new.branch c.args.choice c.args.nodes.now c.scan_side.new.nodes _ c.in_ok-tree.field-0 c.in_ok-tree-2.field-0 no_order c.in_ok-tree.ensures.kept (ap outcome_of c.in-No.is) (ap outcome_of c.in-No-2.is) c.requires.low c.requires.hopeful c.requires.first c.in_ok-tree.ensures.scans c.in_ok-tree-2.ensures.scans
+
+pub scan-returns-then-nodes-eq0-clause-scans : goal.scan-returns-then-nodes-eq0-clause-scans
+scan-returns-then-nodes-eq0-clause-scans t c = nothing_left c.args.branch.now c.args.nodes.now c.if-nodes-eq0.true
+
+pub scan-returns-then-depth-gt-GREATEST_DEPTH-clause-scans :
+    goal.scan-returns-then-depth-gt-GREATEST_DEPTH-clause-scans
+scan-returns-then-depth-gt-GREATEST_DEPTH-clause-scans t c = deep_scan c.args.branch.now c.args.nodes.now (omega arith)

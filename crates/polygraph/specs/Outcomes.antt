@@ -1,0 +1,60 @@
+-- Cubes of a problem, what a search of each finds, and what all of them come to.
+use Rattle.std.specs.Prelude.{ℕ, ◌+◌, ◌*◌, ◌<◌, ◌≤◌, ◌^◌, ◌/◌, ⊤, List, [], length, take}
+use Rattle.txn.specs.declared.choices.Choice.{Choice}
+use Rattle.order_check.specs.Explains.{Explains}
+use Rattle.order_check.specs.Search.{Outcome, has_order, no_order, used_up, Scans}
+use Rattle.refutation.specs.Joining.{cube_sides}
+use Rattle.refutation.specs.Refutes.{Refutes, depth_of, IsRefutation}
+use Rattle.polygraph.specs.ProblemState.{ProblemState}
+use Rattle.polygraph.specs.declared.solving.Cube.{Cube}
+use Rattle.polygraph.specs.declared.solving.Cube.TheVariants as cubes
+use Rattle.polygraph.specs.declared.solving.Answer.{Answer}
+use Rattle.polygraph.specs.declared.solving.Answer.TheVariants as answers
+
+-- the choices that a search of this depth splits first: the first so many that are open, or all where there are fewer
+abbrev pub split_choices : ProblemState → ℕ → List Choice
+split_choices problem depth = take depth problem.choices
+
+-- How many cubes there are: each way to take a side of each choice that is split. A cube's number is below that.
+abbrev pub cube_count : ProblemState → ℕ → ℕ
+cube_count problem depth = 2 ^ length (split_choices problem depth)
+
+-- a search from the cube's sides, within so many nodes, finds this
+abbrev pub Finds : ProblemState → ℕ → ℕ → ℕ → Outcome → Type 0
+Finds problem depth share cube outcome = (left : ℕ) × Scans problem.known.parts (cube_sides (split_choices problem depth) cube []) share outcome left
+
+-- A tree refutes the parts where the cube's sides are taken, and leaves room for the splits above it: a checker allows 4,096.
+pub record RefutesCube (problem : ProblemState) (depth cube : ℕ) (tree : Rattle.refutation.specs.declared.trees.Tree.Tree) : Type 0 where
+  pub right : Refutes problem.known.parts tree (cube_sides (split_choices problem depth) cube [])
+  pub shallow : depth_of tree + 2 * length (split_choices problem depth) ≤ 4095
+
+-- what is told of a cube is what a search of it finds, and is shown
+abbrev pub IsCube : ProblemState → ℕ → ℕ → ℕ → Cube → Type 0
+IsCube problem depth share cube (cubes.Yes order) = Finds problem depth share cube has_order × Explains problem.known.parts order
+IsCube problem depth share cube (cubes.No tree) = Finds problem depth share cube no_order × RefutesCube problem depth cube tree
+IsCube problem depth share cube cubes.Spent = Finds problem depth share cube used_up
+
+-- The cubes of a search, each within this share, come to this: to an order where some cube has one; else they are used up where
+-- some cube is; else there is none.
+abbrev pub ComesTo : ProblemState → ℕ → ℕ → Outcome → Type 0
+ComesTo problem depth share has_order = (cube : ℕ) × (cube < cube_count problem depth) × Finds problem depth share cube has_order
+ComesTo problem depth share used_up = (cube : ℕ) × (cube < cube_count problem depth) × Finds problem depth share cube used_up × ((other : ℕ) → other < cube_count problem depth → ¬ Finds problem depth share other has_order)
+ComesTo problem depth share no_order = (cube : ℕ) → cube < cube_count problem depth → Finds problem depth share cube no_order
+
+-- the cube is the least that has an order
+pub record IsLeastYes (problem : ProblemState) (depth share cube : ℕ) : Type 0 where
+  pub within : cube < cube_count problem depth
+  pub found : Finds problem depth share cube has_order
+  pub least : (lower : ℕ) → lower < cube → ¬ Finds problem depth share lower has_order
+
+-- the nodes that each cube may take: the budget is shared out evenly, and what is left over is not used
+abbrev pub share_of : ProblemState → ℕ → ℕ → ℕ
+share_of problem budget depth = budget / cube_count problem depth
+
+-- The answer is what the cubes come to, each within its share: where one has an order there is a least such cube, and the order told
+-- explains the parts; where there is none in any the tree told refutes them. Want of memory may always be answered.
+abbrev pub IsPicked : ProblemState → ℕ → ℕ → Answer → Type 0
+IsPicked problem budget depth (answers.Yes order) = Explains problem.known.parts order × ((cube : ℕ) × IsLeastYes problem depth (share_of problem budget depth) cube)
+IsPicked problem budget depth (answers.No tree) = IsRefutation problem.known.parts tree × ComesTo problem depth (share_of problem budget depth) no_order
+IsPicked problem budget depth answers.Spent = ComesTo problem depth (share_of problem budget depth) used_up
+IsPicked problem budget depth answers.NoMemory = ⊤

@@ -1,0 +1,133 @@
+ghost use Rattle.std.specs.Prelude.{◌≡◌, ◌↔◌, Contains, IfOk, IsTrue, MatchOption};
+ghost use Rattle.txn.specs.declared.transactions.TxnId.{TxnId};
+ghost use Rattle.order_check.specs.BadReads.{HasBadRead, IsSilent, IsOverwritten};
+ghost use Rattle.order_check.specs.Based.{IsGone, Remains, remaining_at};
+ghost use Rattle.order_check.specs.Known.{WritesKey};
+ghost use Rattle.refutation.specs.Reading.{reads_in};
+ghost use Rattle.polygraph.specs.Reading.{IsGoodRead, AreGoodReads, HaveNoBadRead};
+ghost use Rattle.polygraph.specs.Shown.{IsBadRead, leaf_of};
+
+use forced_choices::Branch;
+use order_check::Parts;
+use refutation::Leaf;
+use std::alloc::Global;
+use txn::{NoMemory, Source, TxnId};
+
+/// A read that no order explains.
+#[derive(Clone, Copy, Debug)]
+pub enum BadRead {
+    /// The transaction reads the key from one that remains and doesn't write it.
+    Silent(TxnId, u64),
+    /// The transaction reads the key from what is gone, but not from the last gone writer of it.
+    Overwritten(TxnId, u64),
+}
+
+pub fn leaf_of(bad: BadRead) -> Leaf
+    ensures { result ≡ leaf_of bad }
+{
+    match bad {
+        BadRead::Silent(reader, key) => Leaf::NoWrite(reader, key),
+        BadRead::Overwritten(reader, key) => Leaf::Gone(reader, key),
+    }
+}
+
+fn remains(parts: &Parts, id: TxnId) -> bool
+    ensures { IsTrue result ↔ Remains parts.now id }
+{
+    parts.remaining_at(id).is_some()
+}
+
+fn is_gone(parts: &Parts, id: TxnId) -> bool
+    ensures { IsTrue result ↔ IsGone parts.now id }
+{
+    id.number < parts.mark_of(id.session)
+}
+
+fn writes(parts: &Parts, id: TxnId, key: u64) -> bool
+    ensures { IsTrue result ↔ WritesKey parts.now id key }
+{
+    match parts.remaining_at(id) {
+        Some(txn) => txn.writes.as_slice().contains(&key),
+        None => false,
+    }
+}
+
+/// Whether the source remains and doesn't write the key.
+fn is_silent(parts: &Parts, key: u64, source: Source) -> bool
+    ensures { IsTrue result ↔ IsSilent parts.now key source }
+{
+    match source {
+        Source::Init => false,
+        Source::By(writer) => remains(parts, writer) && !writes(parts, writer, key),
+    }
+}
+
+/// Whether the source is gone, and isn't what the base has for the key.
+fn is_overwritten(parts: &Parts, key: u64, source: Source) -> bool
+    ensures { IsTrue result ↔ IsOverwritten parts.now key source }
+{
+    match source {
+        Source::Init => parts.last_gone(key).is_some(),
+        Source::By(writer) => is_gone(parts, writer) && parts.last_gone(key) != Some(writer),
+    }
+}
+
+/// What a remaining transaction reads.
+fn reads_of(parts: &Parts, id: TxnId) -> &[(u64, Source)]
+    ensures { result.now ≡ reads_in (remaining_at parts.now id) }
+{
+    match parts.remaining_at(id) {
+        Some(txn) => txn.reads.as_slice(),
+        None => &[],
+    }
+}
+
+/// What is bad about a read of the transaction.
+#[tactic(auto, using(crate::proofs::NoBadReads::silent_bad, crate::proofs::NoBadReads::over_bad))]
+fn bad_read_in(parts: &Parts, reader: TxnId, read: (u64, Source)) -> Option<BadRead>
+    requires { Contains (reads_in (remaining_at parts.now reader)) read }
+    ensures { MatchOption result (IsGoodRead parts.now read) (IsBadRead parts.now) }
+{
+    if is_silent(parts, read.0, read.1) {
+        return Some(BadRead::Silent(reader, read.0));
+    }
+    if is_overwritten(parts, read.0, read.1) {
+        return Some(BadRead::Overwritten(reader, read.0));
+    }
+    None
+}
+
+/// The first bad read of the transaction.
+#[tactic(auto, using(crate::proofs::NoBadReads::reads_none, crate::proofs::NoBadReads::reads_next, crate::proofs::NoBadReads::reads_all))]
+fn bad_read_of(parts: &Parts, reader: TxnId) -> Option<BadRead>
+    ensures { MatchOption result (AreGoodReads parts.now (reads_in (remaining_at parts.now reader))) (IsBadRead parts.now) }
+{
+    for read in reads_of(parts, reader) {
+        if let Some(bad) = bad_read_in(parts, reader, *read) {
+            return Some(bad);
+        }
+    }
+    None
+}
+
+/// The first bad read of these transactions.
+#[tactic(auto, using(crate::proofs::NoBadReads::ids_none, crate::proofs::NoBadReads::ids_next, crate::proofs::NoBadReads::ids_all))]
+fn bad_read_among(parts: &Parts, ids: &[TxnId]) -> Option<BadRead>
+    ensures { MatchOption result (HaveNoBadRead parts.now ids.now) (IsBadRead parts.now) }
+{
+    for id in ids {
+        if let Some(bad) = bad_read_of(parts, *id) {
+            return Some(bad);
+        }
+    }
+    None
+}
+
+/// A bad read, where there is one.
+#[tactic(auto, using(crate::proofs::NoBadReads::none_bad))]
+pub fn bad_read(alloc: Global, branch: &Branch) -> Result<Option<BadRead>, NoMemory>
+    ensures { IfOk result (λ found. MatchOption found (¬ HasBadRead branch.now.parts) (IsBadRead branch.now.parts)) }
+{
+    let ids = branch.ids(alloc)?;
+    Ok(bad_read_among(branch.parts(), ids.as_slice()))
+}

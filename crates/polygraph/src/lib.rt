@@ -1,0 +1,14 @@
+//! The search for an order that explains parts.
+#![tactic(auto)]
+
+mod bad_reads;
+mod cubes;
+mod ordering;
+mod problems;
+mod scanning;
+mod single;
+mod solving;
+
+pub use problems::Problem;
+pub use single::Single;
+pub use solving::{Answer, Cube, Solver, solve_cube};

@@ -1,0 +1,215 @@
+#!/usr/bin/env python3
+"""Checks the reports of cobra_audit by itself, with nothing of the auditor: orders and refutations against the script.
+
+    python3 examples/check_reports.py SCRIPT REPLIES
+
+SCRIPT has the lines that the auditor was given, REPLIES its replies, line by line. Each report is checked against what had
+been accepted before its round began: the order of a serial or pending one has to explain all reads, and the refutation of a
+violated one has to leave no order, step by step, as docs/FORMATS.md says. A spent report claims nothing. Scripts with cuts
+aren't checked. It prints a line a report, and ends with status 1 where one is wrong.
+
+It is a second opinion: some 150 lines of plain Python, slow, to be read and believed by whoever doesn't trust the proofs.
+"""
+import json
+import sys
+
+INIT = "init"
+
+
+class Wrong(Exception):
+    """Why a report doesn't hold."""
+
+
+class History:
+    """What was accepted: for each session its transactions, each with its reads and the keys that it writes."""
+
+    def __init__(self, sessions):
+        self.sessions = [[] for _ in range(sessions)]
+
+    def offer(self, session, txns):
+        for reads, writes in txns:
+            sources = [(read[0], INIT if read[1] == INIT else (read[1], read[2])) for read in reads]
+            self.sessions[session].append((sources, set(writes)))
+
+    def copy(self):
+        other = History(0)
+        other.sessions = [list(txns) for txns in self.sessions]
+        return other
+
+    def counts(self):
+        return [len(txns) for txns in self.sessions]
+
+    def get(self, txn):
+        session, number = txn
+        if not (0 <= session < len(self.sessions) and 0 <= number < len(self.sessions[session])):
+            raise Wrong(f"{txn} was not taken in")
+        return self.sessions[session][number]
+
+    def is_received(self, txn):
+        return txn[0] < len(self.sessions) and txn[1] < len(self.sessions[txn[0]])
+
+    def reads(self, txn, key, source):
+        return (key, source) in self.get(txn)[0]
+
+    def writes(self, txn, key):
+        return key in self.get(txn)[1]
+
+    def has_pending(self):
+        return any(
+            source != INIT and not self.is_received(source)
+            for txns in self.sessions
+            for reads, _ in txns
+            for _, source in reads
+        )
+
+
+def check_order(history, order):
+    """Every transaction stands once, each session's in order; each read meets the last writer before it."""
+    next_of = [0] * len(history.sessions)
+    last = {}
+    for session, number in order:
+        if next_of[session] != number:
+            raise Wrong(f"{session}.{number} stands out of its session's order")
+        next_of[session] += 1
+        reads, writes = history.get((session, number))
+        for key, source in reads:
+            met = last.get(key, INIT)
+            if source != met and not (source != INIT and not history.is_received(source)):
+                raise Wrong(f"{session}.{number} reads key {key} from {source}, and meets {met}")
+        for key in writes:
+            last[key] = (session, number)
+    if next_of != history.counts():
+        raise Wrong("a transaction is missing")
+
+
+def ends(arc):
+    """The two transactions of an arc."""
+    fs, fn, ts, tn = arc[-4:]
+    return (fs, fn), (ts, tn)
+
+
+def check_arc(history, taken, arc):
+    """The arc is in every order that keeps the sides taken."""
+    kind, (before, after) = arc[0], ends(arc)
+    history.get(before), history.get(after)
+    if kind == "session" and len(arc) == 5:
+        right = before[0] == after[0] and before[1] < after[1]
+    elif kind == "read" and len(arc) == 6:
+        right = history.reads(after, arc[1], before) and history.writes(before, arc[1])
+    elif kind == "base" and len(arc) == 6:
+        right = history.reads(before, arc[1], INIT) and before != after and history.writes(after, arc[1])
+    elif kind == "taken" and len(arc) == 5:
+        right = (before, after) in taken
+    else:
+        right = False
+    if not right:
+        raise Wrong(f"{arc} isn't right")
+
+
+def check_cycle(history, taken, arcs):
+    """The arcs go round."""
+    if not arcs:
+        raise Wrong("an empty cycle")
+    for arc, following in zip(arcs, arcs[1:] + arcs[:1]):
+        check_arc(history, taken, arc)
+        if ends(arc)[1] != ends(following)[0]:
+            raise Wrong(f"{arc} doesn't end where {following} begins")
+
+
+def sides(history, choice):
+    """The arcs of the two sides of a choice: another writer stands before the writer that was read from, or behind the reader."""
+    ts, tn, key, ws, wn, vs, vn = choice
+    reader, writer, other = (ts, tn), (ws, wn), (vs, vn)
+    right = history.reads(reader, key, writer) and history.writes(writer, key) and history.writes(other, key)
+    if not right or other in (writer, reader):
+        raise Wrong(f"{choice} is no choice")
+    return [(other, writer), (reader, other)]
+
+
+def check_leaf(history, taken, item):
+    """An item that ends a branch: a cycle, or a read that nothing can answer."""
+    if item[0] == "cycle":
+        check_cycle(history, taken, item[1])
+    elif item[0] == "nowrite":
+        _, session, number, key = item
+        reads, _ = history.get((session, number))
+        if not any(
+            k == key and source != INIT and history.is_received(source) and not history.writes(source, key)
+            for k, source in reads
+        ):
+            raise Wrong(f"{item}: no such read")
+    else:
+        raise Wrong(f"{item} ends nothing")
+
+
+def check_tree(history, items):
+    """Each split has both its branches, each ended by a leaf; what is forced is forced by a cycle."""
+    waiting = [frozenset()]
+    for item in items:
+        if not waiting:
+            raise Wrong(f"{item} follows the end")
+        taken = waiting.pop()
+        if item[0] == "force":
+            _, choice, side, cycle = item
+            both = sides(history, choice)
+            check_cycle(history, taken | {both[2 - side]}, cycle)
+            waiting.append(taken | {both[side - 1]})
+        elif item[0] == "split":
+            first, second = sides(history, item[1])
+            waiting += [taken | {second}, taken | {first}]
+        else:
+            check_leaf(history, taken, item)
+    if waiting:
+        raise Wrong("a branch has no end")
+
+
+def check_report(history, reply):
+    kind, counts = reply[2], reply[3]
+    if counts != history.counts():
+        raise Wrong(f"{history.counts()} were taken in")
+    if kind in ("serial", "pending"):
+        check_order(history, [tuple(txn) for txn in reply[4]])
+        if (kind == "pending") != history.has_pending():
+            raise Wrong("pending and serial are confounded")
+    elif kind == "violated":
+        check_tree(history, reply[4])
+    elif kind != "spent":
+        raise Wrong("no such kind")
+
+
+def check_run(script, replies):
+    """Prints a line for each report; answers how many are wrong."""
+    history, begun, wrong = None, None, 0
+    for line, text in zip(script, replies):
+        reply = json.loads(text)
+        if reply[0] == "no":
+            continue
+        command = json.loads(line)
+        if command[0] == "open":
+            history = History(command[1])
+        elif command[0] == "offer":
+            history.offer(command[1], command[3])
+        elif command[0] == "begin":
+            begun = history.copy()
+        elif command[0] == "truncate":
+            sys.exit("this script has a cut: not checked")
+        if reply[0] != "report":
+            continue
+        try:
+            check_report(begun if command[0] == "finish" else history, reply)
+            print(f"round {reply[1]}: {reply[2]}, right")
+        except Wrong as why:
+            wrong += 1
+            print(f"round {reply[1]}: {reply[2]}, WRONG: {why}")
+    return wrong
+
+
+def main():
+    if len(sys.argv) != 3:
+        sys.exit(__doc__)
+    with open(sys.argv[1], "rb") as script, open(sys.argv[2], "rb") as replies:
+        sys.exit(1 if check_run(script, replies) else 0)
+
+
+if __name__ == "__main__":
+    main()
