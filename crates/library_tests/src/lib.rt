@@ -14,6 +14,8 @@ mod marks;
 #[cfg(test)]
 mod orders;
 #[cfg(test)]
+mod settled;
+#[cfg(test)]
 mod sides;
 #[cfg(test)]
 mod stores;
