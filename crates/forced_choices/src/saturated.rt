@@ -1,8 +1,10 @@
-ghost use Rattle.std.specs.Prelude.{◌≡◌, ◌↔◌, ◌<◌, [], ◌∷◌, ◌++◌, length, Contains, All, IfOk, OnOk, OnErr, IsTrue};
+ghost use Rattle.std.specs.Prelude.{◌≡◌, ◌↔◌, ◌<◌, [], ◌∷◌, ◌++◌, length, Contains, All, IfOk, OnOk, OnErr, IsTrue, true};
+ghost use Rattle.std.specs.List.{AllPairs};
 ghost use Rattle.txn.specs.declared.transactions.TxnId.{TxnId};
+ghost use Rattle.txn.specs.Transactions.{id_below};
 ghost use Rattle.known_graph.specs.Graphs.{HasNode};
 ghost use Rattle.forced_choices.specs.Kept.{IsKept};
-ghost use Rattle.order_check.specs.Based.{received_count};
+ghost use Rattle.order_check.specs.Based.{received_count, Remains};
 ghost use Rattle.order_check.specs.Cuts.{IsContentCutOff};
 ghost use Rattle.order_check.specs.Cycles.{IsFullLog};
 ghost use Rattle.order_check.specs.Good.{IsGood};
@@ -158,6 +160,16 @@ impl Saturated {
         let graph = copy_of_graph(&self.graph)?;
         let log = copy_of_log(&self.log)?;
         Ok((parts, graph, log))
+    }
+
+    /// What remains, in order of id.
+    pub fn ids(&self, alloc: Global) -> Result<Vec<TxnId>, NoMemory>
+        ensures rise { IfOk result (λ ids. AllPairs (λ a b. id_below a b ≡ true) ids.items) }
+        ensures members { IfOk result (λ ids. (id : TxnId) → Contains ids.items id ↔ Remains self.now.parts id) }
+        ensures known { IfOk result (λ ids. (a b : TxnId) → Known self.now.parts [] a b → Contains ids.items a × Contains ids.items b) }
+    {
+        let ids = remaining_ids_of(alloc, &self.parts)?;
+        Ok(ids)
     }
 
     /// Whether every order that explains the parts is known to have the one before the other. Where the relation has a

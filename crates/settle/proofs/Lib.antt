@@ -1,0 +1,5 @@
+pub mod Found
+pub mod LastWriters
+pub mod Noted
+pub mod Tested
+pub mod Written

@@ -1,0 +1,103 @@
+ghost use Rattle.std.specs.Prelude.{◌↔◌, [], Contains, IfOk, IsSomeAnd};
+ghost use Rattle.txn.specs.declared.transactions.TxnId.{TxnId};
+ghost use Rattle.order_check.specs.Explains.{Explains};
+ghost use Rattle.order_check.specs.Known.{Known};
+ghost use Rattle.fence_chain.specs.Chains.{IsRemainingFence};
+ghost use Rattle.settle.specs.Found.{IsFound};
+ghost use Rattle.settle.specs.Lines.{AreRemaining, IsCutOrNone, IsFoundAmong};
+
+use crate::cuts::Cut;
+use crate::lines::{are_past, is_ordered_among, none_waits};
+use crate::writers::last_writers;
+use fence_chain::{chain, ids_in_front};
+use forced_choices::Saturated;
+use order_check::cycle_leaves_no_order;
+use polygraph::Problem;
+use std::alloc::Global;
+use txn::{NoMemory, Sequence, TxnId};
+
+/// The cut at the fence, where it is settled.
+fn cut_at(
+    alloc: Global,
+    known: &Saturated,
+    ids: &[TxnId],
+    fence: TxnId,
+) -> Result<Option<Cut>, NoMemory>
+    requires acyclic { (id : TxnId) → ¬ Known known.now.parts [] id id }
+    requires remaining { AreRemaining known.now.parts ids.now }
+    requires fence { IsRemainingFence known.now.parts fence }
+    ensures { IfOk result (IsCutOrNone known.now.parts fence) }
+{
+    if !are_past(known, fence, ids) {
+        return Ok(None);
+    }
+    if !is_ordered_among(known, fence, ids) {
+        return Ok(None);
+    }
+    let front = ids_in_front(alloc, known, fence)?;
+    if !none_waits(known.parts(), front.as_slice()) {
+        return Ok(None);
+    }
+    let Some(last) = last_writers(alloc, known, fence, front.as_slice())? else {
+        return Ok(None);
+    };
+    Ok(Some(Cut {
+        fence,
+        gone: Sequence::new(front),
+        last,
+    }))
+}
+
+/// The cut at the last of the fences that is settled.
+#[tactic(auto, using(crate::proofs::Found::left_all, crate::proofs::Found::left_less, crate::proofs::Found::left_none))]
+fn last_cut(
+    alloc: Global,
+    known: &Saturated,
+    ids: &[TxnId],
+    mut fences: Vec<TxnId>,
+) -> Result<Option<Cut>, NoMemory>
+    requires acyclic { (id : TxnId) → ¬ Known known.now.parts [] id id }
+    requires remaining { AreRemaining known.now.parts ids.now }
+    requires fences { (id : TxnId) → Contains fences.items id → IsRemainingFence known.now.parts id }
+    ensures { IfOk result (IsFoundAmong known.now.parts fences.items) }
+{
+    while let Some(fence) = fences.pop() {
+        if let Some(cut) = cut_at(alloc, known, ids, fence)? {
+            return Ok(Some(cut));
+        }
+    }
+    Ok(None)
+}
+
+/// The cut that is found where the relation has no cycle.
+#[tactic(auto, using(crate::proofs::Found::found_is))]
+fn find_known(alloc: Global, known: &Saturated) -> Result<Option<Cut>, NoMemory>
+    requires { (id : TxnId) → ¬ Known known.now.parts [] id id }
+    ensures { IfOk result (IsFound known.now.parts) }
+{
+    let ids = known.ids(alloc)?;
+    let fences = chain(alloc, known)?;
+    let found = last_cut(alloc, known, ids.as_slice(), fences)?;
+    Ok(found)
+}
+
+/// Where an order explains the parts, no transaction is known to come before itself. It does nothing.
+fn has_no_cycle(known: &Saturated, order: &[TxnId])
+    requires { Explains known.now.parts order.now }
+    ensures { (id : TxnId) → ¬ Known known.now.parts [] id id }
+{
+    known.parts();
+    cycle_leaves_no_order();
+}
+
+/// The cut at the settled fence that comes after all other settled ones, where some fence is settled. The open sessions are
+/// those of the problem. The order only shows that there is one.
+pub fn find(alloc: Global, problem: &Problem, order: &[TxnId]) -> Result<Option<Cut>, NoMemory>
+    requires { Explains problem.now.known.parts order.now }
+    ensures { IfOk result (IsFound problem.now.known.parts) }
+{
+    let known = problem.known();
+    has_no_cycle(known, order);
+    let found = find_known(alloc, known)?;
+    Ok(found)
+}
