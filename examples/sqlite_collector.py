@@ -91,11 +91,13 @@ with tempfile.TemporaryDirectory() as folder:
     setup.executescript("PRAGMA journal_mode = WAL; CREATE TABLE versions (key, value CHECK (value >= 0), session, number)")
     auditor = Auditor(sessions=2, limit=8)
     work(Session(0, auditor, f"{folder}/bank"), Session(1, auditor, f"{folder}/bank"))
-    _, _, kind, counts, order = auditor.ask("round", 1, 0, 1)
-    told = " ".join(f"{session}.{number}" for session, number in order)
+    _, _, kind, counts, certificate = auditor.ask("round", 4096, 0, 1)
+    told = "" if kind == "violated" else " ".join(f"{session}.{number}" for session, number in certificate)
     says = {
         "serial": f"one at a time in the order {told}, these transactions would have read the same",
         "pending": f"the order {told} explains what they read, where transactions that are still to come allow it",
         "violated": "no order that keeps each session's own explains what they read",
     }
+    if kind == "violated":
+        print(*(f"  {json.dumps(item)}" for item in certificate), sep="\n")  # docs/FORMATS.md says how to read it
     print(f"{FAULT}: {kind}: {says[kind]}")

@@ -254,7 +254,7 @@ class Telling(WithAuditor):
         small = smaller(self.auditor.history)
         self.assertEqual(
             list(words(small)),
-            ["0.0 wrote x, wrote y, wrote z", "0.1 read x from 0.0, wrote x", "1.0 read x from 0.0, wrote x"],
+            ["0.0 wrote x", "0.1 read x from 0.0, wrote x", "1.0 read x from 0.0, wrote x"],
         )
         report, script = audited(small)
         self.assertEqual(report.kind, "violated")

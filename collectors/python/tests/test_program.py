@@ -38,7 +38,7 @@ class Program(unittest.TestCase):
 
     def test_three_lines_of_the_readme(self):
         script = re.search(r'```\n(\["open".*?)```', text_of("README.md"), re.DOTALL).group(1)
-        self.assertEqual(self.run_it(script=script)[1].splitlines()[-1], '["report",1,"violated",[2],[]]')
+        self.assertEqual(self.run_it(script=script)[1].splitlines()[-1], '["report",1,"violated",[2],[["cycle",[["session",0,0,0,1],["base",5,0,1,0,0]]]]]')
         apart = ['["open",2,8]', '["offer",0,0,[[[],[5]]]]', '["offer",1,0,[[[[5,"init"]],[]]]]', '["round",32,0,1]\n']
         self.assertIn('"serial"', self.run_it(script="\n".join(apart))[1])
 

@@ -124,9 +124,21 @@ def named(items):
 
 
 def only(history, ids):
-    """The same, where no other transaction did anything. A refutation that names no other is one of this history too."""
-    nothing = Logged((), ())
-    return [[logged if (session, number) in ids else nothing for number, logged in enumerate(txns)] for session, txns in enumerate(history)]
+    """The same, where no other transaction did anything, nor is read from. It is true of the store too: a read is left out where it
+    stands, and a write only where no read of it is left."""
+
+    def is_kept(key, source):
+        if source == "init" or source in ids:
+            return True
+        session, number = source  # a read of what its source didn't write is kept: it is what is wrong
+        return number < len(history[session]) and key not in history[session][number].writes
+
+    def part(id, logged):
+        if id not in ids:
+            return Logged((), ())
+        return logged._replace(reads=[(key, source) for key, source in logged.reads if is_kept(key, source)])
+
+    return [[part((session, number), logged) for number, logged in enumerate(txns)] for session, txns in enumerate(history)]
 
 
 def without_ends(history):
@@ -135,22 +147,31 @@ def without_ends(history):
 
 
 def less(history):
-    """The same without a session's last transaction, or without one read. What is left is still true of the store."""
+    """The same without a session's last transaction, without one read, or without a write that nobody has read. What is left is
+    still true of the store."""
     for session, txns in enumerate(history):
         if txns:
             yield [*history[:session], txns[:-1], *history[session + 1 :]]
+    read = {(source, key) for txns in history for logged in txns for key, source in logged.reads}
     for session, txns in enumerate(history):
         for number, logged in enumerate(txns):
-            for read in logged.reads:
-                fewer = logged._replace(reads=[other for other in logged.reads if other != read])
-                yield [*history[:session], [*txns[:number], fewer, *txns[number + 1 :]], *history[session + 1 :]]
+            parts = [logged._replace(reads=[other for other in logged.reads if other != one]) for one in logged.reads]
+            parts += [
+                logged._replace(writes=tuple(other for other in logged.writes if other != key))
+                for key in logged.writes
+                if ((session, number), key) not in read
+            ]
+            for part in parts:
+                yield [*history[:session], [*txns[:number], part, *txns[number + 1 :]], *history[session + 1 :]]
 
 
 def smaller(history, program=PROGRAM):
     """A part of a violated history that is violated too, while nothing that has one thing less is. It begins with what a refutation names."""
     report = audited(history, program)[0]
     if report.kind == "violated":
-        history = without_ends(only(history, named(report.certificate)))
+        part = without_ends(only(history, named(report.certificate)))
+        if audited(part, program)[0].kind == "violated":
+            history = part
     while True:
         for candidate in less(history):
             if audited(candidate, program)[0].kind == "violated":
@@ -164,7 +185,7 @@ def words(history):
     """A line for each transaction."""
     for session, txns in enumerate(history):
         for number, logged in enumerate(txns):
-            if not (logged.reads or logged.writes) and logged.outcome == "committed":
+            if not (logged.reads or logged.writes or logged.outcome == "aborted"):
                 continue  # it is there for its number alone
             reads = [f"read {key} " + ("as it was at first" if source == "init" else f"from {source[0]}.{source[1]}") for key, source in logged.reads]
             did = reads + [f"wrote {key}" for key in logged.writes]

@@ -183,8 +183,10 @@ fn fragment(alloc: Global, session: u8, content: &Content) -> Result<Fragment, N
 
 fn offer_all(alloc: Global, engine: &mut Engine) -> Result<(), Refusal> {
     for session in 0..8 {
-        let fragment = fragment(alloc, session, &history()[usize::from(session)])?;
-        engine.offer(alloc, fragment)?;
+        if let Some(content) = history().get(usize::from(session)) {
+            let fragment = fragment(alloc, session, content)?;
+            engine.offer(alloc, fragment)?;
+        }
     }
     Ok(())
 }
