@@ -4,6 +4,8 @@
 #[cfg(test)]
 mod desks;
 #[cfg(test)]
+mod fences;
+#[cfg(test)]
 mod fragments;
 #[cfg(test)]
 mod generated;
@@ -19,6 +21,8 @@ mod plain;
 mod scans;
 #[cfg(test)]
 mod searches;
+#[cfg(test)]
+mod settled;
 #[cfg(test)]
 mod sides;
 #[cfg(test)]
