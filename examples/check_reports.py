@@ -8,7 +8,7 @@ been accepted before its round began: the order of a serial or pending one has t
 violated one has to leave no order, step by step, as docs/FORMATS.md says. A spent report claims nothing. Scripts with cuts
 aren't checked. It prints a line a report, and ends with status 1 where one is wrong.
 
-It is a second opinion: some 150 lines of plain Python, slow, to be read and believed by whoever doesn't trust the proofs.
+It is a second opinion: some 200 lines of plain Python, slow, to be read and believed by whoever doesn't trust the proofs.
 """
 import json
 import sys
