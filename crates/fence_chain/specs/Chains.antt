@@ -7,6 +7,7 @@ use Rattle.order_check.specs.declared.remainder.Parts.{Parts}
 use Rattle.order_check.specs.Based.{remaining_at}
 use Rattle.order_check.specs.Settled.{IsBefore}
 
+-- a transaction that remains and is a fence
 abbrev pub IsRemainingFence : Parts → TxnId → Type 0
 IsRemainingFence parts id = IsSomeAnd (remaining_at parts id) IsFence
 
