@@ -43,17 +43,17 @@ side_remains : (parts : Parts) (choice : Choice) (side : Side) → IsChoice part
 side_remains parts choice Second is = (reader_remains parts choice.reader choice.key (By choice.writer) is.reads, writer_remains parts choice.other choice.key is.other)
 side_remains parts choice First is = (writer_remains parts choice.other choice.key is.other, writer_remains parts choice.writer choice.key is.written)
 
-stacked_remain : (parts : Parts) (log : List ForceStep) (levels : List Level) (tops : List Top) → DoRemain parts (assumed levels) → AreStacked parts log levels tops → DoRemain parts (assumed (levels_onto levels tops))
-stacked_remain parts log levels [] sides stacked = sides
-stacked_remain parts log levels (top ∷ tops) sides stacked = stacked_remain parts log (level_of top ∷ levels) tops (λ side h. by_side side h) stacked.2
+stacked_remain : (parts : Parts) (log : List ForceStep) (levels : List Level) (graph : GraphState) → AreStacked parts log levels graph → DoRemain parts (assumed levels)
+stacked_remain parts log [] graph stacked = λ side h. absurd h
+stacked_remain parts log (level ∷ levels) graph stacked = by_side (stacked_remain parts log levels stacked.1.0 stacked.1.2)
   where
-    by_side : (side : TxnId × TxnId) → In (arc_of top.choice top.side ∷ assumed levels) side → Remains parts side.0 × Remains parts side.1
-    by_side side (inl e) = subst (λ (s : TxnId × TxnId). Remains parts s.0 × Remains parts s.1) e (side_remains parts top.choice top.side stacked.0)
-    by_side side (inr h) = sides side h
+    by_side : DoRemain parts (assumed levels) → DoRemain parts (arc_of level.choice level.side ∷ assumed levels)
+    by_side sides side (inl e) = subst (λ (s : TxnId × TxnId). Remains parts s.0 × Remains parts s.1) e (side_remains parts level.choice level.side stacked.2)
+    by_side sides side (inr h) = sides side h
 
-pub known_listed : (parts : Parts) (log : List ForceStep) (tops : List Top) (a b : TxnId) → AreStacked parts log [] tops → Known parts (assumed (levels_onto [] tops)) a b → Contains (all_ids parts) a × Contains (all_ids parts) b
-known_listed parts log tops a b stacked known =
-    let remain = known_remain parts (assumed (levels_onto [] tops)) a b (stacked_remain parts log [] tops (λ side h. absurd h) stacked) known in
+pub known_listed : (parts : Parts) (log : List ForceStep) (levels : List Level) (graph : GraphState) (a b : TxnId) → AreStacked parts log levels graph → Known parts (assumed levels) a b → Contains (all_ids parts) a × Contains (all_ids parts) b
+known_listed parts log levels graph a b stacked known =
+    let remain = known_remain parts (assumed levels) a b (stacked_remain parts log levels graph stacked) known in
     (contains_from_in (all_ids parts) a (remaining_listed parts a remain.0), contains_from_in (all_ids parts) b (remaining_listed parts b remain.1))
 
 -- the arcs of the graph are right

@@ -1,10 +1,11 @@
 -- Sides that are assumed one after another, and the relation with the last.
 use Rattle.std.proofs.Common.{◌≡◌, ◌≢◌, ℕ, ◌+◌, ◌-◌, List, [], ◌∷◌, ◌++◌, length, drop, Option, Some, None, refl, sym, ap, ◌∙◌, subst, zero, suc, arith}
-use Rattle.std.proofs.lemmas.List.{append-nil}
+use Rattle.std.proofs.lemmas.List.{append-nil, take_all}
 use Rattle.std.specs.List.{slice_get}
 use Rattle.std.specs.Option.{option_to_list, MatchOption}
 use Rattle.std.specs.Prelude.{◌↔◌}
 use Rattle.txn.specs.declared.transactions.TxnId.{TxnId}
+use Rattle.txn.specs.declared.choices.Arc.{Arc}
 use Rattle.txn.specs.declared.choices.Arc.TheVariants.{Taken}
 use Rattle.txn.specs.declared.choices.Choice.{Choice}
 use Rattle.txn.specs.declared.choices.Side.{Side}
@@ -14,32 +15,20 @@ use Rattle.order_check.specs.declared.remainder.Parts.{Parts}
 use Rattle.order_check.specs.Based.{Remains}
 use Rattle.order_check.specs.Cycles.{Sides, AreForced, sides_after}
 use Rattle.order_check.specs.Known.{Known, IsChoice}
-use Rattle.known_graph.specs.Graphs.{GraphState, HasNode, HasKey}
+use Rattle.known_graph.specs.Graphs.{GraphState, HasNode, HasKey, back_to, where_marked, last_mark}
 use Rattle.known_graph.specs.Reach.{Reaches}
 use Rattle.forced_choices.specs.declared.branch.Top.{Top}
 use Rattle.forced_choices.specs.BranchState.{Level, BranchState, arc_of, assumed, all_taken, last_steps}
 use Rattle.forced_choices.specs.Forcing.{Forces, IsClosed}
 use Rattle.forced_choices.specs.SoFar.{IsRelation}
 use Rattle.forced_choices.specs.Rules.{arc_of_side}
-use Rattle.forced_choices.specs.Stacks.{level_of, levels_onto, IsRelationAt, AreStacked}
+use Rattle.forced_choices.specs.Stacks.{level_of, levels_onto, IsRelationAt, IsMoreBy, AreStacked}
 use Rattle.forced_choices.proofs.SaturationLaws.{IsEnd, so_far_assumed, forces_so_far, exact}
 
 -- one more at the end
 pub levels_push : (levels : List Level) (tops : List Top) (top : Top) → levels_onto levels (tops ++ top ∷ []) ≡ level_of top ∷ levels_onto levels tops
 levels_push levels [] top = refl
 levels_push levels (t ∷ tops) top = levels_push (level_of t ∷ levels) tops top
-
-pub stacked_push : (parts : Parts) (log : List ForceStep) (levels : List Level) (tops : List Top) (top : Top) → AreStacked parts log levels tops → IsChoice parts top.choice → IsRelationAt parts log (level_of top ∷ levels_onto levels tops) top.graph → AreStacked parts log levels (tops ++ top ∷ [])
-stacked_push parts log levels [] top h is relation = (is, relation, tt)
-stacked_push parts log levels (t ∷ tops) top h is relation = (h.0, h.1, stacked_push parts log (level_of t ∷ levels) tops top h.2 is relation)
-
-pub stacked_front : (parts : Parts) (log : List ForceStep) (levels : List Level) (tops : List Top) (top : Top) → AreStacked parts log levels (tops ++ top ∷ []) → AreStacked parts log levels tops
-stacked_front parts log levels [] top h = tt
-stacked_front parts log levels (t ∷ tops) top h = (h.0, h.1, stacked_front parts log (level_of t ∷ levels) tops top h.2)
-
-pub stacked_last : (parts : Parts) (log : List ForceStep) (levels : List Level) (tops : List Top) (top : Top) → AreStacked parts log levels (tops ++ top ∷ []) → IsRelationAt parts log (level_of top ∷ levels_onto levels tops) top.graph
-stacked_last parts log levels [] top h = h.1
-stacked_last parts log levels (t ∷ tops) top h = stacked_last parts log (level_of t ∷ levels) tops top h.2
 
 pub levels_length : (levels : List Level) (tops : List Top) → length (levels_onto levels tops) ≡ length levels + length tops
 levels_length levels [] = omega arith
@@ -93,26 +82,68 @@ pub split_last : (tops : List Top) (top : Top) → slice_get tops (length tops -
 split_last [] top h = absurd cc
 split_last (x ∷ tops) top h = split_at (x ∷ tops) (length (x ∷ tops) - 1) top (omega arith) h
 
-pub last_relation : (parts : Parts) (log : List ForceStep) (tops : List Top) (top : Top) → slice_get tops (length tops - 1) ≡ Some top → AreStacked parts log [] tops → IsRelationAt parts log (levels_onto [] tops) top.graph
-last_relation parts log tops top h stacked =
-    let split = split_last tops top h in
-    let levels : levels_onto [] tops ≡ level_of top ∷ levels_onto [] split.0 = ap (λ tops. levels_onto [] tops) split.1 ∙ levels_push [] split.0 top in
-    subst (λ (levels : List Level). IsRelationAt parts log levels top.graph) (sym levels) (stacked_last parts log [] split.0 top (subst (λ tops. AreStacked parts log [] tops) split.1 stacked))
-
 pub last_steps_of : (log : List ForceStep) (tops : List Top) (top : Top) → slice_get tops (length tops - 1) ≡ Some top → last_steps log (levels_onto [] tops) ≡ top.steps
 last_steps_of log tops top h =
     let split = split_last tops top h in
     ap (λ levels. last_steps log levels) (ap (λ tops. levels_onto [] tops) split.1 ∙ levels_push [] split.0 top)
 
 -- without the last
-pub stacked_back : (parts : Parts) (log : List ForceStep) (tops : List Top) (last : Option Top) → AreStacked parts log [] (tops ++ option_to_list last) → AreStacked parts log [] tops
-stacked_back parts log tops None h = subst (λ tops. AreStacked parts log [] tops) (append-nil tops) h
-stacked_back parts log tops (Some top) h = stacked_front parts log [] tops top h
-
 pub levels_back : (old new : List Top) (last : Option Top) (n m : ℕ) → n ≡ length old → MatchOption last ((n ≡ 0) × (m ≡ 0)) (λ x. m + 1 ≡ n) → old ≡ new ++ option_to_list last → levels_onto [] old ≢ [] → levels_onto [] new ≡ drop 1 (levels_onto [] old)
 levels_back [] new None n m e cases items some = absurd (some refl)
 levels_back (t ∷ old) new None n m e cases items some = let none = cases.0 in absurd (omega arith)
 levels_back old new (Some top) n m e cases items some = sym (ap (λ levels. drop 1 levels) (ap (λ tops. levels_onto [] tops) items ∙ levels_push [] new top))
+
+-- the relation of the last level
+pub stacked_here : (parts : Parts) (log : List ForceStep) (levels : List Level) (graph : GraphState) → AreStacked parts log levels graph → IsRelationAt parts log levels graph
+stacked_here parts log [] graph h = h
+stacked_here parts log (level ∷ levels) graph h = h.0
+
+abbrev pub with_arcs : GraphState → List Arc → GraphState
+with_arcs graph arcs = record { nodes = graph.nodes; arcs = arcs; marks = graph.marks }
+
+-- a mark says nothing of the relation
+abbrev pub with_marks : GraphState → List ℕ → GraphState
+with_marks graph marks = record { nodes = graph.nodes; arcs = graph.arcs; marks = marks }
+
+at_marked : (parts : Parts) (log : List ForceStep) (levels : List Level) (graph : GraphState) (marks : List ℕ) → IsRelationAt parts log levels graph → IsRelationAt parts log levels (with_marks graph marks)
+at_marked parts log [] graph marks h = record { nodes = h.nodes; so_far = h.so_far; closed = h.closed }
+at_marked parts log (level ∷ levels) graph marks h = record { nodes = h.nodes; so_far = h.so_far; closed = h.closed }
+
+-- where a mark was set, and what leaves it as it is
+pub last_of_marked : (old new : GraphState) → new ≡ with_marks old (length old.arcs ∷ old.marks) → last_mark new ≡ Some old
+last_of_marked old new is = ap (λ (g : GraphState). last_mark g) is ∙ ap (λ (arcs : List Arc). Some (with_arcs old arcs)) (take_all (length old.arcs) old.arcs (omega arith))
+
+marks_there : (marks : List ℕ) (graph before : GraphState) → where_marked marks graph ≡ Some before → marks ≢ []
+marks_there [] graph before is e = absurd cc
+marks_there (mark ∷ marks) graph before is e = absurd cc
+
+pub marked_there : (graph before : GraphState) → last_mark graph ≡ Some before → graph.marks ≢ []
+marked_there graph before is = marks_there graph.marks (back_to graph.nodes graph.arcs graph.marks) before is
+
+back_there : (marks : List ℕ) (graph before : GraphState) → where_marked marks graph ≡ Some before → graph ≡ before
+back_there [] graph before is = absurd cc
+back_there (mark ∷ marks) graph before is = cc
+
+pub back_is : (graph before : GraphState) → last_mark graph ≡ Some before → back_to graph.nodes graph.arcs graph.marks ≡ before
+back_is graph before is = back_there graph.marks (back_to graph.nodes graph.arcs graph.marks) before is
+
+-- with one more level
+pub stacked_more : (parts : Parts) (log : List ForceStep) (levels : List Level) (old marked new : GraphState) (choice : Choice) (side : Side) (steps : List ForceStep) → AreStacked parts log levels old → marked ≡ with_marks old (length old.arcs ∷ old.marks) → last_mark new ≡ last_mark marked → IsMoreBy parts marked new choice side steps → IsChoice parts choice → AreStacked parts log (record { choice = choice; side = side; steps = steps } ∷ levels) new
+stacked_more parts log levels old marked new choice side steps h is mark more chosen =
+    let here = subst (λ (g : GraphState). IsRelationAt parts log levels g) (sym is) (at_marked parts log levels old (length old.arcs ∷ old.marks) (stacked_here parts log levels old h)) in
+    (at_more parts log levels marked new choice side steps more here, (old, mark ∙ last_of_marked old marked is, h), chosen)
+
+-- with one level less
+pub stacked_marks : (parts : Parts) (log : List ForceStep) (levels : List Level) (graph : GraphState) → levels ≢ [] → AreStacked parts log levels graph → graph.marks ≢ []
+stacked_marks parts log [] graph some h = absurd (some refl)
+stacked_marks parts log (level ∷ levels) graph some h = marked_there graph h.1.0 h.1.1
+
+pub stacked_less : (parts : Parts) (log : List ForceStep) (levels : List Level) (graph new : GraphState) → levels ≢ [] → AreStacked parts log levels graph → new ≡ back_to graph.nodes graph.arcs graph.marks → AreStacked parts log (drop 1 levels) new
+stacked_less parts log [] graph new some h is = absurd (some refl)
+stacked_less parts log (level ∷ levels) graph new some h is = subst (λ (g : GraphState). AreStacked parts log levels g) (sym (is ∙ back_is graph h.1.0 h.1.1)) h.1.2
+
+pub stacked_again : (parts : Parts) (log : List ForceStep) (levels : List Level) (old marked left new : GraphState) → AreStacked parts log levels old → marked ≡ with_marks old (length old.arcs ∷ old.marks) → last_mark left ≡ last_mark marked → new ≡ back_to left.nodes left.arcs left.marks → AreStacked parts log levels new
+stacked_again parts log levels old marked left new h is mark back = subst (λ (g : GraphState). AreStacked parts log levels g) (sym (back ∙ back_is left old (mark ∙ last_of_marked old marked is))) h
 
 -- states of branches
 abbrev pub state_of : Parts → List ForceStep → List Level → BranchState

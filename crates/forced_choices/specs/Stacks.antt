@@ -1,10 +1,13 @@
 -- For private clauses: what a branch keeps at all times.
-use Rattle.std.specs.Prelude.{⊤, List, [], ◌∷◌}
+use Rattle.std.specs.Prelude.{◌≡◌, Some, List, [], ◌∷◌}
+use Rattle.txn.specs.declared.choices.Choice.{Choice}
+use Rattle.txn.specs.declared.choices.Side.{Side}
 use Rattle.txn.specs.declared.choices.ForceStep.{ForceStep}
 use Rattle.order_check.specs.declared.remainder.Parts.{Parts}
 use Rattle.order_check.specs.Good.{IsGood}
+use Rattle.order_check.specs.Cycles.{Sides, sides_after}
 use Rattle.order_check.specs.Known.{IsChoice}
-use Rattle.known_graph.specs.Graphs.{GraphState}
+use Rattle.known_graph.specs.Graphs.{GraphState, last_mark}
 use Rattle.forced_choices.specs.declared.branch.Top.{Top}
 use Rattle.forced_choices.specs.BranchState.{Level, arc_of, assumed, all_taken}
 use Rattle.forced_choices.specs.SoFar.{IsRelation}
@@ -23,12 +26,16 @@ abbrev pub IsRelationAt : Parts → List ForceStep → List Level → GraphState
 IsRelationAt parts log [] graph = IsRelation parts [] [] graph log
 IsRelationAt parts log (level ∷ levels) graph = IsRelation parts (assumed (level ∷ levels)) (arc_of level.choice level.side ∷ all_taken log levels) graph level.steps
 
--- each assumes a side of a choice, and has the relation with it
-abbrev pub AreStacked : Parts → List ForceStep → List Level → List Top → Type 0
-AreStacked parts log levels [] = ⊤
-AreStacked parts log levels (top ∷ tops) = IsChoice parts top.choice × IsRelationAt parts log (level_of top ∷ levels) top.graph × AreStacked parts log (level_of top ∷ levels) tops
+-- the graph has one more side, and these steps that it forces
+abbrev pub IsMoreBy : Parts → GraphState → GraphState → Choice → Side → List ForceStep → Type 0
+IsMoreBy parts old new choice side steps = (taken start : Sides) (log : List ForceStep) → IsRelation parts taken start old log → IsRelation parts (arc_of choice side ∷ taken) (arc_of choice side ∷ sides_after start log) new steps
+
+-- the graph has the relation of the last level, which assumes a side of a choice, and that of the level below where it goes back to
+-- its last mark
+abbrev pub AreStacked : Parts → List ForceStep → List Level → GraphState → Type 0
+AreStacked parts log [] graph = IsRelation parts [] [] graph log
+AreStacked parts log (level ∷ levels) graph = IsRelationAt parts log (level ∷ levels) graph × ((before : GraphState) × (last_mark graph ≡ Some before) × AreStacked parts log levels before) × IsChoice parts level.choice
 
 pub record IsBranch (parts : Parts) (log : List ForceStep) (graph : GraphState) (tops : List Top) : Type 0 where
   pub good : IsGood parts
-  pub relation : IsRelation parts [] [] graph log
-  pub stacked : AreStacked parts log [] tops
+  pub stacked : AreStacked parts log (levels_onto [] tops) graph

@@ -1,4 +1,4 @@
-ghost use Rattle.std.specs.Prelude.{◌≡◌, ◌↔◌, ◌≢◌, [], ◌∷◌, All, Contains, IfOk, OnOk, OnErr, IsTrue, List, MatchOption, drop, length};
+ghost use Rattle.std.specs.Prelude.{◌≡◌, ◌↔◌, ◌≢◌, [], ◌∷◌, ◌++◌, All, Contains, IfOk, OnOk, OnErr, IsTrue, List, MatchOption, drop, length};
 ghost use Rattle.txn.specs.declared.transactions.TxnId.{TxnId};
 ghost use Rattle.txn.specs.declared.choices.Choice.{Choice};
 ghost use Rattle.txn.specs.declared.choices.ForceStep.{ForceStep};
@@ -8,10 +8,10 @@ ghost use Rattle.order_check.specs.Search.{HasCycle, IsFirstOpen};
 ghost use Rattle.known_graph.specs.Reach.{Reaches};
 ghost use Rattle.order_check.specs.Known.{Known, IsChoice, IsOpen};
 ghost use Rattle.order_check.specs.Based.{Remains};
-ghost use Rattle.known_graph.specs.Graphs.{HasNode};
+ghost use Rattle.known_graph.specs.Graphs.{HasNode, last_mark};
 ghost use Rattle.order_check.specs.Good.{IsGood};
 ghost use Rattle.forced_choices.specs.BranchState.{arc_of, assumed, all_taken, last_steps, AreForcedBy};
-ghost use Rattle.forced_choices.specs.Stacks.{IsRelationAt};
+ghost use Rattle.forced_choices.specs.Stacks.{IsRelationAt, IsMoreBy};
 ghost use Rattle.forced_choices.specs.SoFar.{IsRelation};
 
 use crate::listing::remaining_ids_of;
@@ -25,17 +25,16 @@ use std::alloc::Global;
 use std::marker::Model;
 use txn::{Arc, Choice, ForceStep, NoMemory, Sequence, Side, TxnId};
 
-/// A side that is assumed, the steps that it forces, and the relation with it.
+/// A side that is assumed, and the steps that it forces.
 #[derive(Drop, Debug)]
 struct Top {
     choice: Choice,
     side: Side,
     steps: Sequence<ForceStep>,
-    graph: Graph,
 }
 
-/// The known relation where sides of choices are assumed, one after another. Each assumed side has a relation of its own, so
-/// that coming back takes no memory.
+/// The known relation where sides of choices are assumed, one after another. All are on one graph, which has a mark for each
+/// side, so that coming back takes no memory, and time of what the side changed.
 #[derive(Drop, Debug)]
 pub struct Branch {
     pub(crate) parts: Parts,
@@ -60,27 +59,52 @@ impl Model for Branch {
     ghost invariant = { λ b. IsBranch b.parts b.log b.graph b.tops.items };
 }
 
-/// The relation with one more side assumed, and the steps that it forces.
+/// Puts one more side into the relation, and gives the steps that it forces.
 fn relation_with(
     alloc: Global,
     parts: &Parts,
-    graph: &Graph,
+    graph: &mut Graph,
     rule: Rule,
-) -> Result<(Graph, Vec<ForceStep>), NoMemory>
+) -> Result<Vec<ForceStep>, NoMemory>
     requires good { IsGood parts.now }
     requires choice { IsChoice parts.now rule.choice }
-    requires nodes { (id : TxnId) → Remains parts.now id → HasNode graph.now id }
-    ensures { IfOk result (λ made. (taken start : Sides) (log : List ForceStep)
-        → IsRelation parts.now taken start graph.now log
-        → IsRelation parts.now (arc_of rule.choice rule.side ∷ taken) (arc_of rule.choice rule.side ∷ sides_after start log) made.0 made.1.items) }
+    requires nodes { (id : TxnId) → Remains parts.now id → HasNode graph.old id }
+    ensures relation { IfOk result (λ steps. (taken start : Sides) (log : List ForceStep)
+        → IsRelation parts.now taken start graph.old log
+        → IsRelation parts.now (arc_of rule.choice rule.side ∷ taken) (arc_of rule.choice rule.side ∷ sides_after start log) graph.new steps.items) }
+    ensures mark { last_mark graph.new ≡ last_mark graph.old }
 {
     let ids = remaining_ids_of(alloc, parts)?;
-    let mut graph = graph.clone()?;
     let (from, to) = rule.conclusion();
     graph.add_arc(alloc, Arc::Taken { from, to })?;
     let mut steps = Vec::new(alloc);
-    saturate(alloc, parts, ids.as_slice(), &mut graph, &mut steps)?;
-    Ok((graph, steps))
+    saturate(alloc, parts, ids.as_slice(), graph, &mut steps)?;
+    Ok(steps)
+}
+
+/// Puts one more side into the relation, and on top of those that are assumed.
+fn take_side(
+    alloc: Global,
+    parts: &Parts,
+    graph: &mut Graph,
+    tops: &mut Vec<Top>,
+    rule: Rule,
+) -> Result<(), NoMemory>
+    requires good { IsGood parts.now }
+    requires choice { IsChoice parts.now rule.choice }
+    requires nodes { (id : TxnId) → Remains parts.now id → HasNode graph.old id }
+    ensures ok { OnOk result ((steps : List ForceStep) × (tops.new.items ≡ tops.old.items ++ record { choice = rule.choice; side = rule.side; steps = steps } ∷ [])
+        × IsMoreBy parts.now graph.old graph.new rule.choice rule.side steps) }
+    ensures err { OnErr result (tops.new.items ≡ tops.old.items) }
+    ensures mark { last_mark graph.new ≡ last_mark graph.old }
+{
+    let steps = relation_with(alloc, parts, graph, rule)?;
+    tops.push(Top {
+        choice: rule.choice,
+        side: rule.side,
+        steps: Sequence::new(steps),
+    })?;
+    Ok(())
 }
 
 /// One that reaches itself.
@@ -113,10 +137,7 @@ impl Branch {
     pub(crate) fn last(&self) -> &Graph
         ensures { IsRelationAt self.now.parts self.now.log self.now.levels result.now }
     {
-        match self.tops.last() {
-            Some(top) => &top.graph,
-            None => &self.graph,
-        }
+        &self.graph
     }
 
     /// What remains, in order of id.
@@ -160,15 +181,15 @@ impl Branch {
         ensures ok { OnOk result ((steps : List ForceStep) × AreForcedBy self.old choice side steps × (self.new ≡ record self.old { levels = record { choice = choice; side = side; steps = steps } ∷ self.old.levels })) }
         ensures err { OnErr result (self.new ≡ self.old) }
     {
+        self.graph.mark()?;
         let rule = Rule { choice, side };
-        let (graph, steps) = relation_with(alloc, &self.parts, self.last(), rule)?;
-        self.tops.push(Top {
-            choice,
-            side,
-            steps: Sequence::new(steps),
-            graph,
-        })?;
-        Ok(())
+        match take_side(alloc, &self.parts, &mut self.graph, &mut self.tops, rule) {
+            Ok(()) => Ok(()),
+            Err(error) => {
+                self.graph.back();
+                Err(error)
+            }
+        }
     }
 
     /// Takes back the side that was assumed last. It takes no memory.
@@ -176,6 +197,7 @@ impl Branch {
         requires { self.old.levels ≢ [] }
         ensures { self.new ≡ record self.old { levels = drop 1 self.old.levels } }
     {
+        self.graph.back();
         let _last = self.tops.pop();
     }
 

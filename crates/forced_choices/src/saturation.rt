@@ -10,7 +10,7 @@ ghost use Rattle.order_check.specs.declared.remainder.Parts.{Parts};
 ghost use Rattle.order_check.specs.Based.{Remains};
 ghost use Rattle.order_check.specs.Known.{IsChoice, ReadsKey, WritesKey};
 ghost use Rattle.known_graph.specs.Bits.{HasBit};
-ghost use Rattle.known_graph.specs.Graphs.{HasNode};
+ghost use Rattle.known_graph.specs.Graphs.{HasNode, last_mark};
 ghost use Rattle.forced_choices.specs.Forcing.{IsLeft, IsOn, IsStepOf, Forces, HasLookedAt, HasLooked, IsClosed, taken_arc};
 ghost use Rattle.forced_choices.specs.Listing.{all_ids, reads_of, choices_of_read, choices_of};
 ghost use Rattle.forced_choices.specs.Masks.{AreWriters, AreThere, AreSettledBut, is_third, choice_of, choices_in};
@@ -55,6 +55,7 @@ fn fire(
     ensures fires { OnOk result ((step : ForceStep) × IsStepOf graph.old.arcs rule step
         × (graph.new.arcs ≡ graph.old.arcs ++ taken_arc rule ∷ []) × (log.new.items ≡ log.old.items ++ step ∷ [])) }
     ensures nodes { OnOk result (graph.new.nodes ≡ graph.old.nodes) }
+    ensures mark { last_mark graph.new ≡ last_mark graph.old }
 {
     let (from, to) = rule.conclusion();
     let (start, end) = rule.premise();
@@ -77,6 +78,7 @@ fn look_at_side(
     ensures looked { OnOk result ((parts : Parts) → IsChoice parts rule.choice
         → HasLookedAt parts graph.old.arcs log.old.items graph.new.arcs log.new.items rule) }
     ensures nodes { OnOk result (graph.new.nodes ≡ graph.old.nodes) }
+    ensures mark { last_mark graph.new ≡ last_mark graph.old }
 {
     if is_left(graph, rule) {
         fire(alloc, graph, log, rule)?;
@@ -95,6 +97,7 @@ fn look_at_choice(
     ensures looked { OnOk result ((parts : Parts) → IsChoice parts choice
         → HasLooked parts graph.old.arcs log.old.items graph.new.arcs log.new.items (choice ∷ [])) }
     ensures nodes { OnOk result (graph.new.nodes ≡ graph.old.nodes) }
+    ensures mark { last_mark graph.new ≡ last_mark graph.old }
 {
     let second = Rule {
         choice,
@@ -127,6 +130,7 @@ fn look_at_other(
         → ((¬ HasBit row.now column) → AreThere arcs (choices_in parts.now (other ∷ []) read))
         → HasLooked parts.now arcs some graph.new.arcs log.new.items (before ++ choices_in parts.now (other ∷ []) read)) }
     ensures nodes { OnOk result (graph.new.nodes ≡ graph.old.nodes) }
+    ensures mark { last_mark graph.new ≡ last_mark graph.old }
 {
     if !has_bit(row, column) {
         return Ok(());
@@ -160,6 +164,7 @@ fn look_at_columns(
     requires settled { AreSettledBut parts.now graph.old.arcs ids.now writers.now.columns.items row.now read }
     ensures looked { OnOk result (HasLooked parts.now graph.old.arcs log.old.items graph.new.arcs log.new.items (choices_in parts.now ids.now read)) }
     ensures nodes { OnOk result (graph.new.nodes ≡ graph.old.nodes) }
+    ensures mark { last_mark graph.new ≡ last_mark graph.old }
 {
     for place in 0..ids.len() {
         let column = writers.column(place);
@@ -184,6 +189,7 @@ fn look_at_writers(
     requires writers { AreWriters parts.now graph.old.nodes ids.now writers.now }
     ensures looked { OnOk result (HasLooked parts.now graph.old.arcs log.old.items graph.new.arcs log.new.items (choices_in parts.now ids.now read)) }
     ensures nodes { OnOk result (graph.new.nodes ≡ graph.old.nodes) }
+    ensures mark { last_mark graph.new ≡ last_mark graph.old }
 {
     let row = columns_left(alloc, graph, writers.mask(read.key), read)?;
     if is_clear(&row) {
@@ -208,6 +214,7 @@ fn look_at_read(
     requires writers { AreWriters parts.now graph.old.nodes ids.now writers.now }
     ensures looked { OnOk result (HasLooked parts.now graph.old.arcs log.old.items graph.new.arcs log.new.items (choices_of_read parts.now ids.now reader read)) }
     ensures nodes { OnOk result (graph.new.nodes ≡ graph.old.nodes) }
+    ensures mark { last_mark graph.new ≡ last_mark graph.old }
 {
     match read.1 {
         Source::Init => Ok(()),
@@ -240,6 +247,7 @@ fn look_at_reader(
     ensures looked { OnOk result (HasLooked parts.now graph.old.arcs log.old.items graph.new.arcs log.new.items
         (flat_map (choices_of_read parts.now ids.now reader) (reads_of parts.now reader))) }
     ensures nodes { OnOk result (graph.new.nodes ≡ graph.old.nodes) }
+    ensures mark { last_mark graph.new ≡ last_mark graph.old }
 {
     for read in reads_of(parts, reader) {
         look_at_read(alloc, parts, ids, writers, graph, log, reader, *read)?;
@@ -261,6 +269,7 @@ fn look_at_all(
     ensures looked { OnOk result (HasLooked parts.now graph.old.arcs log.old.items graph.new.arcs log.new.items
         (choices_of parts.now ids.now ids.now)) }
     ensures nodes { OnOk result (graph.new.nodes ≡ graph.old.nodes) }
+    ensures mark { last_mark graph.new ≡ last_mark graph.old }
 {
     for reader in ids {
         look_at_reader(alloc, parts, ids, writers, graph, log, *reader)?;
@@ -283,6 +292,7 @@ fn saturate_by(
     ensures forces { OnOk result (Forces parts.now graph.old.arcs log.old.items graph.new.arcs log.new.items) }
     ensures closed { OnOk result (IsClosed parts.now graph.new.arcs) }
     ensures nodes { OnOk result (graph.new.nodes ≡ graph.old.nodes) }
+    ensures mark { last_mark graph.new ≡ last_mark graph.old }
 {
     let mut goes_on = true;
     while goes_on {
@@ -306,6 +316,7 @@ pub fn saturate(
     ensures forces { OnOk result (Forces parts.now graph.old.arcs log.old.items graph.new.arcs log.new.items) }
     ensures closed { OnOk result (IsClosed parts.now graph.new.arcs) }
     ensures nodes { OnOk result (graph.new.nodes ≡ graph.old.nodes) }
+    ensures mark { last_mark graph.new ≡ last_mark graph.old }
 {
     let writers = writers_of(alloc, parts, graph, ids)?;
     saturate_by(alloc, parts, ids, &writers, graph, log)

@@ -1,5 +1,5 @@
 -- The marks of a graph, as it grows and is taken back.
-use Rattle.std.proofs.Common.{◌≡◌, ◌≢◌, ◌⊎◌, ◌↔◌, ℕ, ◌<◌, ◌≤◌, List, [], ◌∷◌, ◌++◌, Vec, Global, Option, length, take, drop, sym, ap, subst, subst₂, ◌∙◌, inl, inr, arith, All}
+use Rattle.std.proofs.Common.{◌≡◌, ◌≢◌, ◌⊎◌, ◌↔◌, ℕ, ◌<◌, ◌≤◌, List, [], ◌∷◌, ◌++◌, Vec, Global, Option, Some, length, take, drop, map, refl, sym, ap, subst, subst₂, ◌∙◌, inl, inr, arith, All}
 use Rattle.std.specs.Prelude.{reverse}
 use Rattle.std.proofs.lemmas.List.{append-nil, length-append, take_all, drop_all, take-append-le, drop-append-le, reverse-append}
 use Rattle.std.proofs.lemmas.List.Elements.{All-append, All-nil, All-take, All-weaker}
@@ -10,7 +10,7 @@ use Rattle.known_graph.specs.declared.trail.Mark.{Mark}
 use Rattle.known_graph.specs.declared.trail.Saved.{Saved}
 use Rattle.known_graph.specs.declared.trail.Trail.{Trail}
 use Rattle.known_graph.specs.Bits.{HasBit}
-use Rattle.known_graph.specs.Graphs.{HasKey}
+use Rattle.known_graph.specs.Graphs.{GraphState, back_to, where_marked, HasKey}
 use Rattle.known_graph.specs.Kept.{AreRowsOf, IsKept}
 use Rattle.known_graph.specs.Marks.{AreBitsOf, AreMarked, IsTrailOf, IsTrail, IsMarkedGraph}
 use Rattle.known_graph.specs.Reach.{Reaches}
@@ -215,3 +215,13 @@ IsTrail-saved nodes arcs onto from old new marks first second is = record {
   forwards = subst (λ (ms : Vec Mark Global). IsTrailOf nodes Reaches (λ mark. mark.onto) arcs onto new.onto.items (reverse ms.items)) (sym marks) (IsTrailOf-saved nodes Reaches (λ mark. mark.onto) arcs onto old.onto.items new.onto.items (reverse old.marks.items) first is.forwards);
   backwards = subst (λ (ms : Vec Mark Global). IsTrailOf nodes (λ arcs a b. Reaches arcs b a) (λ mark. mark.from) arcs from new.from.items (reverse ms.items)) (sym marks) (IsTrailOf-saved nodes (λ arcs a b. Reaches arcs b a) (λ mark. mark.from) arcs from old.from.items new.from.items (reverse old.marks.items) second is.backwards);
 }
+
+abbrev pub graph_with : List (Option TxnId) → List Arc → List ℕ → GraphState
+graph_with nodes arcs marks = record { nodes = nodes; arcs = arcs; marks = marks }
+
+-- more arcs leave the last mark as it is
+pub last_mark-push : (nodes : List (Option TxnId)) (R : List Arc → TxnId → TxnId → Type 0) (place : Mark → ℕ) (arcs extra : List Arc) (has : ℕ → ℕ → Type 0) (saved : List Saved) (marks : List Mark) → AreMarked nodes R place arcs has saved marks
+    → where_marked (map (λ (mark : Mark). mark.arcs) marks) (back_to nodes (arcs ++ extra) (map (λ (mark : Mark). mark.arcs) marks)) ≡ where_marked (map (λ (mark : Mark). mark.arcs) marks) (back_to nodes arcs (map (λ (mark : Mark). mark.arcs) marks))
+last_mark-push nodes R place arcs extra has saved [] marked = refl
+last_mark-push nodes R place arcs extra has saved (mark ∷ marks) marked =
+    ap (λ (xs : List Arc). Some (graph_with nodes xs (map (λ (mark : Mark). mark.arcs) marks))) (take-append-le mark.arcs arcs extra marked.0)

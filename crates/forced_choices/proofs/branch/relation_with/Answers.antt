@@ -1,7 +1,7 @@
 use Rattle.std.proofs.Common.{◌≡◌, ◌∷◌, [], ◌++◌, ◌∙◌, sym, ap, subst, subst₂}
 use Rattle.txn.specs.declared.transactions.TxnId.{TxnId}
 use Rattle.txn.specs.declared.choices.Arc.TheVariants.{Taken}
-use Rattle.known_graph.specs.Graphs.{HasKey, GraphState}
+use Rattle.known_graph.specs.Graphs.{HasKey}
 use Rattle.forced_choices.specs.Forcing.{Forces}
 use Rattle.forced_choices.specs.BranchState.{arc_of}
 use Rattle.forced_choices.proofs.Keeping.{on_side}
@@ -11,21 +11,21 @@ use Rattle.forced_choices.proofs.branch.relation_with.Goals as goal
 pub add_arc-requires-clause-start : goal.add_arc-requires-clause-start
 add_arc-requires-clause-start c =
     let on = on_side c.args.parts.now c.args.graph.now c.args.rule.choice c.args.rule.side c.requires.nodes c.requires.choice in
-    subst₂ (λ nodes id. HasKey nodes id) (ap (λ (g : GraphState). g.nodes) (sym c.in_ok-graph.ensures.cases)) (ap (λ (p : TxnId × TxnId). p.0) (sym c.conclusion.ensures)) on.start
+    subst (λ id. HasKey c.args.graph.now.nodes id) (ap (λ (p : TxnId × TxnId). p.0) (sym c.conclusion.ensures)) on.start
 
 pub add_arc-requires-clause-end : goal.add_arc-requires-clause-end
 add_arc-requires-clause-end c =
     let on = on_side c.args.parts.now c.args.graph.now c.args.rule.choice c.args.rule.side c.requires.nodes c.requires.choice in
-    subst₂ (λ nodes id. HasKey nodes id) (ap (λ (g : GraphState). g.nodes) (sym c.in_ok-graph.ensures.cases)) (ap (λ (p : TxnId × TxnId). p.1) (sym c.conclusion.ensures)) on.end
+    subst (λ id. HasKey c.args.graph.now.nodes id) (ap (λ (p : TxnId × TxnId). p.1) (sym c.conclusion.ensures)) on.end
 
 pub saturate-requires-clause-nodes : goal.saturate-requires-clause-nodes
-saturate-requires-clause-nodes c = λ id remains. subst (λ nodes. HasKey nodes id) (sym (c.in_ok-add_arc.ensures.nodes ∙ ap (λ (g : GraphState). g.nodes) c.in_ok-graph.ensures.cases)) (c.requires.nodes id remains)
+saturate-requires-clause-nodes c = λ id remains. subst (λ nodes. HasKey nodes id) (sym c.in_ok-add_arc.ensures.nodes) (c.requires.nodes id remains)
 
-pub returns : goal.returns
-returns c = λ taken start log relation.
+pub returns-clause-relation : goal.returns-clause-relation
+returns-clause-relation c = λ taken start log relation.
     let old = c.args.graph.now in
     let side = arc_of c.args.rule.choice c.args.rule.side in
-    let nodes = c.in_ok-saturate.ensures.nodes ∙ c.in_ok-add_arc.ensures.nodes ∙ ap (λ (g : GraphState). g.nodes) c.in_ok-graph.ensures.cases in
-    let arcs : c.add_arc.new.self.arcs ≡ old.arcs ++ Taken side.0 side.1 ∷ [] = c.in_ok-add_arc.ensures.arcs ∙ ap (λ (g : GraphState). g.arcs ++ Taken c.conclusion.result.0 c.conclusion.result.1 ∷ []) c.in_ok-graph.ensures.cases ∙ ap (λ (p : TxnId × TxnId). old.arcs ++ Taken p.0 p.1 ∷ []) (c.conclusion.ensures ∙ arc_same c.args.rule.choice c.args.rule.side) in
+    let nodes = c.in_ok-saturate.ensures.nodes ∙ c.in_ok-add_arc.ensures.nodes in
+    let arcs : c.add_arc.new.self.arcs ≡ old.arcs ++ Taken side.0 side.1 ∷ [] = c.in_ok-add_arc.ensures.arcs ∙ ap (λ (p : TxnId × TxnId). old.arcs ++ Taken p.0 p.1 ∷ []) (c.conclusion.ensures ∙ arc_same c.args.rule.choice c.args.rule.side) in
     let forces = subst₂ (λ arcs log. Forces c.args.parts.now arcs log c.saturate.new.graph.arcs c.saturate.new.log.items) arcs c.new-steps.ensures.items c.in_ok-saturate.ensures.forces in
     relation_assumed c.args.parts.now taken start old c.saturate.new.graph log c.saturate.new.log.items side nodes forces c.in_ok-saturate.ensures.closed relation

@@ -14,7 +14,7 @@ abbrev none : TxnId
 none = record { session = 0; number = 0 }
 
 pub loop-reader-init : goal.loop-reader-init
-loop-reader-init c = record { looked = looked_none c.args.parts.now c.args.graph.now.arcs c.args.log.now.items; nodes = refl }
+loop-reader-init c = record { looked = looked_none c.args.parts.now c.args.graph.now.arcs c.args.log.now.items; nodes = refl; mark = refl }
 
 pub look_at_reader-requires-clause-nodes : goal.look_at_reader-requires-clause-nodes
 look_at_reader-requires-clause-nodes c = λ id remains. subst (λ nodes. HasKey nodes id) (sym c.loop-reader.invariant.nodes) (c.requires.nodes id remains)
@@ -34,6 +34,7 @@ loop-reader-preserved c =
     record {
       looked = subst (λ xs. HasLooked parts c.args.graph.now.arcs c.args.log.now.items c.look_at_reader.new.graph.arcs c.look_at_reader.new.log.items xs) (sym listed) both;
       nodes = c.in_ok-look_at_reader.ensures.nodes ∙ c.loop-reader.invariant.nodes;
+      mark = c.look_at_reader.ensures.mark ∙ c.loop-reader.invariant.mark;
     }
 
 pub returns-clause-looked : goal.returns-clause-looked

@@ -13,7 +13,7 @@ abbrev none : TxnId
 none = record { session = 0; number = 0 }
 
 pub loop-place-init : goal.loop-place-init
-loop-place-init c = record { looked = looked_none c.args.parts.now c.args.graph.now.arcs c.args.log.now.items; nodes = refl }
+loop-place-init c = record { looked = looked_none c.args.parts.now c.args.graph.now.arcs c.args.log.now.items; nodes = refl; mark = refl }
 
 pub look_at_other-requires-clause-nodes : goal.look_at_other-requires-clause-nodes
 look_at_other-requires-clause-nodes c = λ id remains. subst (λ nodes. HasKey nodes id) (sym c.loop-place.invariant.nodes) (c.requires.nodes id remains)
@@ -31,6 +31,7 @@ loop-place-preserved c =
     record {
       looked = subst (λ xs. HasLooked parts arcs some c.look_at_other.new.graph.arcs c.look_at_other.new.log.items xs) (sym (choices_in_more parts ids c.args.read k none within)) both;
       nodes = c.in_ok-look_at_other.ensures.nodes ∙ c.loop-place.invariant.nodes;
+      mark = c.look_at_other.ensures.mark ∙ c.loop-place.invariant.mark;
     }
 
 pub returns-clause-looked : goal.returns-clause-looked

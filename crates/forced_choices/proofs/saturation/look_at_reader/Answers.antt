@@ -18,7 +18,7 @@ abbrev none : ℕ × Source
 none = (0, Init)
 
 pub loop-read-init : goal.loop-read-init
-loop-read-init c = record { looked = looked_none c.args.parts.now c.args.graph.now.arcs c.args.log.now.items; nodes = refl }
+loop-read-init c = record { looked = looked_none c.args.parts.now c.args.graph.now.arcs c.args.log.now.items; nodes = refl; mark = refl }
 
 pub look_at_read-requires-clause-reads : goal.look_at_read-requires-clause-reads
 look_at_read-requires-clause-reads c =
@@ -48,6 +48,7 @@ loop-read-preserved c =
     record {
       looked = subst (λ choices. HasLooked parts arcs some new.graph.arcs new.log.items choices) (sym (reads_more parts ids reader reads k none within)) both;
       nodes = c.in_ok-look_at_read.ensures.nodes ∙ c.loop-read.invariant.nodes;
+      mark = c.look_at_read.ensures.mark ∙ c.loop-read.invariant.mark;
     }
 
 pub returns-clause-looked : goal.returns-clause-looked

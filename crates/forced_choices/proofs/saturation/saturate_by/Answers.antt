@@ -6,7 +6,7 @@ use Rattle.forced_choices.proofs.Forced.{forces_both, forces_length, forces_boun
 use Rattle.forced_choices.proofs.saturation.saturate_by.Goals as goal
 
 pub loop-goes_on-init : goal.loop-goes_on-init
-loop-goes_on-init c = record { forces = unforced; ended = λ e. absurd (false≢true (sym e)); nodes = refl }
+loop-goes_on-init c = record { forces = unforced; ended = λ e. absurd (false≢true (sym e)); nodes = refl; mark = refl }
 
 -- the measure falls, where steps were added or it doesn't go on
 falls : (bound before after b a : ℕ) (t u : Bool) → u ≡ true → nat_lt b a ≡ t → before ≡ b → after ≡ a → before ≤ after → after ≤ bound → (bound - after) * 2 + (if t then 1 else 0) < (bound - before) * 2 + (if u then 1 else 0)
@@ -41,4 +41,5 @@ loop-goes_on-preserved c =
       forces = so_far c;
       ended = λ e. closed_of parts c.loop-goes_on.graph.arcs before.items c.look_at_all.new.graph.arcs after.items looked (let least = ltb-false c.len-before.result c.len.result e in omega arith);
       nodes = c.in_ok-look_at_all.ensures.nodes ∙ c.loop-goes_on.invariant.nodes;
+      mark = c.look_at_all.ensures.mark ∙ c.loop-goes_on.invariant.mark;
     }

@@ -1,4 +1,5 @@
 use Rattle.std.proofs.Common.{◌≡◌, ◌+◌, ◌*◌, ◌-◌, false, length, if◌then◌else◌}
+use Rattle.known_graph.specs.Graphs.{last_mark}
 use Rattle.forced_choices.specs.Forcing.{Forces, IsClosed}
 use Rattle.forced_choices.specs.Listing.{all_ids}
 use Rattle.forced_choices.proofs.Forced.{pairs_of}
@@ -10,6 +11,7 @@ invariant-loop-goes_on l = record {
   forces : Forces l.parts l.initial.graph.arcs l.initial.log.items l.graph.arcs l.log.items;
   ended : l.goes_on ≡ false → IsClosed l.parts l.graph.arcs;
   nodes : l.graph.nodes ≡ l.initial.graph.nodes;
+  mark : last_mark l.graph ≡ last_mark l.initial.graph;
 }
 
 -- no more sides are forced than there are pairs of ids

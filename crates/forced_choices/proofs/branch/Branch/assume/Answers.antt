@@ -1,45 +1,58 @@
 use Rattle.std.proofs.Common.{◌≡◌, ◌∷◌, [], ◌∙◌, List, sym, ap, subst}
 use Rattle.txn.specs.declared.choices.ForceStep.{ForceStep}
-use Rattle.order_check.specs.Cycles.{Sides, sides_after}
 use Rattle.order_check.specs.Known.{IsChoice}
-use Rattle.forced_choices.specs.BranchState.{Level, BranchState, AreForcedBy, arc_of}
+use Rattle.known_graph.specs.Graphs.{GraphState, HasKey}
+use Rattle.forced_choices.specs.BranchState.{Level, BranchState, AreForcedBy}
 use Rattle.forced_choices.specs.declared.branch.Top.{Top}
-use Rattle.forced_choices.specs.SoFar.{IsRelation}
-use Rattle.forced_choices.specs.Stacks.{IsRelationAt, AreStacked, levels_onto, level_of}
-use Rattle.forced_choices.proofs.Stacked.{at_more, at_nodes, at_forced, levels_push, stacked_push, state_of, state_with}
+use Rattle.forced_choices.specs.Stacks.{AreStacked, levels_onto, level_of}
+use Rattle.forced_choices.proofs.Stacked.{at_nodes, at_forced, levels_push, stacked_here, stacked_more, stacked_again, marked_there, last_of_marked, state_of, state_with}
 use Rattle.forced_choices.proofs.branch.Branch.assume.Goals as goal
 
-pub relation_with-requires-clause-nodes : goal.relation_with-requires-clause-nodes
-relation_with-requires-clause-nodes c =
-    let here = subst (λ (b : BranchState). IsRelationAt b.parts b.log b.levels c.last.result.now) (sym c.self.view_is) c.last.ensures in
-    at_nodes c.self.inside.parts c.self.inside.log (levels_onto [] c.self.inside.tops.items) c.last.result.now here
+pub take_side-requires-clause-choice : goal.take_side-requires-clause-choice
+take_side-requires-clause-choice c = subst (λ (b : BranchState). IsChoice b.parts c.args.choice) (sym c.self.view_is) c.requires
 
--- the relation with the side
-new_relation : (c : goal.In_ok-push) → IsRelationAt c.self.inside.parts c.self.inside.log (record { choice = c.args.choice; side = c.args.side; steps = c.new.result } ∷ levels_onto [] c.self.inside.tops.items) c.in_ok-graph.graph
-new_relation c =
-    let here = subst (λ (b : BranchState). IsRelationAt b.parts b.log b.levels c.last.result.now) (sym c.self.view_is) c.last.ensures in
-    let more = subst (λ (steps : List ForceStep). (taken start : Sides) (some : List ForceStep) → IsRelation c.self.inside.parts taken start c.last.result.now some → IsRelation c.self.inside.parts (arc_of c.args.choice c.args.side ∷ taken) (arc_of c.args.choice c.args.side ∷ sides_after start some) c.in_ok-graph.graph steps) (sym c.new.ensures) c.in_ok-graph.ensures in
-    at_more c.self.inside.parts c.self.inside.log (levels_onto [] c.self.inside.tops.items) c.last.result.now c.in_ok-graph.graph c.args.choice c.args.side c.new.result more here
+pub take_side-requires-clause-nodes : goal.take_side-requires-clause-nodes
+take_side-requires-clause-nodes c = λ id remains.
+    let levels = levels_onto [] c.self.inside.tops.items in
+    let here = stacked_here c.self.inside.parts c.self.inside.log levels c.self.inside.graph c.self.invariant.stacked in
+    subst (λ (g : GraphState). HasKey g.nodes id) (sym c.in_ok-mark.ensures.ok) (at_nodes c.self.inside.parts c.self.inside.log levels c.self.inside.graph here id remains)
 
-pub invariant_of-self-2 : goal.invariant_of-self-2
-invariant_of-self-2 c =
-    let top : Top = record { choice = c.args.choice; side = c.args.side; steps = c.new.result; graph = c.in_ok-graph.graph } in
-    let is : IsChoice c.self.inside.parts c.args.choice = subst (λ (b : BranchState). IsChoice b.parts c.args.choice) (sym c.self.view_is) c.requires in
-    let stacked = stacked_push c.self.inside.parts c.self.inside.log [] c.self.inside.tops.items top c.self.invariant.stacked is (new_relation c) in
+pub back-requires : goal.back-requires
+back-requires c = marked_there c.take_side.new.graph c.self.inside.graph (c.take_side.ensures.mark ∙ last_of_marked c.self.inside.graph c.mark.new.self c.in_ok-mark.ensures.ok)
+
+pub invariant_of-self-in-Err : goal.invariant_of-self-in-Err
+invariant_of-self-in-Err c =
+    let levels = levels_onto [] c.self.inside.tops.items in
     record {
       good = c.self.invariant.good;
-      relation = c.self.invariant.relation;
-      stacked = subst (λ tops. AreStacked c.self.inside.parts c.self.inside.log [] tops) (sym c.in_ok-push.ensures.items) stacked;
+      stacked = subst (λ (tops : List Top). AreStacked c.self.inside.parts c.self.inside.log (levels_onto [] tops) c.back.new.self) (sym c.in-Err.ensures.err)
+          (stacked_again c.self.inside.parts c.self.inside.log levels c.self.inside.graph c.mark.new.self c.take_side.new.graph c.back.new.self c.self.invariant.stacked c.in_ok-mark.ensures.ok c.take_side.ensures.mark c.back.ensures);
     }
 
-pub returns-clause-ok : goal.returns-clause-ok
-returns-clause-ok c =
-    let top : Top = record { choice = c.args.choice; side = c.args.side; steps = c.new.result; graph = c.in_ok-graph.graph } in
-    let level : Level = level_of top in
-    let tops = c.self.inside.tops.items in
-    let forced = at_forced c.self.inside.parts c.self.inside.log level (levels_onto [] tops) c.in_ok-graph.graph (new_relation c) in
-    let levels : levels_onto [] c.push.new.self.items ≡ level ∷ levels_onto [] tops = ap (λ tops. levels_onto [] tops) c.in_ok-push.ensures.items ∙ levels_push [] tops top in (
-      c.new.result,
-      subst (λ (b : BranchState). AreForcedBy b c.args.choice c.args.side c.new.result) c.self.view_is forced,
-      ap (λ levels. state_of c.self.inside.parts c.self.inside.log levels) levels ∙ ap (state_with level) c.self.view_is,
+pub returns-in-Err-clause-err : goal.returns-in-Err-clause-err
+returns-in-Err-clause-err c = ap (λ (tops : List Top). state_of c.self.inside.parts c.self.inside.log (levels_onto [] tops)) c.in-Err.ensures.err ∙ c.self.view_is
+
+pub invariant_of-self-in-Ok : goal.invariant_of-self-in-Ok
+invariant_of-self-in-Ok c =
+    let levels = levels_onto [] c.self.inside.tops.items in
+    let ok = c.in-Ok.ensures.ok in
+    let top : Top = record { choice = c.args.choice; side = c.args.side; steps = ok.0 } in
+    let more : levels_onto [] c.take_side.new.tops.items ≡ level_of top ∷ levels = ap (λ tops. levels_onto [] tops) ok.1 ∙ levels_push [] c.self.inside.tops.items top in
+    record {
+      good = c.self.invariant.good;
+      stacked = subst (λ (levels : List Level). AreStacked c.self.inside.parts c.self.inside.log levels c.take_side.new.graph) (sym more)
+          (stacked_more c.self.inside.parts c.self.inside.log levels c.self.inside.graph c.mark.new.self c.take_side.new.graph c.args.choice c.args.side ok.0 c.self.invariant.stacked c.in_ok-mark.ensures.ok c.take_side.ensures.mark ok.2 (subst (λ (b : BranchState). IsChoice b.parts c.args.choice) (sym c.self.view_is) c.requires));
+    }
+
+pub returns-in-Ok-clause-ok : goal.returns-in-Ok-clause-ok
+returns-in-Ok-clause-ok c =
+    let levels = levels_onto [] c.self.inside.tops.items in
+    let ok = c.in-Ok.ensures.ok in
+    let top : Top = record { choice = c.args.choice; side = c.args.side; steps = ok.0 } in
+    let more : levels_onto [] c.take_side.new.tops.items ≡ level_of top ∷ levels = ap (λ tops. levels_onto [] tops) ok.1 ∙ levels_push [] c.self.inside.tops.items top in
+    let stacked = stacked_more c.self.inside.parts c.self.inside.log levels c.self.inside.graph c.mark.new.self c.take_side.new.graph c.args.choice c.args.side ok.0 c.self.invariant.stacked c.in_ok-mark.ensures.ok c.take_side.ensures.mark ok.2 (subst (λ (b : BranchState). IsChoice b.parts c.args.choice) (sym c.self.view_is) c.requires) in
+    let forced = at_forced c.self.inside.parts c.self.inside.log (level_of top) levels c.take_side.new.graph stacked.0 in (
+      ok.0,
+      subst (λ (b : BranchState). AreForcedBy b c.args.choice c.args.side ok.0) c.self.view_is forced,
+      ap (λ levels. state_of c.self.inside.parts c.self.inside.log levels) more ∙ ap (state_with (level_of top)) c.self.view_is,
     )

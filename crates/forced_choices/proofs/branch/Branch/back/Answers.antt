@@ -1,15 +1,25 @@
-use Rattle.std.proofs.Common.{◌≢◌, [], ◌∙◌, sym, ap, subst}
-use Rattle.forced_choices.specs.BranchState.{BranchState}
+use Rattle.std.proofs.Common.{◌≢◌, [], ◌∙◌, List, sym, ap, subst}
+use Rattle.forced_choices.specs.BranchState.{BranchState, Level}
 use Rattle.forced_choices.specs.Stacks.{AreStacked, levels_onto}
-use Rattle.forced_choices.proofs.Stacked.{stacked_back, levels_back, state_of, state_back}
+use Rattle.forced_choices.proofs.Stacked.{stacked_marks, stacked_less, levels_back, state_of, state_back}
 use Rattle.forced_choices.proofs.branch.Branch.back.Goals as goal
 
+pub back-requires : goal.back-requires
+back-requires c =
+    let levels = levels_onto [] c.self.inside.tops.items in
+    let some : levels ≢ [] = λ e. c.requires (sym (ap (λ (b : BranchState). b.levels) c.self.view_is) ∙ e) in
+    stacked_marks c.self.inside.parts c.self.inside.log levels c.self.inside.graph some c.self.invariant.stacked
+
 pub invariant_of-self : goal.invariant_of-self
-invariant_of-self c = record {
-  good = c.self.invariant.good;
-  relation = c.self.invariant.relation;
-  stacked = stacked_back c.self.inside.parts c.self.inside.log c.pop-last.new.self.items c.pop-last.result (subst (λ tops. AreStacked c.self.inside.parts c.self.inside.log [] tops) c.pop-last.ensures.items c.self.invariant.stacked);
-}
+invariant_of-self c =
+    let old = c.self.inside.tops in
+    let some : levels_onto [] old.items ≢ [] = λ e. c.requires (sym (ap (λ (b : BranchState). b.levels) c.self.view_is) ∙ e) in
+    let levels = levels_back old.items c.pop-last.new.self.items c.pop-last.result old.len c.pop-last.new.self.len old.ok.0 c.pop-last.ensures.cases c.pop-last.ensures.items some in
+    record {
+      good = c.self.invariant.good;
+      stacked = subst (λ (levels : List Level). AreStacked c.self.inside.parts c.self.inside.log levels c.back.new.self) (sym levels)
+          (stacked_less c.self.inside.parts c.self.inside.log (levels_onto [] old.items) c.self.inside.graph c.back.new.self some c.self.invariant.stacked c.back.ensures);
+    }
 
 pub returns : goal.returns
 returns c =

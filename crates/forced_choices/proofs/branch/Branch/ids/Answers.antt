@@ -1,4 +1,4 @@
-use Rattle.std.proofs.Common.{sym, subst, List}
+use Rattle.std.proofs.Common.{[], sym, subst, List}
 use Rattle.std.specs.Prelude.{Contains}
 use Rattle.txn.specs.declared.transactions.TxnId.{TxnId}
 use Rattle.order_check.specs.Based.{Remains}
@@ -6,6 +6,7 @@ use Rattle.order_check.specs.Known.{Known}
 use Rattle.order_check.specs.Explains.{KeepsSessions}
 use Rattle.forced_choices.specs.BranchState.{BranchState, assumed}
 use Rattle.forced_choices.proofs.SessionOrder.{ids_keep_sessions, ids_list_all}
+use Rattle.forced_choices.specs.Stacks.{levels_onto}
 use Rattle.forced_choices.proofs.KnownRemain.{known_listed}
 use Rattle.forced_choices.proofs.branch.Branch.ids.Goals as goal
 
@@ -22,4 +23,4 @@ returns-clause-members c =
 pub returns-clause-known : goal.returns-clause-known
 returns-clause-known c =
     subst (λ (b : BranchState). (x y : TxnId) → Known b.parts (assumed b.levels) x y → Contains c.in_ok-ids.ids.items x × Contains c.in_ok-ids.ids.items y) c.self.view_is
-    (λ x y known. subst (λ (ids : List TxnId). Contains ids x × Contains ids y) (sym c.in_ok-ids.ensures) (known_listed c.self.inside.parts c.self.inside.log c.self.inside.tops.items x y c.self.invariant.stacked known))
+    (λ x y known. subst (λ (ids : List TxnId). Contains ids x × Contains ids y) (sym c.in_ok-ids.ensures) (known_listed c.self.inside.parts c.self.inside.log (levels_onto [] c.self.inside.tops.items) c.self.inside.graph x y c.self.invariant.stacked known))

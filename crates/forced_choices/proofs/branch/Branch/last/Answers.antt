@@ -1,12 +1,8 @@
-use Rattle.std.proofs.Common.{◌≡◌, ◌-◌, length, Some, sym, subst}
-use Rattle.std.specs.List.{slice_get}
+use Rattle.std.proofs.Common.{subst, []}
 use Rattle.forced_choices.specs.BranchState.{BranchState}
-use Rattle.forced_choices.specs.Stacks.{IsRelationAt}
-use Rattle.forced_choices.proofs.Stacked.{last_relation}
+use Rattle.forced_choices.specs.Stacks.{IsRelationAt, levels_onto}
+use Rattle.forced_choices.proofs.Stacked.{stacked_here}
 use Rattle.forced_choices.proofs.branch.Branch.last.Goals as goal
 
-pub returns-in-Some : goal.returns-in-Some
-returns-in-Some c =
-    let top = c.in-Some.top.now in
-    let here = subst (λ tops. slice_get tops (length tops - 1) ≡ Some top) c.deref.ensures.value (sym c.in-Some.ensures.value) in
-    subst (λ (b : BranchState). IsRelationAt b.parts b.log b.levels top.graph) c.self.view_is (last_relation c.self.inside.parts c.self.inside.log c.self.inside.tops.items top here c.self.invariant.stacked)
+pub returns : goal.returns
+returns c = subst (λ (b : BranchState). IsRelationAt b.parts b.log b.levels c.self.inside.graph) c.self.view_is (stacked_here c.self.inside.parts c.self.inside.log (levels_onto [] c.self.inside.tops.items) c.self.inside.graph c.self.invariant.stacked)

@@ -42,7 +42,7 @@ pub returns-clause-known : goal.returns-clause-known
 returns-clause-known c =
     let same = c.in_ok-ranks.ensures.ids ∙ c.as_slice.ensures.value ∙ c.in_ok-ids.ensures in
     subst (λ (b : BranchState). (x y : TxnId) → Known b.parts (assumed b.levels) x y → Contains (ids_of c.in_ok-ranks.ranks.items) x × Contains (ids_of c.in_ok-ranks.ranks.items) y) c.self.view_is
-    (λ x y known. subst (λ (ids : List TxnId). Contains ids x × Contains ids y) (sym same) (known_listed c.self.inside.parts c.self.inside.log c.self.inside.tops.items x y c.self.invariant.stacked known))
+    (λ x y known. subst (λ (ids : List TxnId). Contains ids x × Contains ids y) (sym same) (known_listed c.self.inside.parts c.self.inside.log (levels_onto [] c.self.inside.tops.items) c.self.inside.graph x y c.self.invariant.stacked known))
 
 pub returns-clause-counts : goal.returns-clause-counts
 returns-clause-counts c =

@@ -1,8 +1,15 @@
-use Rattle.std.proofs.Common.{◌≢◌, [], sym, subst, subst₂}
+use Rattle.std.proofs.Common.{◌≢◌, [], ◌∷◌, ◌++◌, ◌∙◌, List, Vec, Global, ap, sym, subst, subst₂}
+use Rattle.std.specs.Prelude.{reverse}
+use Rattle.txn.specs.declared.choices.Arc.{Arc}
+use Rattle.known_graph.specs.declared.trail.Mark.{Mark}
+use Rattle.known_graph.specs.Graphs.{GraphState, back_to, where_marked, last_mark}
+use Rattle.known_graph.specs.Marks.{marks_of}
+use Rattle.known_graph.specs.Reach.{Reaches}
+use Rattle.known_graph.specs.Rows.{HasAt}
 use Rattle.known_graph.specs.Joining.{HaveRows, AreJoins, CanJoin}
 use Rattle.known_graph.specs.SavedWords.{IsMoreOf, AreSaved, since}
 use Rattle.known_graph.proofs.Joinable.{have_rows, can_join_onto, can_join_from, IsMarkedGraph-push}
-use Rattle.known_graph.proofs.Marked.{IsTrail-saved}
+use Rattle.known_graph.proofs.Marked.{IsTrail-saved, last_mark-push}
 use Rattle.known_graph.proofs.digraph.Graph.add_arc.Goals as goal
 
 pub joins_of-requires : goal.joins_of-requires
@@ -82,3 +89,12 @@ invariant_of-self-2 c =
     (subst (λ rows. IsMoreOf rows trail.from.items new.from.items) c.deref-4.ensures.value c.save.ensures.from)
     (subst (λ rows. trail.marks.items ≢ [] → AreSaved rows (since trail.from.items new.from.items) joins.new_targets.items joins.sources.items) c.deref-4.ensures.value c.in_ok-save.ensures.from_saved)
     c.self.invariant.marked)
+
+pub returns-clause-last : goal.returns-clause-last
+returns-clause-last c =
+    let graph = c.self.inside in
+    let nodes = graph.nodes.slots in
+    let here = ap (λ (arcs : List Arc). where_marked (marks_of c.save.new.self.marks.items) (back_to nodes arcs (marks_of c.save.new.self.marks.items))) c.in_ok-push.ensures.items in
+    let marks = ap (λ (ms : Vec Mark Global). where_marked (marks_of ms.items) (back_to nodes (graph.arcs.items ++ c.args.arc ∷ []) (marks_of ms.items))) c.save.ensures.marks in
+    let before = last_mark-push nodes Reaches (λ mark. mark.onto) graph.arcs.items (c.args.arc ∷ []) (HasAt graph.onto.items) graph.trail.onto.items (reverse graph.trail.marks.items) c.self.invariant.marked.forwards.marked in
+    here ∙ marks ∙ before ∙ ap (λ (g : GraphState). last_mark g) c.self.view_is
