@@ -43,7 +43,7 @@ then_flagged parts a b [] kind h = verdict_flagged parts a b kind h
 then_flagged parts a b (fragment ∷ more) kind h = then_flagged (parts_with parts fragment) a b more kind h
 
 -- what was closed stays closed
-stays_closed : (closed : List Bool) (s t : ℕ) → slice_get closed t ≡ Some true → slice_get (slice_set closed s true) t ≡ Some true
+pub stays_closed : (closed : List Bool) (s t : ℕ) → slice_get closed t ≡ Some true → slice_get (slice_set closed s true) t ≡ Some true
 stays_closed [] s t h = h
 stays_closed (flag ∷ closed) zero zero h = refl
 stays_closed (flag ∷ closed) zero (suc t) h = h

@@ -1,10 +1,9 @@
 -- A cut keeps what parts stand for.
-use Rattle.std.proofs.Common.{◌≡◌, ◌↔◌, ℕ, ◌<◌, ◌≤◌, ◌⊎◌, List, [], ◌∷◌, ◌++◌, length, drop, refl, sym, subst, ◌∙◌, inl, inr, arith, suc, zero, ap, nat_cmp, append_assoc, length-set, get_or-set_same, get_or-set_other}
+use Rattle.std.proofs.Common.{◌≡◌, ◌↔◌, ℕ, ◌<◌, ◌≤◌, ◌⊎◌, List, [], ◌∷◌, ◌++◌, length, drop, refl, sym, subst, ◌∙◌, inl, inr, arith, suc, zero, ap, nat_cmp, length-set}
 use Rattle.std.specs.Prelude.{slice_get}
 use Rattle.std.specs.FinMap.{FinMap}
 use Rattle.std.proofs.lemmas.Bool.{cases_lt, cases_eq}
 use Rattle.txn.specs.declared.transactions.TxnId.{TxnId}
-use Rattle.txn.specs.declared.transactions.Txn.{Txn}
 use Rattle.txn.specs.declared.transactions.Fragment.{Fragment}
 use Rattle.txn.specs.History.{History, session_of}
 use Rattle.order_check.specs.declared.remainder.Parts.{Parts}
@@ -13,8 +12,9 @@ use Rattle.order_check.specs.declared.remainder.Kind.TheVariants.{Serial, Pendin
 use Rattle.order_check.specs.Based.{remaining_of, received_count, HasPending, HasGoneBase}
 use Rattle.order_check.specs.Settled.{IsSettled, IsCutAt, IsCutOf, count_in}
 use Rattle.order_check.specs.Cuts.{IsFront, GoesOn, MayGoOn}
-use Rattle.order_check.specs.StandsFor.{StandsFor, IsOpenSession, IsNextFragment, MayCome, parts_with, parts_then, with_fragment}
+use Rattle.order_check.specs.StandsFor.{StandsFor, IsNextFragment, MayCome, parts_with, parts_then, with_fragment}
 use Rattle.order_check.specs.Verdict.{HasOrder, IsVerdict}
+use Rattle.order_check.proofs.KeptFronts.{with_same, with_other, front_with, may_before}
 use Rattle.order_check.proofs.Splitting.{split_law, received_same}
 
 -- the old parts and those that a cut of a front of them left
@@ -25,12 +25,6 @@ record Cut (front old new : Parts) (fence : TxnId) (gone : List TxnId) (last : F
   settled : IsSettled front (MayGoOn front old) fence
   cut : IsCutAt front fence gone last
   leaves : IsCutOf old new gone last
-
-with_same : (remain : History) (fragment : Fragment) → fragment.session < length remain → session_of (with_fragment remain fragment) fragment.session ≡ session_of remain fragment.session ++ fragment.txns
-with_same remain fragment within = get_or-set_same remain fragment.session (session_of remain fragment.session ++ fragment.txns) [] within
-
-with_other : (remain : History) (fragment : Fragment) (s : ℕ) → ¬ (s ≡ fragment.session) → session_of (with_fragment remain fragment) s ≡ session_of remain s
-with_other remain fragment s apart = get_or-set_other remain fragment.session s (session_of remain fragment.session ++ fragment.txns) [] apart
 
 drop_seam : {X : Type 0} (n : ℕ) (xs ys : List X) → n ≤ length xs → drop n (xs ++ ys) ≡ drop n xs ++ ys
 drop_seam zero xs ys within = refl
@@ -70,15 +64,11 @@ cut_with : (front old new : Parts) (fence : TxnId) (gone : List TxnId) (last : F
 cut_with front old new fence gone last fragment c next = record {
   base = c.base;
   order = c.order;
-  is = record {
-    base = c.is.base;
-    sessions = c.is.sessions ∙ sym (length-set old.remain fragment.session _);
-    remain = λ s. grown s (cases_eq s fragment.session);
-  };
+  is = front_with front old fragment c.is before.session.0;
   settled = record {
     remains = c.settled.remains;
     ordered = c.settled.ordered;
-    past = λ s within may. c.settled.past s within (may_before s may);
+    past = λ s within may. c.settled.past s within (may_before front old fragment before.session s may);
     nothing_pending = c.settled.nothing_pending;
     last_writers = c.settled.last_writers;
   };
@@ -96,21 +86,6 @@ cut_with front old new fence gone last fragment c next = record {
   where
     before : IsNextFragment old fragment
     before = next_before front old new fence gone last fragment c next
-
-    grown : (s : ℕ) → (s ≡ fragment.session) ⊎ (¬ (s ≡ fragment.session)) → (later : List Txn) × (remaining_of (parts_with old fragment) s ≡ remaining_of front s ++ later)
-    grown s (inl here) =
-        let more = c.is.remain fragment.session in
-        let e : remaining_of (parts_with old fragment) fragment.session ≡ remaining_of front fragment.session ++ (more.0 ++ fragment.txns) = with_same old.remain fragment before.session.0 ∙ ap (λ txns. txns ++ fragment.txns) more.1 ∙ append_assoc (remaining_of front fragment.session) more.0 fragment.txns in
-        (more.0 ++ fragment.txns, rw here e)
-    grown s (inr apart) = let more = c.is.remain s in (more.0, with_other old.remain fragment s apart ∙ more.1)
-
-    may_before : (s : ℕ) → MayGoOn front (parts_with old fragment) s → MayGoOn front old s
-    may_before s (inl open') = inl (subst (λ n. s < n) (length-set old.remain fragment.session _) open'.0, open'.1)
-    may_before s (inr goes) = by_case (cases_eq s fragment.session)
-      where
-        by_case : (s ≡ fragment.session) ⊎ (¬ (s ≡ fragment.session)) → MayGoOn front old s
-        by_case (inl here) = inl (subst (λ q. IsOpenSession old q) (sym here) before.session)
-        by_case (inr apart) = inr (subst (λ txns. length (remaining_of front s) < length txns) (with_other old.remain fragment s apart) goes)
 
     left : (s : ℕ) → (s ≡ fragment.session) ⊎ (¬ (s ≡ fragment.session)) → session_of (with_fragment new.remain fragment) s ≡ drop (count_in gone s) (session_of (with_fragment old.remain fragment) s)
     left s (inl here) =

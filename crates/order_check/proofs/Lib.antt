@@ -1,6 +1,8 @@
 pub mod Closing
 pub mod CutAhead
 pub mod CutCounts
+pub mod CutFits
+pub mod CutGood
 pub mod CutOrders
 pub mod CutReads
 pub mod CutStands
@@ -10,6 +12,7 @@ pub mod Fenced
 pub mod Fresh
 pub mod Grown
 pub mod KeepingLaws
+pub mod KeptFronts
 pub mod KnownLaws
 pub mod KnownPairs
 pub mod Lengths

@@ -1,9 +1,8 @@
 -- The split law.
-use Rattle.std.proofs.Common.{◌≡◌, ◌↔◌, ℕ, ◌+◌, ◌-◌, ◌<◌, ◌≤◌, ◌⊎◌, List, [], ◌∷◌, ◌++◌, length, filter, drop, Some, None, Option, refl, sym, subst, ◌∙◌, inl, inr, arith, suc, ap, IsSome, nat_cmp, append_assoc, length-append, append-nil}
+use Rattle.std.proofs.Common.{◌≡◌, ◌↔◌, ℕ, ◌+◌, ◌-◌, ◌<◌, ◌≤◌, ◌⊎◌, List, [], ◌∷◌, ◌++◌, length, filter, drop, Some, sym, subst, ◌∙◌, inl, inr, arith, suc, ap, nat_cmp, append_assoc, length-append}
 use Rattle.std.specs.Prelude.{Contains, IsSomeAnd}
-use Rattle.std.specs.List.{slice_get}
 use Rattle.std.specs.FinMap.{FinMap, get}
-use Rattle.std.proofs.lemmas.Bool.{false≢true, cases_lt}
+use Rattle.std.proofs.lemmas.Bool.{cases_lt}
 use Rattle.std.proofs.lemmas.List.Sums.{length-filter}
 use Rattle.std.proofs.lemmas.List.{length-drop}
 use Rattle.txn.specs.declared.transactions.TxnId.{TxnId}
@@ -17,20 +16,18 @@ use Rattle.order_check.specs.Settled.{IsSettled, IsCutAt, IsCutOf}
 use Rattle.order_check.specs.CutLaws.{SplitsAt}
 use Rattle.order_check.specs.Cuts.{IsFront, GoesOn, IsCutBehind}
 use Rattle.order_check.specs.Verdict.{HasOrder}
-use Rattle.order_check.proofs.CutCounts.{AreFrom, are_from, gone_without_gap, cut_looks, fronts_remain, at_contains}
+use Rattle.order_check.proofs.CutCounts.{cut_looks, fronts_remain}
+use Rattle.order_check.proofs.CutFits.{few_gone}
 use Rattle.order_check.proofs.CutReads.{CutLooks, AreBehind}
-use Rattle.order_check.proofs.Fenced.{at_place, fence_splits, remains_whole, mark_same, order_remains}
+use Rattle.order_check.proofs.Fenced.{at_place, fence_splits, mark_same, order_remains}
+use Rattle.order_check.proofs.KeptFronts.{front_itself}
 use Rattle.order_check.proofs.OrderLaws.{reader_remains}
-use Rattle.order_check.proofs.Places.{IsAt, place_right, filtered_at}
-use Rattle.order_check.proofs.Received.{within_some, remains_received, gone_past}
+use Rattle.order_check.proofs.Places.{IsAt, place_right}
+use Rattle.order_check.proofs.Received.{gone_past}
 use Rattle.order_check.proofs.CutAhead.{same_in_whole, gone_ahead}
 use Rattle.order_check.proofs.CutOrders.{rest_explains, whole_explains}
 
--- parts are a front of themselves
-front_itself : (front : Parts) → IsFront front front
-front_itself front = record { base = refl; sessions = refl; remain = λ s. ([], sym (append-nil (remaining_of front s))) }
-
--- and no session of theirs goes on past it
+-- no session of a front goes on past it
 settled_itself : (front : Parts) (is_open : ℕ → Type 0) (fence : TxnId) → IsSettled front is_open fence → IsSettled front (GoesOn front front) fence
 settled_itself front is_open fence settled = record {
   remains = settled.remains;
@@ -50,53 +47,26 @@ base_of_front front whole is base key writer e =
 
 -- as much was received before the cut as after it
 pub received_same : (front whole new : Parts) (fence : TxnId) (gone : List TxnId) (last : FinMap nat_cmp TxnId) (is_open : ℕ → Type 0) → IsFront front whole → IsSettled front is_open fence → IsCutAt front fence gone last → IsCutOf whole new gone last → (s : ℕ) → received_count new s ≡ received_count whole s
-received_same front whole new fence gone last is_open is settled cut leaves s = by_some (cases_lt 0 n)
-  where
-    of : List TxnId
-    of = filter (in_session s) gone
+received_same front whole new fence gone last is_open is settled cut leaves s =
+    let n = length (filter (in_session s) gone) in
+    let counted : Rattle.order_check.specs.Settled.count_in gone s ≡ n = sym (length-filter (in_session s) gone) in
+    let mark : mark_of new s ≡ mark_of whole s + n = leaves.marks s ∙ ap (λ k. mark_of whole s + k) counted in
+    let left : length (remaining_of new s) ≡ length (remaining_of whole s) - n = ap length (leaves.remain s) ∙ ap (λ k. length (drop k (remaining_of whole s))) counted ∙ length-drop n (remaining_of whole s) in
+    let few = few_gone front whole fence gone last is_open is settled cut s in
+    omega (arith, mark, left, few)
 
-    n : ℕ
-    n = length of
-
-    counted : Rattle.order_check.specs.Settled.count_in gone s ≡ n
-    counted = sym (length-filter (in_session s) gone)
-
-    mark : mark_of new s ≡ mark_of whole s + n
-    mark = leaves.marks s ∙ ap (λ k. mark_of whole s + k) counted
-
-    left : length (remaining_of new s) ≡ length (remaining_of whole s) - n
-    left = ap length (leaves.remain s) ∙ ap (λ k. length (drop k (remaining_of whole s))) counted ∙ length-drop n (remaining_of whole s)
-
-    from : AreFrom s (mark_of front s) of
-    from = are_from s (mark_of front s) of (gone_without_gap front fence gone last is_open s settled cut)
-
-    by_last : (o : Option TxnId) → slice_get of (n - 1) ≡ o → IsSome o → 0 < n → n ≤ length (remaining_of whole s)
-    by_last None e some pos = absurd (false≢true some)
-    by_last (Some id) e some pos =
-        let here = from (n - 1) id e in
-        let has : Contains gone id = at_contains gone id (filtered_at (in_session s) gone id (n - 1, e)) in
-        let remains = remains_whole front whole is id (fronts_remain front fence id settled.remains ((cut.front id).0 has)) in
-        let received = remains_received whole id remains in
-        let marks = mark_same front whole is s in
-        let there : id.number < received_count whole s = subst (λ q. id.number < received_count whole q) here.0 received in
-        omega (arith, here.1, marks, there)
-
-    by_some : (0 < n) ⊎ (n ≤ 0) → received_count new s ≡ received_count whole s
-    by_some (inl pos) = let few = by_last (slice_get of (n - 1)) refl (within_some of (n - 1) (omega arith)) pos in omega (arith, mark, left, few)
-    by_some (inr none) = omega (arith, mark, left)
-
--- a read is pending before the cut exactly where it is after it
-pending_new : (front whole new : Parts) (fence : TxnId) (gone : List TxnId) (last : FinMap nat_cmp TxnId) (is_open : ℕ → Type 0) → IsFront front whole → IsSettled front is_open fence → IsCutAt front fence gone last → IsCutOf whole new gone last → HasPending whole ↔ HasPending new
-pending_new front whole new fence gone last is_open is settled cut leaves = (there, back)
+-- the same reads wait before the cut and after it
+pub waits_same : (front whole new : Parts) (fence : TxnId) (gone : List TxnId) (last : FinMap nat_cmp TxnId) (is_open : ℕ → Type 0) → IsFront front whole → IsSettled front is_open fence → IsCutAt front fence gone last → IsCutOf whole new gone last → (reader writer : TxnId) (key : ℕ) → (ReadsKey whole reader key (By writer) × (¬ IsReceived whole writer)) ↔ (ReadsKey new reader key (By writer) × (¬ IsReceived new writer))
+waits_same front whole new fence gone last is_open is settled cut leaves reader writer key = (there, back)
   where
     looks : CutLooks whole new gone
     looks = cut_looks front whole new fence gone last is_open is settled cut leaves
 
-    same : (s : ℕ) → received_count new s ≡ received_count whole s
-    same = received_same front whole new fence gone last is_open is settled cut leaves
+    same : received_count new writer.session ≡ received_count whole writer.session
+    same = received_same front whole new fence gone last is_open is settled cut leaves writer.session
 
-    in_front : (reader writer : TxnId) (key : ℕ) → Contains gone reader → ReadsKey whole reader key (By writer) → IsReceived whole writer
-    in_front reader writer key has reads =
+    in_front : Contains gone reader → ReadsKey whole reader key (By writer) → IsReceived whole writer
+    in_front has reads =
         let ahead = (cut.front reader).0 has in
         let r = fronts_remain front fence reader settled.remains ahead in
         let reads_front : ReadsKey front reader key (By writer) = subst (λ o. IsSomeAnd o (λ txn. Contains txn.reads (key, By writer))) (same_in_whole front whole is reader r) reads in
@@ -106,26 +76,42 @@ pending_new front whole new fence gone last is_open is settled cut leaves = (the
         let long : length (remaining_of whole writer.session) ≡ length (remaining_of front writer.session) + length (is.remain writer.session).0 = ap length more ∙ length-append (remaining_of front writer.session) (is.remain writer.session).0 in
         omega (arith, received, mark, long)
 
-    there : HasPending whole → HasPending new
-    there (reader, writer, key, reads, missing) = by_mark (cases_lt reader.number (mark_of new reader.session))
+    there : ReadsKey whole reader key (By writer) × (¬ IsReceived whole writer) → ReadsKey new reader key (By writer) × (¬ IsReceived new writer)
+    there (reads, missing) = by_mark (cases_lt reader.number (mark_of new reader.session))
       where
         remains : Remains whole reader
         remains = reader_remains whole reader key (By writer) reads
 
-        by_kind : IsGone whole reader ⊎ Contains gone reader → HasPending new
+        by_kind : IsGone whole reader ⊎ Contains gone reader → ReadsKey new reader key (By writer) × (¬ IsReceived new writer)
         by_kind (inl was) = absurd (gone_past whole reader was remains)
-        by_kind (inr has) = absurd (missing (in_front reader writer key has reads))
+        by_kind (inr has) = absurd (missing (in_front has reads))
 
-        by_mark : (reader.number < mark_of new reader.session) ⊎ (mark_of new reader.session ≤ reader.number) → HasPending new
+        by_mark : (reader.number < mark_of new reader.session) ⊎ (mark_of new reader.session ≤ reader.number) → ReadsKey new reader key (By writer) × (¬ IsReceived new writer)
         by_mark (inl now) = by_kind (looks.new_gone reader now)
         by_mark (inr over) =
             let out : ¬ Contains gone reader = λ has. let now = looks.gone_new reader has in omega arith in
-            (reader, writer, key, subst (λ o. IsSomeAnd o (λ txn. Contains txn.reads (key, By writer))) (sym (looks.same reader remains out)) reads, λ received. missing (let e = same writer.session in omega (arith, received, e)))
+            (subst (λ o. IsSomeAnd o (λ txn. Contains txn.reads (key, By writer))) (sym (looks.same reader remains out)) reads, λ received. missing (omega (arith, received, same)))
+
+    back : ReadsKey new reader key (By writer) × (¬ IsReceived new writer) → ReadsKey whole reader key (By writer) × (¬ IsReceived whole writer)
+    back (reads, missing) =
+        let r = looks.new_remains reader (reader_remains new reader key (By writer) reads) in
+        (subst (λ o. IsSomeAnd o (λ txn. Contains txn.reads (key, By writer))) (looks.same reader r.0 r.1) reads, λ received. missing (omega (arith, received, same)))
+
+-- so some read is pending before the cut exactly where one is after it
+pending_new : (front whole new : Parts) (fence : TxnId) (gone : List TxnId) (last : FinMap nat_cmp TxnId) (is_open : ℕ → Type 0) → IsFront front whole → IsSettled front is_open fence → IsCutAt front fence gone last → IsCutOf whole new gone last → HasPending whole ↔ HasPending new
+pending_new front whole new fence gone last is_open is settled cut leaves = (there, back)
+  where
+    there : HasPending whole → HasPending new
+    there (reader, writer, key, reads, missing) = let waits = (waits_same front whole new fence gone last is_open is settled cut leaves reader writer key).0 (reads, missing) in (reader, writer, key, waits.0, waits.1)
 
     back : HasPending new → HasPending whole
-    back (reader, writer, key, reads, missing) =
-        let r = looks.new_remains reader (reader_remains new reader key (By writer) reads) in
-        (reader, writer, key, subst (λ o. IsSomeAnd o (λ txn. Contains txn.reads (key, By writer))) (looks.same reader r.0 r.1) reads, λ received. missing (let e = same writer.session in omega (arith, received, e)))
+    back (reader, writer, key, reads, missing) = let waits = (waits_same front whole new fence gone last is_open is settled cut leaves reader writer key).1 (reads, missing) in (reader, writer, key, waits.0, waits.1)
+
+pub received_left : (front whole new : Parts) (gone : List TxnId) (last : FinMap nat_cmp TxnId) → IsCutBehind front whole gone last new → (s : ℕ) → received_count new s ≡ received_count whole s
+received_left front whole new gone last behind = received_same front whole new behind.fence gone last (GoesOn front whole) behind.is_front behind.settled behind.cut behind.leaves
+
+pub waiting_left : (front whole new : Parts) (gone : List TxnId) (last : FinMap nat_cmp TxnId) → IsCutBehind front whole gone last new → (reader writer : TxnId) (key : ℕ) → (ReadsKey whole reader key (By writer) × (¬ IsReceived whole writer)) ↔ (ReadsKey new reader key (By writer) × (¬ IsReceived new writer))
+waiting_left front whole new gone last behind = waits_same front whole new behind.fence gone last (GoesOn front whole) behind.is_front behind.settled behind.cut behind.leaves
 
 -- the split law
 pub split_law : (front whole new : Parts) (gone : List TxnId) (last : FinMap nat_cmp TxnId) → HasGoneBase whole → HasOrder front → IsCutBehind front whole gone last new → (HasOrder whole ↔ HasOrder new) × (HasPending whole ↔ HasPending new)

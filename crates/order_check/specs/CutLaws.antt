@@ -1,13 +1,17 @@
 -- Laws of cuts.
-use Rattle.std.specs.Prelude.{◌≡◌, ◌↔◌, List, ◌∷◌, ◌++◌, Contains}
+use Rattle.std.specs.Prelude.{◌≡◌, ◌↔◌, ℕ, List, ◌∷◌, ◌++◌, Contains}
 use Rattle.std.specs.Ordering.{nat_cmp}
 use Rattle.std.specs.FinMap.{FinMap}
+use Rattle.txn.specs.declared.transactions.Source.TheVariants.{By}
 use Rattle.txn.specs.declared.transactions.TxnId.{TxnId}
 use Rattle.txn.specs.History.{History}
 use Rattle.order_check.specs.declared.remainder.Parts.{Parts}
-use Rattle.order_check.specs.Based.{HasGoneBase, HasPending}
+use Rattle.order_check.specs.Based.{HasGoneBase, HasPending, IsReceived, received_count}
 use Rattle.order_check.specs.Cuts.{IsFront, GoesOn, MayGoOn, IsCutBehind}
+use Rattle.order_check.specs.Cutting.{CanBeApplied}
 use Rattle.order_check.specs.Explains.{Explains}
+use Rattle.order_check.specs.Good.{IsGood}
+use Rattle.order_check.specs.Known.{ReadsKey}
 use Rattle.order_check.specs.Settled.{IsSettled, IsCutAt, IsCutOf, InFront}
 use Rattle.order_check.specs.StandsFor.{StandsFor}
 use Rattle.order_check.specs.Verdict.{HasOrder}
@@ -30,3 +34,19 @@ SplitLaw = (front whole new : Parts) (gone : List TxnId) (last : FinMap nat_cmp 
 -- that is still open, or has gone on past the front, counts as open.
 abbrev pub CutKeepsStandsFor : Type 0
 CutKeepsStandsFor = (front old new : Parts) (history : History) (fence : TxnId) (gone : List TxnId) (last : FinMap nat_cmp TxnId) → HasGoneBase old → StandsFor old history → HasOrder front → IsFront front old → IsSettled front (MayGoOn front old) fence → IsCutAt front fence gone last → IsCutOf old new gone last → StandsFor new history
+
+-- What a cut of a front takes out is, session by session, the first of what remains of the whole: it can be applied to it.
+abbrev pub CutsOfFrontsFit : Type 0
+CutsOfFrontsFit = (front whole : Parts) (fence : TxnId) (gone : List TxnId) (last : FinMap nat_cmp TxnId) → IsFront front whole → IsSettled front (GoesOn front whole) fence → IsCutAt front fence gone last → CanBeApplied whole gone last
+
+-- A cut that can be applied leaves good parts good.
+abbrev pub CutKeepsGood : Type 0
+CutKeepsGood = (old new : Parts) (gone : List TxnId) (last : FinMap nat_cmp TxnId) → IsGood old → CanBeApplied old gone last → IsCutOf old new gone last → IsGood new
+
+-- A cut of a front leaves as much received of each session.
+abbrev pub CutKeepsReceived : Type 0
+CutKeepsReceived = (front whole new : Parts) (gone : List TxnId) (last : FinMap nat_cmp TxnId) → IsCutBehind front whole gone last new → (s : ℕ) → received_count new s ≡ received_count whole s
+
+-- A cut of a front leaves the same reads waiting, for the same ids.
+abbrev pub CutKeepsWaiting : Type 0
+CutKeepsWaiting = (front whole new : Parts) (gone : List TxnId) (last : FinMap nat_cmp TxnId) → IsCutBehind front whole gone last new → (reader writer : TxnId) (key : ℕ) → (ReadsKey whole reader key (By writer) × (¬ IsReceived whole writer)) ↔ (ReadsKey new reader key (By writer) × (¬ IsReceived new writer))

@@ -24,6 +24,11 @@ GoesOn front parts s = length (remaining_of front s) < length (remaining_of part
 abbrev pub MayGoOn : Parts → Parts → ℕ → Type 0
 MayGoOn front parts s = IsOpenSession parts s ⊎ GoesOn front parts s
 
+-- a front that is kept while its parts go on: who may still receive, or has received past the front, is open there
+pub record IsKeptFront (front parts : Parts) : Type 0 where
+  pub is_front : IsFront front parts
+  pub open_there : (s : ℕ) → MayGoOn front parts s → IsOpenSession front s
+
 -- a cut of the front, at a fence that is settled there where every session that goes on counts as open, leaves the new
 -- parts of the whole
 pub record IsCutBehind (front whole : Parts) (gone : List TxnId) (last : FinMap nat_cmp TxnId) (new : Parts) : Type 0 where

@@ -3,9 +3,11 @@ pub mod Based
 pub mod Codes
 pub mod CutLaws
 pub mod Cuts
+pub mod Cutting
 pub mod Cycles
 pub mod Effort
 pub mod Explains
+pub mod FrontLaws
 pub mod Fronts
 pub mod Good
 pub mod Known

@@ -1,5 +1,5 @@
 //! Laws of cuts. The functions do nothing.
-ghost use Rattle.order_check.specs.CutLaws.{FenceSplitsOrders, SplitLaw, CutKeepsStandsFor};
+ghost use Rattle.order_check.specs.CutLaws.{FenceSplitsOrders, SplitLaw, CutKeepsStandsFor, CutsOfFrontsFit, CutKeepsGood, CutKeepsReceived, CutKeepsWaiting};
 
 /// A fence that is settled in a front splits every order that explains the whole.
 pub fn fence_splits_orders()
@@ -14,4 +14,24 @@ pub fn split_law()
 /// A cut of a front leaves parts standing for the same history.
 pub fn cut_keeps_stands_for()
     ensures { CutKeepsStandsFor }
+{}
+
+/// A cut of a front can be applied to the whole.
+pub fn cuts_of_fronts_fit()
+    ensures { CutsOfFrontsFit }
+{}
+
+/// A cut that can be applied leaves good parts good.
+pub fn cut_keeps_good()
+    ensures { CutKeepsGood }
+{}
+
+/// A cut of a front leaves as much received of each session.
+pub fn cut_keeps_received()
+    ensures { CutKeepsReceived }
+{}
+
+/// A cut of a front leaves the same reads waiting.
+pub fn cut_keeps_waiting()
+    ensures { CutKeepsWaiting }
 {}

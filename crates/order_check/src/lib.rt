@@ -4,6 +4,7 @@
 mod cut_laws;
 mod explaining;
 mod facts;
+mod front_laws;
 mod known_laws;
 mod laws;
 mod lookups;
@@ -14,13 +15,19 @@ mod taken_laws;
 mod trial;
 mod waiting;
 
-pub use cut_laws::{cut_keeps_stands_for, fence_splits_orders, split_law};
+pub use cut_laws::{
+    cut_keeps_good, cut_keeps_received, cut_keeps_stands_for, cut_keeps_waiting,
+    cuts_of_fronts_fit, fence_splits_orders, split_law,
+};
 pub use explaining::explains;
 pub use facts::{
     row_base_read, row_empty, row_first_cut, row_gone_read, row_lost_update, row_not_a_writer,
     row_open_choice, row_overwritten, row_pending_arrives, row_pending_in_front, row_reader_first,
     row_real_split, row_session_order, row_silent_session, row_three_fences, row_two_sources,
     row_unordered_writers, row_write_skew,
+};
+pub use front_laws::{
+    close_keeps_front, fragment_keeps_front, front_of_itself, settled_stays_settled,
 };
 pub use known_laws::{cycle_leaves_no_order, every_order_keeps_known};
 pub use laws::{

@@ -1,0 +1,22 @@
+//! Laws of fronts that are kept while their parts go on. The functions do nothing.
+ghost use Rattle.order_check.specs.FrontLaws.{FrontOfItself, FragmentKeepsFront, CloseKeepsFront, SettledStaysSettled};
+
+/// Parts are a front of themselves.
+pub fn front_of_itself()
+    ensures { FrontOfItself }
+{}
+
+/// A front stays one when an open session receives a fragment.
+pub fn fragment_keeps_front()
+    ensures { FragmentKeepsFront }
+{}
+
+/// A front stays one when a session is closed.
+pub fn close_keeps_front()
+    ensures { CloseKeepsFront }
+{}
+
+/// A fence that is settled in a front is settled there with the sessions that go on alone.
+pub fn settled_stays_settled()
+    ensures { SettledStaysSettled }
+{}
