@@ -32,6 +32,10 @@ received_counts marks = map (λ mark. mark.received) marks
 abbrev pub with_received : List SessionMark → ℕ → ℕ → List SessionMark
 with_received marks s count = let mark = mark_at marks s in slice_set marks s (record mark { received = mark.received + count })
 
+-- the marks after more of a session is gone
+abbrev pub with_gone : List SessionMark → ℕ → ℕ → List SessionMark
+with_gone marks s count = let mark = mark_at marks s in slice_set marks s (record mark { gone = mark.gone + count })
+
 -- the marks after a session is closed
 abbrev pub with_closed : List SessionMark → ℕ → List SessionMark
 with_closed marks s = slice_set marks s (record (mark_at marks s) { closed = true })

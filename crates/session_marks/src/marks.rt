@@ -1,6 +1,6 @@
 ghost use Rattle.std.specs.Prelude.{◌≡◌, ◌↔◌, ◌+◌, ◌<◌, ◌≤◌, ◌^◌, length, replicate, IsTrue, IfOk, OnOk, IfErr, MatchResult};
 ghost use Rattle.txn.specs.Transactions.{IsWellFormedFragment};
-ghost use Rattle.session_marks.specs.Marks.{fresh, mark_at, IsOpen, with_received, with_closed, IsReceived, received_counts, IsNext, AdmitFault, CloseFault};
+ghost use Rattle.session_marks.specs.Marks.{fresh, mark_at, IsOpen, with_received, with_gone, with_closed, IsReceived, received_counts, IsNext, AdmitFault, CloseFault};
 
 use std::alloc::Global;
 use std::marker::Model;
@@ -46,6 +46,13 @@ impl Marks {
         Ok(Marks {
             sessions: vec![in alloc; FRESH; sessions]?,
         })
+    }
+
+    /// Sessions with these marks.
+    pub fn of(sessions: Vec<SessionMark>) -> Self
+        ensures { result ≡ sessions.items }
+    {
+        Marks { sessions }
     }
 
     /// How many sessions there are.
@@ -125,6 +132,17 @@ impl Marks {
         let sessions = &mut self.sessions;
         let mark = &mut sessions[session as usize];
         mark.received += count;
+    }
+
+    /// Counts more transactions of a session as gone. It takes no memory.
+    pub fn raise(&mut self, session: u8, count: u64)
+        requires there { session < length self.old }
+        requires numbers { (mark_at self.old session).gone + count ≤ 2 ^ 48 }
+        ensures { self.new ≡ with_gone self.old session count }
+    {
+        let sessions = &mut self.sessions;
+        let mark = &mut sessions[session as usize];
+        mark.gone += count;
     }
 
     /// Closes a session, unless there is none (BadSession) or it is closed already (Closed).
