@@ -1,4 +1,5 @@
 pub mod Arity
 pub mod EachItem
+pub mod GainedTexts
 pub mod ValueTexts
 pub mod WaitingTrees

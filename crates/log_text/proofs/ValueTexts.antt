@@ -1,6 +1,5 @@
 -- Values beside the texts that they are written as.
-use Rattle.std.proofs.Common.{◌≡◌, ℕ, List, [], ◌∷◌, ◌++◌, Vec, Global, Bool, true, false, codes, decimal, map, take, length, get_or, ◌+◌, ◌<◌, ◌≤◌, refl, sym, ap, subst, ◌∙◌, append_assoc}
-use Rattle.std.proofs.lemmas.List.{take_all, map_more}
+use Rattle.std.proofs.Common.{◌≡◌, ℕ, List, [], ◌∷◌, ◌++◌, Vec, Global, Bool, true, false, codes, decimal, refl, sym, ap, subst, ◌∙◌, append_assoc}
 use Rattle.std.specs.List.{join_with_byte}
 use Rattle.serde_json.specs.Data.{Data, boolean, number, string, array, unsigned, Items, no_items, item}
 use Rattle.serde_json.specs.View.{view, items_view}
@@ -13,10 +12,9 @@ use Rattle.txn.specs.declared.refusals.Refusal.TheVariants as refusal
 use Rattle.order_check.specs.declared.remainder.Kind.{Kind}
 use Rattle.order_check.specs.declared.remainder.Kind.TheVariants as kind
 use Rattle.serde_json.proofs.OnLiterals.{serde_json_on_literals}
-use Rattle.log_text.specs.Lists.{list_text, word_text, numbers_text}
+use Rattle.log_text.specs.Lists.{list_text, word_text}
 use Rattle.log_text.specs.Replies.{flag_text, kind_name}
 use Rattle.log_text.specs.Texts.{HasText, IsWrittenAs, HaveTexts}
-use Rattle.log_text.specs.Trees.{named_text}
 
 pub number_written : (n : ℕ) → HasText (number (unsigned n)) (decimal n)
 number_written n = record { no_float = refl; text_is = refl }
@@ -27,6 +25,9 @@ number_value_written v n e = subst (λ d. HasText d (decimal n)) (sym e) (number
 -- a word that needs no escape
 pub word_written : (word : List ℕ) → compact_text (string word) ≡ word_text word → HasText (string word) (word_text word)
 word_written word e = record { no_float = refl; text_is = e }
+
+pub word_value_written : (v : Value) (given word : List ℕ) → view v ≡ string given → given ≡ word → HasText (string word) (word_text word) → IsWrittenAs v (word_text word)
+word_value_written v given word is same plain = subst (λ d. HasText d (word_text word)) (sym (is ∙ ap string same)) plain
 
 pub name_written : (r : Refusal) → HasText (string (name_of r)) (word_text (name_of r))
 unfolding serde_json_on_literals
@@ -147,54 +148,9 @@ list_written ds ts h = record { no_float = no_floats ds ts h; text_is = ap (λ s
 pub vec_written : (v : Vec Value Global) (ts : List (List ℕ)) → HaveTexts (items_view v.items) ts → IsWrittenAs (Array v) (list_text ts)
 vec_written v ts h = subst (λ d. HasText d (list_text ts)) (sym (view-Array v)) (list_written _ ts h)
 
--- a vector of the values that were made one after another of all elements
-pub elements_written : {X : Type 0} (text : X → List ℕ) (v : Vec Value Global) (xs : List X) (i : ℕ) → HaveTexts (items_view v.items) (map text (take i xs)) → length xs ≤ i → IsWrittenAs (Array v) (list_text (map text xs))
-elements_written text v xs i h all = vec_written v (map text xs) (subst (λ ys. HaveTexts (items_view v.items) (map text ys)) (take_all i xs all) h)
-
 -- one more value
 pub HaveTexts-push : (vs : List Value) (v : Value) (ts : List (List ℕ)) (t : List ℕ) → HaveTexts (items_view vs) ts → IsWrittenAs v t → HaveTexts (items_view (vs ++ v ∷ [])) (ts ++ t ∷ [])
 HaveTexts-push [] v [] t h w = (w, tt)
 HaveTexts-push (u ∷ vs) v (s ∷ ts) t h w = (h.0, HaveTexts-push vs v ts t h.1 w)
 HaveTexts-push [] v (s ∷ ts) t h w = absurd h
 HaveTexts-push (u ∷ vs) v [] t h w = absurd h
-
--- a value that is a list of items with texts
-pub value_written : (v : Value) (ds : Items) (ts : List (List ℕ)) → view v ≡ array ds → HaveTexts ds ts → IsWrittenAs v (list_text ts)
-value_written v ds ts e h = subst (λ d. HasText d (list_text ts)) (sym e) (list_written ds ts h)
-
--- the value of one more element
-pub HaveTexts-more : {X : Type 0} (text : X → List ℕ) (vs ws : List Value) (v : Value) (xs : List X) (i : ℕ) (d : X) → HaveTexts (items_view vs) (map text (take i xs)) → i < length xs → ws ≡ vs ++ v ∷ []
-    → IsWrittenAs v (text (get_or xs i d)) → HaveTexts (items_view ws) (map text (take (i + 1) xs))
-HaveTexts-more text vs ws v xs i d h within is w =
-    let more = HaveTexts-push vs v (map text (take i xs)) (text (get_or xs i d)) h w in
-    subst (λ us. HaveTexts (items_view us) (map text (take (i + 1) xs))) (sym is) (subst (HaveTexts (items_view (vs ++ v ∷ []))) (sym (map_more text xs i d within)) more)
-
--- ---- numbers
-
--- numbers as data
-abbrev pub numbers_given : List ℕ → Items
-numbers_given [] = no_items
-numbers_given (n ∷ ns) = item (number (unsigned n)) (numbers_given ns)
-
-have_decimals : (ns : List ℕ) → HaveTexts (numbers_given ns) (map decimal ns)
-have_decimals [] = tt
-have_decimals (n ∷ ns) = (number_written n, have_decimals ns)
-
-pub numbers_written : (v : Value) (ns : List ℕ) → view v ≡ array (numbers_given ns) → IsWrittenAs v (numbers_text ns)
-numbers_written v ns is = value_written v (numbers_given ns) (map decimal ns) is (have_decimals ns)
-
--- a word and numbers
-pub named_written : (v : Value) (word : List ℕ) (ns : List ℕ) → HasText (string word) (word_text word) → view v ≡ array (item (string word) (numbers_given ns)) → IsWrittenAs v (named_text word ns)
-named_written v word ns w is = value_written v (item (string word) (numbers_given ns)) (word_text word ∷ map decimal ns) is (w, have_decimals ns)
-
--- a word and one value
-pub word_and_written : (v one : Value) (word text : List ℕ) → HasText (string word) (word_text word) → IsWrittenAs one text → view v ≡ array (item (string word) (item (view one) no_items)) → IsWrittenAs v (list_text (word_text word ∷ text ∷ []))
-word_and_written v one word text w is e = value_written v (item (string word) (item (view one) no_items)) (word_text word ∷ text ∷ []) e (w, (is, tt))
-
--- the value of one more element, behind others
-pub HaveTexts-on : {X : Type 0} (text : X → List ℕ) (vs ws : List Value) (v : Value) (before : List (List ℕ)) (xs : List X) (i : ℕ) (d : X) → HaveTexts (items_view vs) (before ++ map text (take i xs)) → i < length xs → ws ≡ vs ++ v ∷ []
-    → IsWrittenAs v (text (get_or xs i d)) → HaveTexts (items_view ws) (before ++ map text (take (i + 1) xs))
-HaveTexts-on text vs ws v before xs i d h within is w =
-    let more = HaveTexts-push vs v (before ++ map text (take i xs)) (text (get_or xs i d)) h w in
-    let same = append_assoc before (map text (take i xs)) (text (get_or xs i d) ∷ []) ∙ ap (λ (ts : List (List ℕ)). before ++ ts) (sym (map_more text xs i d within)) in
-    subst (λ us. HaveTexts (items_view us) (before ++ map text (take (i + 1) xs))) (sym is) (subst (HaveTexts (items_view (vs ++ v ∷ []))) same more)

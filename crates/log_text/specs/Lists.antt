@@ -1,5 +1,5 @@
 -- The text of what replies are made of.
-use Rattle.std.specs.Prelude.{ℕ, List, ◌++◌, codes, decimal, map}
+use Rattle.std.specs.Prelude.{ℕ, List, ◌∷◌, ◌++◌, codes, decimal, map}
 use Rattle.std.specs.List.{join_with_byte}
 
 -- texts in brackets, with a comma (44) between each two
@@ -13,3 +13,7 @@ word_text word = codes "\"" ++ word ++ codes "\""
 -- numbers in decimal: [2,1]
 abbrev pub numbers_text : List ℕ → List ℕ
 numbers_text numbers = list_text (map decimal numbers)
+
+-- a word and numbers: ["session",0,0,0,1]
+abbrev pub named_text : List ℕ → List ℕ → List ℕ
+named_text word numbers = list_text (word_text word ∷ map decimal numbers)

@@ -27,17 +27,21 @@ kind_name kind.Pending = codes "pending"
 kind_name kind.Violated = codes "violated"
 kind_name kind.Spent = codes "spent"
 
--- a report: its round, its kind, and what it has beside these
-abbrev pub report_text : ℕ → Kind → List (List ℕ) → List ℕ
-report_text round kind parts = list_text (word_text (codes "report") ∷ decimal round ∷ word_text (kind_name kind) ∷ parts)
+-- what each report begins with: its round, its kind, and how many were received of each session
+abbrev pub report_parts : ℕ → Kind → List ℕ → List (List ℕ)
+report_parts round kind counts = word_text (codes "report") ∷ decimal round ∷ word_text (kind_name kind) ∷ numbers_text counts ∷ []
+
+-- the texts of a reply's parts
+abbrev pub parts_of : Reply → List (List ℕ)
+parts_of reply.Done = word_text (codes "ok") ∷ []
+parts_of (reply.No refusal) = word_text (codes "no") ∷ decimal (number_of refusal) ∷ word_text (name_of refusal) ∷ []
+parts_of (reply.Order round kind counts order) = report_parts round kind counts ++ list_text (map id_text order) ∷ []
+parts_of (reply.Violated round counts tree) = report_parts round kind.Violated counts ++ tree_text tree ∷ []
+parts_of (reply.Spent round counts) = report_parts round kind.Spent counts
+parts_of (reply.Show marks received closed last remaining) = word_text (codes "show") ∷ numbers_text marks ∷ numbers_text received ∷ list_text (map flag_text closed) ∷ list_text (map writer_text last) ∷ decimal remaining ∷ []
 
 abbrev pub text_of : Reply → List ℕ
-text_of reply.Done = list_text (word_text (codes "ok") ∷ [])
-text_of (reply.No refusal) = list_text (word_text (codes "no") ∷ decimal (number_of refusal) ∷ word_text (name_of refusal) ∷ [])
-text_of (reply.Order round kind counts order) = report_text round kind (numbers_text counts ∷ list_text (map id_text order) ∷ [])
-text_of (reply.Violated round counts tree) = report_text round kind.Violated (numbers_text counts ∷ tree_text tree ∷ [])
-text_of (reply.Spent round counts) = report_text round kind.Spent (numbers_text counts ∷ [])
-text_of (reply.Show marks received closed last remaining) = list_text (word_text (codes "show") ∷ numbers_text marks ∷ numbers_text received ∷ list_text (map flag_text closed) ∷ list_text (map writer_text last) ∷ decimal remaining ∷ [])
+text_of reply = list_text (parts_of reply)
 
 -- the reply and a line feed
 abbrev pub line_of : Reply → List ℕ

@@ -9,11 +9,7 @@ use Rattle.txn.specs.declared.choices.Side.TheVariants.{First, Second}
 use Rattle.refutation.specs.declared.trees.Leaf.{Leaf}
 use Rattle.refutation.specs.declared.trees.Leaf.TheVariants.{Cycle, NoWrite, Gone}
 use Rattle.refutation.specs.declared.trees.Tree.{Tree, Close, Force', Split'}
-use Rattle.log_text.specs.Lists.{list_text, word_text, numbers_text}
-
--- a word and numbers: ["session",0,0,0,1]
-abbrev pub named_text : List ℕ → List ℕ → List ℕ
-named_text word numbers = list_text (word_text word ∷ map decimal numbers)
+use Rattle.log_text.specs.Lists.{list_text, word_text, numbers_text, named_text}
 
 -- a choice: the reader's session and number, the key, the writer's, the other writer's
 abbrev pub choice_text : Choice → List ℕ

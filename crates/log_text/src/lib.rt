@@ -3,6 +3,7 @@
 
 mod commands;
 mod fragments;
+mod lists;
 mod numbers;
 mod replies;
 mod trees;

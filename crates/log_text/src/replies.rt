@@ -1,12 +1,12 @@
-ghost use Rattle.std.specs.Prelude.{◌≡◌, IfOk, map, codes, decimal};
-ghost use Rattle.log_text.specs.Lists.{list_text, numbers_text};
-ghost use Rattle.log_text.specs.Replies.{line_of, text_of, HasKindOfOrder, id_text, writer_text, flag_text, kind_name};
-ghost use Rattle.log_text.specs.Texts.{IsWrittenAs};
+ghost use Rattle.std.specs.Prelude.{◌≡◌, IfOk, OnOk};
+ghost use Rattle.log_text.specs.Replies.{line_of, text_of, parts_of, report_parts, HasKindOfOrder, kind_name};
+ghost use Rattle.log_text.specs.Texts.{Gains, IsWrittenAs};
 
-use crate::trees::tree_value;
+use crate::lists::{push_each, push_flags, push_ids, push_numbers, push_word, push_writers};
+use crate::trees::push_tree;
 use order_check::Kind;
 use refutation::Tree;
-use serde_json::{Value, json};
+use serde_json::Value;
 use std::alloc::Global;
 use txn::{NoMemory, Refusal, Sequence, TxnId};
 
@@ -56,147 +56,115 @@ fn kind_name(kind: Kind) -> &'static str
     }
 }
 
-fn numbers(alloc: Global, numbers: &[u64]) -> Result<Value, NoMemory>
-    ensures { IfOk result (λ value. IsWrittenAs value (numbers_text numbers.now)) }
+#[tactic(auto, using(crate::proofs::ValueTexts::no_written))]
+fn push_refused(alloc: Global, items: &mut Vec<Value>, refusal: Refusal) -> Result<(), NoMemory>
+    ensures { OnOk result (Gains items.old.items items.new.items (parts_of (Reply.No refusal))) }
 {
-    let mut items = Vec::with_capacity(alloc, numbers.len())?;
-    for number in numbers {
-        items.push(Value::from(*number))?;
-    }
-    Ok(Value::Array(items))
+    push_word(alloc, items, "no")?;
+    push_each(items, &[u64::from(refusal.number())])?;
+    push_word(alloc, items, refusal.name())
 }
 
-fn id(alloc: Global, id: TxnId) -> Result<Value, NoMemory>
-    ensures { IfOk result (λ value. IsWrittenAs value (id_text id)) }
-{
-    json!(in alloc; [id.session, id.number])
-}
-
-fn ids(alloc: Global, ids: &[TxnId]) -> Result<Value, NoMemory>
-    ensures { IfOk result (λ value. IsWrittenAs value (list_text (map id_text ids.now))) }
-{
-    let mut items = Vec::with_capacity(alloc, ids.len())?;
-    for each in ids {
-        items.push(id(alloc, *each)?)?;
-    }
-    Ok(Value::Array(items))
-}
-
-fn flags(alloc: Global, flags: &[bool]) -> Result<Value, NoMemory>
-    ensures { IfOk result (λ value. IsWrittenAs value (list_text (map flag_text flags.now))) }
-{
-    let mut items = Vec::with_capacity(alloc, flags.len())?;
-    for flag in flags {
-        items.push(Value::from(*flag))?;
-    }
-    Ok(Value::Array(items))
-}
-
-fn writer(alloc: Global, writer: (u64, TxnId)) -> Result<Value, NoMemory>
-    ensures { IfOk result (λ value. IsWrittenAs value (writer_text writer)) }
-{
-    json!(in alloc; [writer.0, writer.1.session, writer.1.number])
-}
-
-fn writers(alloc: Global, writers: &[(u64, TxnId)]) -> Result<Value, NoMemory>
-    ensures { IfOk result (λ value. IsWrittenAs value (list_text (map writer_text writers.now))) }
-{
-    let mut items = Vec::with_capacity(alloc, writers.len())?;
-    for each in writers {
-        items.push(writer(alloc, *each)?)?;
-    }
-    Ok(Value::Array(items))
-}
-
-fn done(alloc: Global) -> Result<Value, NoMemory>
-    ensures { IfOk result (λ value. IsWrittenAs value (text_of Reply.Done)) }
-{
-    json!(in alloc; ["ok"])
-}
-
-fn refused(alloc: Global, refusal: Refusal) -> Result<Value, NoMemory>
-    ensures { IfOk result (λ value. IsWrittenAs value (text_of (Reply.No refusal))) }
-{
-    json!(in alloc; ["no", refusal.number(), refusal.name()])
-}
-
-fn ordered(
+/// Puts what each report begins with at the end.
+#[tactic(auto, using(crate::proofs::ValueTexts::report_written))]
+fn push_report(
     alloc: Global,
+    items: &mut Vec<Value>,
+    round: u64,
+    kind: Kind,
+    counts: &Sequence<u64>,
+) -> Result<(), NoMemory>
+    ensures { OnOk result (Gains items.old.items items.new.items (report_parts round kind counts.now)) }
+{
+    push_word(alloc, items, "report")?;
+    push_each(items, &[round])?;
+    push_word(alloc, items, kind_name(kind))?;
+    push_numbers(alloc, items, counts.as_slice())
+}
+
+fn push_ordered(
+    alloc: Global,
+    items: &mut Vec<Value>,
     round: u64,
     kind: Kind,
     counts: &Sequence<u64>,
     order: &Sequence<TxnId>,
-) -> Result<Value, NoMemory>
-    ensures { IfOk result (λ value. IsWrittenAs value (text_of (Reply.Order round kind counts.now order.now))) }
+) -> Result<(), NoMemory>
+    ensures { OnOk result (Gains items.old.items items.new.items (parts_of (Reply.Order round kind counts.now order.now))) }
 {
-    let counts = numbers(alloc, counts.as_slice())?;
-    let order = ids(alloc, order.as_slice())?;
-    json!(in alloc; ["report", round, kind_name(kind), counts, order])
+    push_report(alloc, items, round, kind, counts)?;
+    push_ids(alloc, items, order.as_slice())
 }
 
-fn violated(
+fn push_violated(
     alloc: Global,
+    items: &mut Vec<Value>,
     round: u64,
     counts: &Sequence<u64>,
     tree: &Tree,
-) -> Result<Value, NoMemory>
-    ensures { IfOk result (λ value. IsWrittenAs value (text_of (Reply.Violated round counts.now tree.now))) }
+) -> Result<(), NoMemory>
+    ensures { OnOk result (Gains items.old.items items.new.items (parts_of (Reply.Violated round counts.now tree.now))) }
 {
-    let counts = numbers(alloc, counts.as_slice())?;
-    let tree = tree_value(alloc, tree)?;
-    json!(in alloc; ["report", round, kind_name(Kind::Violated), counts, tree])
+    push_report(alloc, items, round, Kind::Violated, counts)?;
+    push_tree(alloc, items, tree)
 }
 
-fn spent(alloc: Global, round: u64, counts: &Sequence<u64>) -> Result<Value, NoMemory>
-    ensures { IfOk result (λ value. IsWrittenAs value (text_of (Reply.Spent round counts.now))) }
-{
-    let counts = numbers(alloc, counts.as_slice())?;
-    json!(in alloc; ["report", round, kind_name(Kind::Spent), counts])
-}
-
-fn shown(
+#[tactic(auto, using(crate::proofs::ValueTexts::show_written))]
+fn push_shown(
     alloc: Global,
+    items: &mut Vec<Value>,
     marks: &Sequence<u64>,
     received: &Sequence<u64>,
     closed: &Sequence<bool>,
     last: &Sequence<(u64, TxnId)>,
     remaining: u64,
-) -> Result<Value, NoMemory>
-    ensures { IfOk result (λ value. IsWrittenAs value (text_of (Reply.Show marks.now received.now closed.now last.now remaining))) }
+) -> Result<(), NoMemory>
+    ensures { OnOk result (Gains items.old.items items.new.items (parts_of (Reply.Show marks.now received.now closed.now last.now remaining))) }
 {
-    let marks = numbers(alloc, marks.as_slice())?;
-    let received = numbers(alloc, received.as_slice())?;
-    let closed = flags(alloc, closed.as_slice())?;
-    let last = writers(alloc, last.as_slice())?;
-    json!(in alloc; ["show", marks, received, closed, last, remaining])
+    push_word(alloc, items, "show")?;
+    push_numbers(alloc, items, marks.as_slice())?;
+    push_numbers(alloc, items, received.as_slice())?;
+    push_flags(alloc, items, closed.as_slice())?;
+    push_writers(alloc, items, last.as_slice())?;
+    push_each(items, &[remaining])
 }
 
-fn value_of(alloc: Global, reply: &Reply) -> Result<Value, NoMemory>
-    ensures { IfOk result (λ value. IsWrittenAs value (text_of reply.now)) }
+/// Puts a reply's parts at the end.
+#[tactic(auto, using(crate::proofs::ValueTexts::ok_written))]
+fn push_parts(alloc: Global, items: &mut Vec<Value>, reply: &Reply) -> Result<(), NoMemory>
+    ensures { OnOk result (Gains items.old.items items.new.items (parts_of reply.now)) }
 {
     match reply {
-        Reply::Done => done(alloc),
-        Reply::No(refusal) => refused(alloc, *refusal),
+        Reply::Done => push_word(alloc, items, "ok"),
+        Reply::No(refusal) => push_refused(alloc, items, *refusal),
         Reply::Order {
             round,
             kind,
             counts,
             order,
-        } => ordered(alloc, *round, *kind, counts, order),
+        } => push_ordered(alloc, items, *round, *kind, counts, order),
         Reply::Violated {
             round,
             counts,
             tree,
-        } => violated(alloc, *round, counts, tree),
-        Reply::Spent { round, counts } => spent(alloc, *round, counts),
+        } => push_violated(alloc, items, *round, counts, tree),
+        Reply::Spent { round, counts } => push_report(alloc, items, *round, Kind::Spent, counts),
         Reply::Show {
             marks,
             received,
             closed,
             last,
             remaining,
-        } => shown(alloc, marks, received, closed, last, *remaining),
+        } => push_shown(alloc, items, marks, received, closed, last, *remaining),
     }
+}
+
+fn value_of(alloc: Global, reply: &Reply) -> Result<Value, NoMemory>
+    ensures { IfOk result (λ value. IsWrittenAs value (text_of reply.now)) }
+{
+    let mut items = Vec::new(alloc);
+    push_parts(alloc, &mut items, reply)?;
+    Ok(Value::Array(items))
 }
 
 /// The reply's line: one JSON array with no space in it, and a line feed.

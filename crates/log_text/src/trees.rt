@@ -1,17 +1,17 @@
-ghost use Rattle.std.specs.Prelude.{◌≡◌, ◌+◌, ◌<◌, ℕ, List, [], ◌∷◌, ◌++◌, IfOk, OnOk, map};
-ghost use Rattle.serde_json.specs.View.{items_view};
+ghost use Rattle.std.specs.Prelude.{◌≡◌, ◌+◌, ◌<◌, ℕ, List, [], ◌∷◌, ◌++◌, OnOk, map};
 ghost use Rattle.refutation.specs.Weights.{weight};
-ghost use Rattle.log_text.specs.Texts.{HaveTexts, IsWrittenAs};
+ghost use Rattle.log_text.specs.Texts.{Gains};
 ghost use Rattle.log_text.specs.Trees.{choice_text, arc_text, cycle_text, side_number, step_text, split_text, leaf_text, tree_text};
 ghost use Rattle.log_text.specs.Waiting.{ComeTo, waiting_weight};
 
+use crate::lists::{push_each, push_named, push_numbers, push_word};
 use refutation::{Leaf, Tree};
-use serde_json::{Value, json};
+use serde_json::Value;
 use std::alloc::Global;
-use txn::{Arc, Choice, ForceStep, NoMemory, Side};
+use txn::{Arc, Choice, ForceStep, NoMemory, Side, TxnId};
 
-fn choice_value(alloc: Global, choice: &Choice) -> Result<Value, NoMemory>
-    ensures { IfOk result (λ value. IsWrittenAs value (choice_text choice.now)) }
+fn push_choice(alloc: Global, items: &mut Vec<Value>, choice: &Choice) -> Result<(), NoMemory>
+    ensures { OnOk result (Gains items.old.items items.new.items (choice_text choice.now ∷ [])) }
 {
     let Choice {
         reader,
@@ -19,36 +19,64 @@ fn choice_value(alloc: Global, choice: &Choice) -> Result<Value, NoMemory>
         writer,
         other,
     } = *choice;
-    json!(in alloc; [reader.session, reader.number, key, writer.session, writer.number, other.session, other.number])
+    let numbers = [
+        u64::from(reader.session),
+        reader.number,
+        key,
+        u64::from(writer.session),
+        writer.number,
+        u64::from(other.session),
+        other.number,
+    ];
+    push_numbers(alloc, items, &numbers)
 }
 
-fn arc_value(alloc: Global, arc: Arc) -> Result<Value, NoMemory>
-    ensures { IfOk result (λ value. IsWrittenAs value (arc_text arc)) }
+/// The session and the number of an arc's start, and those of its end.
+fn ends(from: TxnId, to: TxnId) -> [u64; 4]
+    ensures { result ≡ from.session ∷ from.number ∷ to.session ∷ to.number ∷ [] }
+{
+    [
+        u64::from(from.session),
+        from.number,
+        u64::from(to.session),
+        to.number,
+    ]
+}
+
+/// The same behind a key.
+fn ends_on(key: u64, from: TxnId, to: TxnId) -> [u64; 5]
+    ensures { result ≡ key ∷ from.session ∷ from.number ∷ to.session ∷ to.number ∷ [] }
+{
+    [
+        key,
+        u64::from(from.session),
+        from.number,
+        u64::from(to.session),
+        to.number,
+    ]
+}
+
+#[tactic(auto, using(crate::proofs::ValueTexts::session_written, crate::proofs::ValueTexts::read_written, crate::proofs::ValueTexts::base_written, crate::proofs::ValueTexts::taken_written))]
+fn push_arc(alloc: Global, items: &mut Vec<Value>, arc: Arc) -> Result<(), NoMemory>
+    ensures { OnOk result (Gains items.old.items items.new.items (arc_text arc ∷ [])) }
 {
     match arc {
-        Arc::Session { from, to } => {
-            json!(in alloc; ["session", from.session, from.number, to.session, to.number])
-        }
-        Arc::Read { key, from, to } => {
-            json!(in alloc; ["read", key, from.session, from.number, to.session, to.number])
-        }
-        Arc::Base { key, from, to } => {
-            json!(in alloc; ["base", key, from.session, from.number, to.session, to.number])
-        }
-        Arc::Taken { from, to } => {
-            json!(in alloc; ["taken", from.session, from.number, to.session, to.number])
-        }
+        Arc::Session { from, to } => push_named(alloc, items, "session", &ends(from, to)),
+        Arc::Read { key, from, to } => push_named(alloc, items, "read", &ends_on(key, from, to)),
+        Arc::Base { key, from, to } => push_named(alloc, items, "base", &ends_on(key, from, to)),
+        Arc::Taken { from, to } => push_named(alloc, items, "taken", &ends(from, to)),
     }
 }
 
-fn cycle_value(alloc: Global, arcs: &[Arc]) -> Result<Value, NoMemory>
-    ensures { IfOk result (λ value. IsWrittenAs value (cycle_text arcs.now)) }
+fn push_cycle(alloc: Global, items: &mut Vec<Value>, arcs: &[Arc]) -> Result<(), NoMemory>
+    ensures { OnOk result (Gains items.old.items items.new.items (cycle_text arcs.now ∷ [])) }
 {
-    let mut items = Vec::with_capacity(alloc, arcs.len())?;
+    let mut list = Vec::new(alloc);
     for arc in arcs {
-        items.push(arc_value(alloc, *arc)?)?;
+        push_arc(alloc, &mut list, *arc)?;
     }
-    Ok(Value::Array(items))
+    items.push(Value::Array(list))?;
+    Ok(())
 }
 
 fn side_number(side: Side) -> u64
@@ -60,48 +88,64 @@ fn side_number(side: Side) -> u64
     }
 }
 
-fn step_value(alloc: Global, step: &ForceStep) -> Result<Value, NoMemory>
-    ensures { IfOk result (λ value. IsWrittenAs value (step_text step.now)) }
+#[tactic(auto, using(crate::proofs::ValueTexts::force_written))]
+fn push_step(alloc: Global, items: &mut Vec<Value>, step: &ForceStep) -> Result<(), NoMemory>
+    ensures { OnOk result (Gains items.old.items items.new.items (step_text step.now ∷ [])) }
 {
-    let choice = choice_value(alloc, &step.choice)?;
-    let cycle = cycle_value(alloc, step.cycle.as_slice())?;
-    json!(in alloc; ["force", choice, side_number(step.side), cycle])
+    let mut list = Vec::new(alloc);
+    push_word(alloc, &mut list, "force")?;
+    push_choice(alloc, &mut list, &step.choice)?;
+    push_each(&mut list, &[side_number(step.side)])?;
+    push_cycle(alloc, &mut list, step.cycle.as_slice())?;
+    items.push(Value::Array(list))?;
+    Ok(())
 }
 
-fn split_value(alloc: Global, choice: &Choice) -> Result<Value, NoMemory>
-    ensures { IfOk result (λ value. IsWrittenAs value (split_text choice.now)) }
+#[tactic(auto, using(crate::proofs::ValueTexts::split_written))]
+fn push_split(alloc: Global, items: &mut Vec<Value>, choice: &Choice) -> Result<(), NoMemory>
+    ensures { OnOk result (Gains items.old.items items.new.items (split_text choice.now ∷ [])) }
 {
-    let choice = choice_value(alloc, choice)?;
-    json!(in alloc; ["split", choice])
+    let mut list = Vec::new(alloc);
+    push_word(alloc, &mut list, "split")?;
+    push_choice(alloc, &mut list, choice)?;
+    items.push(Value::Array(list))?;
+    Ok(())
 }
 
-fn cycle_leaf(alloc: Global, arcs: &[Arc]) -> Result<Value, NoMemory>
-    ensures { IfOk result (λ value. IsWrittenAs value (leaf_text (Leaf.Cycle arcs.now))) }
+#[tactic(auto, using(crate::proofs::ValueTexts::cycle_written))]
+fn push_cycle_leaf(alloc: Global, items: &mut Vec<Value>, arcs: &[Arc]) -> Result<(), NoMemory>
+    ensures { OnOk result (Gains items.old.items items.new.items (leaf_text (Leaf.Cycle arcs.now) ∷ [])) }
 {
-    let cycle = cycle_value(alloc, arcs)?;
-    json!(in alloc; ["cycle", cycle])
+    let mut list = Vec::new(alloc);
+    push_word(alloc, &mut list, "cycle")?;
+    push_cycle(alloc, &mut list, arcs)?;
+    items.push(Value::Array(list))?;
+    Ok(())
 }
 
-fn leaf_value(alloc: Global, leaf: &Leaf) -> Result<Value, NoMemory>
-    ensures { IfOk result (λ value. IsWrittenAs value (leaf_text leaf.now)) }
+/// The session and the number of a reader, and a key.
+fn read_at(reader: TxnId, key: u64) -> [u64; 3]
+    ensures { result ≡ reader.session ∷ reader.number ∷ key ∷ [] }
+{
+    [u64::from(reader.session), reader.number, key]
+}
+
+#[tactic(auto, using(crate::proofs::ValueTexts::nowrite_written, crate::proofs::ValueTexts::gone_written))]
+fn push_leaf(alloc: Global, items: &mut Vec<Value>, leaf: &Leaf) -> Result<(), NoMemory>
+    ensures { OnOk result (Gains items.old.items items.new.items (leaf_text leaf.now ∷ [])) }
 {
     match leaf {
-        Leaf::Cycle(arcs) => cycle_leaf(alloc, arcs.as_slice()),
-        Leaf::NoWrite(reader, key) => {
-            json!(in alloc; ["nowrite", reader.session, reader.number, *key])
-        }
-        Leaf::Gone(reader, key) => {
-            json!(in alloc; ["gone", reader.session, reader.number, *key])
-        }
+        Leaf::Cycle(arcs) => push_cycle_leaf(alloc, items, arcs.as_slice()),
+        Leaf::NoWrite(reader, key) => push_named(alloc, items, "nowrite", &read_at(*reader, *key)),
+        Leaf::Gone(reader, key) => push_named(alloc, items, "gone", &read_at(*reader, *key)),
     }
 }
 
-/// Puts the values of the steps at the end.
 fn push_steps(alloc: Global, items: &mut Vec<Value>, steps: &[ForceStep]) -> Result<(), NoMemory>
-    ensures { OnOk result ((texts : List (List ℕ)) → HaveTexts (items_view items.old.items) texts → HaveTexts (items_view items.new.items) (texts ++ map step_text steps.now)) }
+    ensures { OnOk result (Gains items.old.items items.new.items (map step_text steps.now)) }
 {
     for step in steps {
-        items.push(step_value(alloc, step)?)?;
+        push_step(alloc, items, step)?;
     }
     Ok(())
 }
@@ -117,7 +161,7 @@ fn push_node<'t>(
     ensures lighter { OnOk result (waiting_weight waiting.new.items < waiting_weight waiting.old.items + weight tree.now) }
 {
     match tree {
-        Tree::Close(leaf) => items.push(leaf_value(alloc, leaf)?)?,
+        Tree::Close(leaf) => push_leaf(alloc, items, leaf)?,
         Tree::Force { steps, rest } => {
             push_steps(alloc, items, steps.as_slice())?;
             waiting.push(rest)?;
@@ -127,7 +171,7 @@ fn push_node<'t>(
             first,
             second,
         } => {
-            items.push(split_value(alloc, choice)?)?;
+            push_split(alloc, items, choice)?;
             waiting.push(second)?;
             waiting.push(first)?;
         }
@@ -135,15 +179,16 @@ fn push_node<'t>(
     Ok(())
 }
 
-/// The items of a tree, one after another. A tree may be very deep, so this is a loop.
-pub(crate) fn tree_value(alloc: Global, tree: &Tree) -> Result<Value, NoMemory>
-    ensures { IfOk result (λ value. IsWrittenAs value (tree_text tree.now)) }
+/// Puts the list of a tree's items, one after another, at the end. A tree may be very deep, so this is a loop.
+pub(crate) fn push_tree(alloc: Global, items: &mut Vec<Value>, tree: &Tree) -> Result<(), NoMemory>
+    ensures { OnOk result (Gains items.old.items items.new.items (tree_text tree.now ∷ [])) }
 {
-    let mut items = Vec::new(alloc);
+    let mut list = Vec::new(alloc);
     let mut waiting = Vec::new(alloc);
     waiting.push(tree)?;
     while let Some(next) = waiting.pop() {
-        push_node(alloc, &mut items, &mut waiting, next)?;
+        push_node(alloc, &mut list, &mut waiting, next)?;
     }
-    Ok(Value::Array(items))
+    items.push(Value::Array(list))?;
+    Ok(())
 }

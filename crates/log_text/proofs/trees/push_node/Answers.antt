@@ -6,9 +6,9 @@ use Rattle.log_text.specs.Trees.{step_text, items_of}
 use Rattle.log_text.proofs.WaitingTrees.{comes_closed, comes_forced, comes_split, lighter_forced, lighter_split}
 use Rattle.log_text.proofs.trees.push_node.Goals as goal
 
-pub returns-in_ok-push-in-Close-clause-written : goal.returns-in_ok-push-in-Close-clause-written
-returns-in_ok-push-in-Close-clause-written c = λ texts come.
-    comes_closed _ _ c.in_ok-leaf_value-in-Close.field-0 c.args.waiting.now.items c.args.tree c.in-Close.leaf texts (ap items_of c.in-Close.is) c.in_ok-push-in-Close.ensures.items c.in_ok-leaf_value-in-Close.ensures come
+pub returns-in_ok-push_leaf-in-Close-clause-written : goal.returns-in_ok-push_leaf-in-Close-clause-written
+returns-in_ok-push_leaf-in-Close-clause-written c = λ texts come.
+    comes_closed _ _ c.args.waiting.now.items c.args.tree c.in-Close.leaf texts (ap items_of c.in-Close.is) c.in_ok-push_leaf-in-Close.ensures come
 
 pub returns-in_ok-push-in-Force-clause-written : goal.returns-in_ok-push-in-Force-clause-written
 returns-in_ok-push-in-Force-clause-written c = λ texts come.
@@ -20,12 +20,12 @@ pub returns-in_ok-push-in-Force-clause-lighter : goal.returns-in_ok-push-in-Forc
 returns-in_ok-push-in-Force-clause-lighter c =
     lighter_forced c.args.waiting.now.items _ c.args.tree c.deref.result c.in-Force.rest.value (ap weight c.in-Force.is) c.deref.ensures c.in_ok-push-in-Force.ensures.items
 
-pub returns-in_ok-push-in-Split-3-clause-written : goal.returns-in_ok-push-in-Split-3-clause-written
-returns-in_ok-push-in-Split-3-clause-written c = λ texts come.
-    let waits = c.in_ok-push-in-Split-3.ensures.items ∙ ap (λ (ts : List (Bor Tree)). ts ++ c.deref-in-Split-2.result ∷ []) c.in_ok-push-in-Split-2.ensures.items in
-    comes_split _ _ c.in_ok-split_value-in-Split.field-0 c.args.waiting.now.items _ c.args.tree c.deref-in-Split-2.result c.deref-in-Split.result c.in-Split.choice c.in-Split.first.value c.in-Split.second.value texts (ap items_of c.in-Split.is) c.deref-in-Split-2.ensures c.deref-in-Split.ensures waits c.in_ok-push-in-Split.ensures.items c.in_ok-split_value-in-Split.ensures come
+pub returns-in_ok-push-in-Split-2-clause-written : goal.returns-in_ok-push-in-Split-2-clause-written
+returns-in_ok-push-in-Split-2-clause-written c = λ texts come.
+    let waits = c.in_ok-push-in-Split-2.ensures.items ∙ ap (λ (ts : List (Bor Tree)). ts ++ c.deref-in-Split-2.result ∷ []) c.in_ok-push-in-Split.ensures.items in
+    comes_split _ _ c.args.waiting.now.items _ c.args.tree c.deref-in-Split-2.result c.deref-in-Split.result c.in-Split.choice c.in-Split.first.value c.in-Split.second.value texts (ap items_of c.in-Split.is) c.deref-in-Split-2.ensures c.deref-in-Split.ensures waits c.in_ok-push_split-in-Split.ensures come
 
-pub returns-in_ok-push-in-Split-3-clause-lighter : goal.returns-in_ok-push-in-Split-3-clause-lighter
-returns-in_ok-push-in-Split-3-clause-lighter c =
-    let waits = c.in_ok-push-in-Split-3.ensures.items ∙ ap (λ (ts : List (Bor Tree)). ts ++ c.deref-in-Split-2.result ∷ []) c.in_ok-push-in-Split-2.ensures.items in
+pub returns-in_ok-push-in-Split-2-clause-lighter : goal.returns-in_ok-push-in-Split-2-clause-lighter
+returns-in_ok-push-in-Split-2-clause-lighter c =
+    let waits = c.in_ok-push-in-Split-2.ensures.items ∙ ap (λ (ts : List (Bor Tree)). ts ++ c.deref-in-Split-2.result ∷ []) c.in_ok-push-in-Split.ensures.items in
     lighter_split c.args.waiting.now.items _ c.args.tree c.deref-in-Split-2.result c.deref-in-Split.result c.in-Split.first.value c.in-Split.second.value (ap weight c.in-Split.is) c.deref-in-Split-2.ensures c.deref-in-Split.ensures waits

@@ -1,0 +1,104 @@
+ghost use Rattle.std.specs.Prelude.{◌≡◌, [], ◌∷◌, OnOk, map, decimal};
+ghost use Rattle.log_text.specs.Lists.{list_text, word_text, numbers_text, named_text};
+ghost use Rattle.log_text.specs.Replies.{id_text, writer_text, flag_text};
+ghost use Rattle.log_text.specs.Texts.{Gains, IsPlain};
+
+use serde_json::Value;
+use std::alloc::Global;
+use txn::{NoMemory, TxnId};
+
+/// Puts a word at the end of a list.
+pub(crate) fn push_word(alloc: Global, items: &mut Vec<Value>, word: &str) -> Result<(), NoMemory>
+    requires { IsPlain word.now }
+    ensures { OnOk result (Gains items.old.items items.new.items (word_text word.now ∷ [])) }
+{
+    let word = word.to_string(alloc)?;
+    items.push(Value::from(word))?;
+    Ok(())
+}
+
+/// Puts numbers at the end of a list, one after another.
+pub(crate) fn push_each(items: &mut Vec<Value>, numbers: &[u64]) -> Result<(), NoMemory>
+    ensures { OnOk result (Gains items.old.items items.new.items (map decimal numbers.now)) }
+{
+    for number in numbers {
+        items.push(Value::from(*number))?;
+    }
+    Ok(())
+}
+
+/// Puts a list of numbers at the end of a list.
+pub(crate) fn push_numbers(
+    alloc: Global,
+    items: &mut Vec<Value>,
+    numbers: &[u64],
+) -> Result<(), NoMemory>
+    ensures { OnOk result (Gains items.old.items items.new.items (numbers_text numbers.now ∷ [])) }
+{
+    let mut list = Vec::new(alloc);
+    push_each(&mut list, numbers)?;
+    items.push(Value::Array(list))?;
+    Ok(())
+}
+
+/// Puts a list of a word and numbers at the end of a list.
+pub(crate) fn push_named(
+    alloc: Global,
+    items: &mut Vec<Value>,
+    word: &str,
+    numbers: &[u64],
+) -> Result<(), NoMemory>
+    requires { IsPlain word.now }
+    ensures { OnOk result (Gains items.old.items items.new.items (named_text word.now numbers.now ∷ [])) }
+{
+    let mut list = Vec::new(alloc);
+    push_word(alloc, &mut list, word)?;
+    push_each(&mut list, numbers)?;
+    items.push(Value::Array(list))?;
+    Ok(())
+}
+
+/// Puts a list of flags at the end of a list.
+pub(crate) fn push_flags(
+    alloc: Global,
+    items: &mut Vec<Value>,
+    flags: &[bool],
+) -> Result<(), NoMemory>
+    ensures { OnOk result (Gains items.old.items items.new.items (list_text (map flag_text flags.now) ∷ [])) }
+{
+    let mut list = Vec::new(alloc);
+    for flag in flags {
+        list.push(Value::from(*flag))?;
+    }
+    items.push(Value::Array(list))?;
+    Ok(())
+}
+
+/// Puts a list of ids at the end of a list.
+pub(crate) fn push_ids(alloc: Global, items: &mut Vec<Value>, ids: &[TxnId]) -> Result<(), NoMemory>
+    ensures { OnOk result (Gains items.old.items items.new.items (list_text (map id_text ids.now) ∷ [])) }
+{
+    let mut list = Vec::new(alloc);
+    for id in ids {
+        push_numbers(alloc, &mut list, &[u64::from(id.session), id.number])?;
+    }
+    items.push(Value::Array(list))?;
+    Ok(())
+}
+
+/// Puts a list of keys with their last writers at the end of a list.
+pub(crate) fn push_writers(
+    alloc: Global,
+    items: &mut Vec<Value>,
+    writers: &[(u64, TxnId)],
+) -> Result<(), NoMemory>
+    ensures { OnOk result (Gains items.old.items items.new.items (list_text (map writer_text writers.now) ∷ [])) }
+{
+    let mut list = Vec::new(alloc);
+    for (key, id) in writers {
+        let entry = [*key, u64::from(id.session), id.number];
+        push_numbers(alloc, &mut list, &entry)?;
+    }
+    items.push(Value::Array(list))?;
+    Ok(())
+}
