@@ -101,7 +101,7 @@ fn rows() -> &'static [Row] {
     &ROWS
 }
 
-fn problem_of(rt: &impl Abort, alloc: Global, table: &Table) -> Result<Problem, NoMemory> {
+pub fn problem_of(rt: &impl Abort, alloc: Global, table: &Table) -> Result<Problem, NoMemory> {
     let parts = table.parts(alloc)?;
     assert!(rt; parts.is_good());
     let known = Saturated::of(alloc, &parts)?;
@@ -109,7 +109,7 @@ fn problem_of(rt: &impl Abort, alloc: Global, table: &Table) -> Result<Problem, 
 }
 
 /// Stops unless the order explains the problem's parts.
-fn is_explained(
+pub fn is_explained(
     rt: &impl Abort,
     alloc: Global,
     problem: &Problem,
