@@ -1,7 +1,7 @@
 //! Trees that refute, forged ones, and deep ones.
 use crate::tables::{EMPTY, ID_0_0, ID_0_1, ID_1_0, ID_1_1, Table};
 use order_check::Parts;
-use refutation::{Leaf, Tree, check, join};
+use refutation::{Leaf, Tree, check, join, shortened};
 use std::alloc::Global;
 use std::process::Abort;
 use std::test::*;
@@ -314,4 +314,79 @@ fn very_deep_trees_are_judged_and_let_go(rt: HostRuntime) -> Result<(), Fail> {
         &under(alloc, cycle(alloc, &SKEWED)?, 100_000)?,
         false,
     )
+}
+
+/// How many steps, splits and leaves a tree has that isn't deep.
+fn items_of(tree: &Tree) -> u64 {
+    match tree {
+        Tree::Close(_) => 1,
+        Tree::Force { steps, rest } => items_of(rest).wrapping_add(steps.len() as u64),
+        Tree::Split {
+            choice: _,
+            first,
+            second,
+        } => items_of(first)
+            .wrapping_add(items_of(second))
+            .wrapping_add(1),
+    }
+}
+
+fn halves(alloc: Global, choice: Choice, first: Tree, second: Tree) -> Result<Tree, NoMemory> {
+    Ok(Tree::Split {
+        choice,
+        first: Box::new(alloc, first)?,
+        second: Box::new(alloc, second)?,
+    })
+}
+
+/// So many splits on one choice, each in the second half of the one above, over a split on the later choice.
+fn ladder(alloc: Global, splits: u64) -> Result<Tree, NoMemory> {
+    let later = cycle(alloc, &before_writer(LATER))?;
+    let mut tree = halves(alloc, LATER, later, cycle(alloc, &BOTH_AFTER)?)?;
+    for _ in 0..splits {
+        let first = cycle(alloc, &before_writer(EARLIER))?;
+        tree = halves(alloc, EARLIER, first, tree)?;
+    }
+    Ok(tree)
+}
+
+/// The forced sides of the lost update, the first one twice.
+fn forced_twice(alloc: Global) -> Result<Tree, NoMemory> {
+    let mut steps = Sequence::new(Vec::new(alloc));
+    steps.push(step(alloc, EARLIER, Side::Second)?)?;
+    Ok(Tree::Force {
+        steps,
+        rest: Box::new(alloc, forced(alloc, Side::Second)?)?,
+    })
+}
+
+/// A split of which neither half uses its side.
+fn idle_split(alloc: Global) -> Result<Tree, NoMemory> {
+    let first = forced(alloc, Side::Second)?;
+    halves(alloc, EARLIER, first, forced_twice(alloc)?)
+}
+
+fn shortens(
+    rt: &impl Abort,
+    alloc: Global,
+    table: &Table,
+    tree: Tree,
+    wanted: u64,
+) -> Result<(), Fail> {
+    let parts = table.parts(alloc)?;
+    assert!(rt; parts.is_good());
+    assert!(rt; check(alloc, &parts, &tree)?);
+    let short = shortened(alloc, &parts, tree)?;
+    assert_eq!(rt; items_of(&short), wanted);
+    Ok(())
+}
+
+#[test]
+fn what_plays_no_part_is_left_out(rt: HostRuntime) -> Result<(), Fail> {
+    let alloc = rt.alloc();
+    let deep = under(alloc, cycle(alloc, &SKEWED)?, 4096)?;
+    shortens(&rt, alloc, &WRITE_SKEW, deep, 1)?;
+    shortens(&rt, alloc, &LOST_UPDATE, forced_twice(alloc)?, 3)?;
+    shortens(&rt, alloc, &LOST_UPDATE, idle_split(alloc)?, 3)?;
+    shortens(&rt, alloc, &LOST_UPDATE, ladder(alloc, 4095)?, 5)
 }

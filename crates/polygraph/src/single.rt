@@ -10,7 +10,7 @@ use crate::cubes::{count_cubes, first_choices};
 use crate::problems::Problem;
 use crate::solving::{Answer, Cube, Solver, solve_cube};
 use order_check::scans_find_one;
-use refutation::{Tree, join, joined_depth, joined_trees_refute};
+use refutation::{Tree, join, joined_depth, joined_trees_refute, shortened};
 use std::alloc::Global;
 use txn::{NoMemory, Sequence, TxnId};
 
@@ -68,6 +68,22 @@ fn joined(
     Ok(tree)
 }
 
+/// The trees of all cubes, joined, without what plays no part.
+fn refutation_of(
+    alloc: Global,
+    problem: &Problem,
+    depth: u64,
+    share: u64,
+    trees: Vec<Tree>,
+) -> Result<Tree, NoMemory>
+    requires depth { depth ≤ 6 }
+    requires refuted { AreRefuted problem.now depth share (cube_count problem.now depth) trees.items }
+    ensures { IfOk result (IsRefutation problem.now.known.parts) }
+{
+    let tree = joined(alloc, problem, depth, share, trees)?;
+    shortened(alloc, problem.parts(), tree)
+}
+
 /// Searches all cubes with this share, by rising number.
 fn search_all(
     alloc: Global,
@@ -92,7 +108,7 @@ fn search_all(
     if spent {
         return Ok(Answer::Spent);
     }
-    Ok(Answer::No(joined(alloc, problem, depth, share, trees)?))
+    Ok(Answer::No(refutation_of(alloc, problem, depth, share, trees)?))
 }
 
 /// Shares the budget among the cubes, and searches them.

@@ -5,6 +5,10 @@ mod arcs;
 mod checking;
 mod joining;
 mod laws;
+mod pruning;
+mod reads;
+mod shortening;
+mod steps;
 mod trees;
 
 pub use checking::check;
@@ -13,4 +17,6 @@ pub use laws::{
     after_both, after_more, forced_both, forced_with_more, joined_depth, joined_trees_refute,
     refuted_has_no_order, refutes_with_more,
 };
+pub use reads::{is_overwritten, is_silent, reads_of};
+pub use shortening::shortened;
 pub use trees::{Leaf, Tree};
