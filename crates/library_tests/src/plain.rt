@@ -1,14 +1,20 @@
 //! The known relation, plainly: a list of pairs that grows until no rule gives another.
 use order_check::Parts;
+use refutation::{is_overwritten, is_silent, reads_of};
 use std::alloc::Global;
 use txn::Source::{self, By, Init};
-use txn::{Choice, NoMemory, Txn, TxnId};
+use txn::{Choice, NoMemory, TxnId};
 
 /// The one stands before the other.
 pub type Pair = (TxnId, TxnId);
 
-/// What remains, and a read of it: the reader, the key and the source.
-type Read = (TxnId, u64, Source);
+/// What is there from the start.
+#[derive(Drop)]
+pub struct Facts {
+    plain: Vec<Pair>,
+    pub choices: Vec<Choice>,
+    bad: bool,
+}
 
 fn ids_of(alloc: Global, parts: &Parts) -> Result<Vec<TxnId>, NoMemory> {
     let mut ids = Vec::new(alloc);
@@ -30,208 +36,128 @@ fn writes(parts: &Parts, id: TxnId, key: u64) -> bool {
     }
 }
 
-fn push_reads(reads: &mut Vec<Read>, id: TxnId, txn: &Txn) -> Result<(), NoMemory> {
-    for read in txn.reads.as_slice() {
-        reads.push((id, read.0, read.1))?;
-    }
-    Ok(())
-}
-
-fn reads_of(alloc: Global, parts: &Parts, ids: &[TxnId]) -> Result<Vec<Read>, NoMemory> {
-    let mut reads = Vec::new(alloc);
-    for id in ids {
-        if let Some(txn) = parts.remaining_at(*id) {
-            push_reads(&mut reads, *id, txn)?;
-        }
-    }
-    Ok(reads)
-}
-
-/// No order that keeps the sides taken can meet it: its source is there and doesn't write the key, or it isn't the last of what is gone.
-fn is_bad(parts: &Parts, read: Read) -> bool {
-    let last = parts.last_gone(read.1);
-    match read.2 {
-        Init => last.is_some(),
-        By(writer) if writer.number < parts.mark_of(writer.session) => last != Some(writer),
-        By(writer) => parts.remaining_at(writer).is_some() && !writes(parts, writer, read.1),
-    }
-}
-
 /// The source is what stands before all that remains.
-fn is_of_base(parts: &Parts, read: Read) -> bool {
-    match read.2 {
-        Init => parts.last_gone(read.1).is_none(),
-        By(writer) => parts.last_gone(read.1) == Some(writer),
+fn is_of_base(parts: &Parts, key: u64, source: Source) -> bool {
+    match source {
+        Init => parts.last_gone(key).is_none(),
+        By(writer) => parts.last_gone(key) == Some(writer),
     }
 }
 
-/// What is there from the start.
-#[derive(Drop)]
-pub struct Facts {
-    plain: Vec<Pair>,
-    pub choices: Vec<Choice>,
-    bad: bool,
-}
-
-fn push_session_pairs(pairs: &mut Vec<Pair>, ids: &[TxnId]) -> Result<(), NoMemory> {
-    for from in ids {
-        for to in ids {
-            if from.session == to.session && from.number < to.number {
-                pairs.push((*from, *to))?;
-            }
-        }
-    }
-    Ok(())
-}
-
-/// The pairs of a read: its writer before it, or it before each other writer of a key that it read from the base.
-fn push_read_pairs(
-    pairs: &mut Vec<Pair>,
+/// Notes what a read tells of a writer of its key: it comes before the reader that read from it, behind one that read from the base,
+/// and is the other writer of a choice where the reader read from another one.
+fn note_writer(
+    facts: &mut Facts,
     parts: &Parts,
-    ids: &[TxnId],
-    read: Read,
+    reader: TxnId,
+    key: u64,
+    source: Source,
+    other: TxnId,
 ) -> Result<(), NoMemory> {
-    for id in ids {
-        if writes(parts, *id, read.1) {
-            if read.2 == By(*id) {
-                pairs.push((*id, read.0))?;
-            }
-            if is_of_base(parts, read) && *id != read.0 {
-                pairs.push((read.0, *id))?;
-            }
-        }
-    }
-    Ok(())
-}
-
-fn push_choices(
-    choices: &mut Vec<Choice>,
-    parts: &Parts,
-    ids: &[TxnId],
-    read: Read,
-) -> Result<(), NoMemory> {
-    let (reader, key, By(writer)) = read else {
-        return Ok(());
-    };
-    for id in ids {
-        let other = *id;
-        let is_other = other != writer && other != reader && writes(parts, other, key);
-        if is_other && writes(parts, writer, key) {
-            choices.push(Choice {
+    match source {
+        By(writer) if writer == other => facts.plain.push((writer, reader))?,
+        By(writer) if other != reader && writes(parts, writer, key) => {
+            facts.choices.push(Choice {
                 reader,
                 key,
                 writer,
                 other,
             })?;
         }
+        _ if other != reader && is_of_base(parts, key, source) => {
+            facts.plain.push((reader, other))?;
+        }
+        _ => {}
     }
     Ok(())
 }
 
-fn pairs_of(
-    alloc: Global,
+fn note_reads(
+    facts: &mut Facts,
     parts: &Parts,
     ids: &[TxnId],
-    reads: &[Read],
-) -> Result<Vec<Pair>, NoMemory> {
-    let mut pairs = Vec::new(alloc);
-    push_session_pairs(&mut pairs, ids)?;
-    for read in reads {
-        push_read_pairs(&mut pairs, parts, ids, *read)?;
-    }
-    Ok(pairs)
-}
-
-fn choices_of(
-    alloc: Global,
-    parts: &Parts,
-    ids: &[TxnId],
-    reads: &[Read],
-) -> Result<Vec<Choice>, NoMemory> {
-    let mut choices = Vec::new(alloc);
-    for read in reads {
-        push_choices(&mut choices, parts, ids, *read)?;
-    }
-    Ok(choices)
-}
-
-fn some_bad(parts: &Parts, reads: &[Read]) -> bool {
-    for read in reads {
-        if is_bad(parts, *read) {
-            return true;
+    reader: TxnId,
+) -> Result<(), NoMemory> {
+    for (key, source) in reads_of(parts, reader) {
+        if is_silent(parts, *key, *source) || is_overwritten(parts, *key, *source) {
+            facts.bad = true;
         }
-    }
-    false
-}
-
-fn facts_among(
-    alloc: Global,
-    parts: &Parts,
-    ids: &[TxnId],
-    reads: &[Read],
-) -> Result<Facts, NoMemory> {
-    Ok(Facts {
-        plain: pairs_of(alloc, parts, ids, reads)?,
-        choices: choices_of(alloc, parts, ids, reads)?,
-        bad: some_bad(parts, reads),
-    })
-}
-
-pub fn facts_of(alloc: Global, parts: &Parts) -> Result<Facts, NoMemory> {
-    let ids = ids_of(alloc, parts)?;
-    let reads = reads_of(alloc, parts, ids.as_slice())?;
-    facts_among(alloc, parts, ids.as_slice(), reads.as_slice())
-}
-
-/// The pairs that two pairs or a choice give.
-fn more_pairs(alloc: Global, pairs: &[Pair], choices: &[Choice]) -> Result<Vec<Pair>, NoMemory> {
-    let mut more = Vec::new(alloc);
-    push_joined(&mut more, pairs)?;
-    for choice in choices {
-        if pairs.contains(&(choice.writer, choice.other)) {
-            more.push((choice.reader, choice.other))?;
-        }
-        if pairs.contains(&(choice.other, choice.reader)) {
-            more.push((choice.other, choice.writer))?;
-        }
-    }
-    Ok(more)
-}
-
-fn push_joined(more: &mut Vec<Pair>, pairs: &[Pair]) -> Result<(), NoMemory> {
-    for first in pairs {
-        for second in pairs {
-            if first.1 == second.0 {
-                more.push((first.0, second.1))?;
+        for other in ids {
+            if writes(parts, *other, *key) {
+                note_writer(facts, parts, reader, *key, *source, *other)?;
             }
         }
     }
     Ok(())
 }
 
-/// Adds the pairs that aren't there yet; whether there were some.
-fn add_pairs(pairs: &mut Vec<Pair>, more: &[Pair]) -> Result<bool, NoMemory> {
-    let mut grown = false;
-    for pair in more {
-        if !pairs.as_slice().contains(pair) {
-            pairs.push(*pair)?;
-            grown = true;
+fn note_session(facts: &mut Facts, ids: &[TxnId], from: TxnId) -> Result<(), NoMemory> {
+    for to in ids {
+        if from.session == to.session && from.number < to.number {
+            facts.plain.push((from, *to))?;
         }
     }
-    Ok(grown)
+    Ok(())
 }
 
-fn grow(alloc: Global, pairs: &mut Vec<Pair>, choices: &[Choice]) -> Result<bool, NoMemory> {
-    let more = more_pairs(alloc, pairs.as_slice(), choices)?;
-    add_pairs(pairs, more.as_slice())
+pub fn facts_of(alloc: Global, parts: &Parts) -> Result<Facts, NoMemory> {
+    let ids = ids_of(alloc, parts)?;
+    let mut facts = Facts {
+        plain: Vec::new(alloc),
+        choices: Vec::new(alloc),
+        bad: false,
+    };
+    for id in &ids {
+        note_session(&mut facts, ids.as_slice(), *id)?;
+        note_reads(&mut facts, parts, ids.as_slice(), *id)?;
+    }
+    Ok(facts)
+}
+
+/// Adds the pairs that this one gives with those.
+fn add_joined(pairs: &mut Vec<Pair>, those: &[Pair], first: Pair) -> Result<(), NoMemory> {
+    for second in those {
+        let pair = (first.0, second.1);
+        if first.1 == second.0 && !pairs.as_slice().contains(&pair) {
+            pairs.push(pair)?;
+        }
+    }
+    Ok(())
+}
+
+/// A pair that the choice gives, and that isn't there.
+fn forced(pairs: &[Pair], choice: Choice) -> Option<Pair> {
+    let after = (choice.reader, choice.other);
+    let before = (choice.other, choice.writer);
+    if pairs.contains(&(choice.writer, choice.other)) && !pairs.contains(&after) {
+        return Some(after);
+    }
+    if pairs.contains(&(choice.other, choice.reader)) && !pairs.contains(&before) {
+        return Some(before);
+    }
+    None
+}
+
+/// Adds pairs that the rules give; whether there were some.
+fn grow(pairs: &mut Vec<Pair>, choices: &[Choice]) -> Result<bool, NoMemory> {
+    let those = pairs.clone()?;
+    for first in &those {
+        add_joined(pairs, those.as_slice(), *first)?;
+    }
+    for choice in choices {
+        if let Some(pair) = forced(pairs.as_slice(), *choice) {
+            pairs.push(pair)?;
+        }
+    }
+    Ok(pairs.len() > those.len())
 }
 
 /// What is known with these sides.
-pub fn known_with(alloc: Global, facts: &Facts, sides: &[Pair]) -> Result<Vec<Pair>, NoMemory> {
+pub fn known_with(facts: &Facts, sides: &[Pair]) -> Result<Vec<Pair>, NoMemory> {
     let mut pairs = facts.plain.clone()?;
-    add_pairs(&mut pairs, sides)?;
-    for _ in 0..64 {
-        if !grow(alloc, &mut pairs, facts.choices.as_slice())? {
+    pairs.extend_from_slice(sides)?;
+    for _ in 0..81 {
+        if !grow(&mut pairs, facts.choices.as_slice())? {
             break;
         }
     }
@@ -253,13 +179,8 @@ pub enum Node {
 }
 
 fn node_of(facts: &Facts, known: &[Pair]) -> Node {
-    if facts.bad {
+    if facts.bad || known.iter().any(|pair| pair.0 == pair.1) {
         return Node::Closed;
-    }
-    for pair in known {
-        if pair.0 == pair.1 {
-            return Node::Closed;
-        }
     }
     for choice in &facts.choices {
         if is_open(known, *choice) {
@@ -269,7 +190,7 @@ fn node_of(facts: &Facts, known: &[Pair]) -> Node {
     Node::Decided
 }
 
-pub fn look(alloc: Global, facts: &Facts, sides: &[Pair]) -> Result<Node, NoMemory> {
-    let known = known_with(alloc, facts, sides)?;
+pub fn look(facts: &Facts, sides: &[Pair]) -> Result<Node, NoMemory> {
+    let known = known_with(facts, sides)?;
     Ok(node_of(facts, known.as_slice()))
 }
