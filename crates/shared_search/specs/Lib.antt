@@ -1,3 +1,7 @@
 pub mod Counts
 pub mod Rule
 pub mod Boards
+pub mod Picks
+pub mod Worked
+pub mod Gathered
+pub mod Lent

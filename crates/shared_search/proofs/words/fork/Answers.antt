@@ -1,5 +1,5 @@
 use Rattle.std.proofs.Common.{arith, rules}
-use Rattle.shared_search.proofs.Keeps.{split_keeps}
+use Rattle.shared_search.proofs.Pooling.{split_keeps}
 use Rattle.shared_search.proofs.words.fork.Goals as goal
 
 pub split_seat-requires : goal.split_seat-requires

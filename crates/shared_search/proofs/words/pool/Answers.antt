@@ -1,5 +1,5 @@
 use Rattle.std.proofs.Common.{arith, rules}
-use Rattle.shared_search.proofs.Keeps.{join_keeps}
+use Rattle.shared_search.proofs.Pooling.{join_keeps}
 use Rattle.shared_search.proofs.words.pool.Goals as goal
 
 pub join_seat-requires : goal.join_seat-requires

@@ -1,5 +1,5 @@
 use Rattle.std.proofs.Common.{arith, rules}
-use Rattle.shared_search.proofs.Keeps.{settle_keeps}
+use Rattle.shared_search.proofs.Pooling.{settle_keeps}
 use Rattle.shared_search.proofs.words.settle.Goals as goal
 
 pub load-requires : goal.load-requires

@@ -1,4 +1,4 @@
-use Rattle.shared_search.proofs.Keeps.{begins}
+use Rattle.shared_search.proofs.Pooling.{begins}
 use Rattle.shared_search.proofs.seats.Board.new.Goals as goal
 
 pub of_words-requires : goal.of_words-requires
