@@ -1,5 +1,5 @@
 -- Sides forced one after another: their steps grow in number, no more than there are pairs of ids.
-use Rattle.std.proofs.Common.{◌≡◌, ◌≢◌, ℕ, ◌+◌, ◌≤◌, ◌⊎◌, List, [], ◌∷◌, ◌++◌, length, refl, sym, ap, ◌∙◌, inl, inr, subst, suc, arith}
+use Rattle.std.proofs.Common.{◌≡◌, ◌≢◌, ℕ, ◌+◌, ◌≤◌, ◌⊎◌, List, [], ◌∷◌, ◌++◌, Option, length, refl, sym, ap, ◌∙◌, inl, inr, subst, suc, arith}
 use Rattle.std.specs.Prelude.{⊤, map}
 use Rattle.std.specs.List.{flat_map}
 use Rattle.std.proofs.lemmas.List.{append_assoc}
@@ -12,12 +12,17 @@ use Rattle.txn.specs.declared.choices.ForceStep.{ForceStep}
 use Rattle.order_check.specs.declared.remainder.Parts.{Parts}
 use Rattle.order_check.specs.Known.{IsChoice}
 use Rattle.forced_choices.specs.declared.rules.Rule.{Rule}
-use Rattle.known_graph.specs.Graphs.{GraphState, HasKey}
+use Rattle.known_graph.specs.Bits.{HasBit}
+use Rattle.known_graph.specs.Graphs.{GraphState, HasKey, IsAt}
 use Rattle.known_graph.specs.Reach.{Reaches}
 use Rattle.txn.specs.declared.transactions.Source.TheVariants.{By}
-use Rattle.forced_choices.specs.Forcing.{IsLeft, IsThere, IsOn, taken_arc, IsStepOf, Forces, unforced, forced, HasLookedAt, HasLooked, IsClosed}
+use Rattle.forced_choices.specs.Forcing.{Stage, Continues, IsSettledUnless, AreAllSettledUnless, IsLeft, IsThere, IsOn, taken_arc, IsStepOf, Forces, unforced, forced, HasLookedAt, HasLooked, IsClosed}
 use Rattle.forced_choices.specs.Listing.{all_ids, reads_of, choices_of_read, choices_of}
 use Rattle.forced_choices.specs.Rules.{arc_of_side, conclusion}
+use Rattle.order_check.specs.Based.{Remains}
+use Rattle.forced_choices.specs.declared.touched.Touched.{Touched}
+use Rattle.forced_choices.specs.Touching.{AreNoted}
+use Rattle.forced_choices.proofs.Touches.{noted_none, noted_both, touched_same, touched_more}
 use Rattle.forced_choices.proofs.Members.{In, in_either, in_right, flat_map_in, map_in}
 use Rattle.forced_choices.proofs.ListedIds.{remaining_listed}
 use Rattle.forced_choices.proofs.ListedChoices.{choice_listed, writer_remains, reader_remains}
@@ -41,15 +46,35 @@ pub forces_both : (parts : Parts) (arcs : List Arc) (log : List ForceStep) (midd
 forces_both parts arcs log middle some new then first unforced = first
 forces_both parts arcs log middle some new then first (forced {between = between} {some = more} rule step before is left step_is) = forced rule step (forces_both parts arcs log middle some between more first before) is left step_is
 
--- looking at one side: it is taken, or there is nothing to take
-pub looked_forced : (parts : Parts) (arcs : List Arc) (log : List ForceStep) (rule : Rule) (step : ForceStep) → IsChoice parts rule.choice → IsLeft arcs rule → IsStepOf arcs rule step → HasLookedAt parts arcs log (arcs ++ taken_arc rule ∷ []) (log ++ step ∷ []) rule
-looked_forced parts arcs log rule step is left step_is = record {
-  forces = forced rule step unforced is left step_is;
-  closed = λ e ready. reaches_by (arcs ++ taken_arc rule ∷ []) (taken_arc rule) (in_right arcs (taken_arc rule ∷ []) (taken_arc rule) (inl refl));
+-- no less is reached
+pub forces_reach : (parts : Parts) (arcs : List Arc) (log : List ForceStep) (new : List Arc) (then : List ForceStep) (a b : TxnId) → Forces parts arcs log new then → Reaches arcs a b → Reaches new a b
+forces_reach parts arcs log new then a b unforced r = r
+forces_reach parts arcs log new then a b (forced {between = between} {some = some} rule step before is left step_is) r = reaches_more between (taken_arc rule) a b (forces_reach parts arcs log between some a b before r)
+
+-- going on by nothing, and one after another
+pub continues_none : (parts : Parts) (nodes : List (Option TxnId)) (here : Stage) → Continues parts nodes here here
+continues_none parts nodes here = record { forces = unforced; noted = noted_none nodes here.arcs here.touched; same = λ e. touched_same here.touched }
+
+pub continues_both : (parts : Parts) (nodes : List (Option TxnId)) (start middle then : Stage) → Continues parts nodes start middle → Continues parts nodes middle then → Continues parts nodes start then
+continues_both parts nodes start middle then first second = record {
+  forces = forces_both parts start.arcs start.log middle.arcs middle.log then.arcs then.log first.forces second.forces;
+  noted = noted_both nodes start.arcs start.touched middle.arcs middle.touched then.arcs then.touched first.noted second.noted;
+  same = λ e.
+      let low = forces_length parts start.arcs start.log middle.arcs middle.log first.forces in
+      let up = forces_length parts middle.arcs middle.log then.arcs then.log second.forces in
+      touched_more then.touched middle.touched start.touched (second.same (omega arith)) (first.same (omega arith));
 }
 
-pub looked_there : (parts : Parts) (arcs : List Arc) (log : List ForceStep) (rule : Rule) → IsThere arcs rule → HasLookedAt parts arcs log arcs log rule
-looked_there parts arcs log rule there = record { forces = unforced; closed = λ e. there }
+-- looking at one side: it is taken, or there is nothing to take
+pub looked_forced : (parts : Parts) (nodes : List (Option TxnId)) (arcs : List Arc) (log : List ForceStep) (old new : Touched) (rule : Rule) (step : ForceStep) → IsChoice parts rule.choice → IsLeft arcs rule → IsStepOf arcs rule step → AreNoted nodes arcs old (arcs ++ taken_arc rule ∷ []) new
+    → HasLookedAt parts nodes (record { arcs = arcs; log = log; touched = old }) (record { arcs = arcs ++ taken_arc rule ∷ []; log = log ++ step ∷ []; touched = new }) rule
+looked_forced parts nodes arcs log old new rule step is left step_is noted = record {
+  continues = record { forces = forced rule step unforced is left step_is; noted = noted; same = λ e. let pushed = length_push log step in absurd (omega arith) };
+  there = λ ready. reaches_by (arcs ++ taken_arc rule ∷ []) (taken_arc rule) (in_right arcs (taken_arc rule ∷ []) (taken_arc rule) (inl refl));
+}
+
+pub looked_there : (parts : Parts) (nodes : List (Option TxnId)) (here : Stage) (rule : Rule) → IsThere here.arcs rule → HasLookedAt parts nodes here here rule
+looked_there parts nodes here rule there = record { continues = continues_none parts nodes here; there = there }
 
 -- a side is on the graph as long as that keeps its nodes
 pub on_kept : (old new : GraphState) (rule : Rule) → new.nodes ≡ old.nodes → IsOn old rule → IsOn new rule
@@ -59,45 +84,48 @@ on_kept old new rule nodes on = record {
   apart = on.apart;
 }
 
+-- what is there stays there, where it isn't touched
+pub there_still : (nodes : List (Option TxnId)) (arcs : List Arc) (old : Touched) (new : List Arc) (then : Touched) (choice : Choice) (i j : ℕ) (side : Side) → AreNoted nodes arcs old new then → ((a b : TxnId) → Reaches arcs a b → Reaches new a b) → IsAt nodes i choice.writer → IsAt nodes j choice.reader → (¬ HasBit then.sources.items i) → (¬ HasBit then.targets.items j) → IsThere arcs (record { choice = choice; side = side }) → IsThere new (record { choice = choice; side = side })
+there_still nodes arcs old new then choice i j Second noted more at_writer at_reader no_source no_target there ready = more choice.reader choice.other (there (noted.onto i choice.writer choice.other at_writer no_source ready))
+there_still nodes arcs old new then choice i j First noted more at_writer at_reader no_source no_target there ready = more choice.other choice.writer (there (noted.from j choice.other choice.reader at_reader no_target ready))
+
+pub settled_still : (parts : Parts) (nodes : List (Option TxnId)) (middle then : Stage) (choice : Choice) → Continues parts nodes middle then → IsSettledUnless nodes middle.arcs middle.touched choice → IsSettledUnless nodes then.arcs then.touched choice
+settled_still parts nodes middle then choice on settled i j at_writer at_reader no_source no_target side =
+    there_still nodes middle.arcs middle.touched then.arcs then.touched choice i j side on.noted (λ a b r. forces_reach parts middle.arcs middle.log then.arcs then.log a b on.forces r) at_writer at_reader no_source no_target
+    (settled i j at_writer at_reader (λ has. no_source (on.noted.stay.sources i has)) (λ has. no_target (on.noted.stay.targets j has)) side)
+
+pub all_there_still : (parts : Parts) (nodes : List (Option TxnId)) (start then : Stage) (choice : Choice) → Continues parts nodes start then → ((side : Side) → IsThere start.arcs (record { choice = choice; side = side })) → IsSettledUnless nodes then.arcs then.touched choice
+all_there_still parts nodes start then choice on there i j at_writer at_reader no_source no_target side =
+    there_still nodes start.arcs start.touched then.arcs then.touched choice i j side on.noted (λ a b r. forces_reach parts start.arcs start.log then.arcs then.log a b on.forces r) at_writer at_reader no_source no_target (there side)
+
 -- looking at one side after another, and at choices after choices
-pub looked_none : (parts : Parts) (arcs : List Arc) (log : List ForceStep) → HasLooked parts arcs log arcs log []
-looked_none parts arcs log = record { forces = unforced; closed = λ e choice side h. absurd h }
+pub looked_none : (parts : Parts) (nodes : List (Option TxnId)) (here : Stage) → HasLooked parts nodes here here []
+looked_none parts nodes here = record { continues = continues_none parts nodes here; settled = λ choice h. absurd h }
 
-pub looked_sides : (parts : Parts) (arcs : List Arc) (log : List ForceStep) (middle : List Arc) (some : List ForceStep) (new : List Arc) (then : List ForceStep) (choice : Choice) → HasLookedAt parts arcs log middle some (record { choice = choice; side = Second }) → HasLookedAt parts middle some new then (record { choice = choice; side = First }) → HasLooked parts arcs log new then (choice ∷ [])
-looked_sides parts arcs log middle some new then choice second first = record {
-  forces = forces_both parts arcs log middle some new then second.forces first.forces;
-  closed = λ e other side h. by_choice e other side h;
+pub looked_sides : (parts : Parts) (nodes : List (Option TxnId)) (start middle then : Stage) (choice : Choice) → HasLookedAt parts nodes start middle (record { choice = choice; side = Second }) → HasLookedAt parts nodes middle then (record { choice = choice; side = First }) → HasLooked parts nodes start then (choice ∷ [])
+looked_sides parts nodes start middle then choice second first = record {
+  continues = continues_both parts nodes start middle then second.continues first.continues;
+  settled = λ other h. by_choice other h;
 }
   where
-    lower : length log ≤ length some
-    lower = forces_length parts arcs log middle some second.forces
+    by_side : (i j : ℕ) → IsAt nodes i choice.writer → IsAt nodes j choice.reader → (¬ HasBit then.touched.sources.items i) → (¬ HasBit then.touched.targets.items j) → (side : Side) → IsThere then.arcs (record { choice = choice; side = side })
+    by_side i j at_writer at_reader no_source no_target Second =
+        there_still nodes middle.arcs middle.touched then.arcs then.touched choice i j Second first.continues.noted (λ a b r. forces_reach parts middle.arcs middle.log then.arcs then.log a b first.continues.forces r) at_writer at_reader no_source no_target second.there
+    by_side i j at_writer at_reader no_source no_target First = first.there
 
-    upper : length some ≤ length then
-    upper = forces_length parts middle some new then first.forces
+    by_choice : (other : Choice) → In (choice ∷ []) other → IsSettledUnless nodes then.arcs then.touched other
+    by_choice other (inl same) = subst (λ c. IsSettledUnless nodes then.arcs then.touched c) same by_side
+    by_choice other (inr h) = absurd h
 
-    by_side : length then ≡ length log → (side : Side) → IsThere new (record { choice = choice; side = side })
-    by_side e Second = let up = upper in let low = lower in subst (λ arcs. IsThere arcs (record { choice = choice; side = Second })) (sym (forces_same parts middle some new then first.forces (omega arith))) (second.closed (omega arith))
-    by_side e First = let up = upper in let low = lower in first.closed (omega arith)
-
-    by_choice : length then ≡ length log → (other : Choice) (side : Side) → In (choice ∷ []) other → IsThere new (record { choice = other; side = side })
-    by_choice e other side (inl same) = subst (λ c. IsThere new (record { choice = c; side = side })) same (by_side e side)
-    by_choice e other side (inr h) = absurd h
-
-pub looked_both : (parts : Parts) (arcs : List Arc) (log : List ForceStep) (middle : List Arc) (some : List ForceStep) (new : List Arc) (then : List ForceStep) (xs ys : List Choice) → HasLooked parts arcs log middle some xs → HasLooked parts middle some new then ys → HasLooked parts arcs log new then (xs ++ ys)
-looked_both parts arcs log middle some new then xs ys first second = record {
-  forces = forces_both parts arcs log middle some new then first.forces second.forces;
-  closed = λ e choice side h. by_part e choice side (in_either xs ys choice h);
+pub looked_both : (parts : Parts) (nodes : List (Option TxnId)) (start middle then : Stage) (xs ys : List Choice) → HasLooked parts nodes start middle xs → HasLooked parts nodes middle then ys → HasLooked parts nodes start then (xs ++ ys)
+looked_both parts nodes start middle then xs ys first second = record {
+  continues = continues_both parts nodes start middle then first.continues second.continues;
+  settled = λ choice h. by_part choice (in_either xs ys choice h);
 }
   where
-    lower : length log ≤ length some
-    lower = forces_length parts arcs log middle some first.forces
-
-    upper : length some ≤ length then
-    upper = forces_length parts middle some new then second.forces
-
-    by_part : length then ≡ length log → (choice : Choice) (side : Side) → In xs choice ⊎ In ys choice → IsThere new (record { choice = choice; side = side })
-    by_part e choice side (inl h) = let up = upper in let low = lower in subst (λ arcs. IsThere arcs (record { choice = choice; side = side })) (sym (forces_same parts middle some new then second.forces (omega arith))) (first.closed (omega arith) choice side h)
-    by_part e choice side (inr h) = let up = upper in let low = lower in second.closed (omega arith) choice side h
+    by_part : (choice : Choice) → In xs choice ⊎ In ys choice → IsSettledUnless nodes then.arcs then.touched choice
+    by_part choice (inl h) = settled_still parts nodes middle then choice second.continues (first.settled choice h)
+    by_part choice (inr h) = second.settled choice h
 
 -- a list without one of its elements
 abbrev without : {X : Type 0} (xs : List X) (x : X) → In xs x → List X
@@ -195,6 +223,17 @@ pub choices_more : (parts : Parts) (ids readers : List TxnId) (reader : TxnId) �
 choices_more parts ids [] reader = refl
 choices_more parts ids (one ∷ readers) reader = ap (λ more. flat_map (choices_of_read parts ids one) (reads_of parts one) ++ more) (choices_more parts ids readers reader) ∙ sym (append_assoc (flat_map (choices_of_read parts ids one) (reads_of parts one)) (choices_of parts ids readers) (choices_of parts ids (reader ∷ [])))
 
--- once all choices were looked at and none was forced, each side that is forced is there
-pub closed_of : (parts : Parts) (arcs : List Arc) (log : List ForceStep) (new : List Arc) (then : List ForceStep) → HasLooked parts arcs log new then (choices_of parts (all_ids parts) (all_ids parts)) → length then ≡ length log → IsClosed parts new
-closed_of parts arcs log new then looked same = λ rule is ready. looked.closed same rule.choice rule.side (choice_listed parts rule.choice is) ready
+-- what isn't touched is settled once all reads were looked at; where nothing was forced, nothing is touched
+pub all_settled : (parts : Parts) (nodes : List (Option TxnId)) (start then : Stage) → HasLooked parts nodes start then (choices_of parts (all_ids parts) (all_ids parts)) → AreAllSettledUnless parts nodes then.arcs then.touched
+all_settled parts nodes start then looked choice is = looked.settled choice (choice_listed parts choice is)
+
+pub closed_of : (parts : Parts) (nodes : List (Option TxnId)) (arcs : List Arc) (some : Touched) → ((id : TxnId) → Remains parts id → HasKey nodes id) → AreAllSettledUnless parts nodes arcs some → ((i : ℕ) → ¬ HasBit some.sources.items i) → ((j : ℕ) → ¬ HasBit some.targets.items j) → IsClosed parts arcs
+closed_of parts nodes arcs some there settled no_source no_target rule is =
+    let writer = there rule.choice.writer (writer_remains parts rule.choice.writer rule.choice.key is.written) in
+    let reader = there rule.choice.reader (reader_remains parts rule.choice.reader rule.choice.key (By rule.choice.writer) is.reads) in
+    settled rule.choice is writer.0 reader.0 writer.1 reader.1 (no_source writer.0) (no_target reader.0) rule.side
+
+-- one more arc leaves what was closed settled, unless it is touched
+pub settled_after : (parts : Parts) (nodes : List (Option TxnId)) (arcs : List Arc) (old : Touched) (arc : Arc) (then : Touched) → IsClosed parts arcs → AreNoted nodes arcs old (arcs ++ arc ∷ []) then → AreAllSettledUnless parts nodes (arcs ++ arc ∷ []) then
+settled_after parts nodes arcs old arc then closed noted choice is i j at_writer at_reader no_source no_target side =
+    there_still nodes arcs old (arcs ++ arc ∷ []) then choice i j side noted (λ a b r. reaches_more arcs arc a b r) at_writer at_reader no_source no_target (closed (record { choice = choice; side = side }) is)

@@ -16,10 +16,9 @@ use Rattle.order_check.specs.Known.{Known, IsChoice, by_session, by_read, by_bas
 use Rattle.order_check.specs.Search.{HasCycle}
 use Rattle.known_graph.specs.Graphs.{GraphState}
 use Rattle.known_graph.specs.Reach.{Reaches, IsPathOf}
-use Rattle.forced_choices.specs.declared.branch.Top.{Top}
 use Rattle.forced_choices.specs.BranchState.{Level, arc_of, assumed, all_taken}
 use Rattle.forced_choices.specs.Listing.{all_ids}
-use Rattle.forced_choices.specs.Stacks.{level_of, levels_onto, IsRelationAt, AreStacked}
+use Rattle.forced_choices.specs.Stacks.{IsRelationAt, AreStacked}
 use Rattle.forced_choices.proofs.Members.{In, in_from_contains, contains_from_in}
 use Rattle.forced_choices.proofs.ListedIds.{remaining_listed}
 use Rattle.forced_choices.proofs.ListedChoices.{writer_remains, reader_remains}

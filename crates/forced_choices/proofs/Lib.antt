@@ -5,10 +5,12 @@ pub mod ListedChoices
 pub mod ChoicesAscend
 pub mod Linked
 pub mod ListedArcs
+pub mod Touches
 pub mod Forced
 pub mod SettledReads
 pub mod OpenReads
 pub mod WriterRows
+pub mod TableReads
 pub mod SaturationLaws
 pub mod Distinct
 pub mod Keeping

@@ -1,8 +1,5 @@
 -- The undecided choices of a front of the choices, as more of them are looked at.
-use Rattle.std.proofs.Common.{◌≡◌, ◌≢◌, ◌↔◌, ℕ, ◌+◌, ◌<◌, ◌⊎◌, Bool, true, List, [], ◌∷◌, ◌++◌, length, get_or, take, drop, Option, refl, sym, ap, ◌∙◌, inl, inr, subst}
-use Rattle.std.specs.List.{flat_map}
-use Rattle.std.proofs.lemmas.Grind.{flat_map-append}
-use Rattle.std.proofs.lemmas.List.{take-append-drop}
+use Rattle.std.proofs.Common.{◌≡◌, ◌↔◌, ℕ, ◌+◌, ◌⊎◌, Bool, true, List, [], ◌∷◌, ◌++◌, get_or, Option, sym, inl, inr, subst}
 use Rattle.txn.specs.declared.transactions.TxnId.{TxnId}
 use Rattle.txn.specs.declared.choices.Arc.{Arc}
 use Rattle.txn.specs.declared.choices.Choice.{Choice}
@@ -13,11 +10,10 @@ use Rattle.known_graph.specs.Graphs.{IsAt}
 use Rattle.known_graph.specs.Reach.{Reaches}
 use Rattle.forced_choices.specs.declared.reads.Read.{Read}
 use Rattle.forced_choices.specs.declared.writers.Writers.{Writers}
-use Rattle.forced_choices.specs.Listing.{reads_of, choices_of_read, choices_of}
 use Rattle.forced_choices.specs.Masks.{AreWriters, AreTold, mask_of, choice_of, choices_in}
-use Rattle.forced_choices.specs.Undecided.{IsUndecided, AreAllDecided, AreFound, IsFirstFound, TellsOpen}
+use Rattle.forced_choices.specs.Undecided.{IsUndecided, AreAllDecided, AreFound, TellsOpen}
 use Rattle.forced_choices.proofs.Members.{In, Ascends, in_left, in_right, in_either, ascends_append, ascends_front, ascends_across}
-use Rattle.forced_choices.proofs.SettledReads.{each_choice, third_parts, third_writes, readers_more}
+use Rattle.forced_choices.proofs.SettledReads.{each_choice, third_parts, third_writes}
 
 -- nothing is undecided before the first
 pub found_none : (arcs : List Arc) → AreFound arcs [] []
@@ -101,7 +97,7 @@ ascends_between below [] ys h x y hx hy = absurd hx
 ascends_between below (z ∷ xs) ys h x y (inl e) hy = subst (λ w. below w y ≡ true) e (h.0 y (in_right xs ys y hy))
 ascends_between below (z ∷ xs) ys h x y (inr hx) hy = ascends_between below xs ys h.1 x y hx hy
 
-ascends_back : {X : Type 0} (below : X → X → Bool) (xs ys : List X) → Ascends below (xs ++ ys) → Ascends below ys
+pub ascends_back : {X : Type 0} (below : X → X → Bool) (xs ys : List X) → Ascends below (xs ++ ys) → Ascends below ys
 ascends_back below [] ys h = h
 ascends_back below (z ∷ xs) ys h = ascends_back below xs ys h.1
 
@@ -115,32 +111,3 @@ decided_both arcs xs ys first second choice h is = by_part (in_either xs ys choi
 -- where nothing was found, none is undecided
 pub decided_found : (arcs : List Arc) (choices found : List Choice) → found ≡ [] → AreFound arcs choices found → AreAllDecided arcs choices
 decided_found arcs choices found e so choice h is = subst (λ xs. In xs choice) e (so.all choice h is)
-
--- the first that is found, where none was before
-pub first_of_found : (parts : Parts) (arcs : List Arc) (ids : List TxnId) (k : ℕ) (d : TxnId) (found : List Choice) (choice : Choice) → k < length ids → AreAllDecided arcs (choices_of parts ids (take k ids)) →
-    AreFound arcs (flat_map (choices_of_read parts ids (get_or ids k d)) (reads_of parts (get_or ids k d))) found → found ≡ choice ∷ drop 1 found → IsFirstFound arcs (choices_of parts ids ids) choice
-first_of_found parts arcs ids k d found choice within decided so first = record {
-  front = before ++ own;
-  rest = choices_of parts ids (drop (k + 1) ids);
-  whole = ap (λ readers. choices_of parts ids readers) (sym (take-append-drop (k + 1) ids)) ∙ flat_map-append (λ reader. flat_map (choices_of_read parts ids reader) (reads_of parts reader)) (take (k + 1) ids) (drop (k + 1) ids) ∙ ap (λ xs. xs ++ choices_of parts ids (drop (k + 1) ids)) (readers_more parts ids k d within);
-  among = in_right before own choice here.0;
-  undecided = here.1;
-  least = λ up other h is apart. by_part up other is apart (in_either before own other h);
-}
-  where
-    before : List Choice
-    before = choices_of parts ids (take k ids)
-
-    own : List Choice
-    own = flat_map (choices_of_read parts ids (get_or ids k d)) (reads_of parts (get_or ids k d))
-
-    here : In own choice × IsUndecided arcs choice
-    here = so.each choice (subst (λ xs. In xs choice) (sym first) (inl refl))
-
-    by_place : Ascends choice_below (before ++ own) → (other : Choice) → other ≢ choice → In (choice ∷ drop 1 found) other → choice_below choice other ≡ true
-    by_place up other apart (inl e) = absurd (apart (sym e))
-    by_place up other apart (inr h) = (subst (λ xs. Ascends choice_below xs) first (so.ascend (ascends_back choice_below before own up))).0 other h
-
-    by_part : Ascends choice_below (before ++ own) → (other : Choice) → IsUndecided arcs other → other ≢ choice → In before other ⊎ In own other → choice_below choice other ≡ true
-    by_part up other is apart (inl h) = absurd (decided other h is)
-    by_part up other is apart (inr h) = by_place up other apart (subst (λ xs. In xs other) first (so.all other h is))

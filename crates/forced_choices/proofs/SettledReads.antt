@@ -12,7 +12,6 @@ use Rattle.txn.specs.declared.transactions.Source.{Source}
 use Rattle.txn.specs.declared.transactions.Source.TheVariants.{By}
 use Rattle.txn.specs.declared.choices.Arc.{Arc}
 use Rattle.txn.specs.declared.choices.Choice.{Choice}
-use Rattle.txn.specs.declared.choices.ForceStep.{ForceStep}
 use Rattle.txn.specs.declared.choices.Side.{Side}
 use Rattle.txn.specs.declared.choices.Side.TheVariants.{First, Second}
 use Rattle.txn.specs.Transactions.{same_id}
@@ -22,11 +21,11 @@ use Rattle.known_graph.specs.Bits.{HasBit}
 use Rattle.known_graph.specs.Graphs.{IsAt}
 use Rattle.forced_choices.specs.declared.reads.Read.{Read}
 use Rattle.forced_choices.specs.declared.writers.Writers.{Writers}
-use Rattle.forced_choices.specs.Forcing.{IsThere, HasLooked, unforced}
+use Rattle.forced_choices.specs.Forcing.{Stage, IsThere, IsSettledUnless, HasLooked}
 use Rattle.forced_choices.specs.Listing.{writes_here, is_other, reads_of, choices_of_read, choices_of}
 use Rattle.forced_choices.specs.Masks.{AreWriters, mask_of, is_third, choice_of, choices_in, IsSettled, AreThere, AreSettledBut}
 use Rattle.forced_choices.proofs.Members.{In, in_either}
-use Rattle.forced_choices.proofs.Forced.{forces_same, choices_more}
+use Rattle.forced_choices.proofs.Forced.{continues_none, all_there_still, choices_more}
 use Rattle.forced_choices.proofs.ListedChoices.{and_parts, apart_from_test}
 
 -- the choices with one other writer, and with one more
@@ -42,19 +41,19 @@ choices_in_more parts ids read k d within =
     ∙ ap (λ xs. map (choice_of read) xs) (filter-append (is_third parts read) (take k ids) (get_or ids k d ∷ []))
     ∙ map-append (choice_of read) (filter (is_third parts read) (take k ids)) (filter (is_third parts read) (get_or ids k d ∷ []))
 
--- what is there was looked at, also after choices at which nothing was forced
-pub looked_all_there : (parts : Parts) (arcs : List Arc) (log : List ForceStep) (choices : List Choice) → AreThere arcs choices → HasLooked parts arcs log arcs log choices
-looked_all_there parts arcs log choices there = record { forces = unforced; closed = λ e. there }
+-- what is there was looked at, also after choices at which sides were forced
+pub looked_all_there : (parts : Parts) (nodes : List (Option TxnId)) (here : Stage) (choices : List Choice) → AreThere here.arcs choices → HasLooked parts nodes here here choices
+looked_all_there parts nodes here choices there = record { continues = continues_none parts nodes here; settled = λ choice h. all_there_still parts nodes here here choice (continues_none parts nodes here) (λ side. there choice side h) }
 
-pub looked_and_there : (parts : Parts) (arcs : List Arc) (log : List ForceStep) (new : List Arc) (then : List ForceStep) (xs ys : List Choice) → HasLooked parts arcs log new then xs → AreThere arcs ys → HasLooked parts arcs log new then (xs ++ ys)
-looked_and_there parts arcs log new then xs ys looked there = record {
-  forces = looked.forces;
-  closed = λ e choice side h. by_part e choice side (in_either xs ys choice h);
+pub looked_and_there : (parts : Parts) (nodes : List (Option TxnId)) (start then : Stage) (xs ys : List Choice) → HasLooked parts nodes start then xs → AreThere start.arcs ys → HasLooked parts nodes start then (xs ++ ys)
+looked_and_there parts nodes start then xs ys looked there = record {
+  continues = looked.continues;
+  settled = λ choice h. by_part choice (in_either xs ys choice h);
 }
   where
-    by_part : length then ≡ length log → (choice : Choice) (side : Side) → In xs choice ⊎ In ys choice → IsThere new (record { choice = choice; side = side })
-    by_part e choice side (inl h) = looked.closed e choice side h
-    by_part e choice side (inr h) = subst (λ arcs. IsThere arcs (record { choice = choice; side = side })) (sym (forces_same parts arcs log new then looked.forces e)) (there choice side h)
+    by_part : (choice : Choice) → In xs choice ⊎ In ys choice → IsSettledUnless nodes then.arcs then.touched choice
+    by_part choice (inl h) = looked.settled choice h
+    by_part choice (inr h) = all_there_still parts nodes start then choice looked.continues (λ side. there choice side h)
 
 pub none_there : (arcs : List Arc) (choices : List Choice) → choices ≡ [] → AreThere arcs choices
 none_there arcs choices e choice side h = absurd (subst (λ xs. In xs choice) e h)

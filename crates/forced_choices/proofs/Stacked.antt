@@ -1,6 +1,6 @@
 -- Sides that are assumed one after another, and the relation with the last.
 use Rattle.std.proofs.Common.{◌≡◌, ◌≢◌, ℕ, ◌+◌, ◌-◌, List, [], ◌∷◌, ◌++◌, length, drop, Option, Some, None, refl, sym, ap, ◌∙◌, subst, zero, suc, arith}
-use Rattle.std.proofs.lemmas.List.{append-nil, take_all}
+use Rattle.std.proofs.lemmas.List.{take_all}
 use Rattle.std.specs.List.{slice_get}
 use Rattle.std.specs.Option.{option_to_list, MatchOption}
 use Rattle.std.specs.Prelude.{◌↔◌}
@@ -142,8 +142,20 @@ pub stacked_less : (parts : Parts) (log : List ForceStep) (levels : List Level) 
 stacked_less parts log [] graph new some h is = absurd (some refl)
 stacked_less parts log (level ∷ levels) graph new some h is = subst (λ (g : GraphState). AreStacked parts log levels g) (sym (is ∙ back_is graph h.1.0 h.1.1)) h.1.2
 
+pub graph_again : (old marked left new : GraphState) → marked ≡ with_marks old (length old.arcs ∷ old.marks) → last_mark left ≡ last_mark marked → new ≡ back_to left.nodes left.arcs left.marks → new ≡ old
+graph_again old marked left new is mark back = back ∙ back_is left old (mark ∙ last_of_marked old marked is)
+
 pub stacked_again : (parts : Parts) (log : List ForceStep) (levels : List Level) (old marked left new : GraphState) → AreStacked parts log levels old → marked ≡ with_marks old (length old.arcs ∷ old.marks) → last_mark left ≡ last_mark marked → new ≡ back_to left.nodes left.arcs left.marks → AreStacked parts log levels new
-stacked_again parts log levels old marked left new h is mark back = subst (λ (g : GraphState). AreStacked parts log levels g) (sym (back ∙ back_is left old (mark ∙ last_of_marked old marked is))) h
+stacked_again parts log levels old marked left new h is mark back = subst (λ (g : GraphState). AreStacked parts log levels g) (sym (graph_again old marked left new is mark back)) h
+
+pub back_nodes : (nodes : List (Option TxnId)) (arcs : List Arc) (marks : List ℕ) → (back_to nodes arcs marks).nodes ≡ nodes
+back_nodes nodes arcs [] = refl
+back_nodes nodes arcs (mark ∷ marks) = refl
+
+-- nothing is left to force
+pub at_closed : (parts : Parts) (log : List ForceStep) (levels : List Level) (graph : GraphState) → IsRelationAt parts log levels graph → IsClosed parts graph.arcs
+at_closed parts log [] graph relation = relation.closed
+at_closed parts log (level ∷ levels) graph relation = relation.closed
 
 -- states of branches
 abbrev pub state_of : Parts → List ForceStep → List Level → BranchState

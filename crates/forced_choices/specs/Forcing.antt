@@ -1,5 +1,6 @@
 -- For private clauses: sides that are forced, one after another.
-use Rattle.std.specs.Prelude.{◌≡◌, ◌≢◌, List, [], ◌∷◌, ◌++◌, length}
+use Rattle.std.specs.Prelude.{◌≡◌, ◌≢◌, ℕ, List, Option, [], ◌∷◌, ◌++◌, length}
+use Rattle.txn.specs.declared.transactions.TxnId.{TxnId}
 use Rattle.txn.specs.declared.choices.Arc.{Arc}
 use Rattle.txn.specs.declared.choices.Arc.TheVariants.{Taken}
 use Rattle.txn.specs.declared.choices.Choice.{Choice}
@@ -8,10 +9,13 @@ use Rattle.txn.specs.declared.choices.ForceStep.{ForceStep}
 use Rattle.order_check.specs.declared.remainder.Parts.{Parts}
 use Rattle.order_check.specs.Known.{IsChoice}
 use Rattle.forced_choices.specs.declared.rules.Rule.{Rule}
-use Rattle.known_graph.specs.Graphs.{GraphState, HasNode}
+use Rattle.known_graph.specs.Bits.{HasBit}
+use Rattle.known_graph.specs.Graphs.{GraphState, HasNode, IsAt}
 use Rattle.known_graph.specs.Reach.{Reaches, IsPathOf}
 use Rattle.forced_choices.specs.Ascending.{In}
 use Rattle.forced_choices.specs.Rules.{premise, conclusion}
+use Rattle.forced_choices.specs.declared.touched.Touched.{Touched}
+use Rattle.forced_choices.specs.Touching.{IsTouchedIn, AreNoted}
 
 -- the side is forced: what rules the other out is reached
 abbrev pub IsReady : List Arc → Rule → Type 0
@@ -52,15 +56,38 @@ pub data Forces (parts : Parts) (arcs : List Arc) (log : List ForceStep) : List 
   unforced : Forces parts arcs log arcs log
   forced : {between : List Arc} {some : List ForceStep} (rule : Rule) (step : ForceStep) → Forces parts arcs log between some → IsChoice parts rule.choice → IsLeft between rule → IsStepOf between rule step → Forces parts arcs log (between ++ taken_arc rule ∷ []) (some ++ step ∷ [])
 
--- sides were forced, and where none was, this one is there or isn't forced
-pub record HasLookedAt (parts : Parts) (arcs : List Arc) (log : List ForceStep) (new : List Arc) (then : List ForceStep) (rule : Rule) : Type 0 where
-  pub forces : Forces parts arcs log new then
-  pub closed : length then ≡ length log → IsThere new rule
+-- where forcing stands: the arcs, the steps, and what was touched
+pub record Stage : Type 0 where
+  pub arcs : List Arc
+  pub log : List ForceStep
+  pub touched : Touched
 
--- sides were forced, and where none was, each side of these choices is there or isn't forced
-pub record HasLooked (parts : Parts) (arcs : List Arc) (log : List ForceStep) (new : List Arc) (then : List ForceStep) (choices : List Choice) : Type 0 where
-  pub forces : Forces parts arcs log new then
-  pub closed : length then ≡ length log → (choice : Choice) (side : Side) → In choices choice → IsThere new (record { choice = choice; side = side })
+abbrev pub stage_of : GraphState → List ForceStep → Touched → Stage
+stage_of graph log touched = record { arcs = graph.arcs; log = log; touched = touched }
+
+-- sides were forced, and what that touched is noted
+pub record Continues (parts : Parts) (nodes : List (Option TxnId)) (start then : Stage) : Type 0 where
+  pub forces : Forces parts start.arcs start.log then.arcs then.log
+  pub noted : AreNoted nodes start.arcs start.touched then.arcs then.touched
+  pub same : length then.log ≡ length start.log → IsTouchedIn then.touched start.touched
+
+-- where neither the writer nor the reader is touched, each side of the choice that is forced is there
+abbrev pub IsSettledUnless : List (Option TxnId) → List Arc → Touched → Choice → Type 0
+IsSettledUnless nodes arcs touched choice = (i j : ℕ) → IsAt nodes i choice.writer → IsAt nodes j choice.reader → (¬ HasBit touched.sources.items i) → (¬ HasBit touched.targets.items j) → (side : Side) → IsThere arcs (record { choice = choice; side = side })
+
+-- the same of all choices
+abbrev pub AreAllSettledUnless : Parts → List (Option TxnId) → List Arc → Touched → Type 0
+AreAllSettledUnless parts nodes arcs touched = (choice : Choice) → IsChoice parts choice → IsSettledUnless nodes arcs touched choice
+
+-- sides were forced, and this one is there or isn't forced
+pub record HasLookedAt (parts : Parts) (nodes : List (Option TxnId)) (start then : Stage) (rule : Rule) : Type 0 where
+  pub continues : Continues parts nodes start then
+  pub there : IsThere then.arcs rule
+
+-- sides were forced, and these choices are settled but for what was touched
+pub record HasLooked (parts : Parts) (nodes : List (Option TxnId)) (start then : Stage) (choices : List Choice) : Type 0 where
+  pub continues : Continues parts nodes start then
+  pub settled : (choice : Choice) → In choices choice → IsSettledUnless nodes then.arcs then.touched choice
 
 -- each side that is forced is there
 abbrev pub IsClosed : Parts → List Arc → Type 0

@@ -10,6 +10,8 @@ pub mod SaturatedState
 pub mod Saturation
 pub mod SoFar
 pub mod Stacks
+pub mod Tables
+pub mod Touching
 pub mod Undecided
 pub mod Ranks
 pub mod Nodes

@@ -9,6 +9,8 @@ use Rattle.order_check.specs.Cycles.{Sides, sides_after}
 use Rattle.order_check.specs.Known.{IsChoice}
 use Rattle.known_graph.specs.Graphs.{GraphState, last_mark}
 use Rattle.forced_choices.specs.declared.branch.Top.{Top}
+use Rattle.forced_choices.specs.declared.table.Table.{Table}
+use Rattle.forced_choices.specs.Tables.{IsTable}
 use Rattle.forced_choices.specs.BranchState.{Level, arc_of, assumed, all_taken}
 use Rattle.forced_choices.specs.SoFar.{IsRelation}
 
@@ -36,6 +38,7 @@ abbrev pub AreStacked : Parts → List ForceStep → List Level → GraphState �
 AreStacked parts log [] graph = IsRelation parts [] [] graph log
 AreStacked parts log (level ∷ levels) graph = IsRelationAt parts log (level ∷ levels) graph × ((before : GraphState) × (last_mark graph ≡ Some before) × AreStacked parts log levels before) × IsChoice parts level.choice
 
-pub record IsBranch (parts : Parts) (log : List ForceStep) (graph : GraphState) (tops : List Top) : Type 0 where
+pub record IsBranch (parts : Parts) (log : List ForceStep) (columns : Table) (graph : GraphState) (tops : List Top) : Type 0 where
   pub good : IsGood parts
+  pub table : IsTable parts graph.nodes columns
   pub stacked : AreStacked parts log (levels_onto [] tops) graph

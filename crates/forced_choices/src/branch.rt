@@ -10,6 +10,8 @@ ghost use Rattle.order_check.specs.Known.{Known, IsChoice, IsOpen};
 ghost use Rattle.order_check.specs.Based.{Remains};
 ghost use Rattle.known_graph.specs.Graphs.{HasNode, last_mark};
 ghost use Rattle.order_check.specs.Good.{IsGood};
+ghost use Rattle.forced_choices.specs.Forcing.{IsClosed};
+ghost use Rattle.forced_choices.specs.Tables.{AreAtColumns, IsTable};
 ghost use Rattle.forced_choices.specs.BranchState.{arc_of, assumed, all_taken, last_steps, AreForcedBy};
 ghost use Rattle.forced_choices.specs.Stacks.{IsRelationAt, IsMoreBy};
 ghost use Rattle.forced_choices.specs.SoFar.{IsRelation};
@@ -18,7 +20,9 @@ use crate::listing::remaining_ids_of;
 use crate::open::first_open_in;
 use crate::rules::Rule;
 use crate::saturated::Saturated;
-use crate::saturation::saturate;
+use crate::saturation::{Due, saturate};
+use crate::table::{Table, table_of};
+use crate::touched::{note, untouched};
 use known_graph::Graph;
 use order_check::Parts;
 use std::alloc::Global;
@@ -39,6 +43,7 @@ struct Top {
 pub struct Branch {
     pub(crate) parts: Parts,
     log: Sequence<ForceStep>,
+    table: Table,
     graph: Graph,
     tops: Vec<Top>,
 }
@@ -56,29 +61,34 @@ impl Model for Branch {
 
     ghost view = { λ b. record { parts = b.parts; log = b.log; levels = levels_onto [] b.tops.items } };
 
-    ghost invariant = { λ b. IsBranch b.parts b.log b.graph b.tops.items };
+    ghost invariant = { λ b. IsBranch b.parts b.log b.table b.graph b.tops.items };
 }
 
 /// Puts one more side into the relation, and gives the steps that it forces.
 fn relation_with(
     alloc: Global,
     parts: &Parts,
+    table: &Table,
     graph: &mut Graph,
     rule: Rule,
 ) -> Result<Vec<ForceStep>, NoMemory>
-    requires good { IsGood parts.now }
     requires choice { IsChoice parts.now rule.choice }
     requires nodes { (id : TxnId) → Remains parts.now id → HasNode graph.old id }
+    requires table { IsTable parts.now graph.old.nodes table.now }
+    requires closed { IsClosed parts.now graph.old.arcs }
     ensures relation { IfOk result (λ steps. (taken start : Sides) (log : List ForceStep)
         → IsRelation parts.now taken start graph.old log
         → IsRelation parts.now (arc_of rule.choice rule.side ∷ taken) (arc_of rule.choice rule.side ∷ sides_after start log) graph.new steps.items) }
+    ensures nodes { OnOk result (graph.new.nodes ≡ graph.old.nodes) }
     ensures mark { last_mark graph.new ≡ last_mark graph.old }
 {
-    let ids = remaining_ids_of(alloc, parts)?;
     let (from, to) = rule.conclusion();
+    let mut since = untouched(alloc);
+    note(alloc, graph, &mut since, from, to)?;
     graph.add_arc(alloc, Arc::Taken { from, to })?;
     let mut steps = Vec::new(alloc);
-    saturate(alloc, parts, ids.as_slice(), graph, &mut steps)?;
+    let due = Due { all: false, since };
+    saturate(alloc, parts, table, graph, &mut steps, due)?;
     Ok(steps)
 }
 
@@ -86,19 +96,22 @@ fn relation_with(
 fn take_side(
     alloc: Global,
     parts: &Parts,
+    table: &Table,
     graph: &mut Graph,
     tops: &mut Vec<Top>,
     rule: Rule,
 ) -> Result<(), NoMemory>
-    requires good { IsGood parts.now }
     requires choice { IsChoice parts.now rule.choice }
     requires nodes { (id : TxnId) → Remains parts.now id → HasNode graph.old id }
+    requires table { IsTable parts.now graph.old.nodes table.now }
+    requires closed { IsClosed parts.now graph.old.arcs }
     ensures ok { OnOk result ((steps : List ForceStep) × (tops.new.items ≡ tops.old.items ++ record { choice = rule.choice; side = rule.side; steps = steps } ∷ [])
         × IsMoreBy parts.now graph.old graph.new rule.choice rule.side steps) }
     ensures err { OnErr result (tops.new.items ≡ tops.old.items) }
+    ensures nodes { OnOk result (graph.new.nodes ≡ graph.old.nodes) }
     ensures mark { last_mark graph.new ≡ last_mark graph.old }
 {
-    let steps = relation_with(alloc, parts, graph, rule)?;
+    let steps = relation_with(alloc, parts, table, graph, rule)?;
     tops.push(Top {
         choice: rule.choice,
         side: rule.side,
@@ -108,12 +121,15 @@ fn take_side(
 }
 
 /// One that reaches itself.
-fn on_cycle(graph: &Graph, ids: &[TxnId]) -> Option<TxnId>
-    ensures { MatchOption result (All (λ id. ¬ Reaches graph.now.arcs id id) ids.now) (λ id. Reaches graph.now.arcs id id) }
+fn on_cycle(graph: &Graph, table: &Table) -> Option<TxnId>
+    requires { AreAtColumns graph.now.nodes table.now }
+    ensures { MatchOption result (All (λ id. ¬ Reaches graph.now.arcs id id) table.now.ids.items) (λ id. Reaches graph.now.arcs id id) }
 {
-    for id in ids {
-        if graph.reaches(*id, *id) {
-            return Some(*id);
+    let ids = table.ids.as_slice();
+    for place in 0..ids.len() {
+        let column = table.writers.column(place);
+        if graph.reaches_at(column, column) {
+            return Some(ids[place]);
         }
     }
     None
@@ -125,9 +141,11 @@ impl Branch {
         ensures { IfOk result (λ branch. branch ≡ record { parts = known.now.parts; log = known.now.log; levels = [] }) }
     {
         let (parts, graph, log) = known.copies()?;
+        let table = table_of(alloc, &parts, &graph)?;
         Ok(Branch {
             parts,
             log,
+            table,
             graph,
             tops: Vec::new(alloc),
         })
@@ -156,11 +174,10 @@ impl Branch {
             (¬ HasCycle self.now.parts (assumed self.now.levels))
             (λ arcs. HasCycle self.now.parts (assumed self.now.levels) × IsCycle self.now.parts (all_taken self.now.log self.now.levels) arcs)) }
     {
-        let ids = self.ids(alloc)?;
-        let Some(id) = on_cycle(self.last(), ids.as_slice()) else {
+        let Some(id) = on_cycle(&self.graph, &self.table) else {
             return Ok(None);
         };
-        let found = self.last().path(alloc, id, id)?;
+        let found = self.graph.path(alloc, id, id)?;
         Ok(found)
     }
 
@@ -170,8 +187,7 @@ impl Branch {
             ((choice : Choice) → ¬ IsOpen self.now.parts (assumed self.now.levels) choice)
             (IsFirstOpen self.now.parts (assumed self.now.levels))) }
     {
-        let ids = remaining_ids_of(alloc, &self.parts)?;
-        let found = first_open_in(alloc, &self.parts, ids.as_slice(), self.last())?;
+        let found = first_open_in(alloc, &self.parts, &self.table, &self.graph)?;
         Ok(found)
     }
 
@@ -183,7 +199,14 @@ impl Branch {
     {
         self.graph.mark()?;
         let rule = Rule { choice, side };
-        match take_side(alloc, &self.parts, &mut self.graph, &mut self.tops, rule) {
+        match take_side(
+            alloc,
+            &self.parts,
+            &self.table,
+            &mut self.graph,
+            &mut self.tops,
+            rule,
+        ) {
             Ok(()) => Ok(()),
             Err(error) => {
                 self.graph.back();

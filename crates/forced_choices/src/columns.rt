@@ -2,13 +2,14 @@
 ghost use Rattle.std.specs.Prelude.{◌≡◌, ◌≢◌, ◌⊎◌, ◌↔◌, ◌≤◌, ℕ, IfOk, length};
 ghost use Rattle.txn.specs.declared.transactions.TxnId.{TxnId};
 ghost use Rattle.known_graph.specs.Bits.{HasBit};
-ghost use Rattle.known_graph.specs.Graphs.{HasNode, IsAt};
+ghost use Rattle.known_graph.specs.Graphs.{IsAt};
 ghost use Rattle.forced_choices.specs.Masks.{IsSettled};
+ghost use Rattle.forced_choices.specs.Tables.{IsAtColumns};
 
-use crate::reads::Read;
+use crate::reads::Placed;
 use known_graph::{Graph, clear_bit, clear_bits, keep_bits, or_into};
 use std::alloc::Global;
-use txn::{NoMemory, TxnId};
+use txn::NoMemory;
 
 /// Keeps the bits that the second row has, and the third hasn't.
 fn narrow(row: &mut [u64], keep: &[u64], less: &[u64])
@@ -29,26 +30,15 @@ fn met_less(alloc: Global, mask: &[u64], row: &[u64], less: &[u64]) -> Result<Ve
     Ok(met)
 }
 
-/// Clears the column of a transaction.
-fn clear_column_of(row: &mut [u64], graph: &Graph, id: TxnId)
-    ensures len { length row.new ≡ length row.old }
-    ensures kept { (j : ℕ) (other : TxnId) → HasBit row.old j → IsAt graph.now.nodes j other → other ≢ id → HasBit row.new j }
-{
-    if let Some(column) = graph.key_of(id) {
-        clear_bit(row, column);
-    }
-}
-
 /// Joins the two rows, less the columns of the reader and of the writer.
-fn join_others(left: &mut [u64], before: &[u64], graph: &Graph, read: Read)
+fn join_others(left: &mut [u64], before: &[u64], placed: Placed)
     requires { length before.now ≤ length left.old }
     ensures len { length left.new ≡ length left.old }
-    ensures kept { (j : ℕ) (other : TxnId) → (HasBit left.old j ⊎ HasBit before.now j) → IsAt graph.now.nodes j other
-        → other ≢ read.reader → other ≢ read.writer → HasBit left.new j }
+    ensures kept { (j : ℕ) → (HasBit left.old j ⊎ HasBit before.now j) → j ≢ placed.reader_at → j ≢ placed.writer_at → HasBit left.new j }
 {
     or_into(left, before);
-    clear_column_of(left, graph, read.reader);
-    clear_column_of(left, graph, read.writer);
+    clear_bit(left, placed.reader_at);
+    clear_bit(left, placed.writer_at);
 }
 
 /// The columns of the mask where the other writer is after the writer and not yet after the reader, or before the
@@ -57,20 +47,18 @@ pub fn columns_left(
     alloc: Global,
     graph: &Graph,
     mask: &[u64],
-    read: Read,
+    placed: Placed,
 ) -> Result<Vec<u64>, NoMemory>
-    requires reader { HasNode graph.now read.reader }
-    requires writer { HasNode graph.now read.writer }
+    requires { IsAtColumns graph.now.nodes placed }
     ensures { IfOk result (λ row. (j : ℕ) (other : TxnId) → HasBit mask.now j → IsAt graph.now.nodes j other → (¬ HasBit row.items j)
-        → other ≢ read.reader → other ≢ read.writer → IsSettled graph.now.arcs read other) }
+        → other ≢ placed.read.reader → other ≢ placed.read.writer → IsSettled graph.now.arcs placed.read other) }
 {
-    let mut left = met_less(alloc, mask, graph.row(read.writer), graph.row(read.reader))?;
-    let before = met_less(
-        alloc,
-        mask,
-        graph.row_of_sources(read.reader),
-        graph.row_of_sources(read.writer),
-    )?;
-    join_others(&mut left, &before, graph, read);
+    let after_writer = graph.row_at(placed.writer_at);
+    let after_reader = graph.row_at(placed.reader_at);
+    let mut left = met_less(alloc, mask, after_writer, after_reader)?;
+    let before_reader = graph.row_of_sources_at(placed.reader_at);
+    let before_writer = graph.row_of_sources_at(placed.writer_at);
+    let before = met_less(alloc, mask, before_reader, before_writer)?;
+    join_others(&mut left, &before, placed);
     Ok(left)
 }

@@ -11,6 +11,8 @@ mod reads;
 mod rules;
 mod saturated;
 mod saturation;
+mod table;
+mod touched;
 mod writers;
 
 pub use branch::Branch;

@@ -1,24 +1,22 @@
 // The choices that a graph leaves undecided, found 64 transactions at a time.
 ghost use Rattle.std.specs.Prelude.{◌≡◌, ◌∷◌, [], ◌++◌, ◌↔◌, ℕ, true, List, IfOk, OnOk, MatchOption, drop, length};
-ghost use Rattle.std.specs.List.{flat_map};
 ghost use Rattle.txn.specs.declared.transactions.TxnId.{TxnId};
-ghost use Rattle.txn.specs.declared.transactions.Source.TheVariants.{By};
 ghost use Rattle.txn.specs.declared.choices.Choice.{Choice};
-ghost use Rattle.order_check.specs.Based.{Remains};
-ghost use Rattle.order_check.specs.Known.{ReadsKey, WritesKey};
 ghost use Rattle.known_graph.specs.Bits.{HasBit};
-ghost use Rattle.known_graph.specs.Graphs.{HasNode, IsAt};
-ghost use Rattle.forced_choices.specs.Listing.{all_ids, choices_of_read, choices_of, reads_of};
-ghost use Rattle.forced_choices.specs.Masks.{AreWriters, AreTold, is_third, choice_of, choices_in};
+ghost use Rattle.known_graph.specs.Graphs.{IsAt};
+ghost use Rattle.forced_choices.specs.Listing.{all_ids, choices_of};
+ghost use Rattle.forced_choices.specs.Masks.{AreTold, is_third, choice_of, choices_in};
+ghost use Rattle.forced_choices.specs.Tables.{IsAtColumns, IsPlaced, IsTable};
 ghost use Rattle.forced_choices.specs.Undecided.{AreFound, AreAllDecided, IsFirstFound, TellsOpen};
 
-use crate::listing::{is_third, reads_of, writes};
-use crate::reads::Read;
-use crate::writers::{Writers, writers_of};
+use crate::listing::is_third;
+use crate::reads::{Placed, Read};
+use crate::table::Table;
+use crate::writers::Writers;
 use known_graph::{Graph, clear_bits, has_bit, is_clear};
 use order_check::Parts;
 use std::alloc::Global;
-use txn::{Choice, NoMemory, Source, TxnId};
+use txn::{Choice, NoMemory, TxnId};
 
 /// Clears the bits of four rows.
 fn clear_four(row: &mut [u64], a: &[u64], b: &[u64], c: &[u64], d: &[u64])
@@ -36,19 +34,18 @@ fn open_columns(
     alloc: Global,
     graph: &Graph,
     mask: &[u64],
-    read: Read,
+    placed: Placed,
 ) -> Result<Vec<u64>, NoMemory>
-    requires reader { HasNode graph.now read.reader }
-    requires writer { HasNode graph.now read.writer }
-    ensures { IfOk result (λ row. (j : ℕ) (other : TxnId) → HasBit mask.now j → IsAt graph.now.nodes j other → TellsOpen graph.now.arcs row.items j (choice_of read other)) }
+    requires { IsAtColumns graph.now.nodes placed }
+    ensures { IfOk result (λ row. (j : ℕ) (other : TxnId) → HasBit mask.now j → IsAt graph.now.nodes j other → TellsOpen graph.now.arcs row.items j (choice_of placed.read other)) }
 {
     let mut open = Vec::from_slice(alloc, mask)?;
     clear_four(
         &mut open,
-        graph.row(read.writer),
-        graph.row_of_sources(read.reader),
-        graph.row_of_sources(read.writer),
-        graph.row(read.reader),
+        graph.row_at(placed.writer_at),
+        graph.row_of_sources_at(placed.reader_at),
+        graph.row_of_sources_at(placed.writer_at),
+        graph.row_at(placed.reader_at),
     );
     Ok(open)
 }
@@ -102,117 +99,68 @@ fn push_open_columns(
     Ok(())
 }
 
-/// Adds the open choices of a read from a writer.
-fn push_open_of_writer(
-    alloc: Global,
-    found: &mut Vec<Choice>,
-    parts: &Parts,
-    ids: &[TxnId],
-    writers: &Writers,
-    graph: &Graph,
-    read: Read,
-) -> Result<(), NoMemory>
-    requires reads { ReadsKey parts.now read.reader read.key (By read.writer) }
-    requires written { WritesKey parts.now read.writer read.key }
-    requires nodes { (id : TxnId) → Remains parts.now id → HasNode graph.now id }
-    requires writers { AreWriters parts.now graph.now.nodes ids.now writers.now }
-    ensures { OnOk result ((front : List Choice) → AreFound graph.now.arcs front found.old.items → AreFound graph.now.arcs (front ++ choices_in parts.now ids.now read) found.new.items) }
-{
-    let row = open_columns(alloc, graph, writers.mask(read.key), read)?;
-    if is_clear(&row) {
-        return Ok(());
-    }
-    push_open_columns(found, parts, ids, writers, graph, row.as_slice(), read)?;
-    Ok(())
-}
-
 /// Adds the open choices of a read.
 fn push_open_of_read(
     alloc: Global,
     found: &mut Vec<Choice>,
     parts: &Parts,
-    ids: &[TxnId],
-    writers: &Writers,
+    table: &Table,
     graph: &Graph,
-    reader: TxnId,
-    read: (u64, Source),
+    placed: Placed,
 ) -> Result<(), NoMemory>
-    requires reads { ReadsKey parts.now reader read.0 read.1 }
-    requires nodes { (id : TxnId) → Remains parts.now id → HasNode graph.now id }
-    requires writers { AreWriters parts.now graph.now.nodes ids.now writers.now }
-    ensures { OnOk result ((front : List Choice) → AreFound graph.now.arcs front found.old.items → AreFound graph.now.arcs (front ++ choices_of_read parts.now ids.now reader read) found.new.items) }
-{
-    match read.1 {
-        Source::Init => Ok(()),
-        Source::By(writer) => {
-            if !writes(parts, read.0, writer) {
-                return Ok(());
-            }
-            let of_writer = Read {
-                reader,
-                key: read.0,
-                writer,
-            };
-            push_open_of_writer(alloc, found, parts, ids, writers, graph, of_writer)
-        }
-    }
-}
-
-/// Adds the open choices of a reader.
-fn push_open_of_reader(
-    alloc: Global,
-    found: &mut Vec<Choice>,
-    parts: &Parts,
-    ids: &[TxnId],
-    writers: &Writers,
-    graph: &Graph,
-    reader: TxnId,
-) -> Result<(), NoMemory>
-    requires nodes { (id : TxnId) → Remains parts.now id → HasNode graph.now id }
-    requires writers { AreWriters parts.now graph.now.nodes ids.now writers.now }
+    requires placed { IsPlaced parts.now graph.now.nodes placed }
+    requires table { IsTable parts.now graph.now.nodes table.now }
     ensures { OnOk result ((front : List Choice) → AreFound graph.now.arcs front found.old.items
-        → AreFound graph.now.arcs (front ++ flat_map (choices_of_read parts.now ids.now reader) (reads_of parts.now reader)) found.new.items) }
+        → AreFound graph.now.arcs (front ++ choices_in parts.now table.now.ids.items placed.read) found.new.items) }
 {
-    for read in reads_of(parts, reader) {
-        push_open_of_read(alloc, found, parts, ids, writers, graph, reader, *read)?;
+    let row = open_columns(alloc, graph, table.writers.mask(placed.read.key), placed)?;
+    if is_clear(&row) {
+        return Ok(());
     }
+    let ids = table.ids.as_slice();
+    push_open_columns(
+        found,
+        parts,
+        ids,
+        &table.writers,
+        graph,
+        row.as_slice(),
+        placed.read,
+    )?;
     Ok(())
 }
 
 /// The choices that the graph leaves undecided, in order of reader, key, writer, other writer.
-fn open_among(
+pub fn open_in(
     alloc: Global,
     parts: &Parts,
-    ids: &[TxnId],
-    writers: &Writers,
+    table: &Table,
     graph: &Graph,
 ) -> Result<Vec<Choice>, NoMemory>
-    requires nodes { (id : TxnId) → Remains parts.now id → HasNode graph.now id }
-    requires writers { AreWriters parts.now graph.now.nodes ids.now writers.now }
-    ensures { IfOk result (λ found. AreFound graph.now.arcs (choices_of parts.now ids.now ids.now) found.items) }
+    requires { IsTable parts.now graph.now.nodes table.now }
+    ensures { IfOk result (λ found. AreFound graph.now.arcs (choices_of parts.now (all_ids parts.now) (all_ids parts.now)) found.items) }
 {
     let mut found = Vec::new(alloc);
-    for reader in ids {
-        push_open_of_reader(alloc, &mut found, parts, ids, writers, graph, *reader)?;
+    for placed in table.reads.as_slice() {
+        push_open_of_read(alloc, &mut found, parts, table, graph, *placed)?;
     }
     Ok(found)
 }
 
-/// The open choices of one reader.
-fn open_of_reader(
+/// The open choices of one read.
+fn open_of_read(
     alloc: Global,
     parts: &Parts,
-    ids: &[TxnId],
-    writers: &Writers,
+    table: &Table,
     graph: &Graph,
-    reader: TxnId,
+    placed: Placed,
 ) -> Result<Vec<Choice>, NoMemory>
-    requires nodes { (id : TxnId) → Remains parts.now id → HasNode graph.now id }
-    requires writers { AreWriters parts.now graph.now.nodes ids.now writers.now }
-    ensures { IfOk result (λ found. AreFound graph.now.arcs (flat_map (choices_of_read parts.now ids.now reader) (reads_of parts.now reader)) found.items) }
+    requires placed { IsPlaced parts.now graph.now.nodes placed }
+    requires table { IsTable parts.now graph.now.nodes table.now }
+    ensures { IfOk result (λ found. AreFound graph.now.arcs (choices_in parts.now table.now.ids.items placed.read) found.items) }
 {
     let mut found = Vec::new(alloc);
-    push_open_of_reader(alloc, &mut found, parts, ids, writers, graph, reader)?;
+    push_open_of_read(alloc, &mut found, parts, table, graph, placed)?;
     Ok(found)
 }
 
@@ -225,57 +173,23 @@ fn first_of(choices: &[Choice]) -> Option<Choice>
     }
 }
 
-/// The first choice that the graph leaves undecided. No reader after it is looked at.
-fn first_open_among(
+/// The first choice that the graph leaves undecided. No read after it is looked at.
+pub fn first_open_in(
     alloc: Global,
     parts: &Parts,
-    ids: &[TxnId],
-    writers: &Writers,
+    table: &Table,
     graph: &Graph,
 ) -> Result<Option<Choice>, NoMemory>
-    requires nodes { (id : TxnId) → Remains parts.now id → HasNode graph.now id }
-    requires writers { AreWriters parts.now graph.now.nodes ids.now writers.now }
+    requires { IsTable parts.now graph.now.nodes table.now }
     ensures { IfOk result (λ first. MatchOption first
-        (AreAllDecided graph.now.arcs (choices_of parts.now ids.now ids.now))
-        (IsFirstFound graph.now.arcs (choices_of parts.now ids.now ids.now))) }
+        (AreAllDecided graph.now.arcs (choices_of parts.now (all_ids parts.now) (all_ids parts.now)))
+        (IsFirstFound graph.now.arcs (choices_of parts.now (all_ids parts.now) (all_ids parts.now)))) }
 {
-    for reader in ids {
-        let found = open_of_reader(alloc, parts, ids, writers, graph, *reader)?;
+    for placed in table.reads.as_slice() {
+        let found = open_of_read(alloc, parts, table, graph, *placed)?;
         if let Some(choice) = first_of(&found) {
             return Ok(Some(choice));
         }
     }
     Ok(None)
-}
-
-/// The choices that the graph leaves undecided, in order of reader, key, writer, other writer.
-pub fn open_in(
-    alloc: Global,
-    parts: &Parts,
-    ids: &[TxnId],
-    graph: &Graph,
-) -> Result<Vec<Choice>, NoMemory>
-    requires ids { ids.now ≡ all_ids parts.now }
-    requires nodes { (id : TxnId) → Remains parts.now id → HasNode graph.now id }
-    ensures { IfOk result (λ found. AreFound graph.now.arcs (choices_of parts.now ids.now ids.now) found.items) }
-{
-    let writers = writers_of(alloc, parts, graph, ids)?;
-    open_among(alloc, parts, ids, &writers, graph)
-}
-
-/// The first choice that the graph leaves undecided.
-pub fn first_open_in(
-    alloc: Global,
-    parts: &Parts,
-    ids: &[TxnId],
-    graph: &Graph,
-) -> Result<Option<Choice>, NoMemory>
-    requires ids { ids.now ≡ all_ids parts.now }
-    requires nodes { (id : TxnId) → Remains parts.now id → HasNode graph.now id }
-    ensures { IfOk result (λ first. MatchOption first
-        (AreAllDecided graph.now.arcs (choices_of parts.now ids.now ids.now))
-        (IsFirstFound graph.now.arcs (choices_of parts.now ids.now ids.now))) }
-{
-    let writers = writers_of(alloc, parts, graph, ids)?;
-    first_open_among(alloc, parts, ids, &writers, graph)
 }

@@ -18,7 +18,9 @@ ghost use Rattle.forced_choices.specs.SoFar.{IsRelation};
 use crate::building::{add_arcs, graph_of_nodes};
 use crate::listing::{arcs_among, remaining_ids_of};
 use crate::open::open_in;
-use crate::saturation::saturate;
+use crate::saturation::{Due, saturate};
+use crate::table::table_of;
+use crate::touched::untouched;
 use known_graph::Graph;
 use order_check::Parts;
 use std::alloc::Global;
@@ -70,8 +72,13 @@ fn saturation_of(alloc: Global, parts: &Parts) -> Result<(Graph, Vec<ForceStep>)
 {
     let ids = remaining_ids_of(alloc, parts)?;
     let mut graph = plain_graph(alloc, parts, ids.as_slice())?;
+    let table = table_of(alloc, parts, &graph)?;
     let mut log = Vec::new(alloc);
-    saturate(alloc, parts, ids.as_slice(), &mut graph, &mut log)?;
+    let all = Due {
+        all: true,
+        since: untouched(alloc),
+    };
+    saturate(alloc, parts, &table, &mut graph, &mut log, all)?;
     Ok((graph, log))
 }
 
@@ -184,8 +191,8 @@ impl Saturated {
     pub fn open_choices(&self, alloc: Global) -> Result<Sequence<Choice>, NoMemory>
         ensures { IfOk result (AreOpenChoices self.now.parts []) }
     {
-        let ids = remaining_ids_of(alloc, &self.parts)?;
-        let found = open_in(alloc, &self.parts, ids.as_slice(), &self.graph)?;
+        let table = table_of(alloc, &self.parts, &self.graph)?;
+        let found = open_in(alloc, &self.parts, &table, &self.graph)?;
         Ok(Sequence::new(found))
     }
 

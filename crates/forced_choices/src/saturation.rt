@@ -1,30 +1,29 @@
-ghost use Rattle.std.specs.Prelude.{◌≡◌, [], ◌∷◌, ◌++◌, List, true, IfOk, OnOk};
-ghost use Rattle.std.specs.List.{flat_map};
+ghost use Rattle.std.specs.Prelude.{◌≡◌, [], ◌∷◌, ◌++◌, List, true, false, IfOk, OnOk};
 ghost use Rattle.txn.specs.declared.transactions.TxnId.{TxnId};
-ghost use Rattle.txn.specs.declared.transactions.Source.TheVariants.{By};
-ghost use Rattle.txn.specs.declared.choices.Arc.{Arc};
 ghost use Rattle.txn.specs.declared.choices.Choice.{Choice};
 ghost use Rattle.txn.specs.declared.choices.Side.{Side};
 ghost use Rattle.txn.specs.declared.choices.ForceStep.{ForceStep};
 ghost use Rattle.order_check.specs.declared.remainder.Parts.{Parts};
 ghost use Rattle.order_check.specs.Based.{Remains};
-ghost use Rattle.order_check.specs.Known.{IsChoice, ReadsKey, WritesKey};
+ghost use Rattle.order_check.specs.Known.{IsChoice};
 ghost use Rattle.known_graph.specs.Bits.{HasBit};
 ghost use Rattle.known_graph.specs.Graphs.{HasNode, last_mark};
-ghost use Rattle.forced_choices.specs.Forcing.{IsLeft, IsOn, IsStepOf, Forces, HasLookedAt, HasLooked, IsClosed, taken_arc};
-ghost use Rattle.forced_choices.specs.Listing.{all_ids, reads_of, choices_of_read, choices_of};
-ghost use Rattle.forced_choices.specs.Masks.{AreWriters, AreThere, AreSettledBut, is_third, choice_of, choices_in};
+ghost use Rattle.forced_choices.specs.Forcing.{Stage, stage_of, AreAllSettledUnless, IsLeft, IsOn, IsStepOf, Forces, HasLookedAt, HasLooked, IsClosed, taken_arc};
+ghost use Rattle.forced_choices.specs.Masks.{AreThere, AreSettledBut, is_third, choice_of, choices_in};
 ghost use Rattle.forced_choices.specs.Rules.{premise, conclusion};
+ghost use Rattle.forced_choices.specs.Tables.{IsPlaced, IsTable, choices_at};
+ghost use Rattle.forced_choices.specs.Touching.{AreNoted};
 
 use crate::columns::columns_left;
-use crate::listing::{is_third, reads_of, writes};
-use crate::reads::Read;
+use crate::listing::is_third;
+use crate::reads::{Placed, Read};
 use crate::rules::{Rule, is_left};
-use crate::writers::{Writers, writers_of};
+use crate::table::Table;
+use crate::touched::{Touched, is_touched, note, untouched};
 use known_graph::{Graph, has_bit, is_clear};
 use order_check::Parts;
 use std::alloc::Global;
-use txn::{Arc, Choice, ForceStep, NoMemory, Sequence, Side, Source, TxnId};
+use txn::{Arc, Choice, ForceStep, NoMemory, Sequence, Side, TxnId};
 
 /// The step that takes the rule's side: the other side's arc and the path close a cycle.
 fn step_of(alloc: Global, rule: Rule, path: &[Arc]) -> Result<ForceStep, NoMemory>
@@ -48,12 +47,14 @@ fn fire(
     alloc: Global,
     graph: &mut Graph,
     log: &mut Vec<ForceStep>,
+    touched: &mut Touched,
     rule: Rule,
 ) -> Result<(), NoMemory>
     requires left { IsLeft graph.old.arcs rule }
     requires on { IsOn graph.old rule }
     ensures fires { OnOk result ((step : ForceStep) × IsStepOf graph.old.arcs rule step
         × (graph.new.arcs ≡ graph.old.arcs ++ taken_arc rule ∷ []) × (log.new.items ≡ log.old.items ++ step ∷ [])) }
+    ensures noted { OnOk result (AreNoted graph.old.nodes graph.old.arcs touched.old graph.new.arcs touched.new) }
     ensures nodes { OnOk result (graph.new.nodes ≡ graph.old.nodes) }
     ensures mark { last_mark graph.new ≡ last_mark graph.old }
 {
@@ -63,6 +64,7 @@ fn fire(
         unreachable!()
     };
     log.push(step_of(alloc, rule, path.as_slice())?)?;
+    note(alloc, graph, touched, from, to)?;
     graph.add_arc(alloc, Arc::Taken { from, to })?;
     Ok(())
 }
@@ -72,16 +74,17 @@ fn look_at_side(
     alloc: Global,
     graph: &mut Graph,
     log: &mut Vec<ForceStep>,
+    touched: &mut Touched,
     rule: Rule,
 ) -> Result<(), NoMemory>
     requires { IsOn graph.old rule }
     ensures looked { OnOk result ((parts : Parts) → IsChoice parts rule.choice
-        → HasLookedAt parts graph.old.arcs log.old.items graph.new.arcs log.new.items rule) }
+        → HasLookedAt parts graph.old.nodes (stage_of graph.old log.old.items touched.old) (stage_of graph.new log.new.items touched.new) rule) }
     ensures nodes { OnOk result (graph.new.nodes ≡ graph.old.nodes) }
     ensures mark { last_mark graph.new ≡ last_mark graph.old }
 {
     if is_left(graph, rule) {
-        fire(alloc, graph, log, rule)?;
+        fire(alloc, graph, log, touched, rule)?;
     }
     Ok(())
 }
@@ -91,11 +94,12 @@ fn look_at_choice(
     alloc: Global,
     graph: &mut Graph,
     log: &mut Vec<ForceStep>,
+    touched: &mut Touched,
     choice: Choice,
 ) -> Result<(), NoMemory>
     requires { (side : Side) → IsOn graph.old (record { choice = choice; side = side }) }
     ensures looked { OnOk result ((parts : Parts) → IsChoice parts choice
-        → HasLooked parts graph.old.arcs log.old.items graph.new.arcs log.new.items (choice ∷ [])) }
+        → HasLooked parts graph.old.nodes (stage_of graph.old log.old.items touched.old) (stage_of graph.new log.new.items touched.new) (choice ∷ [])) }
     ensures nodes { OnOk result (graph.new.nodes ≡ graph.old.nodes) }
     ensures mark { last_mark graph.new ≡ last_mark graph.old }
 {
@@ -103,12 +107,12 @@ fn look_at_choice(
         choice,
         side: Side::Second,
     };
-    look_at_side(alloc, graph, log, second)?;
+    look_at_side(alloc, graph, log, touched, second)?;
     let first = Rule {
         choice,
         side: Side::First,
     };
-    look_at_side(alloc, graph, log, first)?;
+    look_at_side(alloc, graph, log, touched, first)?;
     Ok(())
 }
 
@@ -118,6 +122,7 @@ fn look_at_other(
     parts: &Parts,
     graph: &mut Graph,
     log: &mut Vec<ForceStep>,
+    touched: &mut Touched,
     row: &[u64],
     column: usize,
     read: Read,
@@ -125,10 +130,10 @@ fn look_at_other(
 ) -> Result<(), NoMemory>
     requires choice { is_third parts.now read other ≡ true → IsChoice parts.now (choice_of read other) }
     requires nodes { (id : TxnId) → Remains parts.now id → HasNode graph.old id }
-    ensures looked { OnOk result ((arcs : List Arc) (some : List ForceStep) (before : List Choice)
-        → HasLooked parts.now arcs some graph.old.arcs log.old.items before
-        → ((¬ HasBit row.now column) → AreThere arcs (choices_in parts.now (other ∷ []) read))
-        → HasLooked parts.now arcs some graph.new.arcs log.new.items (before ++ choices_in parts.now (other ∷ []) read)) }
+    ensures looked { OnOk result ((start : Stage) (before : List Choice)
+        → HasLooked parts.now graph.old.nodes start (stage_of graph.old log.old.items touched.old) before
+        → ((¬ HasBit row.now column) → AreThere start.arcs (choices_in parts.now (other ∷ []) read))
+        → HasLooked parts.now graph.old.nodes start (stage_of graph.new log.new.items touched.new) (before ++ choices_in parts.now (other ∷ []) read)) }
     ensures nodes { OnOk result (graph.new.nodes ≡ graph.old.nodes) }
     ensures mark { last_mark graph.new ≡ last_mark graph.old }
 {
@@ -144,7 +149,7 @@ fn look_at_other(
         writer: read.writer,
         other,
     };
-    look_at_choice(alloc, graph, log, choice)?;
+    look_at_choice(alloc, graph, log, touched, choice)?;
     Ok(())
 }
 
@@ -152,172 +157,163 @@ fn look_at_other(
 fn look_at_columns(
     alloc: Global,
     parts: &Parts,
-    ids: &[TxnId],
-    writers: &Writers,
+    table: &Table,
     graph: &mut Graph,
     log: &mut Vec<ForceStep>,
+    touched: &mut Touched,
     row: &[u64],
     read: Read,
 ) -> Result<(), NoMemory>
     requires choices { (other : TxnId) → is_third parts.now read other ≡ true → IsChoice parts.now (choice_of read other) }
     requires nodes { (id : TxnId) → Remains parts.now id → HasNode graph.old id }
-    requires settled { AreSettledBut parts.now graph.old.arcs ids.now writers.now.columns.items row.now read }
-    ensures looked { OnOk result (HasLooked parts.now graph.old.arcs log.old.items graph.new.arcs log.new.items (choices_in parts.now ids.now read)) }
+    requires settled { AreSettledBut parts.now graph.old.arcs table.now.ids.items table.now.writers.columns.items row.now read }
+    ensures looked { OnOk result (HasLooked parts.now graph.old.nodes (stage_of graph.old log.old.items touched.old) (stage_of graph.new log.new.items touched.new)
+        (choices_in parts.now table.now.ids.items read)) }
     ensures nodes { OnOk result (graph.new.nodes ≡ graph.old.nodes) }
     ensures mark { last_mark graph.new ≡ last_mark graph.old }
 {
+    let ids = table.ids.as_slice();
     for place in 0..ids.len() {
-        let column = writers.column(place);
-        look_at_other(alloc, parts, graph, log, row, column, read, ids[place])?;
+        let column = table.writers.column(place);
+        look_at_other(
+            alloc, parts, graph, log, touched, row, column, read, ids[place],
+        )?;
     }
     Ok(())
-}
-
-/// Takes each side that is left of the choices of a read from a writer.
-fn look_at_writers(
-    alloc: Global,
-    parts: &Parts,
-    ids: &[TxnId],
-    writers: &Writers,
-    graph: &mut Graph,
-    log: &mut Vec<ForceStep>,
-    read: Read,
-) -> Result<(), NoMemory>
-    requires reads { ReadsKey parts.now read.reader read.key (By read.writer) }
-    requires written { WritesKey parts.now read.writer read.key }
-    requires nodes { (id : TxnId) → Remains parts.now id → HasNode graph.old id }
-    requires writers { AreWriters parts.now graph.old.nodes ids.now writers.now }
-    ensures looked { OnOk result (HasLooked parts.now graph.old.arcs log.old.items graph.new.arcs log.new.items (choices_in parts.now ids.now read)) }
-    ensures nodes { OnOk result (graph.new.nodes ≡ graph.old.nodes) }
-    ensures mark { last_mark graph.new ≡ last_mark graph.old }
-{
-    let row = columns_left(alloc, graph, writers.mask(read.key), read)?;
-    if is_clear(&row) {
-        return Ok(());
-    }
-    look_at_columns(alloc, parts, ids, writers, graph, log, row.as_slice(), read)
 }
 
 /// Takes each side that is left of the choices of a read.
 fn look_at_read(
     alloc: Global,
     parts: &Parts,
-    ids: &[TxnId],
-    writers: &Writers,
+    table: &Table,
     graph: &mut Graph,
     log: &mut Vec<ForceStep>,
-    reader: TxnId,
-    read: (u64, Source),
+    touched: &mut Touched,
+    placed: Placed,
 ) -> Result<(), NoMemory>
-    requires reads { ReadsKey parts.now reader read.0 read.1 }
+    requires placed { IsPlaced parts.now graph.old.nodes placed }
     requires nodes { (id : TxnId) → Remains parts.now id → HasNode graph.old id }
-    requires writers { AreWriters parts.now graph.old.nodes ids.now writers.now }
-    ensures looked { OnOk result (HasLooked parts.now graph.old.arcs log.old.items graph.new.arcs log.new.items (choices_of_read parts.now ids.now reader read)) }
+    requires table { IsTable parts.now graph.old.nodes table.now }
+    ensures looked { OnOk result (HasLooked parts.now graph.old.nodes (stage_of graph.old log.old.items touched.old) (stage_of graph.new log.new.items touched.new)
+        (choices_in parts.now table.now.ids.items placed.read)) }
     ensures nodes { OnOk result (graph.new.nodes ≡ graph.old.nodes) }
     ensures mark { last_mark graph.new ≡ last_mark graph.old }
 {
-    match read.1 {
-        Source::Init => Ok(()),
-        Source::By(writer) => {
-            if !writes(parts, read.0, writer) {
-                return Ok(());
-            }
-            let of_writer = Read {
-                reader,
-                key: read.0,
-                writer,
-            };
-            look_at_writers(alloc, parts, ids, writers, graph, log, of_writer)
-        }
+    let mask = table.writers.mask(placed.read.key);
+    let row = columns_left(alloc, graph, mask, placed)?;
+    if is_clear(&row) {
+        return Ok(());
     }
+    look_at_columns(
+        alloc,
+        parts,
+        table,
+        graph,
+        log,
+        touched,
+        row.as_slice(),
+        placed.read,
+    )
 }
 
-/// Takes each side that is left of the choices of a reader, which are never listed.
-fn look_at_reader(
+/// Which reads are looked at: all, or those that were touched since.
+#[derive(Drop)]
+pub struct Due {
+    pub all: bool,
+    pub since: Touched,
+}
+
+/// Whether the read is looked at.
+fn is_due(due: &Due, placed: Placed) -> bool
+    ensures all { result ≡ false → due.now.all ≡ false }
+    ensures writer { result ≡ false → ¬ HasBit due.now.since.sources.items placed.writer_at }
+    ensures reader { result ≡ false → ¬ HasBit due.now.since.targets.items placed.reader_at }
+{
+    due.all || is_touched(&due.since, placed)
+}
+
+/// Takes each side that is left of the choices of a read, if it is looked at.
+fn look_if_due(
     alloc: Global,
     parts: &Parts,
-    ids: &[TxnId],
-    writers: &Writers,
+    table: &Table,
     graph: &mut Graph,
     log: &mut Vec<ForceStep>,
-    reader: TxnId,
+    touched: &mut Touched,
+    due: &Due,
+    placed: Placed,
 ) -> Result<(), NoMemory>
+    requires placed { IsPlaced parts.now graph.old.nodes placed }
     requires nodes { (id : TxnId) → Remains parts.now id → HasNode graph.old id }
-    requires writers { AreWriters parts.now graph.old.nodes ids.now writers.now }
-    ensures looked { OnOk result (HasLooked parts.now graph.old.arcs log.old.items graph.new.arcs log.new.items
-        (flat_map (choices_of_read parts.now ids.now reader) (reads_of parts.now reader))) }
+    requires table { IsTable parts.now graph.old.nodes table.now }
+    ensures looked { OnOk result ((start : Stage) (before : List Choice)
+        → HasLooked parts.now graph.old.nodes start (stage_of graph.old log.old.items touched.old) before
+        → (due.now.all ≡ false → AreAllSettledUnless parts.now graph.old.nodes start.arcs due.now.since)
+        → HasLooked parts.now graph.old.nodes start (stage_of graph.new log.new.items touched.new) (before ++ choices_in parts.now table.now.ids.items placed.read)) }
     ensures nodes { OnOk result (graph.new.nodes ≡ graph.old.nodes) }
     ensures mark { last_mark graph.new ≡ last_mark graph.old }
 {
-    for read in reads_of(parts, reader) {
-        look_at_read(alloc, parts, ids, writers, graph, log, reader, *read)?;
+    if !is_due(due, placed) {
+        return Ok(());
     }
+    look_at_read(alloc, parts, table, graph, log, touched, placed)?;
     Ok(())
 }
 
-/// Takes each side that is left, choice by choice.
+/// Takes each side that is left, read by read.
 fn look_at_all(
     alloc: Global,
     parts: &Parts,
-    ids: &[TxnId],
-    writers: &Writers,
+    table: &Table,
     graph: &mut Graph,
     log: &mut Vec<ForceStep>,
+    touched: &mut Touched,
+    due: &Due,
 ) -> Result<(), NoMemory>
     requires nodes { (id : TxnId) → Remains parts.now id → HasNode graph.old id }
-    requires writers { AreWriters parts.now graph.old.nodes ids.now writers.now }
-    ensures looked { OnOk result (HasLooked parts.now graph.old.arcs log.old.items graph.new.arcs log.new.items
-        (choices_of parts.now ids.now ids.now)) }
+    requires table { IsTable parts.now graph.old.nodes table.now }
+    requires due { due.now.all ≡ false → AreAllSettledUnless parts.now graph.old.nodes graph.old.arcs due.now.since }
+    ensures looked { OnOk result (HasLooked parts.now graph.old.nodes (stage_of graph.old log.old.items touched.old) (stage_of graph.new log.new.items touched.new)
+        (choices_at parts.now table.now.ids.items table.now.reads.items)) }
     ensures nodes { OnOk result (graph.new.nodes ≡ graph.old.nodes) }
     ensures mark { last_mark graph.new ≡ last_mark graph.old }
 {
-    for reader in ids {
-        look_at_reader(alloc, parts, ids, writers, graph, log, *reader)?;
+    let reads = table.reads.as_slice();
+    for placed in reads {
+        look_if_due(alloc, parts, table, graph, log, touched, due, *placed)?;
     }
     Ok(())
 }
 
-/// Takes sides that are forced until none is left, by the writers of each key.
-fn saturate_by(
-    alloc: Global,
-    parts: &Parts,
-    ids: &[TxnId],
-    writers: &Writers,
-    graph: &mut Graph,
-    log: &mut Vec<ForceStep>,
-) -> Result<(), NoMemory>
-    requires ids { ids.now ≡ all_ids parts.now }
-    requires nodes { (id : TxnId) → Remains parts.now id → HasNode graph.old id }
-    requires writers { AreWriters parts.now graph.old.nodes ids.now writers.now }
-    ensures forces { OnOk result (Forces parts.now graph.old.arcs log.old.items graph.new.arcs log.new.items) }
-    ensures closed { OnOk result (IsClosed parts.now graph.new.arcs) }
-    ensures nodes { OnOk result (graph.new.nodes ≡ graph.old.nodes) }
-    ensures mark { last_mark graph.new ≡ last_mark graph.old }
-{
-    let mut goes_on = true;
-    while goes_on {
-        let before = log.len();
-        look_at_all(alloc, parts, ids, writers, graph, log)?;
-        goes_on = log.len() > before;
-    }
-    Ok(())
-}
-
-/// Takes sides that are forced until none is left.
+/// Takes sides that are forced until none is left. The reads that are due at first are looked at, and then those that are touched.
 pub fn saturate(
     alloc: Global,
     parts: &Parts,
-    ids: &[TxnId],
+    table: &Table,
     graph: &mut Graph,
     log: &mut Vec<ForceStep>,
+    first: Due,
 ) -> Result<(), NoMemory>
-    requires ids { ids.now ≡ all_ids parts.now }
     requires nodes { (id : TxnId) → Remains parts.now id → HasNode graph.old id }
+    requires table { IsTable parts.now graph.old.nodes table.now }
+    requires due { first.all ≡ false → AreAllSettledUnless parts.now graph.old.nodes graph.old.arcs first.since }
     ensures forces { OnOk result (Forces parts.now graph.old.arcs log.old.items graph.new.arcs log.new.items) }
     ensures closed { OnOk result (IsClosed parts.now graph.new.arcs) }
     ensures nodes { OnOk result (graph.new.nodes ≡ graph.old.nodes) }
     ensures mark { last_mark graph.new ≡ last_mark graph.old }
 {
-    let writers = writers_of(alloc, parts, graph, ids)?;
-    saturate_by(alloc, parts, ids, &writers, graph, log)
+    let mut due = first;
+    let mut goes_on = true;
+    while goes_on {
+        let before = log.len();
+        let mut touched = untouched(alloc);
+        look_at_all(alloc, parts, table, graph, log, &mut touched, &due)?;
+        due = Due {
+            all: false,
+            since: touched,
+        };
+        goes_on = log.len() > before;
+    }
+    Ok(())
 }

@@ -44,7 +44,7 @@ impl Writers {
 }
 
 /// The column of a transaction that is there.
-fn column_of(graph: &Graph, id: TxnId) -> usize
+pub fn column_of(graph: &Graph, id: TxnId) -> usize
     requires { HasNode graph.now id }
     ensures { IsAt graph.now.nodes result id }
 {
@@ -55,7 +55,7 @@ fn column_of(graph: &Graph, id: TxnId) -> usize
 }
 
 /// The row with words of no bit behind it, up to this many.
-fn widen(row: &mut Vec<u64>, width: usize) -> Result<(), NoMemory>
+pub fn widen(row: &mut Vec<u64>, width: usize) -> Result<(), NoMemory>
     ensures wide { OnOk result (width ≤ length row.new.items) }
     ensures bits { OnOk result ((j : ℕ) → HasBit row.new.items j ↔ HasBit row.old.items j) }
 {
@@ -66,7 +66,7 @@ fn widen(row: &mut Vec<u64>, width: usize) -> Result<(), NoMemory>
 }
 
 /// The row with one more bit.
-fn with_bit(mut row: Vec<u64>, column: usize) -> Result<Vec<u64>, NoMemory>
+pub fn with_bit(mut row: Vec<u64>, column: usize) -> Result<Vec<u64>, NoMemory>
     ensures { IfOk result (λ more. (j : ℕ) → HasBit more.items j ↔ (HasBit row.items j ⊎ (j ≡ column))) }
 {
     widen(&mut row, column / 64 + 1)?;

@@ -3,5 +3,5 @@ use Rattle.txn.specs.declared.transactions.TxnId.{TxnId}
 use Rattle.known_graph.specs.Reach.{Reaches}
 use Rattle.forced_choices.proofs.branch.on_cycle.Given as goal
 
-abbrev pub invariant-loop-id : goal.invariant-loop-id
-invariant-loop-id l = (k : ℕ) (d : TxnId) → k < l.id-index → ¬ Reaches l.graph.arcs (get_or l.ids k d) (get_or l.ids k d)
+abbrev pub invariant-loop-place : goal.invariant-loop-place
+invariant-loop-place l = (k : ℕ) (d : TxnId) → k < l.place → ¬ Reaches l.graph.arcs (get_or l.ids k d) (get_or l.ids k d)

@@ -1,12 +1,25 @@
-use Rattle.std.proofs.Common.{◌≡◌, ◌∷◌, [], ◌++◌, ◌∙◌, sym, ap, subst, subst₂}
+use Rattle.std.proofs.Common.{List, Option, ◌≡◌, ◌∷◌, [], ◌++◌, ◌∙◌, sym, ap, subst, subst₂}
 use Rattle.txn.specs.declared.transactions.TxnId.{TxnId}
+use Rattle.txn.specs.declared.choices.Arc.{Arc}
 use Rattle.txn.specs.declared.choices.Arc.TheVariants.{Taken}
 use Rattle.known_graph.specs.Graphs.{HasKey}
-use Rattle.forced_choices.specs.Forcing.{Forces}
+use Rattle.forced_choices.specs.Forcing.{Forces, AreAllSettledUnless}
 use Rattle.forced_choices.specs.BranchState.{arc_of}
+use Rattle.forced_choices.specs.Tables.{IsTable}
+use Rattle.forced_choices.proofs.Forced.{settled_after}
 use Rattle.forced_choices.proofs.Keeping.{on_side}
 use Rattle.forced_choices.proofs.Stacked.{relation_assumed, arc_same}
 use Rattle.forced_choices.proofs.branch.relation_with.Goals as goal
+
+pub note-requires-clause-from : goal.note-requires-clause-from
+note-requires-clause-from c =
+    let on = on_side c.args.parts.now c.args.graph.now c.args.rule.choice c.args.rule.side c.requires.nodes c.requires.choice in
+    subst (λ id. HasKey c.args.graph.now.nodes id) (ap (λ (p : TxnId × TxnId). p.0) (sym c.conclusion.ensures)) on.start
+
+pub note-requires-clause-to : goal.note-requires-clause-to
+note-requires-clause-to c =
+    let on = on_side c.args.parts.now c.args.graph.now c.args.rule.choice c.args.rule.side c.requires.nodes c.requires.choice in
+    subst (λ id. HasKey c.args.graph.now.nodes id) (ap (λ (p : TxnId × TxnId). p.1) (sym c.conclusion.ensures)) on.end
 
 pub add_arc-requires-clause-start : goal.add_arc-requires-clause-start
 add_arc-requires-clause-start c =
@@ -20,6 +33,17 @@ add_arc-requires-clause-end c =
 
 pub saturate-requires-clause-nodes : goal.saturate-requires-clause-nodes
 saturate-requires-clause-nodes c = λ id remains. subst (λ nodes. HasKey nodes id) (sym c.in_ok-add_arc.ensures.nodes) (c.requires.nodes id remains)
+
+pub saturate-requires-clause-table : goal.saturate-requires-clause-table
+saturate-requires-clause-table c = subst (λ (nodes : List (Option TxnId)). IsTable c.args.parts.now nodes c.args.table.now) (sym c.in_ok-add_arc.ensures.nodes) c.requires.table
+
+pub saturate-requires-clause-due : goal.saturate-requires-clause-due
+saturate-requires-clause-due c = λ e.
+    let old = c.args.graph.now in
+    let arc = Taken c.conclusion.result.0 c.conclusion.result.1 in
+    let since = c.note.new.touched in
+    let settled = settled_after c.args.parts.now old.nodes old.arcs c.untouched-since.result arc since c.requires.closed c.in_ok-note.ensures in
+    subst₂ (λ (nodes : List (Option TxnId)) (arcs : List Arc). AreAllSettledUnless c.args.parts.now nodes arcs since) (sym c.in_ok-add_arc.ensures.nodes) (sym c.in_ok-add_arc.ensures.arcs) settled
 
 pub returns-clause-relation : goal.returns-clause-relation
 returns-clause-relation c = λ taken start log relation.

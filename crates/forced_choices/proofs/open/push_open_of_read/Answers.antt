@@ -1,32 +1,31 @@
-use Rattle.std.proofs.Common.{◌∙◌, ◌++◌, [], List, ap, sym, subst, append-nil, if◌then◌else◌}
-use Rattle.std.specs.Result.{OnOk}
-use Rattle.txn.specs.declared.choices.Choice.{Choice}
-use Rattle.forced_choices.specs.Listing.{choices_from, choices_with}
+use Rattle.std.proofs.Common.{ℕ, ◌++◌, List, sym, subst}
+use Rattle.known_graph.specs.Bits.{HasBit}
+use Rattle.txn.specs.declared.transactions.TxnId.{TxnId}
+use Rattle.forced_choices.specs.Masks.{AreTold, choices_in}
 use Rattle.forced_choices.specs.Undecided.{AreFound}
+use Rattle.forced_choices.proofs.OpenReads.{told_by_writers, decided_all, found_skip}
 use Rattle.forced_choices.proofs.open.push_open_of_read.Goals as goal
 
-pub returns-in-Init : goal.returns-in-Init
-returns-in-Init c = λ front so.
-    let arcs = c.args.graph.now.arcs in
-    let found = c.args.found.now.items in
-    let is = ap (choices_from c.args.parts.now c.args.ids.now c.args.reader c.args.read.0) c.in-Init.is in
-    subst (λ choices. AreFound arcs (front ++ choices) found) (sym is) (subst (λ choices. AreFound arcs choices found) (sym (append-nil front)) so)
-
-pub returns-then-not-writes : goal.returns-then-not-writes
-returns-then-not-writes c = λ front so.
+pub returns-then-is_clear : goal.returns-then-is_clear
+returns-then-is_clear c = λ front so.
     let parts = c.args.parts.now in
-    let ids = c.args.ids.now in
     let arcs = c.args.graph.now.arcs in
-    let found = c.args.found.now.items in
-    let writer = c.in-By.writer in
-    let is = ap (choices_from parts ids c.args.reader c.args.read.0) c.in-By.is ∙ ap (λ t. if t then choices_with parts ids c.args.reader c.args.read.0 writer else []) (sym c.writes.ensures ∙ c.if-not-writes.true) in
-    subst (λ choices. AreFound arcs (front ++ choices) found) (sym is) (subst (λ choices. AreFound arcs choices found) (sym (append-nil front)) so)
+    let table = c.args.table.now in
+    let read = c.args.placed.read in
+    let row = c.in_ok-row.row.items in
+    let told = told_by_writers parts c.args.graph.now.nodes arcs table.ids.items table.writers c.mask.result.now row read c.requires.table.writers c.mask.ensures c.in_ok-row.ensures in
+    let bare = λ (j : ℕ). subst (λ (row : List ℕ). ¬ HasBit row j) c.deref.ensures.value (c.is_clear.ensures.0 c.if-is_clear.true j) in
+    found_skip arcs front c.args.found.now.items (choices_in parts table.ids.items read) so (decided_all parts arcs table.ids.items table.writers.columns.items row read bare told)
 
-pub returns-else-not-writes : goal.returns-else-not-writes
-returns-else-not-writes c =
+pub push_open_columns-requires : goal.push_open_columns-requires
+push_open_columns-requires c =
     let parts = c.args.parts.now in
-    let ids = c.args.ids.now in
     let arcs = c.args.graph.now.arcs in
-    let writer = c.in-By.writer in
-    let is = ap (choices_from parts ids c.args.reader c.args.read.0) c.in-By.is ∙ ap (λ t. if t then choices_with parts ids c.args.reader c.args.read.0 writer else []) (sym c.writes.ensures ∙ c.if-not-writes.false) in
-    subst (λ (choices : List Choice). OnOk c.push_open_of_writer.result ((front : List Choice) → AreFound arcs front c.args.found.now.items → AreFound arcs (front ++ choices) c.push_open_of_writer.new.found.items)) (sym is) c.push_open_of_writer.ensures
+    let table = c.args.table.now in
+    let read = c.args.placed.read in
+    let told = told_by_writers parts c.args.graph.now.nodes arcs table.ids.items table.writers c.mask.result.now c.in_ok-row.row.items read c.requires.table.writers c.mask.ensures c.in_ok-row.ensures in
+    let by_row = subst (λ (row : List ℕ). AreTold parts arcs table.ids.items table.writers.columns.items row read) (sym c.as_slice.ensures.value) told in
+    subst (λ (ids : List TxnId). AreTold parts arcs ids table.writers.columns.items c.as_slice.result.now read) (sym c.as_slice-ids.ensures.value) by_row
+
+pub returns : goal.returns
+returns c = λ front so. subst (λ (ids : List TxnId). AreFound c.args.graph.now.arcs (front ++ choices_in c.args.parts.now ids c.args.placed.read) c.push_open_columns.new.found.items) c.as_slice-ids.ensures.value (c.in_ok-push_open_columns.ensures front so)

@@ -1,41 +1,55 @@
-use Rattle.std.proofs.Common.{get_or, take, refl, sym, subst, ◌∙◌}
-use Rattle.std.specs.List.{flat_map}
+use Rattle.std.proofs.Common.{◌<◌, ◌≡◌, ◌++◌, false, List, Option, length, get_or, take, refl, sym, subst, ◌∙◌}
 use Rattle.txn.specs.declared.transactions.TxnId.{TxnId}
+use Rattle.txn.specs.declared.choices.Choice.{Choice}
 use Rattle.known_graph.specs.Graphs.{HasKey}
-use Rattle.forced_choices.specs.Forcing.{HasLooked}
-use Rattle.forced_choices.specs.Masks.{AreWriters}
-use Rattle.forced_choices.specs.Listing.{reads_of, choices_of_read, choices_of}
+use Rattle.forced_choices.specs.declared.reads.Placed.{Placed}
+use Rattle.forced_choices.specs.Forcing.{Stage, stage_of, HasLooked, AreAllSettledUnless}
+use Rattle.forced_choices.specs.Masks.{choices_in}
+use Rattle.forced_choices.specs.Tables.{IsPlaced, IsTable, choices_at}
 use Rattle.forced_choices.proofs.Distinct.{take_whole}
-use Rattle.forced_choices.proofs.Forced.{looked_none, looked_both}
-use Rattle.forced_choices.proofs.SettledReads.{readers_more}
+use Rattle.forced_choices.proofs.Forced.{looked_none}
+use Rattle.forced_choices.proofs.TableReads.{no_read, at_more}
 use Rattle.forced_choices.proofs.saturation.look_at_all.Goals as goal
 
-abbrev none : TxnId
-none = record { session = 0; number = 0 }
+pub loop-placed-init : goal.loop-placed-init
+loop-placed-init c = record { looked = looked_none c.args.parts.now c.args.graph.now.nodes (stage_of c.args.graph.now c.args.log.now.items c.args.touched.now); nodes = refl; mark = refl }
 
-pub loop-reader-init : goal.loop-reader-init
-loop-reader-init c = record { looked = looked_none c.args.parts.now c.args.graph.now.arcs c.args.log.now.items; nodes = refl; mark = refl }
+pub look_if_due-requires-clause-placed : goal.look_if_due-requires-clause-placed
+look_if_due-requires-clause-placed c =
+    let reads = c.as_slice-reads.result.now in
+    let k = c.loop-placed.placed-index in
+    let within : k < length c.args.table.now.reads.items = subst (λ (xs : List Placed). k < length xs) c.as_slice-reads.ensures.value c.loop-placed-test.true in
+    let here = subst (λ (xs : List Placed). IsPlaced c.args.parts.now c.args.graph.now.nodes (get_or xs k no_read)) (sym c.as_slice-reads.ensures.value) (c.requires.table.reads.placed k no_read within) in
+    subst (λ (nodes : List (Option TxnId)). IsPlaced c.args.parts.now nodes (get_or reads k no_read)) (sym c.loop-placed.invariant.nodes) here
 
-pub look_at_reader-requires-clause-nodes : goal.look_at_reader-requires-clause-nodes
-look_at_reader-requires-clause-nodes c = λ id remains. subst (λ nodes. HasKey nodes id) (sym c.loop-reader.invariant.nodes) (c.requires.nodes id remains)
+pub look_if_due-requires-clause-nodes : goal.look_if_due-requires-clause-nodes
+look_if_due-requires-clause-nodes c = λ id remains. subst (λ nodes. HasKey nodes id) (sym c.loop-placed.invariant.nodes) (c.requires.nodes id remains)
 
-pub look_at_reader-requires-clause-writers : goal.look_at_reader-requires-clause-writers
-look_at_reader-requires-clause-writers c = subst (λ nodes. AreWriters c.args.parts.now nodes c.args.ids.now c.args.writers.now) (sym c.loop-reader.invariant.nodes) c.requires.writers
+pub look_if_due-requires-clause-table : goal.look_if_due-requires-clause-table
+look_if_due-requires-clause-table c = subst (λ (nodes : List (Option TxnId)). IsTable c.args.parts.now nodes c.args.table.now) (sym c.loop-placed.invariant.nodes) c.requires.table
 
-pub loop-reader-preserved : goal.loop-reader-preserved
-loop-reader-preserved c =
+pub loop-placed-preserved : goal.loop-placed-preserved
+loop-placed-preserved c =
     let parts = c.args.parts.now in
-    let ids = c.args.ids.now in
-    let k = c.loop-reader.reader-index in
-    let reader = get_or ids k none in
-    let own = flat_map (choices_of_read parts ids reader) (reads_of parts reader) in
-    let both = looked_both parts c.args.graph.now.arcs c.args.log.now.items c.loop-reader.graph.arcs c.loop-reader.log.items c.look_at_reader.new.graph.arcs c.look_at_reader.new.log.items (choices_of parts ids (take k ids)) own c.loop-reader.invariant.looked c.in_ok-look_at_reader.ensures.looked in
-    let listed = readers_more parts ids k none c.loop-reader-test.true in
+    let ids = c.args.table.now.ids.items in
+    let nodes = c.args.graph.now.nodes in
+    let reads = c.as_slice-reads.result.now in
+    let k = c.loop-placed.placed-index in
+    let due = c.args.due.now in
+    let start = stage_of c.args.graph.now c.args.log.now.items c.args.touched.now in
+    let middle = stage_of c.loop-placed.graph c.loop-placed.log.items c.loop-placed.touched in
+    let new = c.look_if_due.new in
+    let then = stage_of new.graph new.log.items new.touched in
+    let own = choices_in parts ids (get_or reads k no_read).read in
+    let here = subst (λ (nodes : List (Option TxnId)). (start : Stage) (before : List Choice) → HasLooked parts nodes start middle before → (due.all ≡ false → AreAllSettledUnless parts nodes start.arcs due.since) → HasLooked parts nodes start then (before ++ own)) c.loop-placed.invariant.nodes c.in_ok-look_if_due.ensures.looked in
+    let both = here start (choices_at parts ids (take k reads)) c.loop-placed.invariant.looked c.requires.due in
     record {
-      looked = subst (λ xs. HasLooked parts c.args.graph.now.arcs c.args.log.now.items c.look_at_reader.new.graph.arcs c.look_at_reader.new.log.items xs) (sym listed) both;
-      nodes = c.in_ok-look_at_reader.ensures.nodes ∙ c.loop-reader.invariant.nodes;
-      mark = c.look_at_reader.ensures.mark ∙ c.loop-reader.invariant.mark;
+      looked = subst (λ xs. HasLooked parts nodes start then xs) (sym (at_more parts ids reads k no_read c.loop-placed-test.true)) both;
+      nodes = c.in_ok-look_if_due.ensures.nodes ∙ c.loop-placed.invariant.nodes;
+      mark = c.look_if_due.ensures.mark ∙ c.loop-placed.invariant.mark;
     }
 
 pub returns-clause-looked : goal.returns-clause-looked
-returns-clause-looked c = subst (λ ids. HasLooked c.args.parts.now c.args.graph.now.arcs c.args.log.now.items c.loop-reader.graph.arcs c.loop-reader.log.items (choices_of c.args.parts.now c.args.ids.now ids)) (take_whole c.args.ids.now c.loop-reader.reader-index c.loop-reader-test.false) c.loop-reader.invariant.looked
+returns-clause-looked c =
+    let whole = take_whole c.as_slice-reads.result.now c.loop-placed.placed-index c.loop-placed-test.false ∙ c.as_slice-reads.ensures.value in
+    subst (λ (reads : List Placed). HasLooked c.args.parts.now c.args.graph.now.nodes (stage_of c.args.graph.now c.args.log.now.items c.args.touched.now) (stage_of c.loop-placed.graph c.loop-placed.log.items c.loop-placed.touched) (choices_at c.args.parts.now c.args.table.now.ids.items reads)) whole c.loop-placed.invariant.looked

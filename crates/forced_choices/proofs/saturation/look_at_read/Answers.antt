@@ -1,32 +1,29 @@
-use Rattle.std.proofs.Common.{◌∙◌, [], ap, sym, subst, if◌then◌else◌}
-use Rattle.std.specs.Result.{OnOk}
-use Rattle.forced_choices.specs.Forcing.{HasLooked}
-use Rattle.forced_choices.specs.Listing.{choices_from, choices_with}
-use Rattle.forced_choices.proofs.Forced.{looked_none}
+use Rattle.std.proofs.Common.{ℕ, List, sym, subst}
+use Rattle.known_graph.specs.Bits.{HasBit}
+use Rattle.forced_choices.specs.Forcing.{stage_of}
+use Rattle.forced_choices.specs.Masks.{AreSettledBut, choices_in}
+use Rattle.forced_choices.proofs.SettledReads.{settled_by_mask, settled_all, looked_all_there, third_is_choice}
 use Rattle.forced_choices.proofs.saturation.look_at_read.Goals as goal
 
-pub returns-in-Init-clause-looked : goal.returns-in-Init-clause-looked
-returns-in-Init-clause-looked c =
+pub returns-then-is_clear-clause-looked : goal.returns-then-is_clear-clause-looked
+returns-then-is_clear-clause-looked c =
     let parts = c.args.parts.now in
     let arcs = c.args.graph.now.arcs in
-    let log = c.args.log.now.items in
-    subst (λ choices. HasLooked parts arcs log arcs log choices) (sym (ap (choices_from parts c.args.ids.now c.args.reader c.args.read.0) c.in-Init.is)) (looked_none parts arcs log)
+    let table = c.args.table.now in
+    let read = c.args.placed.read in
+    let row = c.in_ok-row.row.items in
+    let but = settled_by_mask parts c.args.graph.now.nodes arcs table.ids.items table.writers c.mask-mask.result.now row read c.requires.table.writers c.mask-mask.ensures c.in_ok-row.ensures in
+    let bare = λ (j : ℕ). subst (λ (row : List ℕ). ¬ HasBit row j) c.deref.ensures.value (c.is_clear.ensures.0 c.if-is_clear.true j) in
+    looked_all_there parts c.args.graph.now.nodes (stage_of c.args.graph.now c.args.log.now.items c.args.touched.now) (choices_in parts table.ids.items read) (settled_all parts arcs table.ids.items table.writers.columns.items row read bare but)
 
-pub returns-then-not-writes-clause-looked : goal.returns-then-not-writes-clause-looked
-returns-then-not-writes-clause-looked c =
+pub look_at_columns-requires-clause-choices : goal.look_at_columns-requires-clause-choices
+look_at_columns-requires-clause-choices c = λ other is. third_is_choice c.args.parts.now c.args.placed.read other c.requires.placed.reads c.requires.placed.written is
+
+pub look_at_columns-requires-clause-settled : goal.look_at_columns-requires-clause-settled
+look_at_columns-requires-clause-settled c =
     let parts = c.args.parts.now in
-    let ids = c.args.ids.now in
     let arcs = c.args.graph.now.arcs in
-    let log = c.args.log.now.items in
-    let writer = c.in-By.writer in
-    let is = ap (choices_from parts ids c.args.reader c.args.read.0) c.in-By.is ∙ ap (λ t. if t then choices_with parts ids c.args.reader c.args.read.0 writer else []) (sym c.writes.ensures ∙ c.if-not-writes.true) in
-    subst (λ choices. HasLooked parts arcs log arcs log choices) (sym is) (looked_none parts arcs log)
-
-pub returns-else-not-writes-clause-looked : goal.returns-else-not-writes-clause-looked
-returns-else-not-writes-clause-looked c =
-    let parts = c.args.parts.now in
-    let ids = c.args.ids.now in
-    let writer = c.in-By.writer in
-    let new = c.look_at_writers.new in
-    let is = ap (choices_from parts ids c.args.reader c.args.read.0) c.in-By.is ∙ ap (λ t. if t then choices_with parts ids c.args.reader c.args.read.0 writer else []) (sym c.writes.ensures ∙ c.if-not-writes.false) in
-    subst (λ choices. OnOk c.look_at_writers.result (HasLooked parts c.args.graph.now.arcs c.args.log.now.items new.graph.arcs new.log.items choices)) (sym is) c.look_at_writers.ensures.looked
+    let table = c.args.table.now in
+    let read = c.args.placed.read in
+    let but = settled_by_mask parts c.args.graph.now.nodes arcs table.ids.items table.writers c.mask-mask.result.now c.in_ok-row.row.items read c.requires.table.writers c.mask-mask.ensures c.in_ok-row.ensures in
+    subst (λ (row : List ℕ). AreSettledBut parts arcs table.ids.items table.writers.columns.items row read) (sym c.as_slice.ensures.value) but

@@ -1,11 +1,13 @@
-use Rattle.std.proofs.Common.{◌≡◌, ◌∷◌, [], ◌∙◌, List, sym, ap, subst}
-use Rattle.txn.specs.declared.choices.ForceStep.{ForceStep}
+use Rattle.std.proofs.Common.{Option, ◌≡◌, ◌∷◌, [], ◌∙◌, List, sym, ap, subst}
+use Rattle.txn.specs.declared.transactions.TxnId.{TxnId}
 use Rattle.order_check.specs.Known.{IsChoice}
 use Rattle.known_graph.specs.Graphs.{GraphState, HasKey}
 use Rattle.forced_choices.specs.BranchState.{Level, BranchState, AreForcedBy}
 use Rattle.forced_choices.specs.declared.branch.Top.{Top}
+use Rattle.forced_choices.specs.Forcing.{IsClosed}
+use Rattle.forced_choices.specs.Tables.{IsTable}
 use Rattle.forced_choices.specs.Stacks.{AreStacked, levels_onto, level_of}
-use Rattle.forced_choices.proofs.Stacked.{at_nodes, at_forced, levels_push, stacked_here, stacked_more, stacked_again, marked_there, last_of_marked, state_of, state_with}
+use Rattle.forced_choices.proofs.Stacked.{at_nodes, at_forced, levels_push, stacked_here, stacked_more, stacked_again, graph_again, at_closed, marked_there, last_of_marked, state_of, state_with}
 use Rattle.forced_choices.proofs.branch.Branch.assume.Goals as goal
 
 pub take_side-requires-clause-choice : goal.take_side-requires-clause-choice
@@ -17,6 +19,15 @@ take_side-requires-clause-nodes c = λ id remains.
     let here = stacked_here c.self.inside.parts c.self.inside.log levels c.self.inside.graph c.self.invariant.stacked in
     subst (λ (g : GraphState). HasKey g.nodes id) (sym c.in_ok-mark.ensures.ok) (at_nodes c.self.inside.parts c.self.inside.log levels c.self.inside.graph here id remains)
 
+pub take_side-requires-clause-table : goal.take_side-requires-clause-table
+take_side-requires-clause-table c = subst (λ (g : GraphState). IsTable c.self.inside.parts g.nodes c.self.inside.table) (sym c.in_ok-mark.ensures.ok) c.self.invariant.table
+
+pub take_side-requires-clause-closed : goal.take_side-requires-clause-closed
+take_side-requires-clause-closed c =
+    let levels = levels_onto [] c.self.inside.tops.items in
+    let here = stacked_here c.self.inside.parts c.self.inside.log levels c.self.inside.graph c.self.invariant.stacked in
+    subst (λ (g : GraphState). IsClosed c.self.inside.parts g.arcs) (sym c.in_ok-mark.ensures.ok) (at_closed c.self.inside.parts c.self.inside.log levels c.self.inside.graph here)
+
 pub back-requires : goal.back-requires
 back-requires c = marked_there c.take_side.new.graph c.self.inside.graph (c.take_side.ensures.mark ∙ last_of_marked c.self.inside.graph c.mark.new.self c.in_ok-mark.ensures.ok)
 
@@ -25,6 +36,7 @@ invariant_of-self-in-Err c =
     let levels = levels_onto [] c.self.inside.tops.items in
     record {
       good = c.self.invariant.good;
+      table = subst (λ (g : GraphState). IsTable c.self.inside.parts g.nodes c.self.inside.table) (sym (graph_again c.self.inside.graph c.mark.new.self c.take_side.new.graph c.back.new.self c.in_ok-mark.ensures.ok c.take_side.ensures.mark c.back.ensures)) c.self.invariant.table;
       stacked = subst (λ (tops : List Top). AreStacked c.self.inside.parts c.self.inside.log (levels_onto [] tops) c.back.new.self) (sym c.in-Err.ensures.err)
           (stacked_again c.self.inside.parts c.self.inside.log levels c.self.inside.graph c.mark.new.self c.take_side.new.graph c.back.new.self c.self.invariant.stacked c.in_ok-mark.ensures.ok c.take_side.ensures.mark c.back.ensures);
     }
@@ -40,6 +52,7 @@ invariant_of-self-in-Ok c =
     let more : levels_onto [] c.take_side.new.tops.items ≡ level_of top ∷ levels = ap (λ tops. levels_onto [] tops) ok.1 ∙ levels_push [] c.self.inside.tops.items top in
     record {
       good = c.self.invariant.good;
+      table = subst (λ (nodes : List (Option TxnId)). IsTable c.self.inside.parts nodes c.self.inside.table) (sym (c.in-Ok.ensures.nodes ∙ ap (λ (g : GraphState). g.nodes) c.in_ok-mark.ensures.ok)) c.self.invariant.table;
       stacked = subst (λ (levels : List Level). AreStacked c.self.inside.parts c.self.inside.log levels c.take_side.new.graph) (sym more)
           (stacked_more c.self.inside.parts c.self.inside.log levels c.self.inside.graph c.mark.new.self c.take_side.new.graph c.args.choice c.args.side ok.0 c.self.invariant.stacked c.in_ok-mark.ensures.ok c.take_side.ensures.mark ok.2 (subst (λ (b : BranchState). IsChoice b.parts c.args.choice) (sym c.self.view_is) c.requires));
     }

@@ -1,18 +1,31 @@
-use Rattle.std.proofs.Common.{sym, subst}
+use Rattle.std.proofs.Common.{[], List, sym, subst}
 use Rattle.std.specs.Prelude.{Contains}
-use Rattle.forced_choices.proofs.KnownRemain.{cycle_found, none_on_cycle}
-use Rattle.forced_choices.proofs.Stacked.{at_exact}
+use Rattle.std.specs.Option.{MatchOption}
+use Rattle.txn.specs.declared.transactions.TxnId.{TxnId}
+use Rattle.order_check.specs.Cycles.{IsCycle}
+use Rattle.order_check.specs.Search.{HasCycle}
+use Rattle.forced_choices.specs.BranchState.{BranchState, assumed, all_taken}
+use Rattle.forced_choices.specs.Stacks.{levels_onto}
+use Rattle.forced_choices.proofs.KnownRemain.{cycle_found, none_on_cycle, known_listed}
+use Rattle.forced_choices.proofs.Stacked.{stacked_here}
 use Rattle.forced_choices.proofs.branch.Branch.cycle.Goals as goal
+
+pub on_cycle-requires : goal.on_cycle-requires
+on_cycle-requires c = c.self.invariant.table.writers.placed
 
 pub returns-in_default : goal.returns-in_default
 returns-in_default c =
-    let state = c.args.self.now in
-    none_on_cycle state.parts state.log state.levels c.last.result.now c.as_slice.result.now c.last.ensures (λ a b known. subst (λ ids. Contains ids a × Contains ids b) (sym c.as_slice.ensures.value) (c.in_ok-ids.ensures.known a b known)) c.in_default.ensures
+    let b = c.self.inside in
+    let levels = levels_onto [] b.tops.items in
+    let here = stacked_here b.parts b.log levels b.graph c.self.invariant.stacked in
+    let none = none_on_cycle b.parts b.log levels b.graph b.table.ids.items here (λ x y known. subst (λ (ids : List TxnId). Contains ids x × Contains ids y) (sym c.self.invariant.table.ids) (known_listed b.parts b.log levels b.graph x y c.self.invariant.stacked known)) c.in_default.ensures in
+    subst (λ (b : BranchState). ¬ HasCycle b.parts (assumed b.levels)) c.self.view_is none
 
 pub returns : goal.returns
 returns c =
-    let state = c.args.self.now in
-    let id = c.in-Some.id in
-    let known = (at_exact state.parts state.log state.levels c.last.result.now id id c.last.ensures).0 c.in-Some.ensures in
-    let reached = (at_exact state.parts state.log state.levels c.last-2.result.now id id c.last-2.ensures).1 known in
-    cycle_found state.parts state.log state.levels c.last-2.result.now id c.in_ok-found.found c.last-2.ensures reached c.in_ok-found.ensures
+    let b = c.self.inside in
+    let levels = levels_onto [] b.tops.items in
+    let found = c.in_ok-found.found in
+    let here = stacked_here b.parts b.log levels b.graph c.self.invariant.stacked in
+    let cycle = cycle_found b.parts b.log levels b.graph c.in-Some.id found here c.in-Some.ensures c.in_ok-found.ensures in
+    subst (λ (b : BranchState). MatchOption found (¬ HasCycle b.parts (assumed b.levels)) (λ arcs. HasCycle b.parts (assumed b.levels) × IsCycle b.parts (all_taken b.log b.levels) arcs)) c.self.view_is cycle

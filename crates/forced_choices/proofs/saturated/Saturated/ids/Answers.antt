@@ -1,4 +1,4 @@
-use Rattle.std.proofs.Common.{◌≡◌, ℕ, [], ◌∷◌, Bool, List, zero, suc, get_or, arith, sym, subst, true}
+use Rattle.std.proofs.Common.{◌≡◌, [], ◌∷◌, Bool, List, zero, suc, get_or, arith, sym, subst, true}
 use Rattle.std.specs.Prelude.{◌↔◌, Contains}
 use Rattle.std.specs.List.{AllPairs}
 use Rattle.txn.specs.declared.transactions.TxnId.{TxnId}

@@ -1,0 +1,105 @@
+-- Reads with their columns, one after another, and their choices.
+use Rattle.std.proofs.Common.{◌≡◌, ◌≢◌, ℕ, ◌+◌, ◌<◌, List, [], ◌∷◌, ◌++◌, length, get_or, take, drop, Option, refl, sym, ap, ◌∙◌, subst, append-nil, true, inl, inr, ◌⊎◌, arith}
+use Rattle.std.specs.Prelude.{All}
+use Rattle.std.specs.List.{flat_map}
+use Rattle.std.proofs.lemmas.Grind.{flat_map-append}
+use Rattle.std.proofs.lemmas.List.{take_more, take-append-drop}
+use Rattle.std.proofs.lemmas.List.Elements.{All-push}
+use Rattle.txn.specs.declared.transactions.TxnId.{TxnId}
+use Rattle.txn.specs.declared.transactions.Source.TheVariants.{By}
+use Rattle.txn.specs.declared.choices.Arc.{Arc}
+use Rattle.txn.specs.declared.choices.Choice.{Choice}
+use Rattle.txn.specs.Choices.{choice_below}
+use Rattle.order_check.specs.declared.remainder.Parts.{Parts}
+use Rattle.order_check.specs.Known.{IsChoice, ReadsKey, WritesKey}
+use Rattle.known_graph.specs.Bits.{HasBit}
+use Rattle.known_graph.specs.Graphs.{IsAt}
+use Rattle.forced_choices.specs.declared.reads.Read.{Read}
+use Rattle.forced_choices.specs.declared.reads.Placed.{Placed}
+use Rattle.forced_choices.specs.declared.touched.Touched.{Touched}
+use Rattle.forced_choices.specs.Forcing.{AreAllSettledUnless}
+use Rattle.forced_choices.specs.Masks.{AreThere, choices_in}
+use Rattle.forced_choices.specs.Tables.{IsPlaced, IsAtColumns, AreReads, choices_at}
+use Rattle.forced_choices.specs.Undecided.{IsUndecided, AreAllDecided, AreFound, IsFirstFound}
+use Rattle.forced_choices.proofs.Members.{In, Ascends, in_right, in_either}
+use Rattle.forced_choices.proofs.SettledReads.{each_choice, third_parts, third_is_choice}
+use Rattle.forced_choices.proofs.OpenReads.{ascends_back}
+
+abbrev no_id : TxnId
+no_id = record { session = 0; number = 0 }
+
+-- what stands past the end of the reads
+abbrev pub no_read : Placed
+no_read = record { read = record { reader = no_id; key = 0; writer = no_id }; reader_at = 0; writer_at = 0 }
+
+-- two that differ have columns that differ
+pub apart_columns : (nodes : List (Option TxnId)) (j column : ℕ) (other id : TxnId) → IsAt nodes j other → IsAt nodes column id → other ≢ id → j ≢ column
+apart_columns nodes j column other id at there apart same = let is : other ≡ id = cc in apart is
+
+-- one more read
+pub at_more : (parts : Parts) (ids : List TxnId) (reads : List Placed) (k : ℕ) (d : Placed) → k < length reads → choices_at parts ids (take (k + 1) reads) ≡ choices_at parts ids (take k reads) ++ choices_in parts ids (get_or reads k d).read
+at_more parts ids reads k d within =
+    ap (λ xs. choices_at parts ids xs) (take_more reads k d within)
+    ∙ flat_map-append (λ (placed : Placed). choices_in parts ids placed.read) (take k reads) (get_or reads k d ∷ [])
+    ∙ ap (λ xs. choices_at parts ids (take k reads) ++ xs) (append-nil (choices_in parts ids (get_or reads k d).read))
+
+-- the choices of a read are choices of the writer and the reader
+of_read : (parts : Parts) (ids : List TxnId) (read : Read) (choice : Choice) → ReadsKey parts read.reader read.key (By read.writer) → WritesKey parts read.writer read.key → In (choices_in parts ids read) choice → IsChoice parts choice × (choice.writer ≡ read.writer) × (choice.reader ≡ read.reader)
+of_read parts ids read choice reads written h = each_choice parts read (λ c. IsChoice parts c × (c.writer ≡ read.writer) × (c.reader ≡ read.reader)) ids (λ k d within c here.
+    let facts = third_parts parts read (get_or ids k d) c here in
+    let is = third_is_choice parts read (get_or ids k d) reads written facts.1 in
+    (subst (λ (x : Choice). IsChoice parts x) (sym facts.0) is, ap (λ (x : Choice). x.writer) facts.0, ap (λ (x : Choice). x.reader) facts.0)) choice h
+
+-- those of a read that isn't touched are settled
+pub untouched_there : (parts : Parts) (nodes : List (Option TxnId)) (arcs : List Arc) (ids : List TxnId) (some : Touched) (placed : Placed) → IsPlaced parts nodes placed → AreAllSettledUnless parts nodes arcs some → (¬ HasBit some.sources.items placed.writer_at) → (¬ HasBit some.targets.items placed.reader_at) → AreThere arcs (choices_in parts ids placed.read)
+untouched_there parts nodes arcs ids some placed is settled no_source no_target choice side h =
+    let facts = of_read parts ids placed.read choice is.reads is.written h in
+    settled choice facts.0 placed.writer_at placed.reader_at (subst (λ id. IsAt nodes placed.writer_at id) (sym facts.1) is.columns.writer) (subst (λ id. IsAt nodes placed.reader_at id) (sym facts.2) is.columns.reader) no_source no_target side
+
+-- reads that are put at the end
+pub reads_none : (parts : Parts) (nodes : List (Option TxnId)) (ids : List TxnId) → AreReads parts nodes ids [] []
+reads_none parts nodes ids = record { listed = refl; placed = λ k d within. absurd (omega arith) }
+
+pub reads_same : (parts : Parts) (nodes : List (Option TxnId)) (ids : List TxnId) (reads : List Placed) (front more : List Choice) → more ≡ [] → AreReads parts nodes ids reads front → AreReads parts nodes ids reads (front ++ more)
+reads_same parts nodes ids reads front more e are = subst (λ choices. AreReads parts nodes ids reads choices) (sym (ap (λ xs. front ++ xs) e ∙ append-nil front)) are
+
+pub reads_push : (parts : Parts) (nodes : List (Option TxnId)) (ids : List TxnId) (old new : List Placed) (read : Read) (front : List Choice) → (placed : Placed) × (placed.read ≡ read) × IsAtColumns nodes placed × (new ≡ old ++ placed ∷ []) → ReadsKey parts read.reader read.key (By read.writer) → WritesKey parts read.writer read.key → AreReads parts nodes ids old front → AreReads parts nodes ids new (front ++ choices_in parts ids read)
+reads_push parts nodes ids old new read front (placed, same, at, pushed) reads written are =
+    let is : IsPlaced parts nodes placed = record {
+      reads = subst (λ (r : Read). ReadsKey parts r.reader r.key (By r.writer)) (sym same) reads;
+      written = subst (λ (r : Read). WritesKey parts r.writer r.key) (sym same) written;
+      columns = at;
+    } in
+    subst (λ (xs : List Placed). AreReads parts nodes ids xs (front ++ choices_in parts ids read)) (sym pushed) (record {
+      listed = flat_map-append (λ (placed : Placed). choices_in parts ids placed.read) old (placed ∷ []) ∙ ap (λ xs. xs ++ (choices_in parts ids placed.read ++ [])) are.listed ∙ ap (λ xs. front ++ xs) (append-nil (choices_in parts ids placed.read) ∙ ap (λ r. choices_in parts ids r) same);
+      placed = All-push (IsPlaced parts nodes) old placed are.placed is;
+    })
+
+-- the first that is found, where none was before
+pub first_at : (parts : Parts) (arcs : List Arc) (ids : List TxnId) (reads : List Placed) (k : ℕ) (d : Placed) (found : List Choice) (choice : Choice) → k < length reads → AreAllDecided arcs (choices_at parts ids (take k reads)) →
+    AreFound arcs (choices_in parts ids (get_or reads k d).read) found → found ≡ choice ∷ drop 1 found → IsFirstFound arcs (choices_at parts ids reads) choice
+first_at parts arcs ids reads k d found choice within decided so first = record {
+  front = before ++ own;
+  rest = choices_at parts ids (drop (k + 1) reads);
+  whole = ap (λ xs. choices_at parts ids xs) (sym (take-append-drop (k + 1) reads)) ∙ flat_map-append (λ (placed : Placed). choices_in parts ids placed.read) (take (k + 1) reads) (drop (k + 1) reads) ∙ ap (λ xs. xs ++ choices_at parts ids (drop (k + 1) reads)) (at_more parts ids reads k d within);
+  among = in_right before own choice here.0;
+  undecided = here.1;
+  least = λ up other h is apart. by_part up other is apart (in_either before own other h);
+}
+  where
+    before : List Choice
+    before = choices_at parts ids (take k reads)
+
+    own : List Choice
+    own = choices_in parts ids (get_or reads k d).read
+
+    here : In own choice × IsUndecided arcs choice
+    here = so.each choice (subst (λ xs. In xs choice) (sym first) (inl refl))
+
+    by_place : Ascends choice_below (before ++ own) → (other : Choice) → other ≢ choice → In (choice ∷ drop 1 found) other → choice_below choice other ≡ true
+    by_place up other apart (inl e) = absurd (apart (sym e))
+    by_place up other apart (inr h) = (subst (λ xs. Ascends choice_below xs) first (so.ascend (ascends_back choice_below before own up))).0 other h
+
+    by_part : Ascends choice_below (before ++ own) → (other : Choice) → IsUndecided arcs other → other ≢ choice → In before other ⊎ In own other → choice_below choice other ≡ true
+    by_part up other is apart (inl h) = absurd (decided other h is)
+    by_part up other is apart (inr h) = by_place up other apart (subst (λ xs. In xs other) first (so.all other h is))

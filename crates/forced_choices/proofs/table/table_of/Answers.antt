@@ -1,0 +1,23 @@
+use Rattle.std.proofs.Common.{List, get_or, subst, ◌∙◌}
+use Rattle.txn.specs.declared.transactions.TxnId.{TxnId}
+use Rattle.forced_choices.specs.Listing.{choices_of}
+use Rattle.forced_choices.specs.Masks.{AreWriters}
+use Rattle.forced_choices.specs.Tables.{AreReads}
+use Rattle.forced_choices.proofs.ListedIds.{listed_remains}
+use Rattle.forced_choices.proofs.Members.{In, in_place}
+use Rattle.forced_choices.proofs.table.table_of.Goals as goal
+
+pub writers_of-requires : goal.writers_of-requires
+writers_of-requires c = λ k d within.
+    let ids = c.as_slice.result.now in
+    c.requires.nodes (get_or ids k d) (listed_remains c.args.parts.now (get_or ids k d) (subst (λ (xs : List TxnId). In xs (get_or ids k d)) (c.as_slice.ensures.value ∙ c.in_ok-ids.ensures) (in_place ids k d within)))
+
+pub returns : goal.returns
+returns c =
+    let parts = c.args.parts.now in
+    let nodes = c.args.graph.now.nodes in
+    record {
+      ids = c.in_ok-ids.ensures;
+      writers = subst (λ (ids : List TxnId). AreWriters parts nodes ids c.in_ok-writers.writers) c.as_slice.ensures.value c.in_ok-writers.ensures;
+      reads = subst (λ (ids : List TxnId). AreReads parts nodes ids c.in_ok-reads.reads.items (choices_of parts ids ids)) c.as_slice-2.ensures.value c.in_ok-reads.ensures;
+    }

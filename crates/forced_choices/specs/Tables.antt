@@ -1,0 +1,43 @@
+-- For private clauses: what is looked up once, for parts and the keys of a graph.
+use Rattle.std.specs.Prelude.{◌≡◌, ◌<◌, ℕ, List, Option, All, length, slice_index, slice_index_or}
+use Rattle.std.specs.List.{flat_map}
+use Rattle.txn.specs.declared.transactions.TxnId.{TxnId}
+use Rattle.txn.specs.declared.transactions.Source.TheVariants.{By}
+use Rattle.txn.specs.declared.choices.Choice.{Choice}
+use Rattle.order_check.specs.declared.remainder.Parts.{Parts}
+use Rattle.order_check.specs.Known.{ReadsKey, WritesKey}
+use Rattle.known_graph.specs.Graphs.{IsAt}
+use Rattle.forced_choices.specs.declared.reads.Placed.{Placed}
+use Rattle.forced_choices.specs.declared.table.Table.{Table}
+use Rattle.forced_choices.specs.Listing.{all_ids, choices_of}
+use Rattle.forced_choices.specs.Masks.{AreWriters, choices_in}
+
+-- the columns have the two
+pub record IsAtColumns (nodes : List (Option TxnId)) (placed : Placed) : Type 0 where
+  pub reader : IsAt nodes placed.reader_at placed.read.reader
+  pub writer : IsAt nodes placed.writer_at placed.read.writer
+
+-- the read is one, and the columns have the two
+pub record IsPlaced (parts : Parts) (nodes : List (Option TxnId)) (placed : Placed) : Type 0 where
+  pub reads : ReadsKey parts placed.read.reader placed.read.key (By placed.read.writer)
+  pub written : WritesKey parts placed.read.writer placed.read.key
+  pub columns : IsAtColumns nodes placed
+
+-- the choices of these reads
+abbrev pub choices_at : Parts → List TxnId → List Placed → List Choice
+choices_at parts ids reads = flat_map (λ placed. choices_in parts ids placed.read) reads
+
+-- the reads are some, and these choices are theirs
+pub record AreReads (parts : Parts) (nodes : List (Option TxnId)) (ids : List TxnId) (reads : List Placed) (choices : List Choice) : Type 0 where
+  pub listed : choices_at parts ids reads ≡ choices
+  pub placed : All (IsPlaced parts nodes) reads
+
+-- the ids are at their columns
+abbrev pub AreAtColumns : List (Option TxnId) → Table → Type 0
+AreAtColumns nodes table = (k : ℕ) (d : TxnId) → k < length table.ids.items → IsAt nodes (slice_index table.writers.columns.items k) (slice_index_or table.ids.items k d)
+
+-- all ids, the writers of each key among them, and all reads from what remains
+pub record IsTable (parts : Parts) (nodes : List (Option TxnId)) (table : Table) : Type 0 where
+  pub ids : table.ids.items ≡ all_ids parts
+  pub writers : AreWriters parts nodes table.ids.items table.writers
+  pub reads : AreReads parts nodes table.ids.items table.reads.items (choices_of parts table.ids.items table.ids.items)

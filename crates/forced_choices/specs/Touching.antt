@@ -1,0 +1,19 @@
+-- For private clauses: which transactions reach more than before, or are reached by more.
+use Rattle.std.specs.Prelude.{ℕ, List, Option}
+use Rattle.txn.specs.declared.transactions.TxnId.{TxnId}
+use Rattle.txn.specs.declared.choices.Arc.{Arc}
+use Rattle.known_graph.specs.Bits.{HasBit}
+use Rattle.known_graph.specs.Graphs.{IsAt}
+use Rattle.known_graph.specs.Reach.{Reaches}
+use Rattle.forced_choices.specs.declared.touched.Touched.{Touched}
+
+-- each column that the one has the other has
+pub record IsTouchedIn (some more : Touched) : Type 0 where
+  pub sources : (i : ℕ) → HasBit some.sources.items i → HasBit more.sources.items i
+  pub targets : (j : ℕ) → HasBit some.targets.items j → HasBit more.targets.items j
+
+-- with more arcs more is touched; what isn't reaches no more than before, or is reached by no more
+pub record AreNoted (nodes : List (Option TxnId)) (arcs : List Arc) (old : Touched) (new : List Arc) (then : Touched) : Type 0 where
+  pub stay : IsTouchedIn old then
+  pub onto : (i : ℕ) (a b : TxnId) → IsAt nodes i a → (¬ HasBit then.sources.items i) → Reaches new a b → Reaches arcs a b
+  pub from : (j : ℕ) (a b : TxnId) → IsAt nodes j b → (¬ HasBit then.targets.items j) → Reaches new a b → Reaches arcs a b

@@ -1,0 +1,130 @@
+// What is looked up once for parts and the keys of a graph.
+ghost use Rattle.std.specs.Prelude.{◌≡◌, ◌∷◌, [], ◌++◌, List, All, IfOk, OnOk};
+ghost use Rattle.std.specs.List.{flat_map};
+ghost use Rattle.txn.specs.declared.transactions.TxnId.{TxnId};
+ghost use Rattle.txn.specs.declared.transactions.Source.TheVariants.{By};
+ghost use Rattle.txn.specs.declared.choices.Choice.{Choice};
+ghost use Rattle.order_check.specs.Based.{Remains};
+ghost use Rattle.order_check.specs.Good.{IsGood};
+ghost use Rattle.order_check.specs.Known.{ReadsKey};
+ghost use Rattle.known_graph.specs.Graphs.{HasNode};
+ghost use Rattle.forced_choices.specs.declared.reads.Placed.{Placed};
+ghost use Rattle.forced_choices.specs.Listing.{choices_of, choices_of_read, reads_of};
+ghost use Rattle.forced_choices.specs.Tables.{AreReads, IsAtColumns, IsTable};
+
+use crate::listing::{reads_of, remaining_ids_of, writes};
+use crate::reads::{Placed, Read};
+use crate::writers::{Writers, column_of, writers_of};
+use known_graph::Graph;
+use order_check::Parts;
+use std::alloc::Global;
+use txn::{NoMemory, Source, TxnId};
+
+/// All that remains, the writers of each key, and the reads from what remains, each with its columns.
+#[derive(Drop, Debug)]
+pub struct Table {
+    /// In order of id.
+    pub ids: Vec<TxnId>,
+    pub writers: Writers,
+    /// In order of reader.
+    pub reads: Vec<Placed>,
+}
+
+/// Puts a read at the end, with its columns.
+fn push_placed(reads: &mut Vec<Placed>, graph: &Graph, read: Read) -> Result<(), NoMemory>
+    requires reader { HasNode graph.now read.reader }
+    requires writer { HasNode graph.now read.writer }
+    ensures { OnOk result ((placed : Placed) × (placed.read ≡ read) × IsAtColumns graph.now.nodes placed × (reads.new.items ≡ reads.old.items ++ placed ∷ [])) }
+{
+    let reader_at = column_of(graph, read.reader);
+    let writer_at = column_of(graph, read.writer);
+    reads.push(Placed {
+        read,
+        reader_at,
+        writer_at,
+    })?;
+    Ok(())
+}
+
+/// Puts a read at the end, if its writer remains and writes the key.
+fn push_read(
+    reads: &mut Vec<Placed>,
+    parts: &Parts,
+    graph: &Graph,
+    reader: TxnId,
+    read: (u64, Source),
+) -> Result<(), NoMemory>
+    requires reads { ReadsKey parts.now reader read.0 read.1 }
+    requires nodes { (id : TxnId) → Remains parts.now id → HasNode graph.now id }
+    ensures { OnOk result ((ids : List TxnId) (front : List Choice) → AreReads parts.now graph.now.nodes ids reads.old.items front
+        → AreReads parts.now graph.now.nodes ids reads.new.items (front ++ choices_of_read parts.now ids reader read)) }
+{
+    match read.1 {
+        Source::Init => Ok(()),
+        Source::By(writer) => {
+            if !writes(parts, read.0, writer) {
+                return Ok(());
+            }
+            let key = read.0;
+            push_placed(
+                reads,
+                graph,
+                Read {
+                    reader,
+                    key,
+                    writer,
+                },
+            )
+        }
+    }
+}
+
+/// Puts the reads of a transaction at the end.
+fn push_reads_of(
+    reads: &mut Vec<Placed>,
+    parts: &Parts,
+    graph: &Graph,
+    reader: TxnId,
+) -> Result<(), NoMemory>
+    requires { (id : TxnId) → Remains parts.now id → HasNode graph.now id }
+    ensures { OnOk result ((ids : List TxnId) (front : List Choice) → AreReads parts.now graph.now.nodes ids reads.old.items front
+        → AreReads parts.now graph.now.nodes ids reads.new.items (front ++ flat_map (choices_of_read parts.now ids reader) (reads_of parts.now reader))) }
+{
+    for read in reads_of(parts, reader) {
+        push_read(reads, parts, graph, reader, *read)?;
+    }
+    Ok(())
+}
+
+/// The reads of these ids from what remains, in order.
+fn reads_among(
+    alloc: Global,
+    parts: &Parts,
+    graph: &Graph,
+    ids: &[TxnId],
+) -> Result<Vec<Placed>, NoMemory>
+    requires { (id : TxnId) → Remains parts.now id → HasNode graph.now id }
+    ensures { IfOk result (λ reads. AreReads parts.now graph.now.nodes ids.now reads.items (choices_of parts.now ids.now ids.now)) }
+{
+    let mut reads = Vec::new(alloc);
+    for id in ids {
+        push_reads_of(&mut reads, parts, graph, *id)?;
+    }
+    Ok(reads)
+}
+
+/// The table of the parts, on a graph that has all that remains.
+pub fn table_of(alloc: Global, parts: &Parts, graph: &Graph) -> Result<Table, NoMemory>
+    requires good { IsGood parts.now }
+    requires nodes { (id : TxnId) → Remains parts.now id → HasNode graph.now id }
+    ensures { IfOk result (IsTable parts.now graph.now.nodes) }
+{
+    let ids = remaining_ids_of(alloc, parts)?;
+    let writers = writers_of(alloc, parts, graph, ids.as_slice())?;
+    let reads = reads_among(alloc, parts, graph, ids.as_slice())?;
+    Ok(Table {
+        ids,
+        writers,
+        reads,
+    })
+}
