@@ -1,4 +1,4 @@
-//! A plain search, from the definitions alone: what it finds within how many nodes is compared with the solver's answers, over generated
+//! A plain search, over a plain relation: what it finds within how many nodes is compared with the solver's answers, over generated
 //! histories of at most eight transactions.
 use crate::generated::{Dice, parts_by};
 use crate::plain::{Facts, Node, Pair, facts_of, is_open, known_with, look};
@@ -147,7 +147,7 @@ fn agrees(rt: &impl Abort, alloc: Global, parts: &Parts) -> Result<usize, Fail> 
 fn generated_histories_are_searched_as_defined(rt: HostRuntime) -> Result<(), Fail> {
     let mut dice = Dice::of(1);
     let mut open = Vec::new(rt.alloc());
-    for _ in 0..1000 {
+    for _ in 0..1100 {
         let parts = parts_by(rt.alloc(), &mut dice)?;
         if open.len() < 500 && parts.is_good() && parts.remaining_count() <= 8 {
             open.push(agrees(&rt, rt.alloc(), &parts)?)?;

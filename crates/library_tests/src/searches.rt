@@ -1,5 +1,4 @@
-//! Searches: worked histories with budgets, and generated ones of at most eight transactions, whose verdicts are those of a trial of all
-//! orders, and whose nodes are counted by a plain scan.
+//! Searches: worked histories with budgets.
 use crate::tables::{EMPTY, ID_0_0, ID_1_0, ID_2_0, ID_3_0, Table};
 use forced_choices::Saturated;
 use order_check::Parts;
