@@ -35,3 +35,5 @@ mod tables;
 mod trees;
 #[cfg(test)]
 mod waiting;
+#[cfg(test)]
+mod workers;

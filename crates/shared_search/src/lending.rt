@@ -8,7 +8,7 @@ use crate::sharing::solve_all;
 use crate::workers::CubeSolver;
 use order_check::scans_find_one;
 use polygraph::{Answer, Cube, Problem, Solver, solve_cube};
-use refutation::{joined_depth, joined_trees_refute};
+use refutation::{joined_depth, joined_trees_refute, shortened};
 use std::alloc::Global;
 use std::thread::Threads;
 use txn::{Choice, NoMemory};
@@ -87,6 +87,29 @@ fn share_out<R: Threads + Sync, G: Gate + Sync>(
     solve_all(rt, alloc, &lent, cubes, workers, gate)
 }
 
+/// The same, and where it is a no its tree is shortened.
+fn answer_to<R: Threads + Sync, G: Gate + Sync>(
+    rt: &R,
+    alloc: Global,
+    problem: &Problem,
+    budget: u64,
+    depth: u64,
+    workers: u64,
+    gate: &G,
+) -> Answer
+    requires effort { IsEffort budget depth workers }
+    ensures lawful { IsLawful problem.now.known.parts budget depth result }
+    ensures picked { IsPicked problem.now budget depth result }
+{
+    match share_out(rt, alloc, problem, budget, depth, workers, gate) {
+        Answer::No(tree) => match shortened(alloc, problem.parts(), tree) {
+            Ok(tree) => Answer::No(tree),
+            Err(_) => Answer::NoMemory,
+        },
+        answer => answer,
+    }
+}
+
 /// The solver whose cubes are shared by workers, which start by `rt`. The gate is called before a worker searches a cube, and after.
 #[derive(Drop)]
 pub struct Shared<R: Threads + Sync, G: Gate + Sync> {
@@ -112,7 +135,7 @@ impl<R: Threads + Sync, G: Gate + Sync> Shared<R, G> {
         ensures lawful { IsLawful problem.now.known.parts budget depth result }
         ensures picked { IsPicked problem.now budget depth result }
     {
-        share_out(&self.rt, alloc, problem, budget, depth, workers, &self.gate)
+        answer_to(&self.rt, alloc, problem, budget, depth, workers, &self.gate)
     }
 }
 

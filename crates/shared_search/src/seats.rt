@@ -1,4 +1,4 @@
-ghost use Rattle.std.specs.Prelude.{◌≡◌, ◌+◌, ◌<◌, ◌≤◌, ◌^◌, ◌⊎◌, All, IfOk, MatchOption, unwrap_or, vec_len};
+ghost use Rattle.std.specs.Prelude.{◌≡◌, ◌+◌, ◌<◌, ◌≤◌, ◌^◌, ◌⊎◌, ⊤, All, IfOk, MatchOption, unwrap_or, vec_len};
 ghost use Rattle.shared_search.specs.Counts.{times, nothing};
 ghost use Rattle.shared_search.specs.Rule.{claims, ends, finds, sees, answers, both_of, Whole};
 ghost use Rattle.shared_search.specs.Boards.{IsSeatOf, IsFresh};
@@ -105,6 +105,7 @@ impl Board {
     pub fn least(&self, seat: &mut Seat) -> Option<u64>
         requires seat { IsSeatOf self.now seat.old }
         ensures seat { IsSeatOf self.now seat.new }
+        ensures some { MatchOption result ⊤ (λ n. n < nothing) }
         ensures least { (seat.new.1 ≡ sees seat.old.1 (unwrap_or result nothing)) × (unwrap_or result nothing ≤ seat.old.1.least) }
     {
         let n = look(&self.table.shared, &mut seat.place);
@@ -133,7 +134,8 @@ impl Board {
         seat.ended = seat.ended || ended;
     }
 
-    /// What a seat that has taken all others in knows: each cube was claimed once, where none is left, and the least cube with a yes is the least found.
+    /// What a seat that has taken all others in knows: each cube was claimed once, where none is left, and no cube that it saw as having a yes is lower than the
+    /// least that was found.
     pub fn settle(&self, seat: &mut Seat)
         requires seat { IsSeatOf self.now seat.old }
         requires all { seat.old.1.parts ≡ self.now.2 }
