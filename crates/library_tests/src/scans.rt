@@ -1,4 +1,4 @@
-//! A plain search, from the definitions alone: what it finds within how many nodes is compared with the solver's answers, over generated
+//! A plain search, over a plain relation: what it finds within how many nodes is compared with the solver's answers, over generated
 //! histories of at most eight transactions.
 use crate::generated::{Dice, parts_by};
 use crate::plain::{Facts, Node, Pair, facts_of, is_open, known_with, look};

@@ -1,5 +1,4 @@
-//! Searches: worked histories with budgets, and generated ones of at most eight transactions, whose verdicts are those of a trial of all
-//! orders, and whose nodes are counted by a plain scan.
+//! Searches: worked histories with budgets.
 use crate::tables::{EMPTY, ID_0_0, ID_1_0, ID_2_0, ID_3_0, Table};
 use forced_choices::Saturated;
 use order_check::Parts;
@@ -12,7 +11,7 @@ use txn::NoMemory;
 use txn::Source::{By, Init};
 
 /// Four writers and four readers: each way to order the writers of key 1 and those of key 2 fails one of the readers.
-const REAL_SPLIT: Table = Table {
+pub const REAL_SPLIT: Table = Table {
     marks: &[0; 8],
     remain: &[
         &[(&[], &[1, 3])],

@@ -55,6 +55,6 @@ pub record AreOutcomes (may : ℕ → Cube → Type 0) (count : ℕ) (outcomes :
   pub few : length outcomes ≤ count
   pub end : length outcomes < count → IsSome (first_yes outcomes)
 
--- the answer is picked of such outcomes, unless memory was wanted
+-- the answer is picked of such outcomes, unless memory was wanting
 abbrev pub Picked : (ℕ → Cube → Type 0) → List Choice → ℕ → Answer → Type 0
 Picked may choices count answer = (answer ≡ answers.NoMemory) ⊎ ((outcomes : List Cube) × AreOutcomes may count outcomes × IsPick choices outcomes answer)

@@ -49,7 +49,7 @@ both_of v w =
     }
 
 -- What a seat knows fits the words: it was told that no cube is left at most once for each of its parts, and only where none is; it has seen
--- no less than the least; it has told of no cube that it hasn't claimed, and of none twice; a seat without parts knows nothing.
+-- no less than the least; it has counted no cube as answered that it hasn't claimed, and none twice; a seat without parts knows nothing.
 pub record Fits (cubes next least : ℕ) (v : View) : Type 0 where
   pub cubes_are : 0 < v.parts → v.cubes ≡ cubes
   pub room : v.over ≤ v.parts
@@ -95,8 +95,8 @@ looked_after s m n m' = (m'.1 ≡ m.1) × (m'.0 ≡ sees m.0 n) × (n ≤ m.0.le
 abbrev pub done_after : ℕ → Step (Unit {0}) → Known → ℕ → Known → Type 0
 done_after i s m n m' = (m'.1 ≡ m.1) × (m'.0 ≡ answers m.0 i)
 
--- What a seat with all parts learns: where it was told that no cube is left, each was claimed once; and the least cube with a yes is the least that it
--- knows of.
+-- What a seat with all parts learns: where it was told that no cube is left, each was claimed once; and no cube that it saw as having a yes is lower
+-- than the least that was found.
 abbrev pub Whole : View → Type 0
 Whole v = (0 < v.over → (x : ℕ) → times x v.claimed ≡ once_below x v.cubes) × (lowest v.found ≤ v.least)
 
