@@ -30,11 +30,13 @@ class Program(unittest.TestCase):
             status, told, error = self.run_it(*other)
             self.assertEqual((status, told, error.count("\n")), (2, "", 1))
 
-    def test_the_table_of_the_readme(self):
+    def test_the_tables_of_the_readme(self):
         rows = re.findall(r"^\| `(\[.*\])` \| `(\[.*\])` \|$", text_of("README.md"), re.MULTILINE)
-        self.assertEqual(len(rows), 7)
-        replies = "".join(f"{reply}\n" for _, reply in rows)
-        self.assertEqual(self.run_it(script="".join(f"{line}\n" for line, _ in rows)), (0, replies, ""))
+        begins = [at for at, (line, _) in enumerate(rows) if line.startswith('["open"')]  # each table is a script of its own
+        self.assertEqual((begins, len(rows)), ([0, 7], 11))
+        for table in (rows[:7], rows[7:]):
+            replies = "".join(f"{reply}\n" for _, reply in table)
+            self.assertEqual(self.run_it(script="".join(f"{line}\n" for line, _ in table)), (0, replies, ""))
 
     def test_three_lines_of_the_readme(self):
         script = re.search(r'```\n(\["open".*?)```', text_of("README.md"), re.DOTALL).group(1)
