@@ -10,10 +10,13 @@ PROGRAM = os.environ.get("COBRA_AUDIT", os.path.normpath(BUILT))
 
 # The certificate is an order where the kind is serial or pending, and the items of a refutation where it is violated.
 Report = namedtuple("Report", "number kind counts certificate", defaults=(None,))
-LIMIT, BUDGET = 4096, 4096  # the most transactions that one run of the program takes; nodes of the search that a round may look at
+LIMIT, BUDGET = 4096, 4096  # the most transactions that may remain; nodes of the search that a round may look at
+FENCE = "zanteyard fence"  # the key on which sessions run fences; its number is 0
 # What one transaction did: reads are pairs of a key's name and a source, which is "init" or (session, number); writes are names of keys.
 Logged = namedtuple("Logged", "reads writes outcome", defaults=("committed",))
 ABORTED = Logged((), (), "aborted")
+# The fence up to which the auditor has forgotten, and how many transactions that were.
+Cut = namedtuple("Cut", "fence gone")
 
 
 class Refused(Exception):
@@ -21,7 +24,14 @@ class Refused(Exception):
 
 
 class Full(Refused):
-    """As many transactions were offered as the auditor takes; nothing is wrong with this one."""
+    """As many transactions remain as the auditor holds; nothing is wrong with this one."""
+
+
+class NoCut(Refused):
+    """No round has found a fence up to which everything is settled; or the program has no such command."""
+
+
+KINDS = {"Backlog": Full, "NoCut": NoCut}
 
 
 class Ended(Exception):
@@ -33,16 +43,18 @@ class Auditor:
 
     def __init__(self, sessions, limit=LIMIT, program=PROGRAM):
         self.sessions, self.limit = sessions, limit
-        self.numbers = {}  # of each key, by its name; key 0 is for fences
-        self.history = [[] for _ in range(sessions)]  # what was taken in, as Logged
-        self.lines = [["open", sessions, limit]]  # the same, as the program was told it
+        self.numbers = {FENCE: 0}  # of each key, by its name
+        self.history = [[] for _ in range(sessions)]  # what was taken in and isn't forgotten, as Logged
+        self.marks = [0] * sessions  # how many of each session are forgotten
+        self.base = {}  # of each key that a forgotten transaction wrote, the last that did
+        self.can_cut = True  # until the program says that it doesn't know the command
         self.lock = threading.Lock()
         try:
             self.program = subprocess.Popen([program], stdin=subprocess.PIPE, stdout=subprocess.PIPE, stderr=subprocess.PIPE, text=True)
         except OSError as error:
             raise Ended(f"{program} can't be started ({error}); README.md says how it is built") from error
         try:
-            self.ask(self.lines[0])
+            self.ask(["open", sessions, limit])
         except BaseException:
             self.end()
             raise
@@ -60,26 +72,45 @@ class Auditor:
             raise Ended(f"cobra_audit ended with status {self.program.wait()}: {self.program.stderr.read().strip()}")
         reply = json.loads(answer)
         if reply[0] == "no":
-            raise (Full if reply[2] == "Backlog" else Refused)(f"{text} was answered {reply[2]}")
+            raise KINDS.get(reply[2], Refused)(f"{text} was answered {reply[2]}")
         return reply
 
     def offer(self, session, number, logged):
+        self.ask(["offer", session, number, [self.txn(logged)]])
+        self.history[session].append(logged)
+
+    def txn(self, logged):
+        """As lines have it."""
         reads = sorted((self.key_number(key), *(() if source == "init" else source)) for key, source in logged.reads)
         texts = [[key, *(source or ("init",))] for key, *source in reads]  # "init" comes before every transaction
-        line = ["offer", session, number, [[texts, sorted(map(self.key_number, logged.writes))]]]
-        self.ask(line)
-        self.lines.append(line)
-        self.history[session].append(logged)
+        return [texts, sorted(map(self.key_number, logged.writes))]
 
     def key_number(self, key):
         with self.lock:
-            return self.numbers.setdefault(key, len(self.numbers) + 1)
+            return self.numbers.setdefault(key, len(self.numbers))
 
     def close(self, session):
         self.ask(["close", session])
 
     def round(self, budget=BUDGET):
         return Report(*self.ask(["round", budget, 0, 1])[1:])
+
+    def truncate(self):
+        """Has the auditor forget what the last round found settled. The lines keep in which order what remains stands to it."""
+        try:
+            _, fence, gone, last = self.ask(["truncate"])
+        except NoCut:
+            raise
+        except Refused as error:
+            self.can_cut = "BadLine" not in str(error)
+            raise NoCut(str(error)) from error
+        names = {number: key for key, number in self.numbers.items()}
+        self.base.update((names[key], (session, number)) for key, session, number in last)
+        for session in range(self.sessions):
+            count = sum(1 for id in gone if id[0] == session)
+            del self.history[session][:count]
+            self.marks[session] += count
+        return Cut(tuple(fence), len(gone))
 
     def end(self):
         """Ends the program, and gives its status."""
@@ -102,12 +133,53 @@ class Auditor:
 
 def audited(history, program=PROGRAM):
     """The report of an auditor of its own, and the script that gives it."""
-    with Auditor(len(history), max(1, sum(map(len, history))), program) as auditor:
+    limit = max(1, sum(map(len, history)))
+    with Auditor(len(history), limit, program) as auditor:
+        script = [["open", len(history), limit]]
         for session, txns in enumerate(history):
             for number, logged in enumerate(txns):
                 auditor.offer(session, number, logged)
-        script = [*auditor.lines, ["round", BUDGET, 0, 1]]
+                script.append(["offer", session, number, [auditor.txn(logged)]])
+        script.append(["round", BUDGET, 0, 1])
         return auditor.round(), "".join(json.dumps(line, separators=(",", ":")) + "\n" for line in script)
+
+
+START = "everything before the cut"  # a key that the first transaction of such a history writes, and that each session reads first
+
+
+def from_start(auditor):
+    """What remains as a history without a cut and without fences' own key, and the names of its transactions. Where something is forgotten,
+    a first transaction stands for it: it writes the last version of each key, and every session begins with one that reads from it."""
+    gone, some_gone = (0, 0), any(auditor.marks)
+
+    def moved(key, source):
+        if source == "init" or not some_gone:
+            return source
+        if source[1] >= auditor.marks[source[0]]:
+            return (source[0], source[1] - auditor.marks[source[0]] + 1)
+        return "init" if auditor.base.get(key, source) != source else gone  # an older one than the last is as wrong as the initial state
+
+    def plain(key):
+        return "fence" if key == FENCE else key  # what is left of a fence may be none
+
+    def without_cut(one):
+        return one._replace(reads=[(plain(key), moved(key, source)) for key, source in one.reads], writes=[*map(plain, one.writes)])
+
+    history = [[without_cut(one) for one in txns] for txns in auditor.history]
+    if not some_gone:
+        return history, name
+    first = Logged((), (START, *sorted(map(plain, auditor.base))), "forgotten")
+    after = Logged(((START, gone),), (), "forgotten")
+
+    def renamed(id):
+        return f"{id[0]}.{id[1] - 1 + auditor.marks[id[0]]}" if id[1] else ("the cut" if id == gone else f"the cut in {id[0]}")
+
+    renamed.older = {plain(key): "in a version older than that at the cut" for key in auditor.base}
+    return [[after if session else first, *txns] for session, txns in enumerate(history)], renamed
+
+
+def name(id):
+    return f"{id[0]}.{id[1]}"
 
 
 def named(items):
@@ -181,12 +253,23 @@ def smaller(history, program=PROGRAM):
             return history
 
 
-def words(history):
+def version(key, source, name):
+    """Which version of the key was read."""
+    if source != "init":
+        return f"from {name(source)}"
+    return getattr(name, "older", {}).get(key, "as it was at first")
+
+
+def deeds(logged, name):
+    """What a transaction did."""
+    if logged.outcome == "aborted":
+        return ["aborted"]
+    return [f"read {key} {version(key, source, name)}" for key, source in logged.reads] + [f"wrote {key}" for key in logged.writes]
+
+
+def words(history, name=name):
     """A line for each transaction."""
     for session, txns in enumerate(history):
         for number, logged in enumerate(txns):
-            if not (logged.reads or logged.writes or logged.outcome == "aborted"):
-                continue  # it is there for its number alone
-            reads = [f"read {key} " + ("as it was at first" if source == "init" else f"from {source[0]}.{source[1]}") for key, source in logged.reads]
-            did = reads + [f"wrote {key}" for key in logged.writes]
-            yield f"{session}.{number} " + ("aborted" if logged.outcome == "aborted" else ", ".join(did))
+            if deeds(logged, name):  # else it is there for its number alone
+                yield f"{name((session, number))} {', '.join(deeds(logged, name))}"

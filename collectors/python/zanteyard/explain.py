@@ -4,18 +4,16 @@ What must come before what follows from sessions, from reads, and from other wri
 or after the reader. Where that goes round in a circle no order is left; where none does, it takes a trial of all orders to see it."""
 from collections import namedtuple
 
+from .auditor import name, version
+
 Arc = namedtuple("Arc", "start end why needs")  # `needs` are the arcs from which this one follows
-
-
-def name(id):
-    return f"{id[0]}.{id[1]}"
 
 
 def table(history):
     return {(session, number): logged for session, txns in enumerate(history) for number, logged in enumerate(txns)}
 
 
-def wrong_reads(history):
+def wrong_reads(history, name=name):
     """Reads from a transaction that didn't write the key."""
     txns = table(history)
     for reader, logged in txns.items():
@@ -24,7 +22,7 @@ def wrong_reads(history):
                 yield f"{name(reader)} read {key} from {name(source)}, which " + ("aborted" if txns[source].outcome == "aborted" else "didn't write it")
 
 
-def plain_arcs(txns):
+def plain_arcs(txns, name=name):
     for id, logged in txns.items():
         if (id[0], id[1] + 1) in txns:
             yield Arc(id, (id[0], id[1] + 1), "they are in one session", ())
@@ -32,7 +30,7 @@ def plain_arcs(txns):
             if source == "init":
                 for other, its in txns.items():
                     if other != id and key in its.writes:
-                        yield Arc(id, other, f"{name(id)} read {key} as it was at first, and {name(other)} wrote it", ())
+                        yield Arc(id, other, f"{name(id)} read {key} {version(key, source, name)}, and {name(other)} wrote it", ())
             elif source in txns:
                 yield Arc(source, id, f"{name(id)} read {key} from {name(source)}", ())
 
@@ -53,7 +51,7 @@ def path(arcs, start, end):
     return None
 
 
-def forced_arcs(txns, arcs):
+def forced_arcs(txns, arcs, name=name):
     """What follows of other writers."""
     for reader, logged in txns.items():
         for key, writer in logged.reads:
@@ -70,28 +68,28 @@ def forced_arcs(txns, arcs):
                     yield Arc(other, writer, f"{read} before {name(reader)}", tuple(before))
 
 
-def circle(history):
+def circle(history, name=name):
     """Arcs that lead from a transaction back to itself, or None."""
     txns = table(history)
-    arcs = list(plain_arcs(txns))
+    arcs = list(plain_arcs(txns, name))
     while True:
         circles = [way for way in (path(arcs, id, id) for id in txns) if way]
         if circles:
             return min(circles, key=len)
         known = {(arc.start, arc.end) for arc in arcs}
-        new = {(arc.start, arc.end): arc for arc in forced_arcs(txns, arcs)}
+        new = {(arc.start, arc.end): arc for arc in forced_arcs(txns, arcs, name)}
         more = [arc for ends, arc in new.items() if ends not in known]
         if not more:
             return None
         arcs += more
 
 
-def reasons(history):
+def reasons(history, name=name):
     """The lines that tell it, each after those from which it follows."""
-    wrong = list(wrong_reads(history))
+    wrong = list(wrong_reads(history, name))
     if wrong:
         return wrong
-    around = circle(history)
+    around = circle(history, name)
     if around is None:
         return ["each order fails in its own way"]
     told = []

@@ -1,4 +1,6 @@
 """A store in memory, whose faults can be switched on. Honest, it lets a transaction commit only where all that it read is still the newest."""
+import threading
+
 from .sessions import Aborted, OutcomeUnknown
 
 FAULTS = ("stale-read", "lost-update", "write-skew", "torn-read", "dirty-read", "lost-write", "reappearing")
@@ -9,7 +11,7 @@ class MemoryStore:
 
     def __init__(self, fault=None):
         assert fault is None or fault in FAULTS, fault
-        self.fault, self.versions, self.moment = fault, {}, 0
+        self.fault, self.versions, self.moment, self.lock = fault, {}, 0, threading.RLock()
 
     def connect(self):
         return Connection(self)
@@ -45,6 +47,10 @@ class Connection:
         self.writes[key] = (value, name)
 
     def commit(self):
+        with self.shared.lock:
+            self.decide()
+
+    def decide(self):
         shared = self.shared
         changed = {key for key, at in self.seen.items() if at != shared.newest(key, shared.moment)}
         if shared.fault in ("lost-update", "torn-read"):
@@ -70,9 +76,10 @@ class Connection:
             self.install()
 
     def install(self):
-        self.shared.moment += 1
-        for key, (value, name) in self.writes.items():
-            self.shared.versions.setdefault(key, []).append((value, name, self.shared.moment))
+        with self.shared.lock:
+            for key, (value, name) in self.writes.items():
+                self.shared.versions.setdefault(key, []).append((value, name, self.shared.moment + 1))
+            self.shared.moment += 1
 
     def outcome(self):
         return self.last_outcome if self.known else "unknown"

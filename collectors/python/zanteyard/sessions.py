@@ -5,10 +5,11 @@ A store, as a session wants it, has six calls and may raise Aborted from all but
 value None deletes the key and leaves the name behind; `commit()`, which raises OutcomeUnknown where no answer came; and `outcome()`, which says of
 the transaction whose commit was sent last, and which had written, whether it is "committed", "aborted" or "unknown".
 """
+import threading
 import time
 from contextlib import contextmanager
 
-from .auditor import ABORTED, Logged
+from .auditor import ABORTED, FENCE, Logged
 
 
 class Aborted(Exception):
@@ -21,17 +22,42 @@ class OutcomeUnknown(Exception):
 
 class Session:
     """Runs one transaction at a time over a store's connection. `run_name` tells the names of this run of the auditor from those of
-    others; `patience` is for how many seconds the store is asked for an outcome."""
+    others; `patience` is for how many seconds the store is asked for an outcome. Where the session has ended, `renew`, if there is one,
+    gives the number of one that is left, and how many transactions it has had; or None."""
 
-    def __init__(self, auditor, number, store, run_name="", patience=5.0):
+    def __init__(self, auditor, number, store, run_name="", patience=5.0, renew=None):
         self.auditor, self.number, self.store, self.run_name, self.patience = auditor, number, store, run_name, patience
-        self.begun, self.is_open = 0, True
+        self.renew, self.begun, self.is_open = renew, 0, True
+        self.turn = threading.Lock()  # held by a transaction from its begin to its end, and by a meeting
+        self.current = None  # the transaction that holds it
+        self.since_fence, self.used_at, self.waited = 0, time.monotonic(), 0.0
 
     def begin(self):
+        if self.current is not None:
+            raise ValueError(f"session {self.number} is in a transaction: it runs one at a time")
+        came = time.monotonic()
+        self.turn.acquire()
+        self.waited += time.monotonic() - came
+        try:
+            self.go_on()
+            return self.start(holds=True)
+        except BaseException:
+            if self.current is None:
+                self.turn.release()
+            raise
+
+    def go_on(self):
+        """Takes a new number where the session has ended."""
+        left = None if self.is_open or self.renew is None else self.renew()
+        if left is not None:
+            (self.number, self.begun), self.is_open = left, True
         if not self.is_open:
             raise ValueError(f"session {self.number} has ended")
-        transaction = Transaction(self, self.begun)
+
+    def start(self, holds):
+        transaction = Transaction(self, self.begun, holds)
         self.begun += 1  # also an attempt that aborts keeps its number
+        self.current = transaction if holds else self.current
         try:
             self.store.begin()
         except BaseException:
@@ -41,33 +67,51 @@ class Session:
 
     @contextmanager
     def transaction(self):
-        transaction = self.begin()
-        try:
+        with whole(self.begin()) as transaction:
             yield transaction
-        except BaseException:
-            transaction.rollback()
-            raise
-        transaction.commit()
 
     def run(self, body, attempts=10):
         """Calls body(transaction) and commits, again where the store aborts; each attempt has a number of its own."""
-        for left in reversed(range(attempts)):
-            try:
-                with self.transaction() as transaction:
-                    result = body(transaction)
-                return result
-            except Aborted:
-                if not left:
-                    raise
+        return attempted(self.begin, body, attempts)
+
+    def run_held(self, body, attempts=10):
+        """The same for who holds the session's turn."""
+        return attempted(lambda: self.start(holds=False), body, attempts)
+
+    def fence(self):
+        """For who holds the session's turn."""
+        self.run_held(lambda transaction: (transaction.get(FENCE), transaction.put(FENCE, "")))
+        self.since_fence = 0
 
     def close(self):
         self.is_open = False
         self.auditor.close(self.number)
 
 
+@contextmanager
+def whole(transaction):
+    try:
+        yield transaction
+    except BaseException:
+        transaction.rollback()
+        raise
+    transaction.commit()
+
+
+def attempted(begin, body, attempts):
+    for left in reversed(range(attempts)):
+        try:
+            with whole(begin()) as transaction:
+                result = body(transaction)
+            return result
+        except Aborted:
+            if not left:
+                raise
+
+
 class Transaction:
-    def __init__(self, session, number):
-        self.session, self.store, self.number = session, session.store, number
+    def __init__(self, session, number, holds=True):
+        self.session, self.store, self.number, self.holds = session, session.store, number, holds
         self.reads, self.written, self.is_over = set(), {}, False
 
     def get(self, key):
@@ -125,11 +169,17 @@ class Transaction:
             if time.monotonic() >= until:
                 break
             time.sleep(0.05)
-        self.log((), self.written, "unknown")
-        if self.written:
-            self.session.close()
+        self.log((), self.written, "unknown", is_last=bool(self.written))
         raise OutcomeUnknown(f"{self.session.number}.{self.number}")
 
-    def log(self, reads, writes, outcome):
-        self.is_over = True
-        self.session.auditor.offer(self.session.number, self.number, Logged(sorted(reads, key=repr), sorted(writes), outcome))
+    def log(self, reads, writes, outcome, is_last=False):
+        session, self.is_over = self.session, True
+        try:
+            session.auditor.offer(session.number, self.number, Logged(sorted(reads, key=repr), sorted(writes), outcome))
+            if is_last:
+                session.close()
+        finally:
+            session.since_fence += 1
+            if self.holds:
+                session.used_at, session.current = time.monotonic(), None
+                session.turn.release()

@@ -1,0 +1,220 @@
+"""An auditor that goes along with clients: meetings, rounds and cuts, over the store in memory and over a program that is made up."""
+import json
+import os
+import sys
+import tempfile
+import threading
+import time
+import unittest
+
+from zanteyard import FENCE, Aborted, Auditor, LiveAuditor, Logged, NoCut, audited, draw, from_start, reasons, smaller, words
+from zanteyard.auditor import PROGRAM
+from zanteyard.memory_store import MemoryStore
+
+
+def add_one(key):
+    def body(transaction):
+        transaction.put(key, (transaction.get(key) or 0) + 1)
+
+    return body
+
+
+def set_to(key, value):
+    return lambda transaction: transaction.put(key, value)
+
+
+class WithProgram(unittest.TestCase):
+    def setUp(self):
+        if not os.path.isfile(PROGRAM):
+            self.skipTest(f"{PROGRAM} is not built: see README.md")
+        self.told = []
+
+    def live(self, sessions, **more):
+        self.auditor = Auditor(sessions)
+        self.addCleanup(self.auditor.end)
+        return LiveAuditor(self.auditor, **{"every": 20, "seconds": 60.0, "tell": self.told.append, **more})
+
+    def ended(self, live):
+        report = live.stop()
+        if live.failure:
+            raise live.failure
+        return report
+
+
+def run_clients(live, stores, count, body):
+    def client(session):
+        for _ in range(count):
+            if live.is_over:
+                break
+            try:
+                session.run(body, attempts=1)
+            except Aborted:
+                pass
+
+    threads = [threading.Thread(target=client, args=(live.session(store),)) for store in stores]
+    for thread in threads:
+        thread.start()
+    for thread in threads:
+        thread.join()
+
+
+class Meetings(WithProgram):
+    def test_threads_are_serial_and_all_is_taken_in(self):
+        live, store = self.live(4), MemoryStore()
+        run_clients(live, [store.connect() for _ in range(4)], 60, add_one("x"))
+        self.assertEqual(self.ended(live).kind, "serial")
+        self.assertEqual((live.taken_in, live.waiting.qsize()), (live.handed_in, 0))
+        self.assertGreater(live.rounds, 0)
+        self.assertEqual(len(self.told), live.rounds)
+        self.assertRegex(self.told[0], r"^round 1: (serial|pending); \d+ transactions, \d+ a second; \d+ remain; (no )?cut")
+
+    def test_each_session_has_two_fences_and_the_unseen_is_read(self):
+        live, store = self.live(3, every=2), MemoryStore()
+        a, b = (live.session(store.connect()) for _ in range(2))
+        a.run(set_to("x", 1))
+        b.run(set_to("x", 2))
+        self.wait_for(lambda: live.rounds)
+        self.ended(live)
+        fences = [[[key for key in one.writes] for one in txns] for txns in self.auditor.history]
+        if not self.auditor.marks[0]:
+            self.assertEqual([writes.count([FENCE]) for writes in fences], [2, 2, 1])  # the third has no client
+            self.assertIn(("x", (1, 0)), [read for one in self.auditor.history[1][-1:] for read in one.reads])
+        self.assertEqual(live.report.kind, "serial")
+
+    def wait_for(self, condition):
+        until = time.monotonic() + 10
+        while not condition() and time.monotonic() < until:
+            time.sleep(0.01)
+        self.assertTrue(condition())
+
+    def test_a_transaction_that_goes_on_prevents_the_meeting(self):
+        live, store = self.live(2, every=1, patience=0.05), MemoryStore()
+        a, b = (live.session(store.connect()) for _ in range(2))
+        long = b.begin()
+        a.run(add_one("x"))
+        self.wait_for(lambda: self.told)
+        self.assertIn("no cut: a transaction of session 1 took longer than 0.05 s", self.told[0])
+        long.commit()
+        self.assertEqual(self.ended(live).kind, "serial")
+
+    def test_an_idle_session_is_closed_and_another_takes_its_place(self):
+        live, store = self.live(3, every=1, idle=0.05), MemoryStore()
+        a, b = (live.session(store.connect()) for _ in range(2))
+        b.run(add_one("x"))
+        time.sleep(0.2)
+        a.run(add_one("x"))
+        self.wait_for(lambda: not b.is_open)
+        b.run(add_one("x"))
+        self.assertEqual((b.number, b.is_open), (2, True))
+        self.assertEqual(self.ended(live).kind, "serial")
+
+    def test_one_transaction_at_a_time(self):
+        live, store = self.live(1), MemoryStore()
+        a = live.session(store.connect())
+        open_one = a.begin()
+        with self.assertRaises(ValueError):
+            a.begin()
+        open_one.commit()
+        with self.assertRaises(ValueError):
+            live.session(store.connect())  # there is one session
+        self.assertEqual(self.ended(live).kind, "serial")
+
+    def test_a_violation_ends_the_run(self):
+        live, store = self.live(2, every=10), MemoryStore("stale-read")
+        run_clients(live, [store.connect() for _ in range(2)], 400, add_one("x"))
+        self.assertEqual(self.ended(live).kind, "violated")
+        self.assertLess(live.taken_in, 800)
+        history, called = from_start(self.auditor)
+        small = smaller(history)
+        self.assertEqual(audited(small)[0].kind, "violated")
+        self.assertIn("none can come first of", reasons(small, called)[-1])
+
+    def test_a_program_that_is_killed(self):
+        live, store = self.live(1, every=1), MemoryStore()
+        a = live.session(store.connect())
+        self.auditor.program.kill()
+        a.run(add_one("x"))  # the client goes on
+        self.wait_for(lambda: live.failure)
+        self.assertIn("cobra_audit", str(live.failure))
+        a.run(add_one("x"))
+
+
+SCRIPTED = """#!{python}
+import json, sys
+replies = {replies}
+for line in sys.stdin:
+    name = json.loads(line)[0]
+    print(json.dumps(replies[name].pop(0) if len(replies.get(name, [])) > 0 else ["ok"]), flush=True)
+"""
+
+
+class MadeUp(unittest.TestCase):
+    """Over a program with these replies."""
+
+    def auditor(self, sessions, replies):
+        folder = tempfile.TemporaryDirectory()
+        self.addCleanup(folder.cleanup)
+        path = os.path.join(folder.name, "program")
+        with open(path, "w") as file:
+            file.write(SCRIPTED.format(python=sys.executable, replies=json.dumps(replies)))
+        os.chmod(path, 0o755)
+        auditor = Auditor(sessions, program=path)
+        self.addCleanup(auditor.end)
+        return auditor
+
+    def cut_auditor(self):
+        auditor = self.auditor(2, {"truncate": [["cut", [0, 1], [[0, 0], [0, 1], [1, 0]], [[0, 0, 1], [1, 1, 0]]]]})
+        fence = Logged((((FENCE), "init"),), (FENCE,))
+        for session, number, logged in (
+            (0, 0, Logged((), ("x",))),
+            (1, 0, Logged((("x", (0, 0)),), ("x",))),
+            (0, 1, fence),
+            (1, 1, Logged(((FENCE, (0, 1)),), (FENCE,))),
+            (1, 2, Logged((("x", (0, 0)),), ("y",))),
+        ):
+            auditor.offer(session, number, logged)
+        self.assertEqual(auditor.truncate(), ((0, 1), 3))
+        return auditor
+
+    def test_what_is_gone_is_forgotten(self):
+        auditor = self.cut_auditor()
+        self.assertEqual((auditor.marks, [len(txns) for txns in auditor.history]), ([2, 1], [0, 2]))
+        self.assertEqual(auditor.base, {FENCE: (0, 1), "x": (1, 0)})
+
+    def test_what_remains_is_told_without_the_cut(self):
+        history, called = from_start(self.cut_auditor())
+        self.assertEqual(
+            list(words(history, called))[2:],
+            ["1.1 read fence from the cut, wrote fence", "1.2 read x in a version older than that at the cut, wrote y"],
+        )
+
+    @unittest.skipUnless(os.path.isfile(PROGRAM), f"{PROGRAM} is not built")
+    def test_what_remains_is_violated_without_the_cut(self):
+        history, called = from_start(self.cut_auditor())
+        small = smaller(history)
+        self.assertEqual(audited(small)[0].kind, "violated")
+        self.assertEqual(reasons(small, called)[-1].split(" of ")[0], "so none can come first")
+
+    def test_a_program_without_the_command(self):
+        auditor = self.auditor(1, {"truncate": [["no", 13, "NoCut"], ["no", 1, "BadLine"]]})
+        for can_cut in (True, False):
+            with self.assertRaises(NoCut):
+                auditor.truncate()
+            self.assertEqual(auditor.can_cut, can_cut)
+
+
+class Pictures(unittest.TestCase):
+    def test_the_text(self):
+        lost = Logged((("x", "init"),), ("x",))
+        with tempfile.TemporaryDirectory() as folder:
+            files = draw([[lost], [lost]], os.path.join(folder, "lost"))
+            with open(files[0]) as file:
+                text = file.read()
+            self.assertTrue(all(os.path.getsize(name) for name in files))
+        self.assertIn('"0.0" [label="0.0\\nread x as it was at first\\nwrote x", group=session0];', text)
+        self.assertIn('"0.0" -> "1.0" [label="0.0 read x as it was at first, and 1.0 wrote it", color=red, penwidth=2];', text)
+        self.assertEqual(text.count("->"), 2)
+
+
+if __name__ == "__main__":
+    unittest.main()

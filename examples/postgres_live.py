@@ -1,0 +1,164 @@
+"""Audits a PostgreSQL of its own while clients run on it at the same time: one line a round; at a violation, what can't be, in words,
+as a script for cobra_audit, and as a picture.
+
+    python3 examples/postgres_live.py [--level serializable|repeatable|committed] [--workload counter|skew|mixed|blind] [--seconds N]
+        [--clients N] [--every N] [--unaudited N]
+
+It first runs the clients without the auditor, to tell what that costs. The status is 0 where all that was audited is serial.
+"""
+import argparse
+import os
+import random
+import sys
+import threading
+import time
+
+sys.path.insert(0, os.path.join(os.path.dirname(os.path.abspath(__file__)), "../collectors/python"))
+from zanteyard import Aborted, Auditor, Ended, Full, LiveAuditor, Session, audited, draw, from_start, reasons, smaller, words
+from zanteyard.cluster import Cluster, program
+
+LEVELS = {"serializable": "serializable", "repeatable": "repeatable read", "committed": "read committed"}
+PAIRS = 8  # of keys
+
+
+def number_at(transaction, key):
+    return int(transaction.get(key) or 0)
+
+
+def counter(transaction, client):
+    key = f"count {random.randrange(PAIRS)}"
+    transaction.put(key, str(number_at(transaction, key) + 1))
+
+
+def skew(transaction, client):
+    pair = random.randrange(PAIRS)
+    left = number_at(transaction, f"left {pair}") + number_at(transaction, f"right {pair}")
+    transaction.put(random.choice((f"left {pair}", f"right {pair}")), str(left + 1))
+
+
+def mixed(transaction, client):
+    for key in random.sample(range(2 * PAIRS), 2):
+        number_at(transaction, f"key {key}")
+    transaction.put(f"key {random.randrange(2 * PAIRS)}", str(client))
+
+
+def blind(transaction, client):
+    if random.random() < 0.5:
+        number_at(transaction, f"key {random.randrange(2 * PAIRS)}")
+    else:
+        transaction.put(f"key {random.randrange(2 * PAIRS)}", str(client))
+
+
+WORKLOADS = {"counter": counter, "skew": skew, "mixed": mixed, "blind": blind}
+
+
+class Nothing:
+    """In place of an auditor."""
+
+    def offer(self, *_):
+        pass
+
+    close = offer
+
+
+class Clients:
+    """Each in a thread, over a session of its own, until the time is up or `is_over()`."""
+
+    def __init__(self, sessions, workload, seconds, is_over):
+        self.workload, self.is_over, self.committed, self.aborted, self.failures = workload, is_over, 0, 0, []
+        self.until = time.monotonic() + seconds
+        self.began = time.monotonic()
+        threads = [threading.Thread(target=self.client, args=it) for it in enumerate(sessions)]
+        for thread in threads:
+            thread.start()
+        for thread in threads:
+            thread.join()
+        self.took = time.monotonic() - self.began
+        self.waited = sum(session.waited for session in sessions) / (self.took * len(sessions))
+
+    def client(self, number, session):
+        committed = aborted = 0
+        try:
+            while time.monotonic() < self.until and not self.is_over():
+                try:
+                    session.run(lambda transaction: self.workload(transaction, number), attempts=1)
+                    committed += 1
+                except Aborted:
+                    aborted += 1
+        except Exception as error:  # told by the main thread
+            self.failures.append(error)
+        self.committed += committed
+        self.aborted += aborted
+
+    def rate(self):
+        if self.failures:
+            raise self.failures[0]
+        return self.committed / self.took
+
+
+def tell(auditor, name):
+    """What is left of the history without what it is violated without."""
+    history, called = from_start(auditor)
+    small = smaller(history)
+    with open(f"{name}.jsonl", "w") as file:
+        file.write(audited(small)[1])
+    print("violated: of what was logged, no order explains this part, each client's own order kept:")
+    for line in words(small, called):
+        print(f"  {line}")
+    print("because")
+    for line in reasons(small, called):
+        print(f"  {line}")
+    print(f"(cobra_audit < {name}.jsonl says so again; drawn: {', '.join(draw(small, name, called))})")
+
+
+def audited_run(asked, stores):
+    """The clients beside the auditor, which then tells of all that it took in."""
+    with Auditor(asked.clients) as auditor:
+        live = LiveAuditor(auditor, "live", asked.every)
+        clients = Clients([live.session(store) for store in stores], WORKLOADS[asked.workload], asked.seconds, lambda: live.is_over)
+        live.stop()
+        if isinstance(live.failure, Full):
+            print(f"stopped: {auditor.limit} transactions remain, and this is all that the auditor holds")
+            live.report = auditor.round()
+        elif live.failure:
+            raise live.failure
+        if live.is_violated:
+            tell(auditor, "violation")
+        return live, clients
+
+
+def main():
+    asked = argparse.ArgumentParser(description=__doc__.splitlines()[0])
+    asked.add_argument("--level", choices=LEVELS, default="serializable")
+    asked.add_argument("--workload", choices=WORKLOADS, default="mixed")
+    asked.add_argument("--seconds", type=float, default=10.0)
+    asked.add_argument("--unaudited", type=float, default=3.0, help="seconds without the auditor, to compare with; 0 for none")
+    asked.add_argument("--clients", type=int, default=8, help="2 to 64")
+    asked.add_argument("--every", type=int, default=256, help="transactions from one meeting to the next")
+    asked = asked.parse_args()
+    try:
+        from zanteyard.postgres_store import PostgresStore, prepare
+    except ImportError:
+        sys.exit("psycopg2 is wanted: apt-get install python3-psycopg2, and run this by the Python that it is for (/usr/bin/python3)")
+    if not program("initdb"):
+        sys.exit("PostgreSQL is wanted: apt-get install postgresql")
+    with Cluster() as cluster:
+        stores = [PostgresStore(cluster.dsn, LEVELS[asked.level]) for _ in range(asked.clients)]
+        prepare(cluster.dsn)
+        alone = None
+        if asked.unaudited:
+            sessions = [Session(Nothing(), number, store, "unaudited") for number, store in enumerate(stores)]
+            alone = Clients(sessions, WORKLOADS[asked.workload], asked.unaudited, lambda: False)
+        live, clients = audited_run(asked, stores)
+    print(f"{asked.workload} at {LEVELS[asked.level]}: {live.report.kind}; {live.cuts} cuts in {live.rounds} rounds")
+    compared = f", {alone.rate():.0f} without the auditor" if alone else ""
+    print(f"{clients.rate():.0f} transactions a second were committed by {asked.clients} clients{compared}; {clients.aborted} aborted")
+    print(f"clients waited {100 * clients.waited:.1f}% of their time for meetings; the auditor was at most {live.lag:.2f} s behind")
+    sys.exit(0 if live.report.kind == "serial" else 1)
+
+
+if __name__ == "__main__":
+    try:
+        main()
+    except Ended as error:
+        sys.exit(str(error))
