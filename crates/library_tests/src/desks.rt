@@ -56,6 +56,58 @@ fn a_desk_with_one_place(rt: HostRuntime) -> Result<(), Fail> {
     Ok(())
 }
 
+/// Submits until a parcel comes back, and tells how many went in.
+fn fill<R: Wait>(rt: &R, desk: &Desk, pass: &mut CollectorPass) -> u64
+    requires { (pass.old.0 ≡ desk.now.0) × (pass.old.2 ≡ []) }
+    ensures { (pass.new.0 ≡ pass.old.0) × (pass.new.1 ≡ pass.old.1) }
+{
+    let mut count = 0u64;
+    for _turn in 0..2000u64 {
+        if !submits(rt, desk, pass) {
+            break;
+        }
+        count += 1;
+    }
+    count
+}
+
+/// Takes until something else comes than the first collector's next parcel, and tells how many of these came.
+fn take_in_order<R: Wait>(rt: &R, desk: &Desk, pass: &mut AuditorPass) -> u64
+    requires { pass.old.0 ≡ desk.now.0 }
+    ensures { pass.new.0 ≡ pass.old.0 }
+{
+    let mut count = 0u64;
+    for _turn in 0..2000u64 {
+        if takes(rt, desk, pass) != Some((0, count)) {
+            break;
+        }
+        count += 1;
+    }
+    count
+}
+
+/// A desk of 1,024 places is filled, emptied, and filled by another collector.
+fn filled_twice<R: Wait>(rt: &R, alloc: Global) -> Result<([u64; 3], bool, Tally), NoMemory> {
+    let (desk, mut passes, mut auditor) = Desk::new(alloc, 1024)?;
+    let first = fill(rt, &desk, &mut passes.0);
+    let room = submits(rt, &desk, &mut passes.1);
+    let taken = take_in_order(rt, &desk, &mut auditor);
+    let fourth = fill(rt, &desk, &mut passes.3);
+    let tally = desk.tally(rt, passes, auditor);
+    Ok(([first, taken, fourth], room, tally))
+}
+
+#[test]
+fn a_desk_with_1024_places(rt: HostRuntime) -> Result<(), Fail> {
+    let (counts, room, tally) = filled_twice(&rt, rt.alloc())?;
+    assert_eq!(rt; counts, [1024; 3]);
+    assert!(rt; !room);
+    assert_eq!(rt; tally.submitted, [1024, 0, 0, 1024]);
+    assert_eq!(rt; tally.taken, [1024, 0, 0, 0]);
+    assert_eq!(rt; tally.left, [0, 0, 0, 1024]);
+    Ok(())
+}
+
 /// Submits 200 parcels, trying again while the desk is full.
 fn submit_all<R: Wait>(rt: &R, desk: &Desk, mut pass: CollectorPass) -> CollectorPass
     requires { (pass.0 ≡ desk.now.0) × (pass.2 ≡ []) }
