@@ -11,7 +11,7 @@ use Rattle.log_text.specs.declared.replies.Reply.TheVariants as told
 use Rattle.log_text.specs.Replies.{HasKindOfOrder}
 use Rattle.round_state.specs.EngineState.{EngineState}
 use Rattle.round_state.specs.Legal.{State, Legal}
-use Rattle.round_state.specs.Steps.{Shows, IsRightReport}
+use Rattle.round_state.specs.Steps.{Shows, IsHeldAfter, IsRightReport}
 use Rattle.round_state.specs.declared.reports.Certificate.{Certificate}
 use Rattle.round_state.specs.declared.reports.Certificate.TheVariants.{Order, Refuted, Nothing}
 use Rattle.round_state.specs.declared.reports.Report.{Report}
@@ -31,14 +31,14 @@ certified_kind round counts parts budget depth kinds.Spent (Order order) shows =
 certified_kind round counts parts budget depth kind (Refuted tree) shows = tt
 certified_kind round counts parts budget depth kind Nothing shows = tt
 
-reported_kind : (old : EngineState) (asked : Option Parts) (budget depth : ℕ) (report : Report) → IsSomeAnd asked (λ parts. IsRightReport old parts budget depth report) → HasKindOfOrder (report_of report)
-reported_kind old None budget depth report right = absurd right
-reported_kind old (Some parts) budget depth report right = certified_kind report.round report.counts parts budget depth report.kind report.certificate right.shown
+reported_kind : (old new : EngineState) (asked : Option Parts) (budget depth : ℕ) (report : Report) → IsSomeAnd asked (λ parts. IsRightReport old parts budget depth report × IsHeldAfter parts report.kind old.held new.held) → HasKindOfOrder (report_of report)
+reported_kind old new None budget depth report right = absurd right
+reported_kind old new (Some parts) budget depth report right = certified_kind report.round report.counts parts budget depth report.kind report.certificate right.0.shown
 
 step_kind : (old new : State) (asked : Step) (said : StepReply) → Legal old asked said new → HasKindOfOrder (reply_of said)
 step_kind old new asked reply.Done legal = tt
 step_kind old new asked (reply.Refused refusal) legal = tt
-step_kind old new (step.Finish budget depth workers) (reply.Report report) legal = reported_kind old.engine old.engine.asked budget depth report legal.engine.0
+step_kind old new (step.Finish budget depth workers) (reply.Report report) legal = reported_kind old.engine new.engine old.engine.asked budget depth report legal.engine.0
 step_kind old new asked (reply.Report report) legal = absurd legal.engine
 
 told_kind : (said : StepReply) (answer : Reply) → answer ≡ reply_of said → HasKindOfOrder (reply_of said) → HasKindOfOrder answer

@@ -35,24 +35,24 @@ at_behind [] ys n = let e : 0 + n ≡ n = omega arith in ap (slice_get ys) e
 at_behind (x ∷ xs) ys n = let e : suc (length xs) + n ≡ suc (length xs + n) = omega arith in ap (slice_get (x ∷ xs ++ ys)) e ∙ at_behind xs ys n
 
 -- the transaction of a session that starts at a mark
-abbrev found : ℕ → List Txn → ℕ → Option Txn
+abbrev pub found : ℕ → List Txn → ℕ → Option Txn
 found mark txns number = cond (nat_lt number mark) None (slice_get txns (number - mark))
 
-found_low : (mark : ℕ) (txns : List Txn) (number : ℕ) (txn : Txn) → found mark txns number ≡ Some txn → (mark ≤ number) × (slice_get txns (number - mark) ≡ Some txn)
+pub found_low : (mark : ℕ) (txns : List Txn) (number : ℕ) (txn : Txn) → found mark txns number ≡ Some txn → (mark ≤ number) × (slice_get txns (number - mark) ≡ Some txn)
 found_low mark txns number txn at = by_test (nat_lt number mark) refl at
   where
     by_test : (t : Bool) → nat_lt number mark ≡ t → cond t None (slice_get txns (number - mark)) ≡ Some txn → (mark ≤ number) × (slice_get txns (number - mark) ≡ Some txn)
     by_test true test h = absurd cc
     by_test false test h = (elim (cases_lt number mark) [ inl low ↦ absurd (false≢true (sym test ∙ lt-ltb number mark low)) | inr high ↦ high ], h)
 
-found_at : (mark : ℕ) (txns : List Txn) (number : ℕ) (txn : Txn) → mark ≤ number → slice_get txns (number - mark) ≡ Some txn → found mark txns number ≡ Some txn
+pub found_at : (mark : ℕ) (txns : List Txn) (number : ℕ) (txn : Txn) → mark ≤ number → slice_get txns (number - mark) ≡ Some txn → found mark txns number ≡ Some txn
 found_at mark txns number txn high at = ap (λ t. cond t None (slice_get txns (number - mark))) (le-ltb number mark high) ∙ at
 
-some_and_of : {X : Type 0} (o : Option X) (P : X → Type 0) → IsSomeAnd o P → (x : X) × (o ≡ Some x) × P x
+pub some_and_of : {X : Type 0} (o : Option X) (P : X → Type 0) → IsSomeAnd o P → (x : X) × (o ≡ Some x) × P x
 some_and_of None P h = absurd h
 some_and_of (Some x) P h = (x, refl, h)
 
-some_and_from : {X : Type 0} (o : Option X) (P : X → Type 0) (x : X) → o ≡ Some x → P x → IsSomeAnd o P
+pub some_and_from : {X : Type 0} (o : Option X) (P : X → Type 0) (x : X) → o ≡ Some x → P x → IsSomeAnd o P
 some_and_from o P x e h = subst (λ p. IsSomeAnd p P) (sym e) h
 
 -- what remains was received

@@ -1,6 +1,8 @@
+pub mod Anew
 pub mod Awaited
 pub mod Counts
 pub mod Grown
+pub mod Holding
 pub mod Indexed
 pub mod Keeping
 pub mod Marked

@@ -20,12 +20,12 @@ use Rattle.round_state.specs.EngineState.{EngineState}
 use Rattle.round_state.specs.Legal.{State, Legal, IsTrueOf, TellsOf, IsTrueReply, whole_after, asked_after}
 use Rattle.round_state.specs.Runs.{Holds, StepsLegally}
 use Rattle.round_state.specs.Solving.{IsRight, IsReportOn}
-use Rattle.round_state.specs.Steps.{IsFinished, IsKindOf, Shows, IsRightReport, StepsTo}
+use Rattle.round_state.specs.Steps.{IsFinished, IsHeldAfter, IsKindOf, Shows, IsRightReport, StepsTo}
 use Rattle.round_state.specs.declared.reports.Certificate.{Certificate}
 use Rattle.round_state.specs.declared.reports.Certificate.TheVariants.{Order, Refuted, Nothing}
 use Rattle.round_state.specs.declared.reports.Report.{Report}
 use Rattle.round_state.specs.declared.steps.Step.{Step}
-use Rattle.round_state.specs.declared.steps.Step.TheVariants.{Offer, Close, Begin, Finish, Abandon}
+use Rattle.round_state.specs.declared.steps.Step.TheVariants.{Offer, Close, Begin, Finish, Abandon, Rebuild}
 use Rattle.round_state.specs.declared.steps.StepReply.{StepReply}
 use Rattle.round_state.specs.declared.steps.StepReply.TheVariants as reply
 use Rattle.round_state.proofs.Counts.{counts_of}
@@ -46,16 +46,16 @@ earned parts budget depth answers.Spent kind Nothing law good lawful right =
     subst (λ (k : Kind). IsKindOf parts k × Shows parts budget depth k Nothing) (sym right) (tt, lawful)
 earned parts budget depth answer kind certificate law good lawful right = absurd right
 
-right_report : (old : EngineState) (asked : Option Parts) (parts : Parts) (budget depth : ℕ) (answer : Answer) (report : Report) → RefutedHasNoOrder → IsGood parts → asked ≡ Some parts → IsLawful parts budget depth answer → IsSomeAnd asked (λ p. IsReportOn p (old.rounds + 1) answer report) → IsSomeAnd asked (λ p. IsRightReport old p budget depth report)
-right_report old None parts budget depth answer report law good e lawful said = absurd said
-right_report old (Some snapshot) parts budget depth answer report law good e lawful said =
+right_report : (old new : EngineState) (asked : Option Parts) (parts : Parts) (budget depth : ℕ) (answer : Answer) (report : Report) → RefutedHasNoOrder → IsGood parts → asked ≡ Some parts → IsLawful parts budget depth answer → IsSomeAnd asked (λ p. IsReportOn p (old.rounds + 1) answer report × IsHeldAfter p report.kind old.held new.held) → IsSomeAnd asked (λ p. IsRightReport old p budget depth report × IsHeldAfter p report.kind old.held new.held)
+right_report old new None parts budget depth answer report law good e lawful said = absurd said
+right_report old new (Some snapshot) parts budget depth answer report law good e lawful said =
     let same : parts ≡ snapshot = cc in
-    let earns = earned snapshot budget depth answer report.kind report.certificate law (subst IsGood same good) (subst (λ (p : Parts). IsLawful p budget depth answer) same lawful) said.right in
-    record { number = said.number; counts = said.counts; kind = earns.0; shown = earns.1 }
+    let earns = earned snapshot budget depth answer report.kind report.certificate law (subst IsGood same good) (subst (λ (p : Parts). IsLawful p budget depth answer) same lawful) said.0.right in
+    (record { number = said.0.number; counts = said.0.counts; kind = earns.0; shown = earns.1 }, said.1)
 
-pub finish_reported : (old new : EngineState) (parts : Parts) (budget depth workers : ℕ) (answer : Answer) (report : Report) → RefutedHasNoOrder → ((parts : Parts) → old.asked ≡ Some parts → IsGood parts) → old.asked ≡ Some parts → IsLawful parts budget depth answer → IsSomeAnd old.asked (λ p. IsReportOn p (old.rounds + 1) answer report) → IsFinished old new → StepsTo old (Finish budget depth workers) (reply.Report report) new
+pub finish_reported : (old new : EngineState) (parts : Parts) (budget depth workers : ℕ) (answer : Answer) (report : Report) → RefutedHasNoOrder → ((parts : Parts) → old.asked ≡ Some parts → IsGood parts) → old.asked ≡ Some parts → IsLawful parts budget depth answer → IsSomeAnd old.asked (λ p. IsReportOn p (old.rounds + 1) answer report × IsHeldAfter p report.kind old.held new.held) → IsFinished old new → StepsTo old (Finish budget depth workers) (reply.Report report) new
 finish_reported old new parts budget depth workers answer report law good open_round lawful said done =
-    (right_report old old.asked parts budget depth answer report law (good parts open_round) open_round lawful said, done)
+    (right_report old new old.asked parts budget depth answer report law (good parts open_round) open_round lawful said, done)
 
 -- Whole histories.
 
@@ -65,12 +65,12 @@ true_kind parts whole kinds.Pending agree is = agree kinds.Pending is
 true_kind parts whole kinds.Violated agree is = agree kinds.Violated is
 true_kind parts whole kinds.Spent agree is = tt
 
-tells_of : (old : EngineState) (asked : Option Parts) (whole : History) (budget depth : ℕ) (report : Report) → SameVerdictAsStoodFor → ((parts : Parts) → asked ≡ Some parts → IsGood parts × StandsFor parts whole) → IsSomeAnd asked (λ p. IsRightReport old p budget depth report) → TellsOf whole report
-tells_of old None whole budget depth report law fits right = absurd right
-tells_of old (Some parts) whole budget depth report law fits right =
+tells_of : (old new : EngineState) (asked : Option Parts) (whole : History) (budget depth : ℕ) (report : Report) → SameVerdictAsStoodFor → ((parts : Parts) → asked ≡ Some parts → IsGood parts × StandsFor parts whole) → IsSomeAnd asked (λ p. IsRightReport old p budget depth report × IsHeldAfter p report.kind old.held new.held) → TellsOf whole report
+tells_of old new None whole budget depth report law fits right = absurd right
+tells_of old new (Some parts) whole budget depth report law fits right =
     let stands = (fits parts refl).1 in record {
-      counts = right.counts ∙ counts_of parts whole (fits parts refl).0 stands.sessions stands.received;
-      kind = true_kind parts whole report.kind (λ k h. (law parts whole k stands).1 h) right.kind;
+      counts = right.0.counts ∙ counts_of parts whole (fits parts refl).0 stands.sessions stands.received;
+      kind = true_kind parts whole report.kind (λ k h. (law parts whole k stands).1 h) right.0.kind;
     }
 
 -- what an engine's laws and its snapshot give
@@ -120,7 +120,7 @@ legal_of old new Begin (reply.Refused refusal) grounds right before holds =
     legal_by old new Begin (reply.Refused refusal) before holds right tt (parts_along new old _ right.1 holds.parts) (asked_along new old _ right.1 holds.asked)
 legal_of old new (Finish budget depth workers) (reply.Report report) grounds right before holds =
     legal_by old new (Finish budget depth workers) (reply.Report report) before holds right
-    (tells_of old old.asked before.asked budget depth report grounds.verdicts (λ parts e. (grounds.snapshot parts e, holds.asked parts e)) right.0)
+    (tells_of old new old.asked before.asked budget depth report grounds.verdicts (λ parts e. (grounds.snapshot parts e, holds.asked parts e)) right.0)
     (subst (λ (p : Parts). StandsFor p before.whole) (sym right.1.parts) holds.parts)
     (λ parts h. absurd (none_or_some parts (sym right.1.none_open ∙ h)))
 legal_of old new (Finish budget depth workers) (reply.Refused refusal) grounds right before holds =
@@ -130,4 +130,9 @@ legal_of old new Abandon reply.Done grounds right before holds =
     (asked_along new _ _ right.1 (λ parts h. absurd (none_or_some parts h)))
 legal_of old new Abandon (reply.Refused refusal) grounds right before holds =
     legal_by old new Abandon (reply.Refused refusal) before holds right tt (parts_along new old _ right.1 holds.parts) (asked_along new old _ right.1 holds.asked)
+legal_of old new Rebuild reply.Done grounds right before holds =
+    legal_by old new Rebuild reply.Done before holds right tt (parts_along new _ _ right.1 holds.parts)
+    (asked_along new _ _ right.1 (λ parts h. absurd (none_or_some parts h)))
+legal_of old new Rebuild (reply.Refused refusal) grounds right before holds =
+    legal_by old new Rebuild (reply.Refused refusal) before holds right tt (parts_along new old _ right.1 holds.parts) (asked_along new old _ right.1 holds.asked)
 legal_of old new step said grounds right before holds = absurd right

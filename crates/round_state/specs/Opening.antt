@@ -1,11 +1,12 @@
 -- A fresh engine: what it is, and when none is given.
-use Rattle.std.specs.Prelude.{ℕ, ◌≤◌, [], None, false, replicate}
+use Rattle.std.specs.Prelude.{ℕ, ◌≤◌, [], false, replicate}
 use Rattle.std.specs.FinMap as map
 use Rattle.txn.specs.declared.refusals.Refusal.{Refusal}
-use Rattle.txn.specs.declared.refusals.Refusal.TheVariants.{BadSession, TooLong, NoMemory}
+use Rattle.txn.specs.declared.refusals.Refusal.TheVariants.{BadSession, TooLong, BadParts, NoMemory}
 use Rattle.txn.specs.History.{History}
 use Rattle.order_check.specs.declared.remainder.Parts.{Parts}
-use Rattle.round_state.specs.EngineState.{EngineState}
+use Rattle.order_check.specs.Good.{IsGood}
+use Rattle.round_state.specs.EngineState.{EngineState, engine_over}
 use Rattle.round_state.specs.Legal.{State}
 
 -- so many sessions in which nothing was received
@@ -21,9 +22,9 @@ empty_parts sessions limit = record {
   limit = limit;
 }
 
--- a fresh engine: it has empty parts, no round is open, and none was finished
+-- a fresh engine: it has empty parts and nothing else
 abbrev pub fresh : ℕ → ℕ → EngineState
-fresh sessions limit = record { parts = empty_parts sessions limit; asked = None; rounds = 0 }
+fresh sessions limit = engine_over (empty_parts sessions limit)
 
 -- the state of a fresh engine: nothing has been received
 abbrev pub fresh_state : ℕ → ℕ → State
@@ -43,3 +44,9 @@ IsOpenRefusal sessions limit BadSession = ¬ IsSessions sessions
 IsOpenRefusal sessions limit TooLong = IsSessions sessions × (¬ IsLimit limit)
 IsOpenRefusal sessions limit NoMemory = IsSessions sessions × IsLimit limit
 IsOpenRefusal sessions limit refusal = ⊥
+
+-- Why no engine is made of parts: they break a rule; memory is asked for last.
+abbrev pub IsPartsRefusal : Parts → Refusal → Type 0
+IsPartsRefusal parts BadParts = ¬ IsGood parts
+IsPartsRefusal parts NoMemory = IsGood parts
+IsPartsRefusal parts refusal = ⊥

@@ -1,5 +1,5 @@
 -- What an engine makes of a solver's answer.
-use Rattle.std.specs.Prelude.{◌≡◌, ℕ, ⊤}
+use Rattle.std.specs.Prelude.{◌≡◌, ℕ, ⊤, Option}
 use Rattle.order_check.specs.declared.remainder.Parts.{Parts}
 use Rattle.order_check.specs.declared.remainder.Kind.{Kind}
 use Rattle.order_check.specs.declared.remainder.Kind.TheVariants as kinds
@@ -11,6 +11,8 @@ use Rattle.txn.specs.declared.refusals.Refusal.TheVariants as refusals
 use Rattle.refutation.specs.Refutes.{IsRefutation}
 use Rattle.polygraph.specs.declared.solving.Answer.{Answer}
 use Rattle.polygraph.specs.declared.solving.Answer.TheVariants as answers
+use Rattle.settle.specs.Found.{IsFound}
+use Rattle.settle.specs.declared.cuts.Cut.{Cut}
 use Rattle.round_state.specs.declared.reports.Certificate.{Certificate}
 use Rattle.round_state.specs.declared.reports.Certificate.TheVariants.{Order, Refuted, Nothing}
 use Rattle.round_state.specs.declared.reports.Report.{Report}
@@ -40,3 +42,15 @@ abbrev pub IsReportRefusal : Parts → Answer → Refusal → Type 0
 IsReportRefusal parts answer refusals.BadCertificate = IsWrong parts answer
 IsReportRefusal parts answer refusals.NoMemory = ⊤
 IsReportRefusal parts answer refusal = ⊥
+
+-- For private clauses.
+
+-- a certificate's order explains the parts
+abbrev pub IsShown : Parts → Certificate → Type 0
+IsShown parts (Order order) = Explains parts order
+IsShown parts certificate = ⊤
+
+-- where the certificate has an order, the cut that is found is held, or none; else the one held before
+abbrev pub IsHeldBy : Parts → Certificate → Option Cut → Option Cut → Type 0
+IsHeldBy parts (Order order) old new = IsFound parts new
+IsHeldBy parts certificate old new = new ≡ old

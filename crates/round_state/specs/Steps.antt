@@ -1,6 +1,6 @@
 -- Which replies to a step are right, and what they lead to, by the engine alone: whatever parts it has, also such as stand for
 -- no whole history.
-use Rattle.std.specs.Prelude.{◌≡◌, ℕ, ◌+◌, ◌-◌, ◌<◌, ◌≤◌, ◌^◌, ◌⊎◌, ⊤, true, List, [], ◌∷◌, length, slice_get, Some, None, IsSome, IsSomeAnd, sum_by}
+use Rattle.std.specs.Prelude.{◌≡◌, ℕ, ◌+◌, ◌-◌, ◌<◌, ◌≤◌, ◌^◌, ◌⊎◌, ⊤, true, List, [], ◌∷◌, length, slice_get, Option, Some, None, IsSome, IsSomeAnd, sum_by}
 use Rattle.txn.specs.declared.transactions.Fragment.{Fragment}
 use Rattle.txn.specs.declared.refusals.Refusal.{Refusal}
 use Rattle.txn.specs.declared.refusals.Refusal.TheVariants.{BadSession, Closed, Gap, Repeat, Backlog, TooLong, RoundOpen, NoRound, BadCertificate, NoMemory}
@@ -15,13 +15,15 @@ use Rattle.order_check.specs.Verdict.{IsVerdict}
 use Rattle.refutation.specs.Refutes.{IsRefutation}
 use Rattle.polygraph.specs.Solving.{MayBeSpent}
 use Rattle.polygraph.specs.declared.solving.Answer.{Answer}
-use Rattle.round_state.specs.EngineState.{EngineState}
+use Rattle.settle.specs.Found.{IsFound}
+use Rattle.settle.specs.declared.cuts.Cut.{Cut}
+use Rattle.round_state.specs.EngineState.{EngineState, engine_over}
 use Rattle.round_state.specs.Solving.{IsWrong}
 use Rattle.round_state.specs.declared.reports.Certificate.{Certificate}
 use Rattle.round_state.specs.declared.reports.Certificate.TheVariants.{Order, Refuted, Nothing}
 use Rattle.round_state.specs.declared.reports.Report.{Report}
 use Rattle.round_state.specs.declared.steps.Step.{Step}
-use Rattle.round_state.specs.declared.steps.Step.TheVariants.{Offer, Close, Begin, Finish, Abandon}
+use Rattle.round_state.specs.declared.steps.Step.TheVariants.{Offer, Close, Begin, Finish, Abandon, Rebuild}
 use Rattle.round_state.specs.declared.steps.StepReply.{StepReply}
 use Rattle.round_state.specs.declared.steps.StepReply.TheVariants as reply
 
@@ -85,7 +87,13 @@ abbrev pub IsAbandonRefusal : EngineState → Refusal → Type 0
 IsAbandonRefusal engine NoRound = engine.asked ≡ None
 IsAbandonRefusal engine refusal = ⊥
 
--- The engine after each call that is answered ok; after a finish it is a relation, since more may change there.
+-- why a rebuild is refused: a round is open; memory is asked for last
+abbrev pub IsRebuildRefusal : EngineState → Refusal → Type 0
+IsRebuildRefusal engine RoundOpen = IsSome engine.asked
+IsRebuildRefusal engine NoMemory = engine.asked ≡ None
+IsRebuildRefusal engine refusal = ⊥
+
+-- The engine after each call that is answered ok; after a finish it is a relation.
 
 abbrev pub engine_offered : EngineState → Fragment → EngineState
 engine_offered old fragment = record old { parts = parts_with old.parts fragment }
@@ -99,11 +107,23 @@ engine_begun old = record old { asked = Some old.parts }
 abbrev pub engine_abandoned : EngineState → EngineState
 engine_abandoned old = record old { asked = None }
 
+-- it has the parts that it had, and nothing else
+abbrev pub engine_rebuilt : EngineState → EngineState
+engine_rebuilt old = engine_over old.parts
+
 -- no round is open, one more is finished, and the parts are as they were
 pub record IsFinished (old new : EngineState) : Type 0 where
   pub parts : new.parts ≡ old.parts
   pub none_open : new.asked ≡ None
   pub rounds : new.rounds ≡ old.rounds + 1
+
+-- Which cut is held after a report of this kind: where some order explains the snapshot, that which is found in it, or none; else the one
+-- held before.
+abbrev pub IsHeldAfter : Parts → Kind → Option Cut → Option Cut → Type 0
+IsHeldAfter parts kinds.Serial old new = IsFound parts new
+IsHeldAfter parts kinds.Pending old new = IsFound parts new
+IsHeldAfter parts kinds.Violated old new = new ≡ old
+IsHeldAfter parts kinds.Spent old new = new ≡ old
 
 -- A kind other than spent is the verdict of the parts.
 abbrev pub IsKindOf : Parts → Kind → Type 0
@@ -135,10 +155,12 @@ StepsTo old (Close s) reply.Done new = IsOpenSession old.parts s × (new ≡ eng
 StepsTo old (Close s) (reply.Refused refusal) new = IsCloseRefusal old.parts s refusal × (new ≡ old)
 StepsTo old Begin reply.Done new = MayBegin old × (new ≡ engine_begun old)
 StepsTo old Begin (reply.Refused refusal) new = IsBeginRefusal old refusal × (new ≡ old)
-StepsTo old (Finish budget depth workers) (reply.Report report) new = IsSomeAnd old.asked (λ parts. IsRightReport old parts budget depth report) × IsFinished old new
+StepsTo old (Finish budget depth workers) (reply.Report report) new = IsSomeAnd old.asked (λ parts. IsRightReport old parts budget depth report × IsHeldAfter parts report.kind old.held new.held) × IsFinished old new
 StepsTo old (Finish budget depth workers) (reply.Refused refusal) new = IsSolvedRefusal old refusal × (new ≡ old)
 StepsTo old Abandon reply.Done new = IsSome old.asked × (new ≡ engine_abandoned old)
 StepsTo old Abandon (reply.Refused refusal) new = IsAbandonRefusal old refusal × (new ≡ old)
+StepsTo old Rebuild reply.Done new = (old.asked ≡ None) × (new ≡ engine_rebuilt old)
+StepsTo old Rebuild (reply.Refused refusal) new = IsRebuildRefusal old refusal × (new ≡ old)
 StepsTo old step other new = ⊥
 
 -- Step after step, each reply is right.

@@ -1,5 +1,5 @@
 -- For private clauses: what an engine keeps beside its parts, and finds in them too: how far each session is, and which reads are pending.
-use Rattle.std.specs.Prelude.{◌≡◌, ◌↔◌, ℕ, Bool, false, List, length, slice_index_or, IsTrue}
+use Rattle.std.specs.Prelude.{◌≡◌, ◌↔◌, ℕ, ◌<◌, Bool, false, List, length, slice_index_or, IsTrue}
 use Rattle.txn.specs.declared.transactions.TxnId.{TxnId}
 use Rattle.txn.specs.declared.transactions.Source.TheVariants.{By}
 use Rattle.txn.specs.History.{Reads}
@@ -24,6 +24,10 @@ IsPendingRead parts reader key writer = Reads (remaining_at parts) reader key (B
 -- the index has exactly the pending reads of the parts
 abbrev pub IsIndexOf : Index → Parts → Type 0
 IsIndexOf index parts = (reader writer : TxnId) (key : ℕ) → Waits index reader key writer ↔ IsPendingRead parts reader key writer
+
+-- the index has exactly the pending reads of the sessions before this one
+abbrev pub IsIndexBelow : Index → Parts → ℕ → Type 0
+IsIndexBelow index parts s = (reader writer : TxnId) (key : ℕ) → Waits index reader key writer ↔ ((reader.session < s) × IsPendingRead parts reader key writer)
 
 -- What is kept with a snapshot of good parts: how many were received of each session, and whether a read was pending.
 pub record IsSnapshot (parts : Parts) (told : List ℕ) (some : Bool) : Type 0 where

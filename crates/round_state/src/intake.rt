@@ -64,21 +64,22 @@ fn push_awaited(
     Ok(())
 }
 
-/// The reads of a fragment that wait for a transaction that wasn't received before it.
+/// The reads of transactions of a session that wait for one that wasn't received, where the first has this number.
 pub(crate) fn awaited_reads(
     alloc: Global,
     marks: &Marks,
-    fragment: &Fragment,
+    session: u8,
+    first: u64,
+    txns: &[Txn],
 ) -> Result<Vec<PendingRead>, NoMemory>
-    requires { IsWellFormedFragment fragment.now }
-    ensures { IfOk result (λ awaited. awaited.items ≡ awaited_from marks.now fragment.now.session fragment.now.first fragment.now.txns) }
+    requires { first + length txns.now ≤ 2 ^ 48 }
+    ensures { IfOk result (λ awaited. awaited.items ≡ awaited_from marks.now session first txns.now) }
 {
     let mut awaited = Vec::new(alloc);
-    let txns = fragment.txns.as_slice();
     for place in 0..txns.len() {
         let reader = TxnId {
-            session: fragment.session,
-            number: fragment.first + place as u64,
+            session,
+            number: first + place as u64,
         };
         push_awaited(&mut awaited, marks, reader, &txns[place])?;
     }

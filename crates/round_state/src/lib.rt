@@ -3,10 +3,12 @@
 #![tactic(auto)]
 
 mod intake;
+mod opening;
 mod reports;
 mod snapshots;
 mod state;
 mod steps;
+mod tracking;
 
 pub use reports::{Certificate, Report, received_counts};
 pub use state::Engine;

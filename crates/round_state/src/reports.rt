@@ -1,13 +1,15 @@
-ghost use Rattle.std.specs.Prelude.{◌≡◌, IfOk, IfErr, MatchResult};
+ghost use Rattle.std.specs.Prelude.{◌≡◌, IfOk, IfErr, OnOk, OnErr, MatchResult};
 ghost use Rattle.order_check.specs.Based.{received_counts};
 ghost use Rattle.order_check.specs.Good.{IsGood};
 ghost use Rattle.order_check.specs.Verdict.{HasOrder, IsVerdict};
-ghost use Rattle.round_state.specs.Solving.{IsRight, IsReportRefusal};
+ghost use Rattle.round_state.specs.Steps.{IsHeldAfter};
+ghost use Rattle.round_state.specs.Solving.{IsRight, IsReportOn, IsReportRefusal, IsShown, IsHeldBy};
 
 use crate::snapshots::Snapshot;
 use order_check::{Kind, Parts, explains};
 use polygraph::Answer;
 use refutation::{Tree, check};
+use settle::{Cut, find};
 use std::alloc::Global;
 use txn::{NoMemory, Refusal, Sequence, TxnId};
 
@@ -58,11 +60,7 @@ fn kind_of_explained(snapshot: &Snapshot) -> Kind
 }
 
 /// Checks the answer. A right one earns its kind and its certificate.
-pub(crate) fn judge(
-    alloc: Global,
-    snapshot: &Snapshot,
-    answer: Answer,
-) -> Result<(Kind, Certificate), Refusal>
+fn judge(alloc: Global, snapshot: &Snapshot, answer: Answer) -> Result<(Kind, Certificate), Refusal>
     ensures { MatchResult result (λ judged. IsRight snapshot.now answer judged.0 judged.1) (IsReportRefusal snapshot.now answer) }
 {
     match answer {
@@ -81,4 +79,44 @@ pub(crate) fn judge(
         Answer::Spent => Ok((Kind::Spent, Certificate::Nothing)),
         Answer::NoMemory => Err(Refusal::NoMemory),
     }
+}
+
+/// Makes the held cut that which is found in a snapshot that an order was shown to explain, or none. Without an order it stays.
+fn hold_found(
+    alloc: Global,
+    snapshot: &Snapshot,
+    certificate: &Certificate,
+    held: &mut Option<Cut>,
+) -> Result<(), NoMemory>
+    requires { IsShown snapshot.now certificate.now }
+    ensures ok { OnOk result (IsHeldBy snapshot.now certificate.now held.old held.new) }
+    ensures err { OnErr result (held.new ≡ held.old) }
+{
+    if let Certificate::Order(order) = certificate {
+        *held = find(alloc, snapshot.problem(), order.as_slice())?;
+    }
+    Ok(())
+}
+
+/// The report that the answer earns as that of the round with this number. The cut that is held becomes the one found, or none, where the
+/// report is serial or pending. A refusal leaves it.
+pub(crate) fn report_on(
+    alloc: Global,
+    snapshot: &Snapshot,
+    round: u64,
+    answer: Answer,
+    held: &mut Option<Cut>,
+) -> Result<Report, Refusal>
+    ensures ok { IfOk result (λ report. IsReportOn snapshot.now round answer report × IsHeldAfter snapshot.now report.kind held.old held.new) }
+    ensures err { IfErr result (λ refusal. IsReportRefusal snapshot.now answer refusal × (held.new ≡ held.old)) }
+{
+    let counts = snapshot.counts()?;
+    let (kind, certificate) = judge(alloc, snapshot, answer)?;
+    hold_found(alloc, snapshot, &certificate, held)?;
+    Ok(Report {
+        round,
+        kind,
+        counts,
+        certificate,
+    })
 }

@@ -1,29 +1,25 @@
-ghost use Rattle.std.specs.Prelude.{◌≡◌, ◌↔◌, ◌+◌, IsTrue, false, replicate, length, sum_by, Some, IfOk, IfErr, OnOk, MatchResult, IsSome, IsSomeAnd};
+ghost use Rattle.std.specs.Prelude.{◌≡◌, ◌+◌, length, sum_by, Some, None, IfOk, IfErr, OnOk, IsSome, IsSomeAnd};
 ghost use Rattle.order_check.specs.Good.{IsGood};
 ghost use Rattle.order_check.specs.StandsFor.{IsOpenSession};
-ghost use Rattle.round_state.specs.Opening.{IsSessions, IsLimit, IsOpenRefusal, no_history, empty_parts, fresh, fresh_state};
-ghost use Rattle.round_state.specs.Steps.{IsAdmitted, IsOfferRefusal, IsCloseRefusal, MayBegin, IsBeginRefusal, IsFinishRefusal, IsAbandonRefusal, IsFinished, engine_offered, engine_closed, engine_begun, engine_abandoned};
+ghost use Rattle.round_state.specs.Opening.{IsSessions, IsLimit, IsOpenRefusal, fresh, fresh_state};
+ghost use Rattle.round_state.specs.Steps.{IsAdmitted, IsOfferRefusal, IsCloseRefusal, MayBegin, IsBeginRefusal, IsFinishRefusal, IsAbandonRefusal, IsRebuildRefusal, IsFinished, IsHeldAfter, engine_offered, engine_closed, engine_begun, engine_abandoned, engine_rebuilt};
 ghost use Rattle.round_state.specs.EngineState.{parts_asked};
 ghost use Rattle.round_state.specs.Runs.{Holds};
 ghost use Rattle.round_state.specs.Solving.{IsReportOn};
 
 use crate::intake::{admit, arrive_all, awaited_reads};
-use crate::reports::{Report, judge};
-use crate::snapshots::Snapshot;
-use forced_choices::Saturated;
-use order_check::{Base, LastWriters, Parts, stands_for_what_remains};
+use crate::opening::{empty_parts, is_limit, is_sessions};
+use crate::reports::{Report, report_on};
+use crate::snapshots::{Snapshot, asked_of};
+use crate::tracking::index_of;
+use order_check::{Parts, stands_for_what_remains};
 use pending_reads::PendingReads;
 use polygraph::{Answer, Problem};
 use session_marks::Marks;
+use settle::Cut;
 use std::alloc::Global;
 use std::marker::Model;
-use txn::{Fragment, NoMemory, Refusal, Sequence, Txn, check_fragment};
-
-/// The greatest number of sessions.
-const GREATEST_SESSIONS: u64 = 64;
-
-/// The greatest number of transactions that may remain.
-const GREATEST_LIMIT: u64 = 4096;
+use txn::{Fragment, NoMemory, Refusal, check_fragment};
 
 /// The number of the last round.
 const LAST_ROUND: u64 = (1 << 48) - 1;
@@ -39,6 +35,8 @@ pub struct Engine {
     waits: PendingReads,
     /// The open round's snapshot.
     asked: Option<Snapshot>,
+    /// The cut that the last yes found.
+    held: Option<Cut>,
     /// The number of the last finished round.
     round: u64,
 }
@@ -53,68 +51,9 @@ impl Model for Engine {
 
     ghost coded = { Prim.hlevel (codes, coded_last) };
 
-    ghost view = { λ e. record { parts = e.parts; asked = e.asked; rounds = e.round } };
+    ghost view = { λ e. record { parts = e.parts; asked = e.asked; held = e.held; rounds = e.round } };
 
     ghost invariant = { λ e. IsKept e.parts e.marks e.waits e.asked e.round };
-}
-
-fn is_sessions(sessions: u64) -> bool
-    ensures { IsTrue result ↔ IsSessions sessions }
-{
-    1 <= sessions && sessions <= GREATEST_SESSIONS
-}
-
-fn is_limit(limit: u64) -> bool
-    ensures { IsTrue result ↔ IsLimit limit }
-{
-    1 <= limit && limit <= GREATEST_LIMIT
-}
-
-fn empty_sessions(alloc: Global, count: usize) -> Result<Sequence<Sequence<Txn>>, NoMemory>
-    ensures { IfOk result (λ sessions. sessions ≡ no_history count) }
-{
-    let mut remain = Vec::with_capacity(alloc, count)?;
-    for session in 0..count {
-        remain.push(Sequence::new(Vec::new(alloc)))?;
-    }
-    Ok(Sequence::new(remain))
-}
-
-fn zero_marks(alloc: Global, count: usize) -> Result<Sequence<u64>, NoMemory>
-    ensures { IfOk result (λ marks. marks ≡ replicate count 0) }
-{
-    Ok(Sequence::new(vec![in alloc; 0u64; count]?))
-}
-
-fn open_flags(alloc: Global, count: usize) -> Result<Sequence<bool>, NoMemory>
-    ensures { IfOk result (λ closed. closed ≡ replicate count false) }
-{
-    Ok(Sequence::new(vec![in alloc; false; count]?))
-}
-
-fn empty_parts(alloc: Global, sessions: u64, limit: u64) -> Result<Parts, NoMemory>
-    ensures { IfOk result (λ parts. parts ≡ empty_parts sessions limit) }
-{
-    let count = sessions as usize;
-    let base = Base {
-        last: LastWriters::new(alloc),
-        marks: zero_marks(alloc, count)?,
-    };
-    Ok(Parts {
-        base,
-        remain: empty_sessions(alloc, count)?,
-        closed: open_flags(alloc, count)?,
-        limit,
-    })
-}
-
-/// The problem of these parts, whose known relation is built here.
-fn problem_of(alloc: Global, parts: &Parts) -> Result<Problem, NoMemory>
-    requires { IsGood parts.now }
-    ensures { IfOk result (λ problem. problem.known.parts ≡ parts.now) }
-{
-    let known = Saturated::of(alloc, parts)?;
-    Problem::about(alloc, known)
 }
 
 impl Engine {
@@ -137,6 +76,7 @@ impl Engine {
             marks: Marks::new(alloc, sessions as usize)?,
             waits: PendingReads::new(alloc),
             asked: None,
+            held: None,
             round: 0,
         })
     }
@@ -163,7 +103,8 @@ impl Engine {
     {
         check_fragment(&fragment)?;
         admit(&self.parts, &self.marks, &fragment)?;
-        let awaited = awaited_reads(alloc, &self.marks, &fragment)?;
+        let txns = fragment.txns.as_slice();
+        let awaited = awaited_reads(alloc, &self.marks, fragment.session, fragment.first, txns)?;
         let before = self.parts.remaining_of(fragment.session).len();
         let Fragment {
             session,
@@ -203,38 +144,32 @@ impl Engine {
         if self.round >= LAST_ROUND {
             return Err(Refusal::TooLong);
         }
-        let problem = problem_of(alloc, &self.parts)?;
-        let snapshot = Snapshot::of(alloc, &self.parts, &self.marks, &self.waits)?;
+        let (snapshot, problem) = asked_of(alloc, &self.parts, &self.marks, &self.waits)?;
         self.asked = Some(snapshot);
         Ok(problem)
     }
 
-    /// Finishes the open round by an answer, which is checked here. A wrong answer and want of memory leave it open.
+    /// Finishes the open round by an answer, which is checked here. A wrong answer and want of memory leave it open. A yes replaces the held
+    /// cut by the one found in the snapshot, or by none.
     pub fn finish(&mut self, alloc: Global, answer: Answer) -> Result<Report, Refusal>
-        ensures ok { IfOk result (λ report. IsSomeAnd self.old.asked (λ parts. IsReportOn parts (self.old.rounds + 1) answer report) × IsFinished self.old self.new) }
+        ensures ok { IfOk result (λ report. IsSomeAnd self.old.asked (λ parts. IsReportOn parts (self.old.rounds + 1) answer report × IsHeldAfter parts report.kind self.old.held self.new.held) × IsFinished self.old self.new) }
         ensures err { IfErr result (λ refusal. IsFinishRefusal self.old answer refusal × (self.new ≡ self.old)) }
     {
         let Some(snapshot) = &self.asked else {
             return Err(Refusal::NoRound);
         };
-        let counts = snapshot.counts()?;
-        let (kind, certificate) = judge(alloc, snapshot, answer)?;
+        let report = report_on(alloc, snapshot, self.round + 1, answer, &mut self.held)?;
         self.asked = None;
         self.round += 1;
-        Ok(Report {
-            round: self.round,
-            kind,
-            counts,
-            certificate,
-        })
+        Ok(report)
     }
 
-    /// The problem of the round that is open, if one is, made anew.
+    /// The problem of the round that is open, if one is.
     pub fn open_problem(&self, alloc: Global) -> Result<Option<Problem>, NoMemory>
         ensures { IfOk result (λ problem. parts_asked problem ≡ self.now.asked) }
     {
         match &self.asked {
-            Some(snapshot) => Ok(Some(problem_of(alloc, snapshot.parts())?)),
+            Some(snapshot) => Ok(Some(Problem::of(alloc, snapshot.problem().known())?)),
             None => Ok(None),
         }
     }
@@ -258,5 +193,28 @@ impl Engine {
         }
         self.asked = None;
         Ok(())
+    }
+
+    /// Makes all that is kept beside the parts anew from them: no cut is held, and rounds are numbered from 1.
+    pub fn rebuild(&mut self, alloc: Global) -> Result<(), Refusal>
+        ensures ok { OnOk result ((self.old.asked ≡ None) × (self.new ≡ engine_rebuilt self.old)) }
+        ensures err { IfErr result (λ refusal. IsRebuildRefusal self.old refusal × (self.new ≡ self.old)) }
+    {
+        if self.asked.is_some() {
+            return Err(Refusal::RoundOpen);
+        }
+        let waits = index_of(alloc, &self.parts, &self.marks)?;
+        self.waits = waits;
+        self.held = None;
+        self.round = 0;
+        Ok(())
+    }
+
+    /// The parts, without which no engine goes on: an open round and a held cut are dropped.
+    pub fn into_parts(self) -> Parts
+        ensures { result ≡ self.parts }
+    {
+        let Engine { parts, .. } = self;
+        parts
     }
 }

@@ -26,6 +26,8 @@ pub enum Step {
         workers: u64,
     },
     Abandon,
+    /// Makes the engine anew from its parts.
+    Rebuild,
 }
 
 /// The reply to a step.
@@ -124,6 +126,16 @@ impl Engine {
         }
     }
 
+    fn reply_to_rebuild(&mut self, alloc: Global) -> StepReply
+        ensures right { StepsTo self.old Step.Rebuild result self.new }
+        ensures asked { self.new.asked ≡ self.old.asked }
+    {
+        match self.rebuild(alloc) {
+            Ok(()) => StepReply::Done,
+            Err(refusal) => StepReply::Refused(refusal),
+        }
+    }
+
     /// What is right by the engine alone is legal for all whole histories that it stands for.
     fn right_is_legal(&self)
         ensures { (step : Step) (reply : StepReply) (new : EngineState) → StepsTo self.now step reply new → StepsLegally self.now step reply new }
@@ -161,6 +173,7 @@ impl Engine {
                 workers,
             } => self.reply_to_finish(alloc, budget, depth, workers, kept, solver),
             Step::Abandon => self.reply_to_abandon(kept),
+            Step::Rebuild => self.reply_to_rebuild(alloc),
         }
     }
 

@@ -14,7 +14,7 @@ invariant_of-self c = kept_along c.self.inside.parts c.self.inside.marks c.self.
 
 pub add_all-requires : goal.add_all-requires
 add_all-requires c =
-    let awaited : c.as_slice.result.now ≡ awaited_from c.self.inside.marks c.args.fragment.session c.args.fragment.first c.args.fragment.txns = c.as_slice.ensures.value ∙ c.in_ok-awaited.ensures in
+    let awaited : c.as_slice.result.now ≡ awaited_from c.self.inside.marks c.args.fragment.session c.args.fragment.first c.args.fragment.txns = c.as_slice.ensures.value ∙ c.in_ok-awaited.ensures ∙ ap (awaited_from c.self.inside.marks c.args.fragment.session c.args.fragment.first) c.as_slice-txns.ensures in
     subst (λ reads. AreNew c.self.inside.waits reads) (sym awaited) (awaited_new c.self.inside.marks c.self.inside.parts c.self.inside.waits c.args.fragment c.self.invariant.waits_fit c.in_ok-admit.ensures)
 
 pub invariant_of-self-in-Err : goal.invariant_of-self-in-Err
@@ -28,7 +28,7 @@ pub returns-in-Err-clause-err : goal.returns-in-Err-clause-err
 returns-in-Err-clause-err c =
     let parts = c.self.inside.parts in
     let back = cut_back_to parts.remain c.append_at.new.self c.truncate_at.new.self c.from-place.result c.args.fragment.session _ c.args.fragment.txns c.remaining_of-before.result.now c.from-place.ensures c.in_ok-admit.ensures.next.session.0 c.remaining_of-before.ensures refl c.in_ok-append_at.ensures.ok c.truncate_at.ensures in
-    let engine_of : List (List Txn) → EngineState = λ remain. record { parts = record parts { remain = remain }; asked = c.self.inside.asked; rounds = c.self.inside.round } in
+    let engine_of : List (List Txn) → EngineState = λ remain. record { parts = record parts { remain = remain }; asked = c.self.inside.asked; held = c.self.inside.held; rounds = c.self.inside.round } in
     (rw c.from.ensures (subst (λ (engine : EngineState). IsAdmitted engine.parts c.args.fragment) c.self.view_is c.in_ok-admit.ensures), ap engine_of back ∙ c.self.view_is)
 
 pub invariant_of-self-2 : goal.invariant_of-self-2
@@ -37,4 +37,4 @@ invariant_of-self-2 c =
     let parts = c.self.inside.parts in
     let grown : c.append_at.new.self ≡ with_fragment parts.remain f = cc (c.in_ok-append_at.ensures.ok, c.from-place.ensures) in
     kept_offered parts c.self.inside.marks c.receive.new.self c.self.inside.waits c.add_all.new.self c.arrive_all.new.waits c.self.inside.asked c.self.inside.round c.len-count.result f c.append_at.new.self c.as_slice.result.now
-    grown c.receive.ensures c.len-count.ensures (c.as_slice.ensures.value ∙ c.in_ok-awaited.ensures) c.self.invariant c.in_ok-admit.ensures c.in_default.ensures.ok.1 c.arrive_all.ensures
+    grown c.receive.ensures c.len-count.ensures (c.as_slice.ensures.value ∙ c.in_ok-awaited.ensures ∙ ap (awaited_from c.self.inside.marks f.session f.first) c.as_slice-txns.ensures) c.self.invariant c.in_ok-admit.ensures c.in_default.ensures.ok.1 c.arrive_all.ensures

@@ -1,7 +1,6 @@
 use Rattle.std.proofs.Common.{None, refl, sym, ap, subst}
-use Rattle.order_check.specs.declared.remainder.Parts.{Parts}
 use Rattle.pending_reads.specs.Waiting.{Index}
-use Rattle.round_state.specs.EngineState.{EngineState}
+use Rattle.round_state.specs.EngineState.{engine_over}
 use Rattle.round_state.specs.Kept.{IsKept}
 use Rattle.round_state.proofs.Keeping.{kept_fresh, fresh_holds}
 use Rattle.round_state.proofs.state.Engine.open.Goals as goal
@@ -11,10 +10,6 @@ invariant_of-result c =
     subst (λ (index : Index). IsKept c.in_ok-empty_parts.field-0 c.in_ok-new.field-0 index None 0) (sym c.new-2.ensures)
     (kept_fresh c.args.sessions c.args.limit c.in_ok-empty_parts.field-0 c.in_ok-new.field-0 c.in_ok-empty_parts.ensures c.in_ok-new.ensures (c.if-not-is_sessions.ensures.0 refl) (c.if-not-is_limit.ensures.0 refl))
 
--- a fresh engine with these parts
-abbrev engine_of : Parts → EngineState
-engine_of parts = record { parts = parts; asked = None; rounds = 0 }
-
 pub returns-clause-holds : goal.returns-clause-holds
 returns-clause-holds c =
-    fresh_holds c.args.sessions c.args.limit (engine_of c.in_ok-empty_parts.field-0) c.stands_for_what_remains.ensures (ap engine_of c.in_ok-empty_parts.ensures)
+    fresh_holds c.args.sessions c.args.limit (engine_over c.in_ok-empty_parts.field-0) c.stands_for_what_remains.ensures (ap engine_over c.in_ok-empty_parts.ensures)

@@ -29,3 +29,9 @@ returns-in-Close-clause-right g c = rw c.in-Close.is c.reply_to_close.ensures.ri
 
 pub returns-in-Close-clause-legal : goal.returns-in-Close-clause-legal
 returns-in-Close-clause-legal g c = c.right_is_legal.ensures c.args.step c.reply_to_close.result c.reply_to_close.new.self (rw c.in-Close.is c.reply_to_close.ensures.right)
+
+pub returns-in-Rebuild-clause-right : goal.returns-in-Rebuild-clause-right
+returns-in-Rebuild-clause-right g c = rw c.in-Rebuild.is c.reply_to_rebuild.ensures.right
+
+pub returns-in-Rebuild-clause-legal : goal.returns-in-Rebuild-clause-legal
+returns-in-Rebuild-clause-legal g c = c.right_is_legal.ensures c.args.step c.reply_to_rebuild.result c.reply_to_rebuild.new.self (rw c.in-Rebuild.is c.reply_to_rebuild.ensures.right)
