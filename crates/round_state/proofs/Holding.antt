@@ -19,12 +19,12 @@ shown_by parts (answers.No tree) kind (Refuted shown) right = tt
 shown_by parts answers.Spent kind Nothing right = tt
 shown_by parts answer kind certificate right = absurd right
 
--- what is held by the certificate is held by the kind
+-- what is held holds the certificate is held holds the kind
 pub held_after : (parts : Parts) (answer : Answer) (kind : Kind) (certificate : Certificate) (old new : Option Cut) → IsRight parts answer kind certificate → IsHeldBy parts certificate old new → IsHeldAfter parts kind old new
-held_after parts (answers.Yes order) kinds.Serial (Order shown) old new right by = by
-held_after parts (answers.Yes order) kinds.Pending (Order shown) old new right by = by
-held_after parts (answers.Yes order) kinds.Violated (Order shown) old new right by = absurd (right.2 (order, right.1))
-held_after parts (answers.Yes order) kinds.Spent (Order shown) old new right by = absurd right.2
-held_after parts (answers.No tree) kind (Refuted shown) old new right by = subst (λ (k : Kind). IsHeldAfter parts k old new) (sym right.1) by
-held_after parts answers.Spent kind Nothing old new right by = subst (λ (k : Kind). IsHeldAfter parts k old new) (sym right) by
-held_after parts answer kind certificate old new right by = absurd right
+held_after parts (answers.Yes order) kinds.Serial (Order shown) old new right holds = holds
+held_after parts (answers.Yes order) kinds.Pending (Order shown) old new right holds = holds
+held_after parts (answers.Yes order) kinds.Violated (Order shown) old new right holds = absurd (right.2 (order, right.1))
+held_after parts (answers.Yes order) kinds.Spent (Order shown) old new right holds = absurd right.2
+held_after parts (answers.No tree) kind (Refuted shown) old new right holds = subst (λ (k : Kind). IsHeldAfter parts k old new) (sym right.1) holds
+held_after parts answers.Spent kind Nothing old new right holds = subst (λ (k : Kind). IsHeldAfter parts k old new) (sym right) holds
+held_after parts answer kind certificate old new right holds = absurd right

@@ -5,6 +5,8 @@ pub mod Grown
 pub mod Holding
 pub mod Indexed
 pub mod Keeping
+pub mod KeptFronts
 pub mod Marked
+pub mod Raised
 pub mod Replies
 pub mod Running

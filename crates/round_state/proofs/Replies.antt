@@ -16,7 +16,9 @@ use Rattle.refutation.specs.Refutes.{IsRefutation}
 use Rattle.polygraph.specs.Solving.{IsLawful}
 use Rattle.polygraph.specs.declared.solving.Answer.{Answer}
 use Rattle.polygraph.specs.declared.solving.Answer.TheVariants as answers
+use Rattle.settle.specs.declared.cuts.Cut.{Cut}
 use Rattle.round_state.specs.EngineState.{EngineState}
+use Rattle.round_state.specs.Kept.{IsFitting}
 use Rattle.round_state.specs.Legal.{State, Legal, IsTrueOf, TellsOf, IsTrueReply, whole_after, asked_after}
 use Rattle.round_state.specs.Runs.{Holds, StepsLegally}
 use Rattle.round_state.specs.Solving.{IsRight, IsReportOn}
@@ -25,7 +27,7 @@ use Rattle.round_state.specs.declared.reports.Certificate.{Certificate}
 use Rattle.round_state.specs.declared.reports.Certificate.TheVariants.{Order, Refuted, Nothing}
 use Rattle.round_state.specs.declared.reports.Report.{Report}
 use Rattle.round_state.specs.declared.steps.Step.{Step}
-use Rattle.round_state.specs.declared.steps.Step.TheVariants.{Offer, Close, Begin, Finish, Abandon, Rebuild}
+use Rattle.round_state.specs.declared.steps.Step.TheVariants.{Offer, Close, Begin, Finish, Abandon, Truncate, Rebuild}
 use Rattle.round_state.specs.declared.steps.StepReply.{StepReply}
 use Rattle.round_state.specs.declared.steps.StepReply.TheVariants as reply
 use Rattle.round_state.proofs.Counts.{counts_of}
@@ -79,6 +81,7 @@ pub record Grounds (engine : EngineState) : Type 0 where
   pub closes : CloseKeepsStandsFor
   pub verdicts : SameVerdictAsStoodFor
   pub snapshot : (parts : Parts) → engine.asked ≡ Some parts → IsGood parts
+  pub cut : (cut : Cut) → engine.held ≡ Some cut → IsFitting engine.parts cut
 
 -- A right step is legal, where what the reply says is true, and the engine after it stands for what the histories become.
 legal_by : (old new : EngineState) (step : Step) (said : StepReply) (before : State) → Holds old before → StepsTo old step said new → IsTrueReply before said → StandsFor new.parts (whole_after before step said) → ((parts : Parts) → new.asked ≡ Some parts → StandsFor parts (asked_after before step said)) → (after : State) × Legal before step said after × Holds new after
@@ -130,6 +133,12 @@ legal_of old new Abandon reply.Done grounds right before holds =
     (asked_along new _ _ right.1 (λ parts h. absurd (none_or_some parts h)))
 legal_of old new Abandon (reply.Refused refusal) grounds right before holds =
     legal_by old new Abandon (reply.Refused refusal) before holds right tt (parts_along new old _ right.1 holds.parts) (asked_along new old _ right.1 holds.asked)
+legal_of old new Truncate (reply.Cut cut) grounds right before holds =
+    legal_by old new Truncate (reply.Cut cut) before holds right tt
+    ((grounds.cut cut right.held).stands new.parts before.whole right.parts holds.parts)
+    (asked_along new _ _ right.rest holds.asked)
+legal_of old new Truncate (reply.Refused refusal) grounds right before holds =
+    legal_by old new Truncate (reply.Refused refusal) before holds right tt (parts_along new old _ right.1 holds.parts) (asked_along new old _ right.1 holds.asked)
 legal_of old new Rebuild reply.Done grounds right before holds =
     legal_by old new Rebuild reply.Done before holds right tt (parts_along new _ _ right.1 holds.parts)
     (asked_along new _ _ right.1 (λ parts h. absurd (none_or_some parts h)))

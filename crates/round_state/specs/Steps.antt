@@ -3,13 +3,14 @@
 use Rattle.std.specs.Prelude.{◌≡◌, ℕ, ◌+◌, ◌-◌, ◌<◌, ◌≤◌, ◌^◌, ◌⊎◌, ⊤, true, List, [], ◌∷◌, length, slice_get, Option, Some, None, IsSome, IsSomeAnd, sum_by}
 use Rattle.txn.specs.declared.transactions.Fragment.{Fragment}
 use Rattle.txn.specs.declared.refusals.Refusal.{Refusal}
-use Rattle.txn.specs.declared.refusals.Refusal.TheVariants.{BadSession, Closed, Gap, Repeat, Backlog, TooLong, RoundOpen, NoRound, BadCertificate, NoMemory}
+use Rattle.txn.specs.declared.refusals.Refusal.TheVariants.{BadSession, Closed, Gap, Repeat, Backlog, TooLong, RoundOpen, NoRound, BadCertificate, NoCut, NoMemory}
 use Rattle.txn.specs.Transactions.{IsWellFormedFragment, FragmentFault}
 use Rattle.order_check.specs.declared.remainder.Parts.{Parts}
 use Rattle.order_check.specs.declared.remainder.Kind.{Kind}
 use Rattle.order_check.specs.declared.remainder.Kind.TheVariants as kinds
 use Rattle.order_check.specs.Based.{received_count, received_counts}
 use Rattle.order_check.specs.Explains.{Explains}
+use Rattle.order_check.specs.Settled.{IsCutOf}
 use Rattle.order_check.specs.StandsFor.{IsOpenSession, IsNextFragment, parts_with, parts_closed}
 use Rattle.order_check.specs.Verdict.{IsVerdict}
 use Rattle.refutation.specs.Refutes.{IsRefutation}
@@ -23,7 +24,7 @@ use Rattle.round_state.specs.declared.reports.Certificate.{Certificate}
 use Rattle.round_state.specs.declared.reports.Certificate.TheVariants.{Order, Refuted, Nothing}
 use Rattle.round_state.specs.declared.reports.Report.{Report}
 use Rattle.round_state.specs.declared.steps.Step.{Step}
-use Rattle.round_state.specs.declared.steps.Step.TheVariants.{Offer, Close, Begin, Finish, Abandon, Rebuild}
+use Rattle.round_state.specs.declared.steps.Step.TheVariants.{Offer, Close, Begin, Finish, Abandon, Truncate, Rebuild}
 use Rattle.round_state.specs.declared.steps.StepReply.{StepReply}
 use Rattle.round_state.specs.declared.steps.StepReply.TheVariants as reply
 
@@ -87,13 +88,20 @@ abbrev pub IsAbandonRefusal : EngineState → Refusal → Type 0
 IsAbandonRefusal engine NoRound = engine.asked ≡ None
 IsAbandonRefusal engine refusal = ⊥
 
+-- why a truncate is refused: a round is open; else no cut is held; memory is asked for last
+abbrev pub IsTruncateRefusal : EngineState → Refusal → Type 0
+IsTruncateRefusal engine RoundOpen = IsSome engine.asked
+IsTruncateRefusal engine NoCut = (engine.asked ≡ None) × (engine.held ≡ None)
+IsTruncateRefusal engine NoMemory = (engine.asked ≡ None) × IsSome engine.held
+IsTruncateRefusal engine refusal = ⊥
+
 -- why a rebuild is refused: a round is open; memory is asked for last
 abbrev pub IsRebuildRefusal : EngineState → Refusal → Type 0
 IsRebuildRefusal engine RoundOpen = IsSome engine.asked
 IsRebuildRefusal engine NoMemory = engine.asked ≡ None
 IsRebuildRefusal engine refusal = ⊥
 
--- The engine after each call that is answered ok; after a finish it is a relation.
+-- The engine after each call that is answered ok; after a finish and a truncate it is a relation.
 
 abbrev pub engine_offered : EngineState → Fragment → EngineState
 engine_offered old fragment = record old { parts = parts_with old.parts fragment }
@@ -124,6 +132,13 @@ IsHeldAfter parts kinds.Serial old new = IsFound parts new
 IsHeldAfter parts kinds.Pending old new = IsFound parts new
 IsHeldAfter parts kinds.Violated old new = new ≡ old
 IsHeldAfter parts kinds.Spent old new = new ≡ old
+
+-- The cut that was held is applied to the parts, also where more has arrived since it was found, and none is held.
+pub record IsTruncated (old : EngineState) (cut : Cut) (new : EngineState) : Type 0 where
+  pub none_open : old.asked ≡ None
+  pub held : old.held ≡ Some cut
+  pub parts : IsCutOf old.parts new.parts cut.gone cut.last
+  pub rest : new ≡ record old { parts = new.parts; held = None }
 
 -- A kind other than spent is the verdict of the parts.
 abbrev pub IsKindOf : Parts → Kind → Type 0
@@ -159,6 +174,8 @@ StepsTo old (Finish budget depth workers) (reply.Report report) new = IsSomeAnd 
 StepsTo old (Finish budget depth workers) (reply.Refused refusal) new = IsSolvedRefusal old refusal × (new ≡ old)
 StepsTo old Abandon reply.Done new = IsSome old.asked × (new ≡ engine_abandoned old)
 StepsTo old Abandon (reply.Refused refusal) new = IsAbandonRefusal old refusal × (new ≡ old)
+StepsTo old Truncate (reply.Cut cut) new = IsTruncated old cut new
+StepsTo old Truncate (reply.Refused refusal) new = IsTruncateRefusal old refusal × (new ≡ old)
 StepsTo old Rebuild reply.Done new = (old.asked ≡ None) × (new ≡ engine_rebuilt old)
 StepsTo old Rebuild (reply.Refused refusal) new = IsRebuildRefusal old refusal × (new ≡ old)
 StepsTo old step other new = ⊥

@@ -2,6 +2,7 @@
 //! violated.
 #![tactic(auto)]
 
+mod fronts;
 mod intake;
 mod opening;
 mod reports;

@@ -1,24 +1,31 @@
 ghost use Rattle.std.specs.Prelude.{◌≡◌, ◌+◌, length, sum_by, Some, None, IfOk, IfErr, OnOk, IsSome, IsSomeAnd};
+ghost use Rattle.txn.specs.History.{History};
+ghost use Rattle.settle.specs.declared.cuts.Cut.{Cut};
 ghost use Rattle.order_check.specs.Good.{IsGood};
-ghost use Rattle.order_check.specs.StandsFor.{IsOpenSession};
-ghost use Rattle.round_state.specs.Opening.{IsSessions, IsLimit, IsOpenRefusal, fresh, fresh_state};
-ghost use Rattle.round_state.specs.Steps.{IsAdmitted, IsOfferRefusal, IsCloseRefusal, MayBegin, IsBeginRefusal, IsFinishRefusal, IsAbandonRefusal, IsRebuildRefusal, IsFinished, IsHeldAfter, engine_offered, engine_closed, engine_begun, engine_abandoned, engine_rebuilt};
-ghost use Rattle.round_state.specs.EngineState.{parts_asked};
+ghost use Rattle.order_check.specs.StandsFor.{IsOpenSession, StandsFor};
+ghost use Rattle.round_state.specs.Opening.{IsSessions, IsLimit, IsOpenRefusal, IsPartsRefusal, fresh, fresh_state};
+ghost use Rattle.round_state.specs.Steps.{IsAdmitted, IsOfferRefusal, IsCloseRefusal, MayBegin, IsBeginRefusal, IsFinishRefusal, IsAbandonRefusal, IsRebuildRefusal, IsTruncateRefusal, IsTruncated, IsFinished, IsHeldAfter, engine_offered, engine_closed, engine_begun, engine_abandoned, engine_rebuilt};
+ghost use Rattle.round_state.specs.EngineState.{engine_over, parts_asked};
 ghost use Rattle.round_state.specs.Runs.{Holds};
+ghost use Rattle.round_state.specs.Kept.{IsFitting};
 ghost use Rattle.round_state.specs.Solving.{IsReportOn};
 
+use crate::fronts::kept_cuts_fit;
 use crate::intake::{admit, arrive_all, awaited_reads};
 use crate::opening::{empty_parts, is_limit, is_sessions};
 use crate::reports::{Report, report_on};
 use crate::snapshots::{Snapshot, asked_of};
-use crate::tracking::index_of;
-use order_check::{Parts, stands_for_what_remains};
+use crate::tracking::{raise_all, tracks_of};
+use order_check::{
+    Parts, close_keeps_front, fragment_keeps_front, front_of_itself, stands_for_what_remains,
+};
 use pending_reads::PendingReads;
 use polygraph::{Answer, Problem};
 use session_marks::Marks;
 use settle::Cut;
 use std::alloc::Global;
 use std::marker::Model;
+use truncate::apply;
 use txn::{Fragment, NoMemory, Refusal, check_fragment};
 
 /// The number of the last round.
@@ -53,7 +60,7 @@ impl Model for Engine {
 
     ghost view = { λ e. record { parts = e.parts; asked = e.asked; held = e.held; rounds = e.round } };
 
-    ghost invariant = { λ e. IsKept e.parts e.marks e.waits e.asked e.round };
+    ghost invariant = { λ e. IsKept e.parts e.marks e.waits e.asked e.held e.round };
 }
 
 impl Engine {
@@ -81,6 +88,27 @@ impl Engine {
         })
     }
 
+    /// An engine that goes on from these parts, where they keep their rules; a refusal hands them back.
+    pub fn from_parts(alloc: Global, parts: Parts) -> Result<Engine, (Parts, Refusal)>
+        ensures ok { IfOk result (λ engine. IsGood parts × (engine ≡ engine_over parts)) }
+        ensures err { IfErr result (λ back. (back.0 ≡ parts) × IsPartsRefusal parts back.1) }
+    {
+        if !parts.is_good() {
+            return Err((parts, Refusal::BadParts));
+        }
+        match tracks_of(alloc, &parts) {
+            Ok((marks, waits)) => Ok(Engine {
+                parts,
+                marks,
+                waits,
+                asked: None,
+                held: None,
+                round: 0,
+            }),
+            Err(refused) => Err((parts, Refusal::from(refused))),
+        }
+    }
+
     /// How many transactions remain.
     pub fn remaining(&self) -> usize
         ensures { result ≡ sum_by length self.now.parts.remain }
@@ -101,6 +129,7 @@ impl Engine {
         ensures ok { OnOk result (IsAdmitted self.old.parts fragment × (self.new ≡ engine_offered self.old fragment)) }
         ensures err { IfErr result (λ refusal. IsOfferRefusal self.old.parts fragment refusal × (self.new ≡ self.old)) }
     {
+        fragment_keeps_front();
         check_fragment(&fragment)?;
         admit(&self.parts, &self.marks, &fragment)?;
         let txns = fragment.txns.as_slice();
@@ -128,6 +157,7 @@ impl Engine {
         ensures ok { OnOk result (IsOpenSession self.old.parts session × (self.new ≡ engine_closed self.old session)) }
         ensures err { IfErr result (λ refusal. IsCloseRefusal self.old.parts session refusal × (self.new ≡ self.old)) }
     {
+        close_keeps_front();
         self.marks.close(session)?;
         self.parts.closed.set(usize::from(session), true);
         Ok(())
@@ -144,6 +174,7 @@ impl Engine {
         if self.round >= LAST_ROUND {
             return Err(Refusal::TooLong);
         }
+        front_of_itself();
         let (snapshot, problem) = asked_of(alloc, &self.parts, &self.marks, &self.waits)?;
         self.asked = Some(snapshot);
         Ok(problem)
@@ -195,6 +226,35 @@ impl Engine {
         Ok(())
     }
 
+    /// The held cut can be applied, and leaves parts that stand for what these stand for.
+    pub(crate) fn has_fitting_cut(&self)
+        ensures { (cut : Cut) → self.now.held ≡ Some cut → IsFitting self.now.parts cut }
+    {
+        let _ = self.held.is_some();
+        kept_cuts_fit();
+    }
+
+    /// Applies the held cut, and gives it. What was taken in since it was found stays. It isn't done while a round is open.
+    pub fn truncate(&mut self, alloc: Global) -> Result<Cut, Refusal>
+        ensures ok { IfOk result (λ cut. IsTruncated self.old cut self.new) }
+        ensures keeps { OnOk result ((history : History) → StandsFor self.old.parts history → StandsFor self.new.parts history) }
+        ensures err { IfErr result (λ refusal. IsTruncateRefusal self.old refusal × (self.new ≡ self.old)) }
+    {
+        if self.asked.is_some() {
+            return Err(Refusal::RoundOpen);
+        }
+        self.has_fitting_cut();
+        let Some(cut) = self.held.take() else {
+            return Err(Refusal::NoCut);
+        };
+        if let Err(refused) = apply(alloc, &mut self.parts, cut.gone.as_slice(), &cut.last) {
+            self.held = Some(cut);
+            return Err(Refusal::from(refused));
+        }
+        raise_all(&mut self.marks, &self.parts);
+        Ok(cut)
+    }
+
     /// Makes all that is kept beside the parts anew from them: no cut is held, and rounds are numbered from 1.
     pub fn rebuild(&mut self, alloc: Global) -> Result<(), Refusal>
         ensures ok { OnOk result ((self.old.asked ≡ None) × (self.new ≡ engine_rebuilt self.old)) }
@@ -203,7 +263,8 @@ impl Engine {
         if self.asked.is_some() {
             return Err(Refusal::RoundOpen);
         }
-        let waits = index_of(alloc, &self.parts, &self.marks)?;
+        let (marks, waits) = tracks_of(alloc, &self.parts)?;
+        self.marks = marks;
         self.waits = waits;
         self.held = None;
         self.round = 0;

@@ -9,6 +9,7 @@ use crate::state::Engine;
 use order_check::{close_keeps_stands_for, offer_keeps_stands_for, verdict_as_stood_for};
 use polygraph::{Problem, Solver};
 use refutation::refuted_has_no_order;
+use settle::Cut;
 use std::alloc::Global;
 use txn::{Fragment, NoMemory, Refusal};
 
@@ -26,6 +27,8 @@ pub enum Step {
         workers: u64,
     },
     Abandon,
+    /// Applies the held cut.
+    Truncate,
     /// Makes the engine anew from its parts.
     Rebuild,
 }
@@ -36,6 +39,8 @@ pub enum StepReply {
     Done,
     Refused(Refusal),
     Report(Report),
+    /// The cut that was applied.
+    Cut(Cut),
 }
 
 /// Puts the reply at the end, where there is room for it.
@@ -126,6 +131,16 @@ impl Engine {
         }
     }
 
+    fn reply_to_truncate(&mut self, alloc: Global) -> StepReply
+        ensures right { StepsTo self.old Step.Truncate result self.new }
+        ensures asked { self.new.asked ≡ self.old.asked }
+    {
+        match self.truncate(alloc) {
+            Ok(cut) => StepReply::Cut(cut),
+            Err(refusal) => StepReply::Refused(refusal),
+        }
+    }
+
     fn reply_to_rebuild(&mut self, alloc: Global) -> StepReply
         ensures right { StepsTo self.old Step.Rebuild result self.new }
         ensures asked { self.new.asked ≡ self.old.asked }
@@ -144,6 +159,7 @@ impl Engine {
         close_keeps_stands_for();
         verdict_as_stood_for();
         self.has_good_snapshot();
+        self.has_fitting_cut();
     }
 
     /// Makes a step by the call for it, and replies to it. Where the reply is a refusal, nothing has changed. What is kept is the problem
@@ -173,6 +189,7 @@ impl Engine {
                 workers,
             } => self.reply_to_finish(alloc, budget, depth, workers, kept, solver),
             Step::Abandon => self.reply_to_abandon(kept),
+            Step::Truncate => self.reply_to_truncate(alloc),
             Step::Rebuild => self.reply_to_rebuild(alloc),
         }
     }

@@ -7,7 +7,7 @@ use Rattle.round_state.proofs.state.Engine.open.Goals as goal
 
 pub invariant_of-result : goal.invariant_of-result
 invariant_of-result c =
-    subst (λ (index : Index). IsKept c.in_ok-empty_parts.field-0 c.in_ok-new.field-0 index None 0) (sym c.new-2.ensures)
+    subst (λ (index : Index). IsKept c.in_ok-empty_parts.field-0 c.in_ok-new.field-0 index None None 0) (sym c.new-2.ensures)
     (kept_fresh c.args.sessions c.args.limit c.in_ok-empty_parts.field-0 c.in_ok-new.field-0 c.in_ok-empty_parts.ensures c.in_ok-new.ensures (c.if-not-is_sessions.ensures.0 refl) (c.if-not-is_limit.ensures.0 refl))
 
 pub returns-clause-holds : goal.returns-clause-holds

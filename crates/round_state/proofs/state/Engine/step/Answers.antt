@@ -35,3 +35,9 @@ returns-in-Rebuild-clause-right g c = rw c.in-Rebuild.is c.reply_to_rebuild.ensu
 
 pub returns-in-Rebuild-clause-legal : goal.returns-in-Rebuild-clause-legal
 returns-in-Rebuild-clause-legal g c = c.right_is_legal.ensures c.args.step c.reply_to_rebuild.result c.reply_to_rebuild.new.self (rw c.in-Rebuild.is c.reply_to_rebuild.ensures.right)
+
+pub returns-in-Truncate-clause-right : goal.returns-in-Truncate-clause-right
+returns-in-Truncate-clause-right g c = rw c.in-Truncate.is c.reply_to_truncate.ensures.right
+
+pub returns-in-Truncate-clause-legal : goal.returns-in-Truncate-clause-legal
+returns-in-Truncate-clause-legal g c = c.right_is_legal.ensures c.args.step c.reply_to_truncate.result c.reply_to_truncate.new.self (rw c.in-Truncate.is c.reply_to_truncate.ensures.right)
