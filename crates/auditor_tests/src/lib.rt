@@ -6,6 +6,8 @@ mod engines;
 #[cfg(test)]
 mod lines;
 #[cfg(test)]
+mod reply_texts;
+#[cfg(test)]
 mod scripts;
 #[cfg(test)]
 mod splits;

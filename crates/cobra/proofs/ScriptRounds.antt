@@ -29,6 +29,7 @@ ended_by before kept after budget depth workers NoMemory (reply.Refused NoRound)
     absurd (none_or_some before.engine.asked some (subst (λ (engine : EngineState). engine.asked ≡ None) finish.engine.1 abandon.engine.0))
 ended_by before kept after budget depth workers NoMemory (reply.Refused refusal) some finish abandon = absurd abandon.engine.0
 ended_by before kept after budget depth workers NoMemory (reply.Report report) some finish abandon = absurd abandon.engine
+ended_by before kept after budget depth workers NoMemory (reply.Cut cut) some finish abandon = absurd abandon.engine
 ended_by before kept after budget depth workers NoRound said some finish abandon = absurd (none_or_some before.engine.asked some finish.engine.0)
 ended_by before kept after budget depth workers refusal said some finish abandon = absurd finish.engine.0
 
@@ -42,6 +43,7 @@ pub ends_finished : (old new : EngineState) (budget depth workers : ℕ) (said :
 ends_finished old new budget depth workers reply.Done finish not before holds some = absurd (finish before holds).1.engine
 ends_finished old new budget depth workers (reply.Refused refusal) finish not before holds some = absurd (not refusal refl)
 ends_finished old new budget depth workers (reply.Report report) finish not before holds some = finish before holds
+ends_finished old new budget depth workers (reply.Cut cut) finish not before holds some = absurd (finish before holds).1.engine
 
 pub rounds_begun : (old mid new : EngineState) (budget depth workers : ℕ) (said : StepReply) → StepsLegally old step.Begin reply.Done mid → EndsLegally mid budget depth workers said new → RoundsLegally old budget depth workers said new
 rounds_begun old mid new budget depth workers said begin ends before holds =
@@ -55,15 +57,16 @@ rounds_refused old new budget depth workers (reply.Refused refusal) begin not be
     let first = begin before holds in
     (first.0, inl (refusal, refl, first.1), first.2)
 rounds_refused old new budget depth workers (reply.Report report) begin not before holds = absurd (begin before holds).1.engine
+rounds_refused old new budget depth workers (reply.Cut cut) begin not before holds = absurd (begin before holds).1.engine
 
 -- a step is told
-pub step_told : (old new : EngineState) (asked : Step) (said : StepReply) (answer : Reply) → StepsLegally old asked said new → answer ≡ reply_of said → (before : State) → Holds old before → (after : State) × IsStep before asked answer after × Holds new after
-step_told old new asked said answer legal is before holds =
+pub step_told : (old new : EngineState) (asked : Step) (said : StepReply) → StepsLegally old asked said new → (answer : Reply) → answer ≡ reply_of said → (before : State) → Holds old before → (after : State) × IsStep before asked answer after × Holds new after
+step_told old new asked said legal answer is before holds =
     let after = legal before holds in
     (after.0, (said, after.1, is), after.2)
 
-pub round_told : (old new : EngineState) (budget depth workers : ℕ) (said : StepReply) (answer : Reply) → RoundsLegally old budget depth workers said new → answer ≡ reply_of said → AnswersOpenLegally old (Round budget depth workers) answer new
-round_told old new budget depth workers said answer legal is before holds =
+pub round_told : (old new : EngineState) (budget depth workers : ℕ) (said : StepReply) → RoundsLegally old budget depth workers said new → (answer : Reply) → answer ≡ reply_of said → AnswersOpenLegally old (Round budget depth workers) answer new
+round_told old new budget depth workers said legal answer is before holds =
     let after = legal before holds in
     (after.0, (said, after.1, is), after.2)
 

@@ -5,7 +5,7 @@ use Rattle.txn.specs.declared.refusals.Refusal.{Refusal}
 use Rattle.txn.specs.declared.refusals.Refusal.TheVariants.{BadLine, NoMemory}
 use Rattle.order_check.specs.Based.{received_counts}
 use Rattle.log_text.specs.declared.commands.Command.{Command}
-use Rattle.log_text.specs.declared.commands.Command.TheVariants.{Start, Offer, Close, Begin, Finish, Round, Show}
+use Rattle.log_text.specs.declared.commands.Command.TheVariants.{Start, Offer, Close, Begin, Finish, Round, Truncate, Rebuild, Show}
 use Rattle.log_text.specs.declared.replies.Reply.{Reply}
 use Rattle.log_text.specs.declared.replies.Reply.TheVariants as told
 use Rattle.round_state.specs.EngineState.{EngineState}
@@ -50,6 +50,8 @@ AnswersOpen old (Close session) answer new = IsStep old (step.Close session) ans
 AnswersOpen old Begin answer new = IsStep old step.Begin answer new
 AnswersOpen old (Finish budget depth workers) answer new = IsStep old (step.Finish budget depth workers) answer new
 AnswersOpen old (Round budget depth workers) answer new = (said : StepReply) × IsRound old budget depth workers said new × (answer ≡ reply_of said)
+AnswersOpen old Truncate answer new = IsStep old step.Truncate answer new
+AnswersOpen old Rebuild answer new = IsStep old step.Rebuild answer new
 AnswersOpen old Show answer new = (answer ≡ state_told old.engine) × (new ≡ old)
 AnswersOpen old (Start sessions limit) answer new = IsBadLine old answer new
 

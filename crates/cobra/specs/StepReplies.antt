@@ -1,4 +1,5 @@
 -- How the replies to an engine's steps are told.
+use Rattle.std.specs.FinMap as map
 use Rattle.log_text.specs.declared.replies.Reply.{Reply}
 use Rattle.log_text.specs.declared.replies.Reply.TheVariants as told
 use Rattle.round_state.specs.declared.reports.Certificate.{Certificate}
@@ -6,6 +7,7 @@ use Rattle.round_state.specs.declared.reports.Certificate.TheVariants.{Order, Re
 use Rattle.round_state.specs.declared.reports.Report.{Report}
 use Rattle.round_state.specs.declared.steps.StepReply.{StepReply}
 use Rattle.round_state.specs.declared.steps.StepReply.TheVariants as reply
+use Rattle.settle.specs.declared.cuts.Cut.{Cut}
 
 -- a report with this certificate
 abbrev pub certified : Report → Certificate → Reply
@@ -16,7 +18,12 @@ certified report Nothing = told.Spent report.round report.counts
 abbrev pub report_of : Report → Reply
 report_of report = certified report report.certificate
 
+-- a cut: the last writers of its keys, keys rising
+abbrev pub cut_of : Cut → Reply
+cut_of cut = told.Cut cut.fence cut.gone (map.entries cut.last)
+
 abbrev pub reply_of : StepReply → Reply
 reply_of reply.Done = told.Done
 reply_of (reply.Refused refusal) = told.No refusal
 reply_of (reply.Report report) = report_of report
+reply_of (reply.Cut cut) = cut_of cut

@@ -2,7 +2,7 @@ ghost use Rattle.std.specs.Prelude.{◌≡◌, ℕ, ◌+◌, ◌<◌, List, [], 
 ghost use Rattle.std.specs.Io.KnownBytes.{Appends, Keeps};
 ghost use Rattle.cobra.specs.Demonstration.{shown_txns, shown_fragment, shown_steps, IsShownReport, IsShownLine};
 
-use crate::replies::reply_of;
+use crate::replies::report_of;
 use byte_lines::{ByteSink, Failure, write_all};
 use log_text::write_reply;
 use polygraph::Single;
@@ -87,7 +87,7 @@ fn shown_line(alloc: Global) -> Result<Vec<u8>, NoMemory>
     ensures { IfOk result (λ line. IsShownLine line.items) }
 {
     let report = shown_report(alloc)?;
-    write_reply(alloc, &reply_of(StepReply::Report(report)))
+    write_reply(alloc, &report_of(report))
 }
 
 /// Shows an engine at work: it takes one fragment in, and the report of one round is written.

@@ -1,10 +1,14 @@
-ghost use Rattle.std.specs.Prelude.{◌≡◌};
-ghost use Rattle.cobra.specs.StepReplies.{report_of, reply_of};
+ghost use Rattle.std.specs.Prelude.{◌≡◌, IfOk};
+ghost use Rattle.cobra.specs.StepReplies.{report_of, cut_of, reply_of};
 
 use log_text::Reply;
 use round_state::{Certificate, Report, StepReply};
+use settle::Cut;
+use std::alloc::Global;
+use txn::NoMemory;
 
-fn report_of(report: Report) -> Reply
+/// How a report is told.
+pub(crate) fn report_of(report: Report) -> Reply
     ensures { result ≡ report_of report }
 {
     let Report {
@@ -29,13 +33,22 @@ fn report_of(report: Report) -> Reply
     }
 }
 
+fn cut_of(alloc: Global, cut: Cut) -> Result<Reply, NoMemory>
+    ensures { IfOk result (λ answer. answer ≡ cut_of cut) }
+{
+    let Cut { fence, gone, last } = cut;
+    let last = last.entries(alloc)?;
+    Ok(Reply::Cut { fence, gone, last })
+}
+
 /// How the reply to a step is told.
-pub(crate) fn reply_of(reply: StepReply) -> Reply
-    ensures { result ≡ reply_of reply }
+pub(crate) fn reply_of(alloc: Global, reply: StepReply) -> Result<Reply, NoMemory>
+    ensures { IfOk result (λ answer. answer ≡ reply_of reply) }
 {
     match reply {
-        StepReply::Done => Reply::Done,
-        StepReply::Refused(refusal) => Reply::No(refusal),
-        StepReply::Report(report) => report_of(report),
+        StepReply::Done => Ok(Reply::Done),
+        StepReply::Refused(refusal) => Ok(Reply::No(refusal)),
+        StepReply::Report(report) => Ok(report_of(report)),
+        StepReply::Cut(cut) => cut_of(alloc, cut),
     }
 }

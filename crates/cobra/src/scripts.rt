@@ -80,15 +80,15 @@ fn answer_open<S: Solver>(
     match command {
         Command::Offer(fragment) => {
             let said = engine.step(alloc, Step::Offer(fragment), solver);
-            Ok(reply_of(said))
+            reply_of(alloc, said)
         }
         Command::Close(session) => {
             let said = engine.step(alloc, Step::Close(session), solver);
-            Ok(reply_of(said))
+            reply_of(alloc, said)
         }
         Command::Begin => {
             let said = engine.step(alloc, Step::Begin, solver);
-            Ok(reply_of(said))
+            reply_of(alloc, said)
         }
         Command::Finish {
             budget,
@@ -101,7 +101,7 @@ fn answer_open<S: Solver>(
                 workers,
             };
             let said = engine.step(alloc, finish, solver);
-            Ok(reply_of(said))
+            reply_of(alloc, said)
         }
         Command::Round {
             budget,
@@ -109,7 +109,15 @@ fn answer_open<S: Solver>(
             workers,
         } => {
             let said = make_round(engine, alloc, budget, depth, workers, solver);
-            Ok(reply_of(said))
+            reply_of(alloc, said)
+        }
+        Command::Truncate => {
+            let said = engine.step(alloc, Step::Truncate, solver);
+            reply_of(alloc, said)
+        }
+        Command::Rebuild => {
+            let said = engine.step(alloc, Step::Rebuild, solver);
+            reply_of(alloc, said)
         }
         Command::Show => state_told(alloc, engine.engine()),
         Command::Start { .. } => Ok(Reply::No(Refusal::BadLine)),

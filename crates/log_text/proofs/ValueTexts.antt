@@ -70,6 +70,10 @@ pub report_written : HasText (string (codes "report")) (word_text (codes "report
 unfolding serde_json_on_literals
 report_written = word_written _ refl
 
+pub cut_written : HasText (string (codes "cut")) (word_text (codes "cut"))
+unfolding serde_json_on_literals
+cut_written = word_written _ refl
+
 pub show_written : HasText (string (codes "show")) (word_text (codes "show"))
 unfolding serde_json_on_literals
 show_written = word_written _ refl

@@ -8,7 +8,7 @@ use Rattle.txn.specs.declared.transactions.Txn.{Txn}
 use Rattle.order_check.specs.Effort.{IsEffort}
 use Rattle.log_text.specs.declared.commands.Command.{Command}
 use Rattle.log_text.specs.declared.commands.Effort.{Effort}
-use Rattle.log_text.specs.declared.commands.Command.TheVariants.{Start, Offer, Close, Begin, Finish, Round, Show}
+use Rattle.log_text.specs.declared.commands.Command.TheVariants.{Start, Offer, Close, Begin, Finish, Round, Truncate, Rebuild, Show}
 use Rattle.log_text.specs.Items.{array_of, list_of, with_both, alone, one_item, two_items, three_items}
 use Rattle.log_text.specs.Numbers.{whole_number, number_within}
 
@@ -66,7 +66,7 @@ finish_in parts = option_map (λ (effort : Effort). Finish effort.budget effort.
 abbrev pub round_in : Items → Option Command
 round_in parts = option_map (λ (effort : Effort). Round effort.budget effort.depth effort.workers) (effort_in parts)
 
--- the command of this name, with these parts; "begin" and "show" have none
+-- the command of this name, with these parts; "begin", "truncate", "rebuild" and "show" have none
 abbrev pub command_named : List ℕ → Items → Option Command
 command_named name parts =
     if bytes_eq name (codes "open") then start_in parts
@@ -75,8 +75,10 @@ command_named name parts =
     else (if bytes_eq name (codes "begin") then alone Begin parts
     else (if bytes_eq name (codes "finish") then finish_in parts
     else (if bytes_eq name (codes "round") then round_in parts
+    else (if bytes_eq name (codes "truncate") then alone Truncate parts
+    else (if bytes_eq name (codes "rebuild") then alone Rebuild parts
     else (if bytes_eq name (codes "show") then alone Show parts
-    else None))))))
+    else None))))))))
 
 -- the items are a command's name and its parts
 abbrev pub command_in : Items → Option Command

@@ -38,6 +38,7 @@ parts_of (reply.No refusal) = word_text (codes "no") ∷ decimal (number_of refu
 parts_of (reply.Order round kind counts order) = report_parts round kind counts ++ list_text (map id_text order) ∷ []
 parts_of (reply.Violated round counts tree) = report_parts round kind.Violated counts ++ tree_text tree ∷ []
 parts_of (reply.Spent round counts) = report_parts round kind.Spent counts
+parts_of (reply.Cut fence gone last) = word_text (codes "cut") ∷ id_text fence ∷ list_text (map id_text gone) ∷ list_text (map writer_text last) ∷ []
 parts_of (reply.Show marks received closed last remaining) = word_text (codes "show") ∷ numbers_text marks ∷ numbers_text received ∷ list_text (map flag_text closed) ∷ list_text (map writer_text last) ∷ decimal remaining ∷ []
 
 abbrev pub text_of : Reply → List ℕ

@@ -43,6 +43,10 @@ pub enum Command {
         depth: u64,
         workers: u64,
     },
+    /// To apply the cut that the engine holds.
+    Truncate,
+    /// To have the engine made anew of its parts.
+    Rebuild,
     /// To tell the state.
     Show,
 }
@@ -171,6 +175,8 @@ fn command_named(alloc: Global, name: &str, parts: &[Value]) -> Result<Option<Co
         "begin" => Ok(alone(Command::Begin, parts)),
         "finish" => Ok(finish_in(parts)),
         "round" => Ok(round_in(parts)),
+        "truncate" => Ok(alone(Command::Truncate, parts)),
+        "rebuild" => Ok(alone(Command::Rebuild, parts)),
         "show" => Ok(alone(Command::Show, parts)),
         _ => Ok(None),
     }

@@ -74,13 +74,20 @@ pub(crate) fn push_flags(
     Ok(())
 }
 
+/// Puts an id at the end of a list.
+pub(crate) fn push_id(alloc: Global, items: &mut Vec<Value>, id: TxnId) -> Result<(), NoMemory>
+    ensures { OnOk result (Gains items.old.items items.new.items (id_text id ∷ [])) }
+{
+    push_numbers(alloc, items, &[u64::from(id.session), id.number])
+}
+
 /// Puts a list of ids at the end of a list.
 pub(crate) fn push_ids(alloc: Global, items: &mut Vec<Value>, ids: &[TxnId]) -> Result<(), NoMemory>
     ensures { OnOk result (Gains items.old.items items.new.items (list_text (map id_text ids.now) ∷ [])) }
 {
     let mut list = Vec::new(alloc);
     for id in ids {
-        push_numbers(alloc, &mut list, &[u64::from(id.session), id.number])?;
+        push_id(alloc, &mut list, *id)?;
     }
     items.push(Value::Array(list))?;
     Ok(())

@@ -2,7 +2,9 @@ ghost use Rattle.std.specs.Prelude.{◌≡◌, IfOk, OnOk};
 ghost use Rattle.log_text.specs.Replies.{line_of, text_of, parts_of, report_parts, HasKindOfOrder, kind_name};
 ghost use Rattle.log_text.specs.Texts.{Gains, IsWrittenAs};
 
-use crate::lists::{push_each, push_flags, push_ids, push_numbers, push_word, push_writers};
+use crate::lists::{
+    push_each, push_flags, push_id, push_ids, push_numbers, push_word, push_writers,
+};
 use crate::trees::push_tree;
 use order_check::Kind;
 use refutation::Tree;
@@ -34,6 +36,13 @@ pub enum Reply {
     Spent {
         round: u64,
         counts: Sequence<u64>,
+    },
+    /// What was settled is cut away: the fence of the cut, what is gone in order of id, and the last writer of each key that was
+    /// written there, keys rising.
+    Cut {
+        fence: TxnId,
+        gone: Sequence<TxnId>,
+        last: Sequence<(u64, TxnId)>,
     },
     /// What the engine keeps: the first three have an item a session, `last` each key's last gone writer, keys rising.
     Show {
@@ -109,6 +118,22 @@ fn push_violated(
     push_tree(alloc, items, tree)
 }
 
+#[tactic(auto, using(crate::proofs::ValueTexts::cut_written))]
+fn push_cut(
+    alloc: Global,
+    items: &mut Vec<Value>,
+    fence: TxnId,
+    gone: &Sequence<TxnId>,
+    last: &Sequence<(u64, TxnId)>,
+) -> Result<(), NoMemory>
+    ensures { OnOk result (Gains items.old.items items.new.items (parts_of (Reply.Cut fence gone.now last.now))) }
+{
+    push_word(alloc, items, "cut")?;
+    push_id(alloc, items, fence)?;
+    push_ids(alloc, items, gone.as_slice())?;
+    push_writers(alloc, items, last.as_slice())
+}
+
 #[tactic(auto, using(crate::proofs::ValueTexts::show_written))]
 fn push_shown(
     alloc: Global,
@@ -149,6 +174,7 @@ fn push_parts(alloc: Global, items: &mut Vec<Value>, reply: &Reply) -> Result<()
             tree,
         } => push_violated(alloc, items, *round, counts, tree),
         Reply::Spent { round, counts } => push_report(alloc, items, *round, Kind::Spent, counts),
+        Reply::Cut { fence, gone, last } => push_cut(alloc, items, *fence, gone, last),
         Reply::Show {
             marks,
             received,
