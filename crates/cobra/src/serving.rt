@@ -1,4 +1,4 @@
-ghost use Rattle.std.specs.Prelude.{◌≡◌, ℕ, ◌+◌, ◌<◌, ◌⊎◌, List, [], length, take, Some, IfSome, OnOk, IsErrOf};
+ghost use Rattle.std.specs.Prelude.{◌≡◌, ℕ, ◌+◌, ◌<◌, ◌⊎◌, List, [], length, take, Some, None, IfSome, OnOk, IsErrOf};
 ghost use Rattle.std.specs.Io.KnownBytes.{Appends, Keeps};
 ghost use Rattle.cobra.specs.Outputs.{IsOutput, StopsForMemory, StopsReading, StopsWriting, RepliesLegally};
 ghost use Rattle.cobra.specs.Scripts.{IsUnderWay};
@@ -34,6 +34,44 @@ fn reply_to<W: ByteSink, S: Solver>(
     Ok(())
 }
 
+/// Reads on with a reader that has taken nothing yet, for a script that isn't open yet, to the end of input, and writes the reply to each
+/// line before it reads on. It owns neither, so that nothing is let go where it returns: that keeps its proof short.
+fn serve_lines<R: ByteSource, W: ByteSink, S: Solver>(
+    alloc: Global,
+    reader: &mut LineReader,
+    script: &mut Script,
+    source: &mut R,
+    sink: &mut W,
+    solver: &S,
+) -> Result<(), Failure>
+    requires ready { S.ready }
+    requires limit { reader.old.limit ≡ LONGEST_LINE }
+    requires ahead { reader.old.ahead ≡ [] }
+    requires under_way { reader.old.under_way ≡ Some [] }
+    requires unopened { script.old.engine ≡ None }
+
+    // All of the input is read, and an output of it is written.
+    ensures at_end { OnOk result (IfSome (R.remaining source.old) (λ input. R.remaining source.new ≡ Some [])) }
+    ensures whole { OnOk result (IfSome (R.remaining source.old) (λ input. (output : List ℕ) × IsOutput input output × Appends (W.contents sink.old) (W.contents sink.new) output)) }
+
+    // A front of an output is written.
+    ensures stops_reading { R.faults source.old < R.faults source.new → IfSome (R.remaining source.old) (λ input. (output : List ℕ) × StopsReading input (R.remaining source.new) output × Appends (W.contents sink.old) (W.contents sink.new) output) }
+    ensures stops_writing { W.faults sink.old < W.faults sink.new → IfSome (R.remaining source.old) (λ input. (output : List ℕ) × StopsWriting input (R.remaining source.new) output × Appends (W.contents sink.old) (W.contents sink.new) output) }
+    ensures stops_for_memory { IsErrOf result Failure.NoMemory → IfSome (R.remaining source.old) (λ input. (output : List ℕ) × StopsForMemory input (R.remaining source.new) output × Appends (W.contents sink.old) (W.contents sink.new) output) }
+
+    // One of the devices failed, once, where that is the answer, and else none did.
+    ensures device { IsErrOf result Failure.Device → ((R.faults source.new ≡ R.faults source.old + 1) × (W.faults sink.new ≡ W.faults sink.old)) ⊎ ((R.faults source.new ≡ R.faults source.old) × (W.faults sink.new ≡ W.faults sink.old + 1)) }
+    ensures none_failed { ¬ IsErrOf result Failure.Device → (R.faults source.new ≡ R.faults source.old) × (W.faults sink.new ≡ W.faults sink.old) }
+{
+    loop {
+        let next = reader.next_line(source)?;
+        if let Next::End = next {
+            return Ok(());
+        }
+        reply_to(alloc, script, &next, sink, solver)?;
+    }
+}
+
 /// Reads a script to the end of input, and writes the reply to each line before it reads on. What a failure of a device or
 /// want of memory leaves half done isn't tried again.
 pub fn serve<R: ByteSource, W: ByteSink, S: Solver>(
@@ -59,11 +97,5 @@ pub fn serve<R: ByteSource, W: ByteSink, S: Solver>(
 {
     let mut reader = LineReader::new(alloc, LONGEST_LINE)?;
     let mut script = Script::new();
-    loop {
-        let next = reader.next_line(source)?;
-        if let Next::End = next {
-            return Ok(());
-        }
-        reply_to(alloc, &mut script, &next, sink, solver)?;
-    }
+    serve_lines(alloc, &mut reader, &mut script, source, sink, solver)
 }

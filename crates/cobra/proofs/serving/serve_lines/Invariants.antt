@@ -5,7 +5,7 @@ use Rattle.byte_lines.specs.declared.lines.TheConstants.{LONGEST_LINE}
 use Rattle.byte_lines.specs.LineReaders.{lines_left}
 use Rattle.cobra.specs.Scripts.{IsUnderWay}
 use Rattle.cobra.proofs.ServedLines.{IsServing}
-use Rattle.cobra.proofs.serving.serve.Given as goal
+use Rattle.cobra.proofs.serving.serve_lines.Given as goal
 
 abbrev pub invariant-loop-script : goal.invariant-loop-script
 invariant-loop-script g l = record {
