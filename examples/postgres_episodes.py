@@ -51,6 +51,10 @@ class OwnKeys:
         self.store, self.prefix = store, prefix
         self.begin, self.commit, self.rollback, self.outcome = store.begin, store.commit, store.rollback, store.outcome
 
+    @property
+    def statement(self):
+        return self.store.statement
+
     def read(self, key):
         return self.store.read(self.prefix + key)
 

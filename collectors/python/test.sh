@@ -25,16 +25,16 @@ live=$(realpath ../../examples/postgres_live.py)
 folder=$(mktemp -d)
 trap 'rm -rf "$folder"' EXIT
 cd "$folder"
-wanted() { # the verdict, and then how to run it
-    local verdict=$1
+wanted() { # what is told at the end, and then how to run it
+    local wanted=$1
     shift
     "$python" "$live" --seconds 4 --unaudited 0 "$@" > told || true
     tail -n 3 told
-    grep -q "^[a-z]* at [a-z ]*: $verdict;" told || { cat told; echo "wanted: $verdict"; exit 1; }
+    grep -q "^[a-z]* at [a-z ]*: $wanted" told || { cat told; echo "wanted: $wanted"; exit 1; }
 }
 for workload in counter skew mixed blind; do
-    wanted serial --level serializable --workload $workload
+    wanted "serial; [1-9][0-9]* cuts in" --level serializable --workload $workload
 done
-wanted violated --level repeatable --workload skew
-wanted violated --level committed --workload counter
+wanted "violated;" --level repeatable --workload skew
+wanted "violated;" --level committed --workload counter
 echo "the collectors' tests passed"

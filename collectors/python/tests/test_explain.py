@@ -1,7 +1,7 @@
 """What is told of violated histories. No program is needed."""
 import unittest
 
-from zanteyard import Logged, reasons
+from zanteyard import Logged, reasons, words
 from zanteyard.explain import circle
 
 
@@ -49,6 +49,25 @@ class Explaining(unittest.TestCase):
         history = [[txn(writes="pq")], [txn(writes="pq")], [txn(*reads)]]
         self.assertIsNotNone(circle(history))  # p has 1.0 before 0.0, and q 0.0 before 1.0
         self.assertIsNone(circle([[txn(writes="p")], [txn(writes="p")], [txn(("p", (0, 0)))]]))
+
+    def test_statements_are_told_of_what_is_left(self):
+        select, update = "SELECT v FROM t\n  WHERE k = 'x'", "UPDATE t SET v = v + 1 WHERE k = 'y' RETURNING name"
+        x, y = ("x", (0, 0)), ("y", "init")
+        one = Logged((x, y), ("x", "y"), "committed", ((x, select), (y, update), (("y",), update), (("z",), "no deed")))
+        self.assertEqual(
+            list(words([[one, one._replace(reads=(x,), writes=("x",))]])),
+            [
+                "0.0 read x from 0.0, read y as it was at first, wrote x, wrote y",
+                "    read x: SELECT v FROM t WHERE k = 'x'",
+                f"    read y, wrote y: {update}",
+                "0.1 read x from 0.0, wrote x",
+                "    read x: SELECT v FROM t WHERE k = 'x'",
+            ],
+        )
+
+    def test_a_long_statement_is_cut(self):
+        line = list(words([[Logged((), ("x",), "committed", ((("x",), "y" * 241),))]]))[1]
+        self.assertEqual(line, f"    wrote x: {'y' * 240} ..")
 
 
 if __name__ == "__main__":

@@ -7,7 +7,7 @@ import threading
 import time
 import unittest
 
-from zanteyard import FENCE, Aborted, Auditor, LiveAuditor, Logged, NoCut, audited, draw, from_start, reasons, smaller, words
+from zanteyard import FENCE, Aborted, Auditor, LiveAuditor, Logged, NoCut, NoMemory, audited, dot_text, draw, from_start, reasons, smaller, words
 from zanteyard.auditor import PROGRAM
 from zanteyard.memory_store import MemoryStore
 
@@ -29,8 +29,8 @@ class WithProgram(unittest.TestCase):
             self.skipTest(f"{PROGRAM} is not built: see README.md")
         self.told = []
 
-    def live(self, sessions, **more):
-        self.auditor = Auditor(sessions)
+    def live(self, sessions, limit=4096, **more):
+        self.auditor = Auditor(sessions, limit)
         self.addCleanup(self.auditor.end)
         return LiveAuditor(self.auditor, **{"every": 20, "seconds": 60.0, "tell": self.told.append, **more})
 
@@ -67,6 +67,23 @@ class Meetings(WithProgram):
         self.assertGreater(live.rounds, 0)
         self.assertEqual(len(self.told), live.rounds)
         self.assertRegex(self.told[0], r"^round 1: (serial|pending); \d+ transactions, \d+ a second; \d+ remain; (no )?cut")
+
+    def test_what_is_settled_is_forgotten_so_that_a_run_has_no_end(self):
+        live, store = self.live(2, limit=32, every=10), MemoryStore()
+        a, b = (live.session(store.connect()) for _ in range(2))
+        for turn in range(8):
+            for _ in range(5):
+                a.run(add_one("x")), b.run(add_one("x"))
+            self.wait_for(lambda: live.rounds > turn)
+        self.assertEqual(self.ended(live).kind, "serial")
+        self.assertEqual(live.cuts, 8)
+        self.assertEqual(sum(self.auditor.marks) + sum(map(len, self.auditor.history)), live.taken_in)
+
+    def test_clients_that_wait_for_the_auditor_come_to_meetings(self):
+        live, store = self.live(2, every=8, most=1, patience=5.0), MemoryStore()
+        run_clients(live, [store.connect() for _ in range(2)], 60, add_one("x"))
+        self.assertEqual(self.ended(live).kind, "serial")
+        self.assertEqual([line for line in self.told if "took longer" in line], [])
 
     def test_each_session_has_two_fences_and_the_unseen_is_read(self):
         live, store = self.live(3, every=2), MemoryStore()
@@ -195,6 +212,20 @@ class MadeUp(unittest.TestCase):
         self.assertEqual(audited(small)[0].kind, "violated")
         self.assertEqual(reasons(small, called)[-1].split(" of ")[0], "so none can come first")
 
+    def test_statements_are_told_of_what_remains(self):
+        auditor = self.cut_auditor()
+        read = ("x", (0, 0))
+        auditor.history[1][1] = Logged((read,), ("y",), "committed", ((read, "SELECT x"), (("y",), "UPDATE y")))
+        self.assertEqual(list(words(*from_start(auditor)))[4:], ["    read x: SELECT x", "    wrote y: UPDATE y"])
+
+    def test_a_line_is_given_again_where_memory_was_refused(self):
+        refused, report = ["no", 16, "NoMemory"], ["report", 1, "serial", [0], []]
+        auditor = self.auditor(1, {"round": [refused, report, *3 * [refused], report]})
+        self.assertEqual(auditor.round().kind, "serial")
+        with self.assertRaises(NoMemory):
+            auditor.round()
+        self.assertEqual(auditor.round().kind, "serial")
+
     def test_a_program_without_the_command(self):
         auditor = self.auditor(1, {"truncate": [["no", 13, "NoCut"], ["no", 1, "BadLine"]]})
         for can_cut in (True, False):
@@ -214,6 +245,10 @@ class Pictures(unittest.TestCase):
         self.assertIn('"0.0" [label="0.0\\nread x as it was at first\\nwrote x", group=session0];', text)
         self.assertIn('"0.0" -> "1.0" [label="0.0 read x as it was at first, and 1.0 wrote it", color=red, penwidth=2];', text)
         self.assertEqual(text.count("->"), 2)
+
+    def test_statements_are_in_the_tooltip(self):
+        text = dot_text([[Logged((), ("x",), "committed", ((("x",), "UPDATE \"t\""),))]])
+        self.assertIn('group=session0, tooltip="wrote x: UPDATE \\"t\\""];', text)
 
 
 if __name__ == "__main__":

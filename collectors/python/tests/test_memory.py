@@ -260,6 +260,28 @@ class Telling(WithAuditor):
         self.assertEqual(report.kind, "violated")
         self.assertEqual(script.splitlines()[0], '["open",3,3]')
 
+    def test_statements_are_kept_with_what_they_did(self):
+        a, b, _ = self.sessions(patience=0.1)
+        a.run(lambda t: (t.get("x", "SELECT x"), t.put("x", 1, "INSERT x"), t.put("x", 2, "UPDATE x"), t.delete("y", "DELETE y")))
+        self.assertEqual(
+            dict(self.auditor.history[0][0].statements),
+            {("x", "init"): "SELECT x", ("x",): "UPDATE x", ("y",): "DELETE y"},
+        )
+        a.store.statement = "what the store has run"
+        a.run(lambda t: (t.get("x"), t.get("y", "SELECT y"), t.put("x", 3)))
+        self.assertEqual(
+            dict(self.auditor.history[0][1].statements),
+            {("x", (0, 0)): a.store.statement, ("y", (0, 0)): "SELECT y", ("x",): a.store.statement},
+        )
+        with self.assertRaises(ZeroDivisionError):
+            a.run(lambda t: (t.get("x"), 1 // 0))
+        a.store.lost, a.store.known = "committed", False
+        with self.assertRaises(OutcomeUnknown):
+            a.run(add_one)
+        aborted, unknown = self.auditor.history[0][2:]
+        self.assertEqual((aborted.statements, unknown.statements), ((), ((("x",), a.store.statement),)))
+        self.assertEqual(self.kind(), "serial")
+
 
 if __name__ == "__main__":
     unittest.main()

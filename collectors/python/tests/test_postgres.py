@@ -2,7 +2,7 @@
 import os
 import unittest
 
-from zanteyard import Aborted, Auditor, Logged, OutcomeUnknown, Session
+from zanteyard import Aborted, Auditor, OutcomeUnknown, Session, smaller, words
 from zanteyard.auditor import PROGRAM
 from zanteyard.cluster import Cluster, program
 
@@ -86,6 +86,13 @@ class Postgres(unittest.TestCase):
                 self.setUp()
                 self.assertEqual(self.count_at_once(level), wanted)
 
+    def test_a_violation_names_what_was_run(self):
+        self.assertEqual(self.count_at_once("read committed"), "violated")
+        told = list(words(smaller(self.auditor.history)))
+        self.assertEqual(told[2], "0.1 read x from 0.0, wrote x")
+        self.assertEqual(told[3], "    read x: SELECT value, run, session, number FROM zanteyard WHERE key = 'x'")
+        self.assertTrue(told[4].startswith("    wrote x: INSERT INTO zanteyard VALUES ('x', '2', 'run', 0, 1) ON CONFLICT"), told[4])
+
     def test_a_connection_that_breaks_before_the_commit(self):
         admin = self.admin
 
@@ -136,7 +143,7 @@ class Postgres(unittest.TestCase):
                 session.run(lambda t: (t.get("x"), t.put("x", "1")))
             self.assertFalse(session.is_open)
             session.store.connection.close()
-        self.assertEqual(self.auditor.history[0][0], Logged([], ["x"], "unknown"))
+        self.assertEqual(self.auditor.history[0][0][:3], ([], ["x"], "unknown"))
         self.assertEqual(self.kind(), "serial")
 
 

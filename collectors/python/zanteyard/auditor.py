@@ -3,6 +3,7 @@ import json
 import os
 import subprocess
 import threading
+import time
 from collections import namedtuple
 
 BUILT = os.path.join(os.path.dirname(__file__), "../../../crates/cobra_audit/out/cobra_audit")
@@ -11,10 +12,11 @@ PROGRAM = os.environ.get("COBRA_AUDIT", os.path.normpath(BUILT))
 # The certificate is an order where the kind is serial or pending, and the items of a refutation where it is violated.
 Report = namedtuple("Report", "number kind counts certificate", defaults=(None,))
 LIMIT, BUDGET = 4096, 4096  # the most transactions that may remain; nodes of the search that a round may look at
+WAITS = (0.1, 0.5, 0.0)  # seconds after each time that a line was answered NoMemory
 FENCE = "zanteyard fence"  # the key on which sessions run fences; its number is 0
 # What one transaction did: reads are pairs of a key's name and a source, which is "init" or (session, number); writes are names of keys.
-Logged = namedtuple("Logged", "reads writes outcome", defaults=("committed",))
-ABORTED = Logged((), (), "aborted")
+# Statements are for who is told of a violation: pairs of a deed, which is a read or (key,) for a write, and what was run for it.
+Logged = namedtuple("Logged", "reads writes outcome statements", defaults=("committed", ()))
 # The fence up to which the auditor has forgotten, and how many transactions that were.
 Cut = namedtuple("Cut", "fence gone")
 
@@ -27,11 +29,15 @@ class Full(Refused):
     """As many transactions remain as the auditor holds; nothing is wrong with this one."""
 
 
+class NoMemory(Refused):
+    """The program was refused memory for it, also when it was given the line again; nothing has changed."""
+
+
 class NoCut(Refused):
     """No round has found a fence up to which everything is settled; or the program has no such command."""
 
 
-KINDS = {"Backlog": Full, "NoCut": NoCut}
+KINDS = {"Backlog": Full, "NoCut": NoCut, "NoMemory": NoMemory}
 
 
 class Ended(Exception):
@@ -61,6 +67,16 @@ class Auditor:
 
     def ask(self, line):
         text = json.dumps(line, separators=(",", ":"))
+        for wait in WAITS:
+            reply = self.reply_to(text)
+            if reply[0] != "no":
+                return reply
+            if reply[2] != "NoMemory":
+                break
+            time.sleep(wait)
+        raise KINDS.get(reply[2], Refused)(f"{text} was answered {reply[2]}")
+
+    def reply_to(self, text):
         with self.lock:
             try:
                 self.program.stdin.write(text + "\n")
@@ -70,10 +86,7 @@ class Auditor:
                 raise Ended(f"cobra_audit can't be reached: {error}") from error
         if not answer:
             raise Ended(f"cobra_audit ended with status {self.program.wait()}: {self.program.stderr.read().strip()}")
-        reply = json.loads(answer)
-        if reply[0] == "no":
-            raise KINDS.get(reply[2], Refused)(f"{text} was answered {reply[2]}")
-        return reply
+        return json.loads(answer)
 
     def offer(self, session, number, logged):
         self.ask(["offer", session, number, [self.txn(logged)]])
@@ -162,8 +175,15 @@ def from_start(auditor):
     def plain(key):
         return "fence" if key == FENCE else key  # what is left of a fence may be none
 
+    def plain_deed(key, *source):
+        return (plain(key), *(moved(key, it) for it in source))
+
     def without_cut(one):
-        return one._replace(reads=[(plain(key), moved(key, source)) for key, source in one.reads], writes=[*map(plain, one.writes)])
+        return one._replace(
+            reads=[plain_deed(*read) for read in one.reads],
+            writes=[*map(plain, one.writes)],
+            statements=[(plain_deed(*deed), statement) for deed, statement in one.statements],
+        )
 
     history = [[without_cut(one) for one in txns] for txns in auditor.history]
     if not some_gone:
@@ -267,9 +287,23 @@ def deeds(logged, name):
     return [f"read {key} {version(key, source, name)}" for key, source in logged.reads] + [f"wrote {key}" for key in logged.writes]
 
 
+LONGEST = 240  # of what is told of a statement, in characters
+
+
+def statements_of(logged):
+    """Lines that tell what was run for what the transaction did, where that is known."""
+    left, told = dict(logged.statements), {}
+    for deed in (*logged.reads, *((key,) for key in logged.writes)):
+        if deed in left:
+            told.setdefault(" ".join(left[deed].split()), []).append(("wrote" if len(deed) == 1 else "read") + f" {deed[0]}")
+    for statement, its in told.items():
+        yield f"{', '.join(its)}: {statement if len(statement) <= LONGEST else statement[:LONGEST] + ' ..'}"
+
+
 def words(history, name=name):
-    """A line for each transaction."""
+    """A line for each transaction, with its statements behind it."""
     for session, txns in enumerate(history):
         for number, logged in enumerate(txns):
             if deeds(logged, name):  # else it is there for its number alone
                 yield f"{name((session, number))} {', '.join(deeds(logged, name))}"
+                yield from (f"    {line}" for line in statements_of(logged))

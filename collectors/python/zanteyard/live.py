@@ -31,7 +31,7 @@ class LiveAuditor:
         self.handed_in, self.met_at, self.met, self.why_not = 0, 0, time.monotonic(), None
         self.taken_in, self.rounds, self.cuts, self.lag = 0, 0, 0, 0.0
         self.told_at, self.told_of = time.monotonic(), 0
-        self.report, self.failure, self.is_stopping = None, None, False
+        self.report, self.failure, self.is_stopping, self.is_meeting = None, None, False, False
         self.thread = threading.Thread(target=self.serve, daemon=True)
         self.thread.start()
 
@@ -65,8 +65,12 @@ class LiveAuditor:
             self.handed_in += 1
             self.unseen.update(set(logged.writes) - {key for key, _ in logged.reads})
         self.waiting.put((time.monotonic(), (session, number, logged)))
-        while threading.current_thread() is not self.thread and self.waiting.qsize() > self.most and not self.is_over:
+        while threading.current_thread() is not self.thread and self.waiting.qsize() > self.most and not self.goes_on():
             time.sleep(0.001)
+
+    def goes_on(self):
+        """Clients don't wait for who is behind: its session's turn is wanted by the meeting, or nothing more is taken in."""
+        return self.is_meeting or self.is_over
 
     def close(self, session):
         self.waiting.put((time.monotonic(), (session,)))
@@ -151,12 +155,13 @@ class LiveAuditor:
 
     def meet(self):
         """Then a round, once what was handed in before it is taken in."""
-        held = []
+        held, self.is_meeting = [], True
         try:
             self.why_not = self.hold(held) or self.run_fences(held)
         except Exception as error:  # the store's: a client will meet it too
             self.why_not = f"the meeting failed ({str(error).strip() or type(error).__name__})"
         finally:
+            self.is_meeting = False
             for session in held:
                 session.turn.release()
         self.met_at, self.met = self.handed_in, time.monotonic()

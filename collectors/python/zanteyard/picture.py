@@ -2,7 +2,7 @@
 import shutil
 import subprocess
 
-from .auditor import deeds, name
+from .auditor import deeds, name, statements_of
 from .explain import circle
 
 
@@ -29,7 +29,9 @@ def dot_text(history, name=name):
         for number, logged in enumerate(txns):
             if deeds(logged, name):
                 label = quoted(name((session, number)), *deeds(logged, name))
-                lines.append(f"  {quoted(name((session, number)))} [label={label}, group=session{session}];")
+                run = [*statements_of(logged)]  # seen in the SVG where the pointer rests on the transaction
+                more = f", tooltip={quoted(*run)}" if run else ""
+                lines.append(f"  {quoted(name((session, number)))} [label={label}, group=session{session}{more}];")
     for arc in below(around):
         style = "color=red, penwidth=2" if arc in around else "color=grey, fontcolor=grey40"
         lines.append(f"  {quoted(name(arc.start))} -> {quoted(name(arc.end))} [label={quoted(arc.why)}, {style}];")

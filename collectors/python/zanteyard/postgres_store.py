@@ -25,6 +25,7 @@ class PostgresStore:
 
     def __init__(self, dsn, level="serializable"):
         self.dsn, self.level, self.connection, self.transaction_id = dsn, level, None, None
+        self.statement = None  # what was run last, as the server got it
 
     def connect(self):
         self.connection = psycopg2.connect(self.dsn)
@@ -36,6 +37,7 @@ class PostgresStore:
             cursor.execute(*statement)
         except CONFLICTS as error:
             raise Aborted(str(error).strip()) from error
+        self.statement = cursor.query.decode(errors="replace")
         return cursor
 
     def begin(self):

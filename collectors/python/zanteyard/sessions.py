@@ -3,13 +3,14 @@
 A store, as a session wants it, has six calls and may raise Aborted from all but the last. `begin()` and `rollback()`; `read(key)`, which gives
 (value, name), or None where the key isn't there, with the name that was written beside the value; `write(key, value, name)`, where the
 value None deletes the key and leaves the name behind; `commit()`, which raises OutcomeUnknown where no answer came; and `outcome()`, which says of
-the transaction whose commit was sent last, and which had written, whether it is "committed", "aborted" or "unknown".
+the transaction whose commit was sent last, and which had written, whether it is "committed", "aborted" or "unknown". Where it has a
+`statement`, that is what it has run last, as who is told of a violation should see it.
 """
 import threading
 import time
 from contextlib import contextmanager
 
-from .auditor import ABORTED, FENCE, Logged
+from .auditor import FENCE, Logged
 
 
 class Aborted(Exception):
@@ -113,30 +114,42 @@ class Transaction:
     def __init__(self, session, number, holds=True):
         self.session, self.store, self.number, self.holds = session, session.store, number, holds
         self.reads, self.written, self.is_over = set(), {}, False
+        self.statements = {}  # of each deed, as Logged has them
 
-    def get(self, key):
+    def get(self, key, statement=None):
+        """`statement` is told of a violation in place of the store's."""
         if key in self.written:
             return self.written[key]  # its own write: not logged
         found = self.store.read(key)
-        self.reads.add((key, "init" if found is None else self.source(found[1])))
+        read = (key, "init" if found is None else self.source(found[1]))
+        self.reads.add(read)
+        self.was_run(read, statement)
         return None if found is None else found[0]
+
+    def was_run(self, deed, statement=None):
+        statement = statement or getattr(self.store, "statement", None)
+        if statement:
+            self.statements.setdefault(deed, statement)
 
     def source(self, name):
         if name is None or name[0] != self.session.run_name:
             return "init"  # it was there before this run
         return (name[1], name[2])
 
-    def put(self, key, value):
+    def put(self, key, value, statement=None):
         self.written[key] = value  # goes to the store at the commit, once, so that no version is there to be read but the last
+        if statement:
+            self.statements[(key,)] = statement
 
-    def delete(self, key):
-        self.put(key, None)
+    def delete(self, key, statement=None):
+        self.put(key, None, statement)
 
     def commit(self):
         try:
             name = (self.session.run_name, self.session.number, self.number)
             for key in sorted(self.written):
                 self.store.write(key, self.written[key], name)
+                self.was_run((key,))
             self.store.commit()
         except OutcomeUnknown:
             self.find_out()
@@ -154,7 +167,7 @@ class Transaction:
                 self.give_up()
 
     def give_up(self):
-        self.log(*ABORTED)
+        self.log((), (), "aborted")
 
     def find_out(self):
         """Asks the store. Where it can't say, the transaction is logged with its writes alone, as the last of its session."""
@@ -174,8 +187,10 @@ class Transaction:
 
     def log(self, reads, writes, outcome, is_last=False):
         session, self.is_over = self.session, True
+        deeds = {*reads, *((key,) for key in writes)}
+        statements = tuple(it for it in self.statements.items() if it[0] in deeds)
         try:
-            session.auditor.offer(session.number, self.number, Logged(sorted(reads, key=repr), sorted(writes), outcome))
+            session.auditor.offer(session.number, self.number, Logged(sorted(reads, key=repr), sorted(writes), outcome, statements))
             if is_last:
                 session.close()
         finally:
