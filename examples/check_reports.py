@@ -5,10 +5,11 @@
 
 SCRIPT has the lines that the auditor was given, REPLIES its replies, line by line. Each report is checked against what had
 been accepted before its round began: the order of a serial or pending one has to explain all reads, and the refutation of a
-violated one has to leave no order, step by step, as docs/FORMATS.md says. A spent report claims nothing. Scripts with cuts
-aren't checked. It prints a line a report, and ends with status 1 where one is wrong.
+violated one has to leave no order, step by step, as docs/FORMATS.md says. A spent report claims nothing. A cut has to be a front of
+the order that was last told, up to a fence, and its last writers have to be those of that front; that every order has this front isn't
+checked. It prints a line a report and a line a cut, and ends with status 1 where one is wrong.
 
-It is a second opinion: some 200 lines of plain Python, slow, to be read and believed by whoever doesn't trust the proofs.
+It is a second opinion: some 250 lines of plain Python, slow, to be read and believed by whoever doesn't trust the proofs.
 """
 import json
 import sys
@@ -21,10 +22,12 @@ class Wrong(Exception):
 
 
 class History:
-    """What was accepted: for each session its transactions, each with its reads and the keys that it writes."""
+    """What was accepted: for each session its transactions, each with its reads and the keys that it writes; how many of them are
+    gone; and of each key the last gone writer."""
 
     def __init__(self, sessions):
         self.sessions = [[] for _ in range(sessions)]
+        self.gone, self.last = [0] * sessions, {}
 
     def offer(self, session, txns):
         for reads, writes in txns:
@@ -34,7 +37,13 @@ class History:
     def copy(self):
         other = History(0)
         other.sessions = [list(txns) for txns in self.sessions]
+        other.gone, other.last = list(self.gone), dict(self.last)
         return other
+
+    def cut(self, gone, last):
+        for session, _ in gone:
+            self.gone[session] += 1
+        self.last.update(last)
 
     def counts(self):
         return [len(txns) for txns in self.sessions]
@@ -43,7 +52,16 @@ class History:
         session, number = txn
         if not (0 <= session < len(self.sessions) and 0 <= number < len(self.sessions[session])):
             raise Wrong(f"{txn} was not taken in")
+        if number < self.gone[session]:
+            raise Wrong(f"{txn} is gone")
         return self.sessions[session][number]
+
+    def is_gone(self, txn):
+        return txn[0] < len(self.sessions) and txn[1] < self.gone[txn[0]]
+
+    def reads_base(self, txn, key):
+        """Whether it reads the key as it was before everything that remains."""
+        return self.reads(txn, key, self.last.get(key, INIT))
 
     def is_received(self, txn):
         return txn[0] < len(self.sessions) and txn[1] < len(self.sessions[txn[0]])
@@ -64,9 +82,9 @@ class History:
 
 
 def check_order(history, order):
-    """Every transaction stands once, each session's in order; each read meets the last writer before it."""
-    next_of = [0] * len(history.sessions)
-    last = {}
+    """Every transaction that remains stands once, each session's in order; each read meets the last writer before it."""
+    next_of = list(history.gone)
+    last = dict(history.last)
     for session, number in order:
         if next_of[session] != number:
             raise Wrong(f"{session}.{number} stands out of its session's order")
@@ -97,7 +115,7 @@ def check_arc(history, taken, arc):
     elif kind == "read" and len(arc) == 6:
         right = history.reads(after, arc[1], before) and history.writes(before, arc[1])
     elif kind == "base" and len(arc) == 6:
-        right = history.reads(before, arc[1], INIT) and before != after and history.writes(after, arc[1])
+        right = history.reads_base(before, arc[1]) and before != after and history.writes(after, arc[1])
     elif kind == "taken" and len(arc) == 5:
         right = (before, after) in taken
     else:
@@ -134,9 +152,15 @@ def check_leaf(history, taken, item):
         _, session, number, key = item
         reads, _ = history.get((session, number))
         if not any(
-            k == key and source != INIT and history.is_received(source) and not history.writes(source, key)
+            k == key and source != INIT and history.is_received(source) and not history.is_gone(source) and not history.writes(source, key)
             for k, source in reads
         ):
+            raise Wrong(f"{item}: no such read")
+    elif item[0] == "gone":
+        _, session, number, key = item
+        reads, _ = history.get((session, number))
+        older = [source for k, source in reads if k == key and (source == INIT or history.is_gone(source))]
+        if not any(source != history.last.get(key, INIT) for source in older):
             raise Wrong(f"{item}: no such read")
     else:
         raise Wrong(f"{item} ends nothing")
@@ -177,9 +201,23 @@ def check_report(history, reply):
         raise Wrong("no such kind")
 
 
+def check_cut(history, order, reply):
+    """What is gone is a front of the order that was last told, up to a fence; then it is taken out."""
+    _, fence, gone, last = reply
+    front = [tuple(txn) for txn in order[: len(gone)]]
+    if sorted(front) != [tuple(txn) for txn in gone] or not front or front[-1] != tuple(fence):
+        raise Wrong("what is gone is no front of the order that ends with the fence")
+    if history.get(front[-1])[1] != {0}:
+        raise Wrong("it is no fence")
+    writers = {key: txn for txn in front for key in history.get(txn)[1]}
+    if [[key, *txn] for key, txn in sorted(writers.items())] != last:
+        raise Wrong("other transactions wrote last")
+    history.cut(front, writers)
+
+
 def check_run(script, replies):
-    """Prints a line for each report; answers how many are wrong."""
-    history, begun, wrong = None, None, 0
+    """Prints a line for each report and each cut; answers how many are wrong."""
+    history, begun, order, wrong = None, None, [], 0
     for line, text in zip(script, replies):
         reply = json.loads(text)
         if reply[0] == "no":
@@ -191,16 +229,22 @@ def check_run(script, replies):
             history.offer(command[1], command[3])
         elif command[0] == "begin":
             begun = history.copy()
-        elif command[0] == "truncate":
-            sys.exit("this script has a cut: not checked")
-        if reply[0] != "report":
+        elif command[0] == "rebuild":
+            order = []
+        if reply[0] not in ("report", "cut"):
             continue
+        told = f"round {reply[1]}: {reply[2]}" if reply[0] == "report" else f"cut at {reply[1][0]}.{reply[1][1]}"
         try:
-            check_report(begun if command[0] == "finish" else history, reply)
-            print(f"round {reply[1]}: {reply[2]}, right")
+            if reply[0] == "cut":
+                check_cut(history, order, reply)
+                order = []
+            else:
+                check_report(begun if command[0] == "finish" else history, reply)
+                order = reply[4] if reply[2] in ("serial", "pending") else order
+            print(f"{told}, right")
         except Wrong as why:
             wrong += 1
-            print(f"round {reply[1]}: {reply[2]}, WRONG: {why}")
+            print(f"{told}, WRONG: {why}")
     return wrong
 
 
