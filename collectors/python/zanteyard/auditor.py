@@ -54,7 +54,7 @@ class Auditor:
         self.marks = [0] * sessions  # how many of each session are forgotten
         self.base = {}  # of each key that a forgotten transaction wrote, the last that did
         self.can_cut = True  # until the program says that it doesn't know the command
-        self.lock = threading.Lock()
+        self.lock = threading.RLock()  # so that what is kept here follows the replies in their order
         try:
             self.program = subprocess.Popen([program], stdin=subprocess.PIPE, stdout=subprocess.PIPE, stderr=subprocess.PIPE, text=True)
         except OSError as error:
@@ -89,8 +89,9 @@ class Auditor:
         return json.loads(answer)
 
     def offer(self, session, number, logged):
-        self.ask(["offer", session, number, [self.txn(logged)]])
-        self.history[session].append(logged)
+        with self.lock:
+            self.ask(["offer", session, number, [self.txn(logged)]])
+            self.history[session].append(logged)
 
     def txn(self, logged):
         """As lines have it."""
@@ -110,20 +111,21 @@ class Auditor:
 
     def truncate(self):
         """Has the auditor forget what the last round found settled. The lines keep in which order what remains stands to it."""
-        try:
-            _, fence, gone, last = self.ask(["truncate"])
-        except NoCut:
-            raise
-        except Refused as error:
-            self.can_cut = "BadLine" not in str(error)
-            raise NoCut(str(error)) from error
-        names = {number: key for key, number in self.numbers.items()}
-        self.base.update((names[key], (session, number)) for key, session, number in last)
-        for session in range(self.sessions):
-            count = sum(1 for id in gone if id[0] == session)
-            del self.history[session][:count]
-            self.marks[session] += count
-        return Cut(tuple(fence), len(gone))
+        with self.lock:
+            try:
+                _, fence, gone, last = self.ask(["truncate"])
+            except NoCut:
+                raise
+            except Refused as error:
+                self.can_cut = "BadLine" not in str(error)
+                raise NoCut(str(error)) from error
+            names = {number: key for key, number in self.numbers.items()}
+            self.base.update((names[key], (session, number)) for key, session, number in last)
+            for session in range(self.sessions):
+                count = sum(1 for id in gone if id[0] == session)
+                del self.history[session][:count]
+                self.marks[session] += count
+            return Cut(tuple(fence), len(gone))
 
     def end(self):
         """Ends the program, and gives its status."""
