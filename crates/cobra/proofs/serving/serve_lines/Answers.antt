@@ -7,8 +7,8 @@ use Rattle.cobra.specs.Outputs.{IsOutput, StopsForMemory, StopsReading, StopsWri
 use Rattle.cobra.proofs.ServedLines.{if_told, where_told, is_device, is_memory, under_way_first, serving_first, serving_read, serving_on, stops_first, stops_for_memory, stops_for_memory_at_line, stops_reading, stops_writing, ends_whole}
 use Rattle.cobra.proofs.serving.serve_lines.Goals as goal
 
-pub loop-script-init : goal.loop-script-init
-loop-script-init g c = record {
+pub loop-next-init : goal.loop-next-init
+loop-next-init g c = record {
   script = under_way_first c.args.script.now.engine c.requires.unopened;
   fresh = c.requires.under_way;
   limit = c.requires.limit;
@@ -20,42 +20,42 @@ loop-script-init g c = record {
 pub returns-in_err-next-clause-stops_reading : goal.returns-in_err-next-clause-stops_reading
 returns-in_err-next-clause-stops_reading g c = λ failed.
     let error : Failure = c.in_err-next.field-0.0 in
-    let device : error ≡ Device = is_device error (λ memory. absurd (omega (arith, failed, c.in_err-next.ensures.memory (ap (λ (e : Failure). Err e) memory), c.loop-script.invariant.read))) in
+    let device : error ≡ Device = is_device error (λ memory. absurd (omega (arith, failed, c.in_err-next.ensures.memory (ap (λ (e : Failure). Err e) memory), c.loop-next.invariant.read))) in
     let stopped = c.in_err-next.ensures.stopped in
     where_told StopsReading _ _ _ _ (λ input told.
-    let front = c.loop-script.invariant.told input told in
-    (front.0, stops_reading input c.loop-script.reader c.next_line.new.self _ _ front.0 c.loop-script.script.engine stopped.0 front.2 stopped.1 stopped.2 (c.in_err-next.ensures.all_used (ap (λ (e : Failure). Err e) device)), front.1))
+    let front = c.loop-next.invariant.told input told in
+    (front.0, stops_reading input c.loop-next.reader c.next_line.new.self _ _ front.0 c.loop-next.script.engine stopped.0 front.2 stopped.1 stopped.2 (c.in_err-next.ensures.all_used (ap (λ (e : Failure). Err e) device)), front.1))
 
 pub returns-in_err-next-clause-stops_for_memory : goal.returns-in_err-next-clause-stops_for_memory
 returns-in_err-next-clause-stops_for_memory g c = λ memory.
     let stopped = c.in_err-next.ensures.stopped in
     where_told StopsForMemory _ _ _ _ (λ input told.
-    let front = c.loop-script.invariant.told input told in
-    (front.0, stops_for_memory input c.loop-script.reader _ _ front.0 c.loop-script.script.engine stopped.0 front.2 stopped.1, front.1))
+    let front = c.loop-next.invariant.told input told in
+    (front.0, stops_for_memory input c.loop-next.reader _ _ front.0 c.loop-next.script.engine stopped.0 front.2 stopped.1, front.1))
 
 pub returns-in-End-clause-whole : goal.returns-in-End-clause-whole
 returns-in-End-clause-whole g c =
     let line = c.in_ok-next.ensures.line in
-    let next = rw c.in-End.is at (c.in_ok-next.ensures.next c.loop-script.invariant.fresh) in
+    let next = rw c.in-End.is at (c.in_ok-next.ensures.next c.loop-next.invariant.fresh) in
     where_told (λ input left output. IsOutput input output) _ (g.R.ByteSource.remaining c.next_line.new.source) _ _ (λ input told.
-    let front = c.loop-script.invariant.told input told in
-    (front.0, (ends_whole input c.loop-script.reader c.next_line.new.self _ _ front.0 c.loop-script.script.engine line.0 front.2 line.1 next).1, front.1))
+    let front = c.loop-next.invariant.told input told in
+    (front.0, (ends_whole input c.loop-next.reader c.next_line.new.self _ _ front.0 c.loop-next.script.engine line.0 front.2 line.1 next).1, front.1))
 
 pub returns-in_err-reply_to-clause-stops_reading : goal.returns-in_err-reply_to-clause-stops_reading
-returns-in_err-reply_to-clause-stops_reading g c = λ failed. absurd (omega (arith, failed, c.in_ok-next.ensures.ok, c.loop-script.invariant.read))
+returns-in_err-reply_to-clause-stops_reading g c = λ failed. absurd (omega (arith, failed, c.in_ok-next.ensures.ok, c.loop-next.invariant.read))
 
 pub returns-in_err-reply_to-clause-stops_writing : goal.returns-in_err-reply_to-clause-stops_writing
 returns-in_err-reply_to-clause-stops_writing g c = λ failed.
     let error : Failure = c.in_err-reply_to.field-0.0 in
-    let device : error ≡ Device = is_device error (λ memory. absurd (omega (arith, failed, c.in_err-reply_to.ensures.unfailed (ap (λ (e : Failure). Err e) memory), c.loop-script.invariant.written))) in
+    let device : error ≡ Device = is_device error (λ memory. absurd (omega (arith, failed, c.in_err-reply_to.ensures.unfailed (ap (λ (e : Failure). Err e) memory), c.loop-next.invariant.written))) in
     let part = c.in_err-reply_to.ensures.front (ap (λ (e : Failure). Err e) device) in
     let line = c.in_ok-next.ensures.line in
-    let next = c.in_ok-next.ensures.next c.loop-script.invariant.fresh in
+    let next = c.in_ok-next.ensures.next c.loop-next.invariant.fresh in
     where_told StopsWriting _ _ _ _ (λ input told.
-    let front = c.loop-script.invariant.told input told in
-    let taken = serving_read input c.loop-script.reader c.next_line.new.self _ _ front.0 c.loop-script.script.engine line.0 c.in_ok-next.next front.2 line.1 line.2 c.loop-script.invariant.limit next c.in_default.not-End in (
+    let front = c.loop-next.invariant.told input told in
+    let taken = serving_read input c.loop-next.reader c.next_line.new.self _ _ front.0 c.loop-next.script.engine line.0 c.in_ok-next.next front.2 line.1 line.2 c.loop-next.invariant.limit next c.in_default.not-End in (
       front.0 ++ take part.1 part.0,
-      stops_writing input c.next_line.new.self _ front.0 c.loop-script.script.engine c.reply_to.new.script.engine taken.0 part.0 c.in_ok-next.next part.1 taken.2 taken.1 part.2 part.3,
+      stops_writing input c.next_line.new.self _ front.0 c.loop-next.script.engine c.reply_to.new.script.engine taken.0 part.0 c.in_ok-next.next part.1 taken.2 taken.1 part.2 part.3,
       Appends-trans _ _ _ _ _ front.1 part.4,
     ))
 
@@ -63,16 +63,16 @@ pub returns-in_err-reply_to-clause-stops_for_memory : goal.returns-in_err-reply_
 returns-in_err-reply_to-clause-stops_for_memory g c =
     let p = err_from_is_err_and c.from_residual-in_err-reply_to.result c.from_residual-in_err-reply_to.ensures.1 in
     let line = c.in_ok-next.ensures.line in
-    let next = c.in_ok-next.ensures.next c.loop-script.invariant.fresh in
+    let next = c.in_ok-next.ensures.next c.loop-next.invariant.fresh in
     rw (p.1, p.2) (λ memory. where_told StopsForMemory _ _ _ _ (λ input told.
-    let front = c.loop-script.invariant.told input told in
-    let taken = serving_read input c.loop-script.reader c.next_line.new.self _ _ front.0 c.loop-script.script.engine line.0 c.in_ok-next.next front.2 line.1 line.2 c.loop-script.invariant.limit next c.in_default.not-End in
-    (front.0, stops_for_memory_at_line input c.next_line.new.self _ front.0 c.loop-script.script.engine _ taken.2, Appends-kept _ _ _ _ front.1 (c.in_err-reply_to.ensures.unwritten memory))))
+    let front = c.loop-next.invariant.told input told in
+    let taken = serving_read input c.loop-next.reader c.next_line.new.self _ _ front.0 c.loop-next.script.engine line.0 c.in_ok-next.next front.2 line.1 line.2 c.loop-next.invariant.limit next c.in_default.not-End in
+    (front.0, stops_for_memory_at_line input c.next_line.new.self _ front.0 c.loop-next.script.engine _ taken.2, Appends-kept _ _ _ _ front.1 (c.in_err-reply_to.ensures.unwritten memory))))
 
 pub returns-in_err-reply_to-clause-device : goal.returns-in_err-reply_to-clause-device
 returns-in_err-reply_to-clause-device g c =
     let p = err_from_is_err_and c.from_residual-in_err-reply_to.result c.from_residual-in_err-reply_to.ensures.1 in
-    rw (p.1, p.2) (λ device. inr (c.in_ok-next.ensures.ok ∙ c.loop-script.invariant.read, omega (arith, c.in_err-reply_to.ensures.failed device, c.loop-script.invariant.written)))
+    rw (p.1, p.2) (λ device. inr (c.in_ok-next.ensures.ok ∙ c.loop-next.invariant.read, omega (arith, c.in_err-reply_to.ensures.failed device, c.loop-next.invariant.written)))
 
 pub returns-in_err-reply_to-clause-none_failed : goal.returns-in_err-reply_to-clause-none_failed
 returns-in_err-reply_to-clause-none_failed g c =
@@ -80,52 +80,52 @@ returns-in_err-reply_to-clause-none_failed g c =
     let error : Failure = c.in_err-reply_to.field-0.0 in
     rw (p.1, p.2) (λ not.
     let memory : error ≡ NoMemory = is_memory error (λ device. not (ap (λ (e : Failure). Err e) device)) in
-    (c.in_ok-next.ensures.ok ∙ c.loop-script.invariant.read, c.in_err-reply_to.ensures.unfailed (ap (λ (e : Failure). Err e) memory) ∙ c.loop-script.invariant.written))
+    (c.in_ok-next.ensures.ok ∙ c.loop-next.invariant.read, c.in_err-reply_to.ensures.unfailed (ap (λ (e : Failure). Err e) memory) ∙ c.loop-next.invariant.written))
 
 pub returns-in_err-next-clause-none_failed : goal.returns-in_err-next-clause-none_failed
 returns-in_err-next-clause-none_failed g c =
-    let p = err_from_is_err_and c.from_residual-in_err-next.result c.from_residual-in_err-next.ensures.1 in
+    let p = err_from_is_err_and c.from_residual.result c.from_residual.ensures.1 in
     let error : Failure = c.in_err-next.field-0.0 in
     rw (p.1, p.2) (λ not.
     let memory : error ≡ NoMemory = is_memory error (λ device. not (ap (λ (e : Failure). Err e) device)) in
-    (c.in_err-next.ensures.memory (ap (λ (e : Failure). Err e) memory) ∙ c.loop-script.invariant.read, c.loop-script.invariant.written))
+    (c.in_err-next.ensures.memory (ap (λ (e : Failure). Err e) memory) ∙ c.loop-next.invariant.read, c.loop-next.invariant.written))
 
 pub returns-in-End-clause-at_end : goal.returns-in-End-clause-at_end
 returns-in-End-clause-at_end g c =
     let line = c.in_ok-next.ensures.line in
-    let next = rw c.in-End.is at (c.in_ok-next.ensures.next c.loop-script.invariant.fresh) in
+    let next = rw c.in-End.is at (c.in_ok-next.ensures.next c.loop-next.invariant.fresh) in
     if_told _ _ (λ input told.
-    let front = c.loop-script.invariant.told input told in
-    (ends_whole input c.loop-script.reader c.next_line.new.self _ (g.R.ByteSource.remaining c.next_line.new.source) front.0 c.loop-script.script.engine line.0 front.2 line.1 next).0)
+    let front = c.loop-next.invariant.told input told in
+    (ends_whole input c.loop-next.reader c.next_line.new.self _ (g.R.ByteSource.remaining c.next_line.new.source) front.0 c.loop-next.script.engine line.0 front.2 line.1 next).0)
 
-pub loop-script-preserved : goal.loop-script-preserved
-loop-script-preserved g c =
+pub loop-next-preserved : goal.loop-next-preserved
+loop-next-preserved g c =
     let line = c.in_ok-next.ensures.line in
-    let next = c.in_ok-next.ensures.next c.loop-script.invariant.fresh in
+    let next = c.in_ok-next.ensures.next c.loop-next.invariant.fresh in
     let replied = c.in_ok-reply_to.ensures.written in
     record {
       script = c.in_ok-reply_to.ensures.under_way;
       fresh = line.2.fresh;
-      limit = c.in_ok-next.ensures.limit ∙ c.loop-script.invariant.limit;
+      limit = c.in_ok-next.ensures.limit ∙ c.loop-next.invariant.limit;
       told = λ input told.
-          let front = c.loop-script.invariant.told input told in
-          serving_on input c.loop-script.reader c.next_line.new.self _ _ _ _ _ front.0 c.loop-script.script.engine c.reply_to.new.script.engine line.0 c.in_ok-next.next replied.0 front.2 line.1 line.2 c.loop-script.invariant.limit next c.in_default.not-End replied.1 front.1 replied.2;
-      read = c.in_ok-next.ensures.ok ∙ c.loop-script.invariant.read;
-      written = c.in_ok-reply_to.ensures.ok ∙ c.loop-script.invariant.written;
+          let front = c.loop-next.invariant.told input told in
+          serving_on input c.loop-next.reader c.next_line.new.self _ _ _ _ _ front.0 c.loop-next.script.engine c.reply_to.new.script.engine line.0 c.in_ok-next.next replied.0 front.2 line.1 line.2 c.loop-next.invariant.limit next c.in_default.not-End replied.1 front.1 replied.2;
+      read = c.in_ok-next.ensures.ok ∙ c.loop-next.invariant.read;
+      written = c.in_ok-reply_to.ensures.ok ∙ c.loop-next.invariant.written;
     }
 
-pub loop-script-preserved-in_ok-reply_to : goal.loop-script-preserved-in_ok-reply_to
-loop-script-preserved-in_ok-reply_to g c =
+pub loop-next-preserved-in_ok-reply_to : goal.loop-next-preserved-in_ok-reply_to
+loop-next-preserved-in_ok-reply_to g c =
     let line = c.in_ok-next.ensures.line in
-    let next = c.in_ok-next.ensures.next c.loop-script.invariant.fresh in
+    let next = c.in_ok-next.ensures.next c.loop-next.invariant.fresh in
     let replied = c.in_ok-reply_to.ensures.written in
     record {
       script = c.in_ok-reply_to.ensures.under_way;
       fresh = line.2.fresh;
-      limit = c.in_ok-next.ensures.limit ∙ c.loop-script.invariant.limit;
+      limit = c.in_ok-next.ensures.limit ∙ c.loop-next.invariant.limit;
       told = λ input told.
-          let front = c.loop-script.invariant.told input told in
-          serving_on input c.loop-script.reader c.next_line.new.self _ _ _ _ _ front.0 c.loop-script.script.engine c.reply_to.new.script.engine line.0 c.in_ok-next.next replied.0 front.2 line.1 line.2 c.loop-script.invariant.limit next c.in_default.not-End replied.1 front.1 replied.2;
-      read = c.in_ok-next.ensures.ok ∙ c.loop-script.invariant.read;
-      written = c.in_ok-reply_to.ensures.ok ∙ c.loop-script.invariant.written;
+          let front = c.loop-next.invariant.told input told in
+          serving_on input c.loop-next.reader c.next_line.new.self _ _ _ _ _ front.0 c.loop-next.script.engine c.reply_to.new.script.engine line.0 c.in_ok-next.next replied.0 front.2 line.1 line.2 c.loop-next.invariant.limit next c.in_default.not-End replied.1 front.1 replied.2;
+      read = c.in_ok-next.ensures.ok ∙ c.loop-next.invariant.read;
+      written = c.in_ok-reply_to.ensures.ok ∙ c.loop-next.invariant.written;
     }

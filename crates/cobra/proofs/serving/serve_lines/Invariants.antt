@@ -7,8 +7,8 @@ use Rattle.cobra.specs.Scripts.{IsUnderWay}
 use Rattle.cobra.proofs.ServedLines.{IsServing}
 use Rattle.cobra.proofs.serving.serve_lines.Given as goal
 
-abbrev pub invariant-loop-script : goal.invariant-loop-script
-invariant-loop-script g l = record {
+abbrev pub invariant-loop-next : goal.invariant-loop-next
+invariant-loop-next g l = record {
   script : IsUnderWay l.script.engine;
   fresh : l.reader.under_way ≡ Some [];
   limit : l.reader.limit ≡ LONGEST_LINE;
@@ -17,5 +17,5 @@ invariant-loop-script g l = record {
   written : g.W.ByteSink.faults l.sink ≡ g.W.ByteSink.faults l.initial.sink;
 }
 
-abbrev pub decreases-loop-script : goal.decreases-loop-script
-decreases-loop-script g l = lines_left l.reader (g.R.ByteSource.reads_left l.source)
+abbrev pub decreases-loop-next : goal.decreases-loop-next
+decreases-loop-next g l = lines_left l.reader (g.R.ByteSource.reads_left l.source)
