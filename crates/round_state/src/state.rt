@@ -258,6 +258,7 @@ impl Engine {
     /// Makes all that is kept beside the parts anew from them: no cut is held, and rounds are numbered from 1.
     pub fn rebuild(&mut self, alloc: Global) -> Result<(), Refusal>
         ensures ok { OnOk result ((self.old.asked ≡ None) × (self.new ≡ engine_rebuilt self.old)) }
+        ensures keeps { OnOk result ((history : History) → StandsFor self.old.parts history → StandsFor self.new.parts history) }
         ensures err { IfErr result (λ refusal. IsRebuildRefusal self.old refusal × (self.new ≡ self.old)) }
     {
         if self.asked.is_some() {
@@ -275,7 +276,21 @@ impl Engine {
     pub fn into_parts(self) -> Parts
         ensures { result ≡ self.parts }
     {
-        let Engine { parts, .. } = self;
-        parts
+        engine_fields(self)
     }
+}
+
+/// All that an engine has: with one field more, as for what is gone, this doesn't compile.
+fn engine_fields(engine: Engine) -> Parts
+    ensures { result ≡ engine.parts }
+{
+    let Engine {
+        parts,
+        marks: _,
+        waits: _,
+        asked: _,
+        held: _,
+        round: _,
+    } = engine;
+    parts
 }
