@@ -6,3 +6,4 @@ pub mod Found
 pub mod Working
 pub mod Gathering
 pub mod Lawful
+pub mod OneKind

@@ -5,3 +5,4 @@ pub mod Picks
 pub mod Worked
 pub mod Gathered
 pub mod Lent
+pub mod Laws

@@ -2,6 +2,7 @@
 #![tactic(auto)]
 
 mod gates;
+mod laws;
 mod lending;
 mod picking;
 mod seats;
@@ -10,6 +11,7 @@ mod words;
 mod workers;
 
 pub use gates::{Gate, OpenGate};
+pub use laws::picked_has_one_kind;
 pub use lending::Shared;
 pub use seats::{Board, Seat};
 pub use sharing::solve_all;

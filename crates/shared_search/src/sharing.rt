@@ -1,4 +1,4 @@
-ghost use Rattle.std.specs.Prelude.{◌≡◌, ◌<◌, ◌≤◌, ◌^◌, length, All, IfOk, vec_len};
+ghost use Rattle.std.specs.Prelude.{◌≡◌, ◌<◌, ◌≤◌, ◌^◌, length, min, All, IfOk, vec_len};
 ghost use Rattle.shared_search.specs.Boards.{IsFresh};
 ghost use Rattle.shared_search.specs.Gathered.{Gathered, IsBrought};
 ghost use Rattle.shared_search.specs.Picks.{Picked};
@@ -49,6 +49,13 @@ fn pick_of<S: CubeSolver>(
     Ok(pick)
 }
 
+/// How many seats so many workers need: more than there are cubes would have threads started for nothing.
+fn count_seats(cubes: u64, workers: u64) -> u64
+    ensures { result ≡ min workers cubes }
+{
+    workers.min(cubes)
+}
+
 /// Has the cubes searched by so many workers, and picks of what they find.
 fn pick_all<R: Threads + Sync, S: CubeSolver + Sync, G: Gate + Sync>(
     rt: &R,
@@ -62,7 +69,7 @@ fn pick_all<R: Threads + Sync, S: CubeSolver + Sync, G: Gate + Sync>(
     requires workers { (1 ≤ workers) × (workers ≤ 16) }
     ensures { IfOk result (Gathered (S.may solver.now) cubes) }
 {
-    let (board, seats) = Board::new(alloc, cubes, workers)?;
+    let (board, seats) = Board::new(alloc, cubes, count_seats(cubes, workers))?;
     let all = bring(rt, alloc, solver, &board, gate, cubes, seats)?;
     pick_of(alloc, solver, cubes, all)
 }
@@ -85,8 +92,8 @@ fn search_all<R: Threads + Sync, S: CubeSolver + Sync, G: Gate + Sync>(
     Ok(answer)
 }
 
-/// The answer of a search whose cubes are shared by workers. The calling thread is one of them; where a thread can't be started its cubes are left to
-/// the others.
+/// The answer of a search whose cubes are shared by workers, no more than there are cubes. The calling thread is one of them; where a thread can't be
+/// started its cubes are left to the others.
 pub fn solve_all<R: Threads + Sync, S: CubeSolver + Sync, G: Gate + Sync>(
     rt: &R,
     alloc: Global,
