@@ -15,6 +15,7 @@ pub mod SaturationLaws
 pub mod Distinct
 pub mod Keeping
 pub mod Stacked
+pub mod Passed
 pub mod SessionOrder
 pub mod KnownRemain
 pub mod FirstOpen

@@ -12,32 +12,30 @@ use Rattle.forced_choices.specs.Nodes.{ids_at, AreAtKeys}
 use Rattle.forced_choices.specs.Ranks.{Counts, ids_of}
 use Rattle.forced_choices.proofs.Counting.{counts_push, counts_pass, counts_most}
 
--- the one at a key reaches the one at another
-abbrev pub ReachesAt : List (Option TxnId) → List Arc → ℕ → ℕ → Type 0
-ReachesAt at arcs from to = (a b : TxnId) × IsAt at from a × IsAt at to b × Reaches arcs a b
+-- the one at a key reaches this one
+abbrev pub ReachesFrom : List (Option TxnId) → List Arc → ℕ → TxnId → Type 0
+ReachesFrom at arcs from id = (a : TxnId) × IsAt at from a × Reaches arcs a id
 
-reaches_here : (at : List (Option TxnId)) (arcs : List Arc) (from to : Node) → IsAt at from.key from.id → IsAt at to.key to.id → ReachesAt at arcs from.key to.key → Reaches arcs from.id to.id
-reaches_here at arcs from to is_from is_to (a, b, at_a, at_b, reaches) =
-    let first : Some a ≡ Some from.id = sym at_a ∙ is_from in
-    let second : Some b ≡ Some to.id = sym at_b ∙ is_to in
+reaches_here : (at : List (Option TxnId)) (arcs : List Arc) (from : Node) (id : TxnId) → IsAt at from.key from.id → ReachesFrom at arcs from.key id → Reaches arcs from.id id
+reaches_here at arcs from id is_from (a, at_a, reaches) =
+    let same : Some a ≡ Some from.id = sym at_a ∙ is_from in
     let a_is : a ≡ from.id = cc in
-    let b_is : b ≡ to.id = cc in
-    subst (λ z. Reaches arcs from.id z) b_is (subst (λ z. Reaches arcs z b) a_is reaches)
+    subst (λ z. Reaches arcs z id) a_is reaches
 
 ids_more : (nodes : List Node) (i : ℕ) (d : Node) → i < length nodes → ids_at (take (i + 1) nodes) ≡ ids_at (take i nodes) ++ (get_or nodes i d).id ∷ []
 ids_more nodes i d within = ap ids_at (take_more nodes i d within) ∙ map-append (λ (node : Node). node.id) (take i nodes) (get_or nodes i d ∷ [])
 
-pub one_more_reaches : (at : List (Option TxnId)) (arcs : List Arc) (node : Node) (nodes : List Node) (i n : ℕ) (d : Node) → i < length nodes → AreAtKeys at nodes → IsAt at node.key node.id → ReachesAt at arcs (get_or nodes i d).key node.key → Counts (λ id. Reaches arcs id node.id) (ids_at (take i nodes)) n → Counts (λ id. Reaches arcs id node.id) (ids_at (take (i + 1) nodes)) (n + 1)
-one_more_reaches at arcs node nodes i n d within keys key reaches counts =
-    let here = reaches_here at arcs (get_or nodes i d) node (keys i d within) key reaches in
+pub one_more_reaches : (at : List (Option TxnId)) (arcs : List Arc) (node : Node) (nodes : List Node) (i n : ℕ) (d : Node) → i < length nodes → AreAtKeys at nodes → ReachesFrom at arcs (get_or nodes i d).key node.id → Counts (λ id. Reaches arcs id node.id) (ids_at (take i nodes)) n → Counts (λ id. Reaches arcs id node.id) (ids_at (take (i + 1) nodes)) (n + 1)
+one_more_reaches at arcs node nodes i n d within keys reaches counts =
+    let here = reaches_here at arcs (get_or nodes i d) node.id (keys i d within) reaches in
     let more = counts_push (λ id. Reaches arcs id node.id) (ids_at (take i nodes)) (get_or nodes i d).id n counts here in
     let there = subst (λ ids. Counts (λ id. Reaches arcs id node.id) ids (suc n)) (sym (ids_more nodes i d within)) more in
     let same : suc n ≡ n + 1 = omega arith in
     subst (λ m. Counts (λ id. Reaches arcs id node.id) (ids_at (take (i + 1) nodes)) m) same there
 
-pub next_does_not : (at : List (Option TxnId)) (arcs : List Arc) (node : Node) (nodes : List Node) (i n : ℕ) (d : Node) → i < length nodes → AreAtKeys at nodes → IsAt at node.key node.id → (¬ ReachesAt at arcs (get_or nodes i d).key node.key) → Counts (λ id. Reaches arcs id node.id) (ids_at (take i nodes)) n → Counts (λ id. Reaches arcs id node.id) (ids_at (take (i + 1) nodes)) n
-next_does_not at arcs node nodes i n d within keys key none counts =
-    let more = counts_pass (λ id. Reaches arcs id node.id) (ids_at (take i nodes)) (get_or nodes i d).id n counts (λ reaches. none ((get_or nodes i d).id, node.id, keys i d within, key, reaches)) in
+pub next_does_not : (at : List (Option TxnId)) (arcs : List Arc) (node : Node) (nodes : List Node) (i n : ℕ) (d : Node) → i < length nodes → AreAtKeys at nodes → (¬ ReachesFrom at arcs (get_or nodes i d).key node.id) → Counts (λ id. Reaches arcs id node.id) (ids_at (take i nodes)) n → Counts (λ id. Reaches arcs id node.id) (ids_at (take (i + 1) nodes)) n
+next_does_not at arcs node nodes i n d within keys none counts =
+    let more = counts_pass (λ id. Reaches arcs id node.id) (ids_at (take i nodes)) (get_or nodes i d).id n counts (λ reaches. none ((get_or nodes i d).id, keys i d within, reaches)) in
     subst (λ ids. Counts (λ id. Reaches arcs id node.id) ids n) (sym (ids_more nodes i d within)) more
 
 pub counted_few : (P : TxnId → Type 0) (nodes : List Node) (i n : ℕ) → Counts P (ids_at (take i nodes)) n → n ≤ i

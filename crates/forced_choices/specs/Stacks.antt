@@ -1,5 +1,5 @@
 -- For private clauses: what a branch keeps at all times.
-use Rattle.std.specs.Prelude.{◌≡◌, Some, List, [], ◌∷◌}
+use Rattle.std.specs.Prelude.{◌≡◌, ⊤, ℕ, Some, List, [], ◌∷◌}
 use Rattle.txn.specs.declared.choices.Choice.{Choice}
 use Rattle.txn.specs.declared.choices.Side.{Side}
 use Rattle.txn.specs.declared.choices.ForceStep.{ForceStep}
@@ -10,7 +10,7 @@ use Rattle.order_check.specs.Known.{IsChoice}
 use Rattle.known_graph.specs.Graphs.{GraphState, last_mark}
 use Rattle.forced_choices.specs.declared.branch.Top.{Top}
 use Rattle.forced_choices.specs.declared.table.Table.{Table}
-use Rattle.forced_choices.specs.Tables.{IsTable}
+use Rattle.forced_choices.specs.Tables.{ArePassed, IsTable}
 use Rattle.forced_choices.specs.BranchState.{Level, arc_of, assumed, all_taken}
 use Rattle.forced_choices.specs.SoFar.{IsRelation}
 
@@ -38,7 +38,24 @@ abbrev pub AreStacked : Parts → List ForceStep → List Level → GraphState �
 AreStacked parts log [] graph = IsRelation parts [] [] graph log
 AreStacked parts log (level ∷ levels) graph = IsRelationAt parts log (level ∷ levels) graph × ((before : GraphState) × (last_mark graph ≡ Some before) × AreStacked parts log levels before) × IsChoice parts level.choice
 
+-- how many reads each of these passed, one after another, on top of others
+abbrev pub passed_onto : List ℕ → List Top → List ℕ
+passed_onto counts [] = counts
+passed_onto counts (top ∷ tops) = passed_onto (top.passed ∷ counts) tops
+
+-- the last of these counts
+abbrev pub last_passed : List ℕ → ℕ
+last_passed [] = 0
+last_passed (count ∷ counts) = count
+
+-- where the graph goes back to its last mark the first so many reads have no undecided choice, and likewise below
+abbrev pub HavePassed : Parts → Table → List ℕ → GraphState → Type 0
+HavePassed parts columns [] graph = ⊤
+HavePassed parts columns (count ∷ counts) graph = (before : GraphState) × (last_mark graph ≡ Some before) × ArePassed parts before.arcs columns count × HavePassed parts columns counts before
+
+-- what remains has its columns; the graph has the relation of each level, on top of those below; and so have the counts
 pub record IsBranch (parts : Parts) (log : List ForceStep) (columns : Table) (graph : GraphState) (tops : List Top) : Type 0 where
   pub good : IsGood parts
   pub table : IsTable parts graph.nodes columns
   pub stacked : AreStacked parts log (levels_onto [] tops) graph
+  pub passed : HavePassed parts columns (passed_onto [] tops) graph

@@ -1,8 +1,9 @@
 -- For private clauses: what is looked up once, for parts and the keys of a graph.
-use Rattle.std.specs.Prelude.{◌≡◌, ◌<◌, ℕ, List, Option, All, length, slice_index, slice_index_or}
+use Rattle.std.specs.Prelude.{◌≡◌, ◌<◌, ℕ, List, Option, All, length, slice_index, slice_index_or, take}
 use Rattle.std.specs.List.{flat_map}
 use Rattle.txn.specs.declared.transactions.TxnId.{TxnId}
 use Rattle.txn.specs.declared.transactions.Source.TheVariants.{By}
+use Rattle.txn.specs.declared.choices.Arc.{Arc}
 use Rattle.txn.specs.declared.choices.Choice.{Choice}
 use Rattle.order_check.specs.declared.remainder.Parts.{Parts}
 use Rattle.order_check.specs.Known.{ReadsKey, WritesKey}
@@ -11,6 +12,7 @@ use Rattle.forced_choices.specs.declared.reads.Placed.{Placed}
 use Rattle.forced_choices.specs.declared.table.Table.{Table}
 use Rattle.forced_choices.specs.Listing.{all_ids, choices_of}
 use Rattle.forced_choices.specs.Masks.{AreWriters, choices_in}
+use Rattle.forced_choices.specs.Undecided.{AreAllDecided}
 
 -- the columns have the two
 pub record IsAtColumns (nodes : List (Option TxnId)) (placed : Placed) : Type 0 where
@@ -41,3 +43,7 @@ pub record IsTable (parts : Parts) (nodes : List (Option TxnId)) (table : Table)
   pub ids : table.ids.items ≡ all_ids parts
   pub writers : AreWriters parts nodes table.ids.items table.writers
   pub reads : AreReads parts nodes table.ids.items table.reads.items (choices_of parts table.ids.items table.ids.items)
+
+-- the first so many reads have no undecided choice
+abbrev pub ArePassed : Parts → List Arc → Table → ℕ → Type 0
+ArePassed parts arcs table n = AreAllDecided arcs (choices_at parts table.ids.items (take n table.reads.items))

@@ -13,11 +13,11 @@ ghost use Rattle.order_check.specs.Good.{IsGood};
 ghost use Rattle.forced_choices.specs.Forcing.{IsClosed};
 ghost use Rattle.forced_choices.specs.Tables.{AreAtColumns, IsTable};
 ghost use Rattle.forced_choices.specs.BranchState.{arc_of, assumed, all_taken, last_steps, AreForcedBy};
-ghost use Rattle.forced_choices.specs.Stacks.{IsRelationAt, IsMoreBy};
+ghost use Rattle.forced_choices.specs.Stacks.{IsRelationAt, IsMoreBy, last_passed, passed_onto};
 ghost use Rattle.forced_choices.specs.SoFar.{IsRelation};
 
 use crate::listing::remaining_ids_of;
-use crate::open::first_open_in;
+use crate::open::first_open_from;
 use crate::rules::Rule;
 use crate::saturated::Saturated;
 use crate::saturation::{Due, saturate};
@@ -35,6 +35,8 @@ struct Top {
     choice: Choice,
     side: Side,
     steps: Sequence<ForceStep>,
+    /// How many reads at the front had no open choice before it was assumed.
+    passed: usize,
 }
 
 /// The known relation where sides of choices are assumed, one after another. All are on one graph, which has a mark for each
@@ -100,12 +102,13 @@ fn take_side(
     graph: &mut Graph,
     tops: &mut Vec<Top>,
     rule: Rule,
+    passed: usize,
 ) -> Result<(), NoMemory>
     requires choice { IsChoice parts.now rule.choice }
     requires nodes { (id : TxnId) → Remains parts.now id → HasNode graph.old id }
     requires table { IsTable parts.now graph.old.nodes table.now }
     requires closed { IsClosed parts.now graph.old.arcs }
-    ensures ok { OnOk result ((steps : List ForceStep) × (tops.new.items ≡ tops.old.items ++ record { choice = rule.choice; side = rule.side; steps = steps } ∷ [])
+    ensures ok { OnOk result ((steps : List ForceStep) × (tops.new.items ≡ tops.old.items ++ record { choice = rule.choice; side = rule.side; steps = steps; passed = passed } ∷ [])
         × IsMoreBy parts.now graph.old graph.new rule.choice rule.side steps) }
     ensures err { OnErr result (tops.new.items ≡ tops.old.items) }
     ensures nodes { OnOk result (graph.new.nodes ≡ graph.old.nodes) }
@@ -116,8 +119,20 @@ fn take_side(
         choice: rule.choice,
         side: rule.side,
         steps: Sequence::new(steps),
+        passed,
     })?;
     Ok(())
+}
+
+/// How many reads at the front are known to have no open choice: those that had none before the last side was assumed, which
+/// leaves no more open.
+fn passed_by(tops: &[Top]) -> usize
+    ensures { result ≡ last_passed (passed_onto [] tops.now) }
+{
+    match tops.last() {
+        Some(top) => top.passed,
+        None => 0,
+    }
 }
 
 /// One that reaches itself.
@@ -187,8 +202,9 @@ impl Branch {
             ((choice : Choice) → ¬ IsOpen self.now.parts (assumed self.now.levels) choice)
             (IsFirstOpen self.now.parts (assumed self.now.levels))) }
     {
-        let found = first_open_in(alloc, &self.parts, &self.table, &self.graph)?;
-        Ok(found)
+        let passed = passed_by(&self.tops);
+        let first = first_open_from(alloc, &self.parts, &self.table, &self.graph, passed)?;
+        Ok(first.choice)
     }
 
     /// Assumes a side of a choice, and forces what it forces.
@@ -197,6 +213,8 @@ impl Branch {
         ensures ok { OnOk result ((steps : List ForceStep) × AreForcedBy self.old choice side steps × (self.new ≡ record self.old { levels = record { choice = choice; side = side; steps = steps } ∷ self.old.levels })) }
         ensures err { OnErr result (self.new ≡ self.old) }
     {
+        let passed = passed_by(&self.tops);
+        let first = first_open_from(alloc, &self.parts, &self.table, &self.graph, passed)?;
         self.graph.mark()?;
         let rule = Rule { choice, side };
         match take_side(
@@ -206,6 +224,7 @@ impl Branch {
             &mut self.graph,
             &mut self.tops,
             rule,
+            first.passed,
         ) {
             Ok(()) => Ok(()),
             Err(error) => {

@@ -6,7 +6,7 @@ ghost use Rattle.known_graph.specs.Bits.{HasBit};
 ghost use Rattle.known_graph.specs.Graphs.{IsAt};
 ghost use Rattle.forced_choices.specs.Listing.{all_ids, choices_of};
 ghost use Rattle.forced_choices.specs.Masks.{AreTold, is_third, choice_of, choices_in};
-ghost use Rattle.forced_choices.specs.Tables.{IsAtColumns, IsPlaced, IsTable};
+ghost use Rattle.forced_choices.specs.Tables.{ArePassed, IsAtColumns, IsPlaced, IsTable};
 ghost use Rattle.forced_choices.specs.Undecided.{AreFound, AreAllDecided, IsFirstFound, TellsOpen};
 
 use crate::listing::is_third;
@@ -63,10 +63,10 @@ fn push_open_with(
     requires { is_third parts.now read other ≡ true → TellsOpen graph.now.arcs row.now column (choice_of read other) }
     ensures { OnOk result ((front : List Choice) → AreFound graph.now.arcs front found.old.items → AreFound graph.now.arcs (front ++ choices_in parts.now (other ∷ []) read) found.new.items) }
 {
-    if !is_third(parts, read, other) {
+    if !has_bit(row, column) {
         return Ok(());
     }
-    if !has_bit(row, column) {
+    if !is_third(parts, read, other) {
         return Ok(());
     }
     let choice = Choice {
@@ -173,23 +173,40 @@ fn first_of(choices: &[Choice]) -> Option<Choice>
     }
 }
 
-/// The first choice that the graph leaves undecided. No read after it is looked at.
-pub fn first_open_in(
+/// The first choice that is left undecided, and how many reads in front of its own have none.
+#[derive(Clone, Copy, Debug)]
+pub struct FirstOpen {
+    pub passed: usize,
+    pub choice: Option<Choice>,
+}
+
+/// The first choice that the graph leaves undecided, where the first so many reads have none. No read after it is looked at.
+pub fn first_open_from(
     alloc: Global,
     parts: &Parts,
     table: &Table,
     graph: &Graph,
-) -> Result<Option<Choice>, NoMemory>
-    requires { IsTable parts.now graph.now.nodes table.now }
-    ensures { IfOk result (λ first. MatchOption first
+    passed: usize,
+) -> Result<FirstOpen, NoMemory>
+    requires table { IsTable parts.now graph.now.nodes table.now }
+    requires passed { ArePassed parts.now graph.now.arcs table.now passed }
+    ensures passed { IfOk result (λ first. ArePassed parts.now graph.now.arcs table.now first.passed) }
+    ensures choice { IfOk result (λ first. MatchOption first.choice
         (AreAllDecided graph.now.arcs (choices_of parts.now (all_ids parts.now) (all_ids parts.now)))
         (IsFirstFound graph.now.arcs (choices_of parts.now (all_ids parts.now) (all_ids parts.now)))) }
 {
-    for placed in table.reads.as_slice() {
-        let found = open_of_read(alloc, parts, table, graph, *placed)?;
+    let reads = table.reads.as_slice();
+    for place in passed..reads.len() {
+        let found = open_of_read(alloc, parts, table, graph, reads[place])?;
         if let Some(choice) = first_of(&found) {
-            return Ok(Some(choice));
+            return Ok(FirstOpen {
+                passed: place,
+                choice: Some(choice),
+            });
         }
     }
-    Ok(None)
+    Ok(FirstOpen {
+        passed: reads.len(),
+        choice: None,
+    })
 }

@@ -12,7 +12,7 @@ ghost use Rattle.forced_choices.specs.Ranks.{Counts, AreRanked, ids_of};
 
 use crate::branch::Branch;
 use crate::listing::remaining_ids_of;
-use known_graph::Graph;
+use known_graph::{Graph, has_bit};
 use std::alloc::Global;
 use txn::{NoMemory, TxnId};
 
@@ -52,9 +52,10 @@ fn count_sources(graph: &Graph, nodes: &[Node], node: Node) -> usize
     requires key { IsAt graph.now.nodes node.key node.id }
     ensures { Counts (λ id. Reaches graph.now.arcs id node.id) (ids_at nodes.now) result }
 {
+    let row = graph.row_of_sources_at(node.key);
     let mut count = 0;
     for source in nodes {
-        if graph.reaches_at(source.key, node.key) {
+        if has_bit(row, source.key) {
             count += 1;
         }
     }

@@ -5,4 +5,4 @@ use Rattle.forced_choices.specs.Ranks.{Counts}
 use Rattle.forced_choices.proofs.ranks.count_sources.Given as goal
 
 abbrev pub invariant-loop-source : goal.invariant-loop-source
-invariant-loop-source l = Counts (λ id. Reaches l.graph.arcs id l.node.id) (ids_at (take l.source-index l.nodes)) l.count
+invariant-loop-source l = Counts (λ id. Reaches l.graph.arcs id l.fn.node.id) (ids_at (take l.source-index l.nodes)) l.count

@@ -6,15 +6,19 @@ use Rattle.order_check.specs.Search.{IsFirstOpen}
 use Rattle.forced_choices.specs.BranchState.{BranchState, assumed}
 use Rattle.forced_choices.specs.Stacks.{levels_onto}
 use Rattle.forced_choices.proofs.FirstOpen.{first_found}
+use Rattle.forced_choices.proofs.Passed.{passed_before}
 use Rattle.forced_choices.proofs.Stacked.{stacked_here}
 use Rattle.forced_choices.proofs.branch.Branch.first_open.Goals as goal
+
+pub first_open_from-requires-clause-passed : goal.first_open_from-requires-clause-passed
+first_open_from-requires-clause-passed c = passed_before c.self.inside.parts c.self.inside.table c.self.inside.tops.items c.deref.result.now c.passed_by-passed.result c.self.inside.graph c.deref.ensures.value c.passed_by-passed.ensures c.self.invariant.passed
 
 pub returns : goal.returns
 returns c =
     let parts = c.self.inside.parts in
     let levels = levels_onto [] c.self.inside.tops.items in
     let graph = c.self.inside.graph in
-    let first = c.in_ok-found.found in
+    let first = c.in_ok-first.first.choice in
     let here = stacked_here parts c.self.inside.log levels graph c.self.invariant.stacked in
-    let open_here = first_found parts c.self.inside.log levels graph first c.self.invariant.good here c.in_ok-found.ensures in
+    let open_here = first_found parts c.self.inside.log levels graph first c.self.invariant.good here c.in_ok-first.ensures.choice in
     subst (λ (b : BranchState). MatchOption first ((choice : Choice) → ¬ IsOpen b.parts (assumed b.levels) choice) (IsFirstOpen b.parts (assumed b.levels))) c.self.view_is open_here

@@ -1,0 +1,7 @@
+use Rattle.std.proofs.Common.{◌≡◌, ◌-◌, length, Some, sym, subst}
+use Rattle.std.specs.List.{slice_get}
+use Rattle.forced_choices.proofs.Passed.{last_passed_of}
+use Rattle.forced_choices.proofs.branch.passed_by.Goals as goal
+
+pub returns-in-Some : goal.returns-in-Some
+returns-in-Some c = sym (last_passed_of c.args.tops.now c.in-Some.top.now (sym c.in-Some.ensures.value))

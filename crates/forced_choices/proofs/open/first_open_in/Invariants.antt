@@ -1,7 +1,0 @@
-use Rattle.std.proofs.Common.{take}
-use Rattle.forced_choices.specs.Tables.{choices_at}
-use Rattle.forced_choices.specs.Undecided.{AreAllDecided}
-use Rattle.forced_choices.proofs.open.first_open_in.Given as goal
-
-abbrev pub invariant-loop-placed : goal.invariant-loop-placed
-invariant-loop-placed l = AreAllDecided l.graph.arcs (choices_at l.parts l.table.ids.items (take l.placed-index l.table.reads.items))
