@@ -14,6 +14,7 @@ pub fn graph_of_nodes(alloc: Global, ids: &[TxnId]) -> Result<Graph, NoMemory>
     ensures arcs { IfOk result (λ graph. graph.arcs ≡ []) }
 {
     let mut graph = Graph::new(alloc);
+    graph.reserve(ids.len())?;
     for id in ids {
         graph.add_node(*id)?;
     }

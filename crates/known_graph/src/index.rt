@@ -47,14 +47,6 @@ impl Index {
         self.links.get(place).copied()
     }
 
-    /// The key of the end of the arc at this place.
-    pub fn end_at(&self, place: usize) -> usize {
-        match self.links.get(place) {
-            Some(link) => link.end,
-            None => NOWHERE,
-        }
-    }
-
     pub fn last_at(&self, key: usize) -> usize {
         self.last.get(key).copied().unwrap_or(NOWHERE)
     }

@@ -17,76 +17,105 @@ pub(crate) struct Ends<'a> {
     pub row: &'a [u64],
 }
 
-/// The search so far: for each key the place of an arc from it towards the goal, and the keys in the order in which
-/// they were found.
+/// A node that was found: its key, the place of an arc from it, and the place among the found of what the arc leads to.
+#[derive(Clone, Copy)]
+struct Found {
+    key: usize,
+    arc: usize,
+    next: usize,
+}
+
+/// The search so far: a bit for each key that was found, and what was found, in that order. The goal stands first, and is
+/// found again where an arc leads from it.
 #[derive(Drop)]
 struct Search {
-    steps: Vec<usize>,
-    found: Vec<usize>,
+    keys: Vec<u64>,
+    found: Vec<Found>,
 }
 
 impl Search {
     fn new(alloc: Global, width: usize, goal: usize) -> Result<Search, NoMemory> {
-        let mut steps = Vec::new(alloc);
-        steps.resize(width, NOWHERE)?;
+        let mut keys = Vec::new(alloc);
+        keys.resize(width / 64 + 1, 0)?;
         let mut found = Vec::with_capacity(alloc, 1)?;
-        found.push(goal)?;
-        Ok(Search { steps, found })
+        found.push(Found {
+            key: goal,
+            arc: NOWHERE,
+            next: NOWHERE,
+        })?;
+        Ok(Search { keys, found })
     }
 
     fn has(&self, key: usize) -> bool {
-        self.steps.get(key).copied() != Some(NOWHERE)
+        has_bit(&self.keys, key)
     }
 
-    /// Notes the arc at this place as the step from the key.
-    fn find(&mut self, key: usize, place: usize) -> Result<(), NoMemory> {
-        if key < self.steps.len() {
-            self.steps[key] = place;
-            self.found.push(key)?;
+    /// Notes what was found.
+    fn find(&mut self, node: Found) -> Result<(), NoMemory> {
+        let word = node.key / 64;
+        if word < self.keys.len() {
+            self.keys[word] |= 1u64 << (node.key % 64);
+            self.found.push(node)?;
         }
         Ok(())
     }
 
-    /// Finds what one arc leads from to the key, of what the start reaches.
-    fn go_back(&mut self, index: &Index, ends: &Ends, key: usize) -> Result<(), NoMemory> {
-        let mut place = index.last_at(key);
-        while let Some(link) = index.link_at(place) {
-            let is_between = link.start == ends.start || has_bit(ends.row, link.start);
-            if is_between && !self.has(link.start) {
-                self.find(link.start, place)?;
+    /// Finds what one arc leads from to the one at this place, of what the start reaches.
+    fn go_back(
+        &mut self,
+        index: &Index,
+        ends: &Ends,
+        next: usize,
+        key: usize,
+    ) -> Result<(), NoMemory> {
+        let mut arc = index.last_at(key);
+        while let Some(link) = index.link_at(arc) {
+            let key = link.start;
+            let is_between = key == ends.start || has_bit(ends.row, key);
+            if is_between && !self.has(key) {
+                self.find(Found { key, arc, next })?;
             }
-            if link.before >= place {
+            if link.before >= arc {
                 break;
             }
-            place = link.before;
+            arc = link.before;
         }
         Ok(())
     }
 }
 
-/// For each key between the two the place of an arc on a shortest path to the goal.
-fn steps_towards(alloc: Global, index: &Index, ends: &Ends) -> Result<Vec<usize>, NoMemory> {
+/// What lies between the two, each with an arc on a shortest path to the goal.
+fn found_between(alloc: Global, index: &Index, ends: &Ends) -> Result<Vec<Found>, NoMemory> {
     let mut search = Search::new(alloc, index.width(), ends.goal)?;
     for turn in 0..index.width() {
-        let Some(key) = search.found.get(turn).copied() else {
+        let Some(node) = search.found.get(turn).copied() else {
             break;
         };
-        search.go_back(index, ends, key)?;
+        search.go_back(index, ends, turn, node.key)?;
         if search.has(ends.start) {
             break;
         }
     }
-    let Search { steps, .. } = search;
-    Ok(steps)
+    let Search { found, .. } = search;
+    Ok(found)
 }
 
-/// The path that the steps tell, if it leads from the start to the goal.
+/// The place where the key was found last.
+fn place_of(found: &[Found], key: usize) -> usize {
+    for place in (0..found.len()).rev() {
+        if found[place].key == key {
+            return place;
+        }
+    }
+    NOWHERE
+}
+
+/// The path from the one found at this place, if it leads from the start to the goal.
 fn walk_along(
     alloc: Global,
     arcs: &[Arc],
-    index: &Index,
-    steps: &[usize],
-    key: usize,
+    found: &[Found],
+    place: usize,
     start: TxnId,
     goal: TxnId,
 ) -> Result<Option<Sequence<Arc>>, NoMemory>
@@ -94,13 +123,16 @@ fn walk_along(
 {
     let mut path = Vec::new(alloc);
     let mut here = start;
-    let mut key = key;
-    for _ in 0..steps.len() {
-        let place = steps.get(key).copied().unwrap_or(NOWHERE);
-        if place >= arcs.len() {
+    let mut place = place;
+    for _ in 0..found.len() {
+        if place >= found.len() {
             break;
         }
-        let arc = arcs[place];
+        let node = found[place];
+        if node.arc >= arcs.len() {
+            break;
+        }
+        let arc = arcs[node.arc];
         let goes_on = arc.start() == here;
         if !goes_on {
             break;
@@ -110,7 +142,7 @@ fn walk_along(
         if here == goal {
             return Ok(Some(Sequence::new(path)));
         }
-        key = index.end_at(place);
+        place = node.next;
     }
     Ok(None)
 }
@@ -127,9 +159,9 @@ pub(crate) fn path_between(
     requires { Reaches arcs.now start goal }
     ensures { IfOk result (λ path. IsPathOf arcs.now start path goal) }
 {
-    let steps = steps_towards(alloc, index, ends)?;
-    let found = walk_along(alloc, arcs, index, &steps, ends.start, start, goal)?;
-    if let Some(path) = found {
+    let found = found_between(alloc, index, ends)?;
+    let place = place_of(&found, ends.start);
+    if let Some(path) = walk_along(alloc, arcs, &found, place, start, goal)? {
         return Ok(path);
     }
     match find_path(alloc, arcs, start, goal)? {

@@ -1,7 +1,7 @@
-use Rattle.std.proofs.Common.{◌≡◌, ℕ, ◌+◌, ◌<◌, ◌⊎◌, List, [], length, get_or, take, ◌∙◌, inl, inr, subst, Option}
+use Rattle.std.proofs.Common.{◌≡◌, ℕ, ◌+◌, ◌<◌, ◌⊎◌, List, [], length, get_or, take, ◌∙◌, ap, inl, inr, subst, Option}
 use Rattle.std.specs.Prelude.{Contains, ◌↔◌}
 use Rattle.txn.specs.declared.transactions.TxnId.{TxnId}
-use Rattle.known_graph.specs.Graphs.{HasKey}
+use Rattle.known_graph.specs.Graphs.{GraphState, HasKey, HasNode}
 use Rattle.forced_choices.specs.Between.{AreDistinct}
 use Rattle.forced_choices.proofs.Members.{In, in_from_contains, contains_from_in}
 use Rattle.forced_choices.proofs.Distinct.{in_take, in_take_more, take_more_in, take_whole}
@@ -9,8 +9,8 @@ use Rattle.forced_choices.proofs.building.graph_of_nodes.Goals as goal
 
 pub loop-id-init : goal.loop-id-init
 loop-id-init c = record {
-  nodes = λ id. (λ h. absurd (c.new-graph.ensures.nodes id h), λ h. absurd (in_from_contains [] id h));
-  arcs = c.new-graph.ensures.arcs;
+  nodes = λ id. (λ h. absurd (c.new-graph.ensures.nodes id (subst (λ (g : GraphState). HasNode g id) c.reserve.ensures h)), λ h. absurd (in_from_contains [] id h));
+  arcs = ap (λ (g : GraphState). g.arcs) c.reserve.ensures ∙ c.new-graph.ensures.arcs;
 }
 
 pub add_node-requires : goal.add_node-requires

@@ -1,15 +1,19 @@
 use Rattle.std.proofs.Common.{◌≡◌, ◌∙◌, ◌<◌, sym, subst, get_or, length, arith}
 use Rattle.std.proofs.lemmas.List.Elements.{Contains-get_or}
 use Rattle.txn.specs.Arcs.{start_of, end_of}
+use Rattle.known_graph.specs.declared.nearest.Found.{Found}
 use Rattle.known_graph.specs.Reach.{Leads}
 use Rattle.known_graph.proofs.Ids.{same_id-is}
 use Rattle.known_graph.proofs.Trees.{no_arc, Leads-push, push≢nil}
 use Rattle.known_graph.proofs.nearest.walk_along.Goals as goal
 
+abbrev not_found : Found
+not_found = record { key = 0; arc = 0; next = 0 }
+
 pub loop-preserved : goal.loop-preserved
 loop-preserved c =
     let arcs = c.args.arcs.now in
-    let k = c.unwrap_or-place.result in
+    let k = (get_or c.args.found.now c.loop.place not_found).arc in
     let arc = get_or arcs k no_arc in
     let within : k < length arcs = omega arith in
     let here : c.loop.here ≡ start_of arc = sym (same_id-is _ _ (sym c.eq-goes_on.ensures ∙ c.if-not-goes_on.false)) ∙ c.start.ensures in
@@ -19,7 +23,7 @@ loop-preserved c =
 pub returns-then-eq : goal.returns-then-eq
 returns-then-eq c =
     let arcs = c.args.arcs.now in
-    let k = c.unwrap_or-place.result in
+    let k = (get_or c.args.found.now c.loop.place not_found).arc in
     let arc = get_or arcs k no_arc in
     let within : k < length arcs = omega arith in
     let here : c.loop.here ≡ start_of arc = sym (same_id-is _ _ (sym c.eq-goes_on.ensures ∙ c.if-not-goes_on.false)) ∙ c.start.ensures in
