@@ -4,7 +4,7 @@
 use cobra::{
     Asked, ByteSink, Exit, Failure, ReaderSource, WriterSink, asked_of, exit_of, serve, write_all,
 };
-use polygraph::Single;
+use shared_search::{OpenGate, Shared};
 use std::env;
 use std::io::ErrorKind;
 use std::process::ExitCode;
@@ -62,8 +62,9 @@ fn main(rt: HostRuntime) -> ExitCode {
     let mut input = ReaderSource::new(rt.stdin());
     let mut output = WriterSink::new(rt.stdout());
     let alloc = rt.alloc();
+    let solver = Shared::new(&rt, OpenGate);
     let exit = match asked(&rt) {
-        Ok(Asked::Work) => exit_of(serve(alloc, &mut input, &mut output, &Single)),
+        Ok(Asked::Work) => exit_of(serve(alloc, &mut input, &mut output, &solver)),
         Ok(Asked::Help) => exit_of(told(&mut output, HELP)),
         Ok(Asked::Version) => exit_of(told(&mut output, VERSION)),
         Ok(Asked::Unknown) => Exit {

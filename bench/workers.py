@@ -1,0 +1,98 @@
+#!/usr/bin/env python3
+"""How long rounds that search long take with 1, 2 and 4 workers.
+
+Run at the top of the repository, after `cd crates/cobra_audit && rt run < /dev/null` has built the program:
+
+    python3 bench/workers.py [--free N] [--times N] [--single PROGRAM] [PROGRAM]
+
+The history has eight transactions that no order explains, which only a search finds: each way to order two pairs of writers fails
+one of their readers. Before them in the list of open choices stand N choices that are free, so that the search fails 2^N times. A
+round splits it into 64 cubes of one size. Told is the time from the round's line to its report, over pipes, the best of so many
+runs, and the processor time of the program from its start to its end. Another program, as an auditor with the solver of one
+thread, is timed beside. With other work on the machine's cores times say little: the head line tells its load.
+"""
+import argparse
+import json
+import os
+import subprocess
+import time
+
+
+def free_choices(count):
+    """Three sessions: writers of the keys 101, 102 and so on, other writers of the same keys, and readers of the first."""
+    first = [[[], [101 + i]] for i in range(count)]
+    second = [[[], [101 + i]] for i in range(count)]
+    readers = [[[[101 + i, 1, i]], []] for i in range(count)]
+    return [readers, first, second]
+
+
+def split_of(base):
+    """Eight sessions from this number on: four writers, and four readers of which one fails whichever way the writers stand."""
+    a, b, c, d = ([base + i, 0] for i in range(4))
+    writers = [[[], [1, 3]], [[], [1, 4]], [[], [2, 5]], [[], [2, 6]]]
+    readers = [
+        [[[1, *a], [5, *c], [6, *d]], []],
+        [[[1, *b], [5, *c], [6, *d]], []],
+        [[[2, *c], [3, *a], [4, *b]], []],
+        [[[2, *d], [3, *a], [4, *b]], []],
+    ]
+    return [[txn] for txn in writers + readers]
+
+
+def history(free):
+    sessions = free_choices(free)
+    sessions += split_of(len(sessions))
+    lines = [["open", len(sessions), 4096]]
+    lines += [["offer", session, 0, txns] for session, txns in enumerate(sessions)]
+    return [json.dumps(line, separators=(",", ":")) for line in lines]
+
+
+def run(program, lines, workers):
+    """The report, the seconds of the round, and the processor seconds of the whole."""
+    before = os.times()
+    process = subprocess.Popen([program], stdin=subprocess.PIPE, stdout=subprocess.PIPE)
+    for line in lines:
+        process.stdin.write(line.encode() + b"\n")
+        process.stdin.flush()
+        assert process.stdout.readline() == b'["ok"]\n', line
+    begin = time.perf_counter()
+    process.stdin.write(b'["round",4294967296,6,%d]\n' % workers)
+    process.stdin.flush()
+    report = process.stdout.readline()
+    seconds = time.perf_counter() - begin
+    process.stdin.close()
+    process.wait()
+    after = os.times()
+    busy = after.children_user - before.children_user + after.children_system - before.children_system
+    return report, seconds, busy
+
+
+def best(program, lines, workers, times):
+    runs = [run(program, lines, workers) for _ in range(times)]
+    assert len({report for report, _, _ in runs}) == 1, "reports differ"
+    return runs[0][0], min(seconds for _, seconds, _ in runs), min(busy for _, _, busy in runs)
+
+
+def main():
+    words = argparse.ArgumentParser(description=__doc__, formatter_class=argparse.RawDescriptionHelpFormatter)
+    words.add_argument("--free", type=int, default=12)
+    words.add_argument("--times", type=int, default=5)
+    words.add_argument("--single", metavar="PROGRAM", help="an auditor with the solver of one thread")
+    words.add_argument("program", nargs="?", default="crates/cobra_audit/out/cobra_audit")
+    asked = words.parse_args()
+    lines = history(asked.free)
+    print(f"{os.cpu_count()} processors, load {os.getloadavg()[0]:.1f}")
+    print("program  workers  round s  times faster  processor s")
+    rows = [("single", asked.single, 1)] if asked.single else []
+    rows += [("shared", asked.program, workers) for workers in (1, 2, 4)]
+    base, told = None, None
+    for name, program, workers in rows:
+        report, seconds, busy = best(program, lines, workers, asked.times)
+        base, told = base or seconds, told or report
+        print(f"{name:8} {workers:7} {seconds:8.3f} {base / seconds:13.2f} {busy:12.2f}", flush=True)
+        assert report == told, "reports differ"
+    print("each report is", json.loads(told)[2], "and byte for byte the same")
+
+
+if __name__ == "__main__":
+    main()
