@@ -48,15 +48,11 @@ loop-place-preserved c =
     let decided = decided_both arcs (choices_at parts ids (take k reads)) own c.loop-place.invariant (decided_found arcs own c.in_ok-found.found.items empty found) in
     subst (λ choices. AreAllDecided arcs choices) (sym (at_more parts ids reads k no_read within)) decided
 
--- none of the reads has one
-whole_passed : goal.returns-clause-choice
-whole_passed c =
+pub returns-clause-choice : goal.returns-clause-choice
+returns-clause-choice c =
     let parts = c.args.parts.now in
     let table = c.args.table.now in
     let reads = table.reads.items in
     let past = subst (λ (xs : List Placed). length xs ≤ c.loop-place.place) c.as_slice-reads.ensures.value c.loop-place-test.false in
     let whole = ap (λ xs. choices_at parts table.ids.items xs) (take_whole reads c.loop-place.place past) ∙ c.requires.table.reads.listed ∙ ap (λ (ids : List TxnId). choices_of parts ids ids) c.requires.table.ids in
     subst (λ (choices : List Choice). AreAllDecided c.args.graph.now.arcs choices) whole c.loop-place.invariant
-
-pub returns-clause-choice : goal.returns-clause-choice
-returns-clause-choice = whole_passed
