@@ -1,57 +1,23 @@
 //! Rounds of engines, step by step, in lists of steps and call by call.
-ghost use Rattle.std.specs.Prelude.{All, IfOk};
-ghost use Rattle.round_state.specs.Runs.{HasLimits};
-
-use order_check::Kind::{self, Pending, Serial, Spent, Violated};
+use crate::steps::{
+    Act, Content, ID_0_0, ID_1_0, Row, Want, assert_reply, assert_run, fragment_of,
+};
+use order_check::Kind::{Pending, Serial, Spent, Violated};
 use polygraph::{Answer, Single, Solver};
 use refutation::{Leaf, Tree};
-use round_state::{Certificate, Engine, Report, Step, StepReply, received_counts};
+use round_state::{Engine, Report, StepReply, received_counts};
 use std::alloc::Global;
 use std::process::Abort;
 use std::test::*;
 use txn::Refusal::{BadCertificate, BadSession, Closed, NoMemory, NoRound, RoundOpen, TooLong};
-use txn::Source::{self, By, Init};
-use txn::{Fragment, Refusal, Sequence, Txn, TxnId};
-
-const ID_0_0: TxnId = TxnId {
-    session: 0,
-    number: 0,
-};
-
-const ID_1_0: TxnId = TxnId {
-    session: 1,
-    number: 0,
-};
-
-/// What a transaction reads, and which keys it writes.
-type Content = (&'static [(u64, Source)], &'static [u64]);
+use txn::Source::{By, Init};
+use txn::{Refusal, Sequence, TxnId};
 
 const WRITES_5: Content = (&[], &[5]);
 
 const READS_5_INIT: Content = (&[(5, Init)], &[]);
 
 const READS_5_OF_0_0: Content = (&[(5, By(ID_0_0))], &[]);
-
-#[derive(Clone, Copy)]
-enum Act {
-    /// Offers one transaction of a session, with its number.
-    Offer(u8, u64, Content),
-    Close(u8),
-    Begin,
-    Finish,
-    Abandon,
-}
-
-/// What a reply has to be; a report's order is none where it has no order.
-#[derive(Clone, Copy)]
-enum Want {
-    Done,
-    No(Refusal),
-    Report(u64, Kind, &'static [u64], &'static [TxnId]),
-}
-
-/// What a fresh engine of two sessions is asked, each step with its reply.
-type Row = &'static [(Act, Want)];
 
 static ROWS: [Row; 2] = [
     // What arrives while a round is open, and is closed then, is the next round's.
@@ -96,98 +62,15 @@ fn rows() -> &'static [Row] {
     &ROWS
 }
 
-fn fragment_of(
-    alloc: Global,
-    session: u8,
-    first: u64,
-    content: Content,
-) -> Result<Fragment, txn::NoMemory> {
-    let txn = Txn {
-        reads: Sequence::new(content.0.to_vec(alloc)?),
-        writes: Sequence::new(content.1.to_vec(alloc)?),
-    };
-    Ok(Fragment {
-        session,
-        first,
-        txns: Sequence::new(vec![in alloc; txn]?),
-    })
-}
-
-fn step_of(alloc: Global, act: Act) -> Result<Step, txn::NoMemory>
-    ensures { IfOk result HasLimits }
-{
-    match act {
-        Act::Offer(session, first, content) => {
-            Ok(Step::Offer(fragment_of(alloc, session, first, content)?))
-        }
-        Act::Close(session) => Ok(Step::Close(session)),
-        Act::Begin => Ok(Step::Begin),
-        Act::Finish => Ok(Step::Finish {
-            budget: 1,
-            depth: 0,
-            workers: 1,
-        }),
-        Act::Abandon => Ok(Step::Abandon),
-    }
-}
-
-fn steps_of(alloc: Global, row: Row) -> Result<Vec<Step>, txn::NoMemory>
-    ensures { IfOk result (λ steps. All HasLimits steps.items) }
-{
-    let mut steps = Vec::new(alloc);
-    for (act, _) in row {
-        steps.push(step_of(alloc, *act)?)?;
-    }
-    Ok(steps)
-}
-
-fn order_in(certificate: &Certificate) -> &[TxnId] {
-    match certificate {
-        Certificate::Order(order) => order.as_slice(),
-        _ => &[],
-    }
-}
-
-fn is_reply(reply: &StepReply, want: Want) -> bool {
-    match (reply, want) {
-        (StepReply::Done, Want::Done) => true,
-        (StepReply::Refused(refusal), Want::No(wanted)) => *refusal == wanted,
-        (StepReply::Report(report), Want::Report(round, kind, counts, order)) => {
-            report.round == round
-                && report.kind == kind
-                && report.counts.as_slice() == counts
-                && order_in(&report.certificate) == order
-        }
-        _ => false,
-    }
-}
-
-fn assert_reply(rt: &impl Abort, place: usize, reply: &StepReply, want: Want) {
-    assert!(rt; is_reply(reply, want), "{place}: {reply:?}");
-}
-
-fn assert_replies(rt: &impl Abort, row: Row, replies: &[StepReply]) {
-    assert_eq!(rt; replies.len(), row.len());
-    for (place, (reply, step)) in replies.iter().zip(row.iter()).enumerate() {
-        assert_reply(rt, place, reply, step.1);
-    }
-}
-
-fn run(alloc: Global, engine: &mut Engine, row: Row) -> Result<Vec<StepReply>, txn::NoMemory> {
-    let steps = steps_of(alloc, row)?;
-    engine.run(alloc, steps, &Single)
-}
-
-fn replies_to(alloc: Global, row: Row) -> Result<Vec<StepReply>, Refusal> {
+fn assert_fresh(rt: &impl Abort, alloc: Global, row: Row) -> Result<(), Refusal> {
     let mut engine = Engine::open(alloc, 2, 8)?;
-    Ok(run(alloc, &mut engine, row)?)
+    Ok(assert_run(rt, alloc, &mut engine, row)?)
 }
 
 #[test]
 fn lists_of_steps_have_their_replies(rt: HostRuntime) -> Result<(), Fail> {
     for row in rows() {
-        let replies = replies_to(rt.alloc(), *row)?;
-        assert_replies(&rt, *row, replies.as_slice());
+        assert_fresh(&rt, rt.alloc(), *row)?;
     }
     Ok(())
 }
@@ -218,16 +101,14 @@ fn finished() -> Row {
     &FINISHED
 }
 
-fn replies_to_finish(alloc: Global) -> Result<Vec<StepReply>, Refusal> {
+fn assert_finished(rt: &impl Abort, alloc: Global) -> Result<(), Refusal> {
     let mut engine = reader_first(alloc)?;
-    Ok(run(alloc, &mut engine, finished())?)
+    Ok(assert_run(rt, alloc, &mut engine, finished())?)
 }
 
 #[test]
 fn a_list_of_steps_finishes_a_round_opened_before(rt: HostRuntime) -> Result<(), Fail> {
-    let replies = replies_to_finish(rt.alloc())?;
-    assert_replies(&rt, finished(), replies.as_slice());
-    Ok(())
+    Ok(assert_finished(&rt, rt.alloc())?)
 }
 
 /// An answer, as rows have it.
@@ -278,7 +159,7 @@ fn reply_to(alloc: Global, engine: &mut Engine, told: Told) -> Result<StepReply,
 fn assert_answers(rt: &impl Abort, alloc: Global, engine: &mut Engine) -> Result<(), Refusal> {
     for (place, (told, want)) in answers().iter().enumerate() {
         let reply = reply_to(alloc, engine, *told)?;
-        assert_reply(rt, place, &reply, *want);
+        assert_reply(rt, alloc, place, &reply, *want)?;
     }
     Ok(())
 }

@@ -2,12 +2,18 @@
 #![tactic(auto)]
 
 #[cfg(test)]
+mod cuts;
+#[cfg(test)]
 mod engines;
 #[cfg(test)]
 mod lines;
+#[cfg(test)]
+mod parts;
 #[cfg(test)]
 mod reply_texts;
 #[cfg(test)]
 mod scripts;
 #[cfg(test)]
 mod splits;
+#[cfg(test)]
+mod steps;

@@ -1,0 +1,231 @@
+//! Parts that an engine is to go on from: which come back, and what it answers over the others.
+use crate::steps::{Act, Content, ID_0_0, ID_0_1, ID_0_2, ID_1_0, Row, Want, assert_run};
+use order_check::Kind::Serial;
+use order_check::{Base, LastWriters, Parts};
+use round_state::Engine;
+use std::alloc::Global;
+use std::process::Abort;
+use std::test::*;
+use txn::Refusal::{self, BadParts, TooLong};
+use txn::Source::{By, Init};
+use txn::{NoMemory, Sequence, Txn, TxnId};
+
+const ID_0_3: TxnId = TxnId {
+    session: 0,
+    number: 3,
+};
+
+/// 2^48, which is no number of a transaction.
+const ALL: u64 = 281_474_976_710_656;
+
+const WRITES_5: Content = (&[], &[5]);
+
+const READS_5_OF_0_0: Content = (&[(5, By(ID_0_0))], &[]);
+
+/// One session: its mark, the last writers that are gone, and what remains. Where an engine goes on from them, its steps with their replies.
+#[derive(Clone, Copy)]
+struct Case {
+    name: &'static str,
+    mark: u64,
+    last: &'static [(u64, TxnId)],
+    remain: &'static [Content],
+    closed: &'static [bool],
+    limit: u64,
+    steps: Option<Row>,
+}
+
+/// Nothing is gone, nothing remains.
+const EMPTY: Case = Case {
+    name: "empty",
+    mark: 0,
+    last: &[],
+    remain: &[],
+    closed: &[false],
+    limit: 16,
+    steps: None,
+};
+
+static CASES: [Case; 12] = [
+    Case {
+        name: "a flag too many",
+        closed: &[false, false],
+        ..EMPTY
+    },
+    Case {
+        name: "limit 0",
+        limit: 0,
+        ..EMPTY
+    },
+    Case {
+        name: "limit 4097",
+        limit: 4097,
+        ..EMPTY
+    },
+    Case {
+        name: "more than the limit",
+        remain: &[WRITES_5, WRITES_5],
+        limit: 1,
+        ..EMPTY
+    },
+    Case {
+        name: "a number too high",
+        mark: ALL,
+        remain: &[WRITES_5],
+        ..EMPTY
+    },
+    Case {
+        name: "a last writer that is to come",
+        mark: 3,
+        last: &[(5, ID_0_3)],
+        ..EMPTY
+    },
+    Case {
+        name: "a last writer of no session",
+        last: &[(5, ID_1_0)],
+        ..EMPTY
+    },
+    Case {
+        name: "a read from itself",
+        remain: &[READS_5_OF_0_0],
+        ..EMPTY
+    },
+    Case {
+        name: "all numbers used up",
+        mark: ALL,
+        steps: Some(&[
+            (Act::Offer(0, ALL, WRITES_5), Want::No(TooLong)),
+            (Act::Begin, Want::Done),
+            (Act::Finish, Want::Report(1, Serial, &[ALL], &[])),
+        ]),
+        ..EMPTY
+    },
+    Case {
+        name: "a last writer that is gone",
+        mark: 3,
+        last: &[(5, ID_0_2)],
+        steps: Some(&[
+            (Act::Offer(0, 3, (&[(5, By(ID_0_2))], &[])), Want::Done),
+            (Act::Begin, Want::Done),
+            (Act::Finish, Want::Report(1, Serial, &[4], &[ID_0_3])),
+        ]),
+        ..EMPTY
+    },
+    // No history has these parts: 0.0 would be a fence that writes another key. The verdict is by the base.
+    Case {
+        name: "parts of no history",
+        mark: 1,
+        last: &[(0, ID_0_0), (5, ID_0_0)],
+        steps: Some(&[
+            (Act::Offer(0, 1, READS_5_OF_0_0), Want::Done),
+            (Act::Begin, Want::Done),
+            (Act::Finish, Want::Report(1, Serial, &[2], &[ID_0_1])),
+            (Act::Offer(0, 2, (&[(5, Init)], &[])), Want::Done),
+            (Act::Begin, Want::Done),
+            (Act::Finish, Want::Gone(2, &[3], ID_0_2, 5)),
+        ]),
+        ..EMPTY
+    },
+    Case {
+        steps: Some(&[
+            (Act::Offer(0, 0, WRITES_5), Want::Done),
+            (Act::Begin, Want::Done),
+            (Act::Finish, Want::Report(1, Serial, &[1], &[ID_0_0])),
+        ]),
+        ..EMPTY
+    },
+];
+
+fn cases() -> &'static [Case] {
+    &CASES
+}
+
+fn last_writers(alloc: Global, rows: &[(u64, TxnId)]) -> Result<LastWriters, NoMemory> {
+    let mut last = LastWriters::new(alloc);
+    for (key, writer) in rows {
+        last.insert(*key, *writer)?;
+    }
+    Ok(last)
+}
+
+fn txn_of(alloc: Global, content: Content) -> Result<Txn, NoMemory> {
+    Ok(Txn {
+        reads: Sequence::new(content.0.to_vec(alloc)?),
+        writes: Sequence::new(content.1.to_vec(alloc)?),
+    })
+}
+
+fn txns_of(alloc: Global, contents: &[Content]) -> Result<Sequence<Txn>, NoMemory> {
+    let mut txns = Vec::new(alloc);
+    for content in contents {
+        txns.push(txn_of(alloc, *content)?)?;
+    }
+    Ok(Sequence::new(txns))
+}
+
+fn base_of(alloc: Global, case: &Case) -> Result<Base, NoMemory> {
+    Ok(Base {
+        last: last_writers(alloc, case.last)?,
+        marks: Sequence::new([case.mark].to_vec(alloc)?),
+    })
+}
+
+fn parts_of(alloc: Global, case: &Case) -> Result<Parts, NoMemory> {
+    let txns = txns_of(alloc, case.remain)?;
+    Ok(Parts {
+        base: base_of(alloc, case)?,
+        remain: Sequence::new(vec![in alloc; txns]?),
+        closed: Sequence::new(case.closed.to_vec(alloc)?),
+        limit: case.limit,
+    })
+}
+
+/// Whether the parts are those of the case, as far as their sizes show it.
+fn are_of(alloc: Global, parts: &Parts, case: &Case) -> Result<bool, NoMemory> {
+    let last = parts.base.last.entries(alloc)?;
+    Ok(
+        last.as_slice() == case.last
+            && parts.mark_of(0) == case.mark
+            && parts.remaining_of(0).len() == case.remain.len()
+            && parts.closed.as_slice() == case.closed
+            && parts.limit == case.limit,
+    )
+}
+
+fn assert_back(
+    rt: &impl Abort,
+    alloc: Global,
+    back: &(Parts, Refusal),
+    case: &Case,
+) -> Result<(), NoMemory> {
+    assert!(rt; case.steps.is_none() && back.1 == BadParts, "{}", case.name);
+    assert!(rt; are_of(alloc, &back.0, case)?, "{}", case.name);
+    Ok(())
+}
+
+fn assert_goes_on(
+    rt: &impl Abort,
+    alloc: Global,
+    engine: &mut Engine,
+    case: &Case,
+) -> Result<(), NoMemory> {
+    match case.steps {
+        Some(steps) => assert_run(rt, alloc, engine, steps),
+        None => panic!(rt; "{}", case.name),
+    }
+}
+
+fn assert_case(rt: &impl Abort, alloc: Global, case: &Case) -> Result<(), NoMemory> {
+    let parts = parts_of(alloc, case)?;
+    match Engine::from_parts(alloc, parts) {
+        Ok(mut engine) => assert_goes_on(rt, alloc, &mut engine, case),
+        Err(back) => assert_back(rt, alloc, &back, case),
+    }
+}
+
+#[test]
+fn bad_parts_come_back(rt: HostRuntime) -> Result<(), Fail> {
+    for case in cases() {
+        assert_case(&rt, rt.alloc(), case)?;
+    }
+    Ok(())
+}
