@@ -226,6 +226,13 @@ class MadeUp(unittest.TestCase):
             auditor.round()
         self.assertEqual(auditor.round().kind, "serial")
 
+    def test_a_search_that_is_spent_is_given_again_with_more(self):
+        spent = ["report", 1, "spent", [0]]
+        auditor = self.auditor(1, {"round": [spent, ["report", 2, "serial", [0], []], *2 * [spent]]})
+        self.assertEqual(auditor.round(((1, 0, 1), (8, 2, 4))).number, 2)
+        self.assertEqual(auditor.effort, (8, 2, 4))
+        self.assertEqual(auditor.round().kind, "spent")
+
     def test_a_program_without_the_command(self):
         auditor = self.auditor(1, {"truncate": [["no", 13, "NoCut"], ["no", 1, "BadLine"]]})
         for can_cut in (True, False):

@@ -11,7 +11,10 @@ PROGRAM = os.environ.get("COBRA_AUDIT", os.path.normpath(BUILT))
 
 # The certificate is an order where the kind is serial or pending, and the items of a refutation where it is violated.
 Report = namedtuple("Report", "number kind counts certificate", defaults=(None,))
-LIMIT, BUDGET = 4096, 4096  # the most transactions that may remain; nodes of the search that a round may look at
+LIMIT = 4096  # the most transactions that may remain
+# Of a round: how many nodes of the search it may look at, how deep the search is split, and how many workers share it. The next is tried
+# where one hasn't decided.
+EFFORTS = ((4096, 0, 1), (65536, 4, max(1, min(16, os.cpu_count() or 1))))
 WAITS = (0.1, 0.5, 0.0)  # seconds after each time that a line was answered NoMemory
 FENCE = "zanteyard fence"  # the key on which sessions run fences; its number is 0
 # What one transaction did: reads are pairs of a key's name and a source, which is "init" or (session, number); writes are names of keys.
@@ -106,8 +109,13 @@ class Auditor:
     def close(self, session):
         self.ask(["close", session])
 
-    def round(self, budget=BUDGET):
-        return Report(*self.ask(["round", budget, 0, 1])[1:])
+    def round(self, efforts=EFFORTS):
+        """The report of a round over all that was taken in. One that ends spent is given again with the next effort: then it tells of the last."""
+        for self.effort in efforts:
+            report = Report(*self.ask(["round", *self.effort])[1:])
+            if report.kind != "spent":
+                break
+        return report
 
     def truncate(self):
         """Has the auditor forget what the last round found settled. The lines keep in which order what remains stands to it."""
@@ -155,8 +163,9 @@ def audited(history, program=PROGRAM):
             for number, logged in enumerate(txns):
                 auditor.offer(session, number, logged)
                 script.append(["offer", session, number, [auditor.txn(logged)]])
-        script.append(["round", BUDGET, 0, 1])
-        return auditor.round(), "".join(json.dumps(line, separators=(",", ":")) + "\n" for line in script)
+        report = auditor.round()
+        script.append(["round", *auditor.effort])
+        return report, "".join(json.dumps(line, separators=(",", ":")) + "\n" for line in script)
 
 
 START = "everything before the cut"  # a key that the first transaction of such a history writes, and that each session reads first
@@ -241,36 +250,44 @@ def without_ends(history):
 
 
 def less(history):
-    """The same without a session's last transaction, without one read, or without a write that nobody has read. What is left is
-    still true of the store."""
+    """The same without a session's last transaction, without one read, or without a write that nobody has read, each behind what is left out.
+    What is left is still true of the store."""
     for session, txns in enumerate(history):
         if txns:
-            yield [*history[:session], txns[:-1], *history[session + 1 :]]
+            yield (session, len(txns) - 1), [*history[:session], txns[:-1], *history[session + 1 :]]
     read = {(source, key) for txns in history for logged in txns for key, source in logged.reads}
     for session, txns in enumerate(history):
         for number, logged in enumerate(txns):
-            parts = [logged._replace(reads=[other for other in logged.reads if other != one]) for one in logged.reads]
+            parts = [(one, logged._replace(reads=[other for other in logged.reads if other != one])) for one in logged.reads]
             parts += [
-                logged._replace(writes=tuple(other for other in logged.writes if other != key))
+                ((key,), logged._replace(writes=tuple(other for other in logged.writes if other != key)))
                 for key in logged.writes
                 if ((session, number), key) not in read
             ]
-            for part in parts:
-                yield [*history[:session], [*txns[:number], part, *txns[number + 1 :]], *history[session + 1 :]]
+            for deed, part in parts:
+                yield (session, number, deed), [*history[:session], [*txns[:number], part, *txns[number + 1 :]], *history[session + 1 :]]
 
 
-def smaller(history, program=PROGRAM):
-    """A part of a violated history that is violated too, while nothing that has one thing less is. It begins with what a refutation names."""
+def smaller(history, program=PROGRAM, seconds=60):
+    """A part of a violated history that is violated too, while nothing that has one thing less is; or as small as it got in so many seconds. It
+    begins with what a refutation names."""
+    ends = time.monotonic() + seconds
     report = audited(history, program)[0]
     if report.kind == "violated":
         part = without_ends(only(history, named(report.certificate)))
         if audited(part, program)[0].kind == "violated":
             history = part
+    needed = set()  # what can't be left out of a history can't be left out of a part of it
     while True:
-        for candidate in less(history):
+        for what, candidate in less(history):
+            if time.monotonic() > ends:
+                return history
+            if what in needed:
+                continue
             if audited(candidate, program)[0].kind == "violated":
                 history = candidate
                 break
+            needed.add(what)
         else:
             return history
 
