@@ -67,31 +67,31 @@ def run(program, lines, workers):
     return report, seconds, busy
 
 
-def best(program, lines, workers, times):
-    runs = [run(program, lines, workers) for _ in range(times)]
-    assert len({report for report, _, _ in runs}) == 1, "reports differ"
-    return runs[0][0], min(seconds for _, seconds, _ in runs), min(busy for _, _, busy in runs)
+def measured(lines, rows, times):
+    """Of each row the report, and the least seconds and processor seconds of so many runs; the rows take turns."""
+    runs = [[] for _ in rows]
+    for _ in range(times):
+        for told, (_, program, workers) in zip(runs, rows):
+            told.append(run(program, lines, workers))
+    return [(told[0][0], min(seconds for _, seconds, _ in told), min(busy for _, _, busy in told)) for told in runs]
 
 
 def main():
     words = argparse.ArgumentParser(description=__doc__, formatter_class=argparse.RawDescriptionHelpFormatter)
-    words.add_argument("--free", type=int, default=12)
-    words.add_argument("--times", type=int, default=5)
+    words.add_argument("--free", type=int, default=14)
+    words.add_argument("--times", type=int, default=10)
     words.add_argument("--single", metavar="PROGRAM", help="an auditor with the solver of one thread")
     words.add_argument("program", nargs="?", default="crates/cobra_audit/out/cobra_audit")
     asked = words.parse_args()
-    lines = history(asked.free)
-    print(f"{os.cpu_count()} processors, load {os.getloadavg()[0]:.1f}")
-    print("program  workers  round s  times faster  processor s")
     rows = [("single", asked.single, 1)] if asked.single else []
     rows += [("shared", asked.program, workers) for workers in (1, 2, 4)]
-    base, told = None, None
-    for name, program, workers in rows:
-        report, seconds, busy = best(program, lines, workers, asked.times)
-        base, told = base or seconds, told or report
-        print(f"{name:8} {workers:7} {seconds:8.3f} {base / seconds:13.2f} {busy:12.2f}", flush=True)
-        assert report == told, "reports differ"
-    print("each report is", json.loads(told)[2], "and byte for byte the same")
+    told = measured(history(asked.free), rows, asked.times)
+    print(f"{os.cpu_count()} processors, load {os.getloadavg()[0]:.1f}, the best of {asked.times} runs each")
+    print("solver  workers  round s  times faster  processor s")
+    for (name, _, workers), (_, seconds, busy) in zip(rows, told):
+        print(f"{name:7} {workers:7} {seconds:8.3f} {told[0][1] / seconds:13.2f} {busy:12.2f}")
+    reports = {report for report, _, _ in told}
+    print("each report is", json.loads(told[0][0])[2], "and byte for byte the same" if len(reports) == 1 else "BUT THEY DIFFER")
 
 
 if __name__ == "__main__":
