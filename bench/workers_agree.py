@@ -4,15 +4,20 @@
 Run at the top of the repository, after `rt run < /dev/null` in crates/cobra_audit and `rt run` in crates/cobra_examples have built
 the programs:
 
-    python3 bench/workers_agree.py [--times N] [PROGRAM [EXAMPLES]]
+    python3 bench/workers_agree.py [--times N] [--generated N] [PROGRAM [EXAMPLES]]
 
 Each script of crates/cobra_examples/data is given to cobra_audit with 1, 2, 4 and 16 workers in its rounds, as it stands and with
 each depth from 0 to 6 in their place, each so many times. What it answers is handed, as the replies that are wanted, to cobra_examples, which
 serves the script by the solver of one thread and compares. A line that is refused for its numbers stays as it is.
+
+Then come as many generated histories as asked for, from a fixed seed: each is searched at each depth with each number of workers ten times, and told is how
+many were serial, violated and spent, and whether one report differs in more than its number from the others of its depth.
 """
 import argparse
+import collections
 import json
 import pathlib
+import random
 import subprocess
 import sys
 import tempfile
@@ -48,9 +53,47 @@ def served(program, script):
     return subprocess.run([program], input=script, stdout=subprocess.PIPE, check=True).stdout
 
 
+def generated(dice, sessions=6, each=3, keys=4):
+    """A history of transactions that are run one after another, and in which some reads are of any writer of their key."""
+    last, writers, history = {}, collections.defaultdict(list), [[] for _ in range(sessions)]
+    lies = dice.choice((0.0, 0.1, 0.3))
+    turns = [session for session in range(sessions) for _ in range(each)]
+    dice.shuffle(turns)
+    for session in turns:
+        reads = []
+        for key in sorted(dice.sample(range(1, keys + 1), dice.randint(0, 2))):
+            source = dice.choice(writers[key]) if writers[key] and dice.random() < lies else last.get(key)
+            reads.append([key, *source] if source else [key, "init"])
+        writes = sorted(dice.sample(range(1, keys + 1), dice.randint(0, 2)))
+        for key in writes:
+            last[key] = (session, len(history[session]))
+            writers[key].append(last[key])
+        history[session].append([reads, writes])
+    return history
+
+
+def disagreements(program, count, times=10):
+    """Kinds of the reports on generated histories, and those histories and depths at which reports differ."""
+    dice, kinds, others = random.Random(15), collections.Counter(), []
+    for number in range(count):
+        history, budget = generated(dice), dice.choice((3, 24, 4096))
+        lines = [["open", len(history), 64], *(["offer", session, 0, txns] for session, txns in enumerate(history))]
+        rounds = [(depth, workers) for depth in range(7) for workers in WORKERS for _ in range(times)]
+        lines += [["round", budget, depth, workers] for depth, workers in rounds]
+        text = "".join(json.dumps(line, separators=(",", ":")) + "\n" for line in lines).encode()
+        reports = [json.loads(line) for line in served(program, text).splitlines()[-len(rounds) :]]
+        for depth in range(7):
+            told = {json.dumps([report[0], *report[2:]]) for report, (at, _) in zip(reports, rounds) if at == depth}
+            kinds[reports[depth * len(WORKERS) * times][2]] += 1
+            if len(told) != 1:
+                others.append(f"generated history {number}, depth {depth}: the replies depend on the workers or on the run")
+    return kinds, others
+
+
 def main():
     words = argparse.ArgumentParser(description=__doc__, formatter_class=argparse.RawDescriptionHelpFormatter)
     words.add_argument("--times", type=int, default=1)
+    words.add_argument("--generated", type=int, default=200)
     words.add_argument("program", nargs="?", default="crates/cobra_audit/out/cobra_audit")
     words.add_argument("examples", nargs="?", default="crates/cobra_examples/out/cobra_examples")
     asked = words.parse_args()
@@ -74,7 +117,10 @@ def main():
         single = subprocess.run([examples, *names], cwd=folder, stdout=subprocess.PIPE, check=True).stdout.decode()
     others += [line for line in single.splitlines() if not line.endswith(": as it must be")]
     print("\n".join(others + [f"{runs} runs of {len(names)} scripts, {len(single.splitlines())} of them by one thread too, {len(others)} differences"]))
-    sys.exit(1 if others else 0)
+    kinds, differing = disagreements(asked.program, asked.generated)
+    searched = ", ".join(f"{count} {kind}" for kind, count in sorted(kinds.items()))
+    print("\n".join(differing + [f"{asked.generated} generated histories at 7 depths ({searched}), each with {WORKERS} workers ten times: {len(differing)} differences"]))
+    sys.exit(1 if others or differing else 0)
 
 
 if __name__ == "__main__":
