@@ -12,6 +12,8 @@ mod parts;
 #[cfg(test)]
 mod reply_texts;
 #[cfg(test)]
+mod runs;
+#[cfg(test)]
 mod scripts;
 #[cfg(test)]
 mod splits;
