@@ -1,4 +1,5 @@
 // The texts of replies.
+ghost use Rattle.std.specs.Prelude.{IfOk};
 ghost use Rattle.log_text.specs.Replies.{HasKindOfOrder};
 
 use log_text::{Reply, write_reply};
@@ -8,65 +9,50 @@ use std::alloc::Global;
 use std::test::Fail;
 use txn::{Arc, Choice, ForceStep, NoMemory, Refusal, Sequence, Side, TxnId};
 
-fn numbers(alloc: Global, numbers: &[u64]) -> Result<Sequence<u64>, NoMemory> {
-    Ok(Sequence::new(numbers.to_vec(alloc)?))
+/// A reply, as rows have it.
+#[derive(Clone, Copy)]
+enum Told {
+    Done,
+    No(Refusal),
+    Serial,
+    Pending,
+    Violated,
+    Spent,
+    Cut,
+    Show,
 }
 
-fn is_written_as(alloc: Global, reply: &Reply, line: &str) -> Result<bool, NoMemory>
-    requires { HasKindOfOrder reply.now }
-{
-    Ok(write_reply(alloc, reply)?.as_slice() == line.as_bytes())
-}
+static ROWS: [(Told, &str); 10] = [
+    (Told::Done, "[\"ok\"]\n"),
+    (Told::No(Refusal::BadLine), "[\"no\",1,\"BadLine\"]\n"),
+    (Told::No(Refusal::NoMemory), "[\"no\",16,\"NoMemory\"]\n"),
+    (Told::No(Refusal::Device), "[\"no\",18,\"Device\"]\n"),
+    (
+        Told::Serial,
+        "[\"report\",281474976710655,\"serial\",[2,1],[[0,1],[1,0]]]\n",
+    ),
+    (
+        Told::Pending,
+        "[\"report\",281474976710655,\"pending\",[2,1],[[0,1],[1,0]]]\n",
+    ),
+    (Told::Violated, VIOLATED),
+    (Told::Spent, "[\"report\",1,\"spent\",[2]]\n"),
+    (
+        Told::Cut,
+        "[\"cut\",[0,1],[[0,0],[0,1]],[[0,0,1],[5,0,0]]]\n",
+    ),
+    (
+        Told::Show,
+        "[\"show\",[2,0],[2,1],[false,true],[[5,0,1]],1]\n",
+    ),
+];
 
-#[test]
-fn answers_without_a_report(rt: HostRuntime) -> Result<(), Fail> {
-    let alloc = rt.alloc();
-    assert!(rt; is_written_as(alloc, &Reply::Done, "[\"ok\"]\n")?);
-    for (refusal, line) in [
-        (Refusal::BadLine, "[\"no\",1,\"BadLine\"]\n"),
-        (Refusal::NoMemory, "[\"no\",16,\"NoMemory\"]\n"),
-        (Refusal::Device, "[\"no\",18,\"Device\"]\n"),
-    ] {
-        assert!(rt;
-            is_written_as(alloc, &Reply::No(refusal), line)?,
-            "at {line}"
-        );
-    }
-    Ok(())
-}
+const VIOLATED: &str =
+    r#"["report",1,"violated",[2],[["split",[0,1,5,0,0,1,0]],["split",[0,1,5,0,0,1,0]],["force",[0,1,5,0,0,1,0],1,[["session",1,2,3,4],["read",5,1,2,3,4],["base",5,1,2,3,4],["taken",1,2,3,4]]],["force",[0,1,5,0,0,1,0],2,[["session",1,2,3,4],["read",5,1,2,3,4],["base",5,1,2,3,4],["taken",1,2,3,4]]],["gone",1,1,5],["cycle",[["session",1,2,3,4],["read",5,1,2,3,4],["base",5,1,2,3,4],["taken",1,2,3,4]]],["nowrite",63,7,9]]]
+"#;
 
-#[test]
-fn reports_with_an_order(rt: HostRuntime) -> Result<(), Fail> {
-    let alloc = rt.alloc();
-    let ids = [
-        TxnId {
-            session: 0,
-            number: 1,
-        },
-        TxnId {
-            session: 1,
-            number: 0,
-        },
-    ];
-    for (kind, line) in [
-        (
-            Kind::Serial,
-            "[\"report\",281474976710655,\"serial\",[2,1],[[0,1],[1,0]]]\n",
-        ),
-        (
-            Kind::Pending,
-            "[\"report\",281474976710655,\"pending\",[2,1],[[0,1],[1,0]]]\n",
-        ),
-    ] {
-        let reply = Reply::Order {
-            round: 281474976710655,
-            kind,
-            counts: numbers(alloc, &[2, 1])?,
-            order: Sequence::new(ids.to_vec(alloc)?),
-        };
-        assert!(rt; is_written_as(alloc, &reply, line)?);
-    }
-    Ok(())
+fn rows() -> &'static [(Told, &'static str)] {
+    &ROWS
 }
 
 fn id(session: u8, number: u64) -> TxnId {
@@ -135,60 +121,120 @@ fn tree(alloc: Global) -> Result<Tree, NoMemory> {
     split(alloc, inner, Tree::Close(Leaf::NoWrite(id(63, 7), 9)))
 }
 
-const TREE: &str =
-    r#"[["split",[0,1,5,0,0,1,0]],["split",[0,1,5,0,0,1,0]],["force",[0,1,5,0,0,1,0],1,[["session",1,2,3,4],["read",5,1,2,3,4],["base",5,1,2,3,4],["taken",1,2,3,4]]],["force",[0,1,5,0,0,1,0],2,[["session",1,2,3,4],["read",5,1,2,3,4],["base",5,1,2,3,4],["taken",1,2,3,4]]],["gone",1,1,5],["cycle",[["session",1,2,3,4],["read",5,1,2,3,4],["base",5,1,2,3,4],["taken",1,2,3,4]]],["nowrite",63,7,9]]"#;
-
-#[test]
-fn violated_report(rt: HostRuntime) -> Result<(), Fail> {
-    let alloc = rt.alloc();
-    let reply = Reply::Violated {
-        round: 1,
-        counts: numbers(alloc, &[2])?,
-        tree: tree(alloc)?,
-    };
-    let line = format!(in alloc; "[\"report\",1,\"violated\",[2],{TREE}]\n")?;
-    assert!(rt; is_written_as(alloc, &reply, line.as_str())?);
-    Ok(())
+fn numbers(alloc: Global, numbers: &[u64]) -> Result<Sequence<u64>, NoMemory> {
+    Ok(Sequence::new(numbers.to_vec(alloc)?))
 }
 
-#[test]
-fn spent_report(rt: HostRuntime) -> Result<(), Fail> {
-    let reply = Reply::Spent {
-        round: 1,
-        counts: numbers(rt.alloc(), &[2])?,
-    };
-    assert!(rt; is_written_as(rt.alloc(), &reply, "[\"report\",1,\"spent\",[2]]\n")?);
-    Ok(())
+fn ids(alloc: Global, ids: &[TxnId]) -> Result<Sequence<TxnId>, NoMemory> {
+    Ok(Sequence::new(ids.to_vec(alloc)?))
 }
 
-#[test]
-fn applied_cut(rt: HostRuntime) -> Result<(), Fail> {
-    let alloc = rt.alloc();
-    let reply = Reply::Cut {
+fn last(alloc: Global, last: &[(u64, TxnId)]) -> Result<Sequence<(u64, TxnId)>, NoMemory> {
+    Ok(Sequence::new(last.to_vec(alloc)?))
+}
+
+fn ordered(alloc: Global, kind: Kind) -> Result<Reply, NoMemory>
+    ensures { IfOk result (λ reply. HasKindOfOrder reply) }
+{
+    let counts = numbers(alloc, &[2, 1])?;
+    let order = ids(alloc, &[id(0, 1), id(1, 0)])?;
+    let round = 281474976710655;
+    let kind = match kind {
+        Kind::Pending => Kind::Pending,
+        _ => Kind::Serial,
+    };
+    Ok(Reply::Order {
+        round,
+        kind,
+        counts,
+        order,
+    })
+}
+
+fn violated(alloc: Global) -> Result<Reply, NoMemory>
+    ensures { IfOk result (λ reply. HasKindOfOrder reply) }
+{
+    let counts = numbers(alloc, &[2])?;
+    let tree = tree(alloc)?;
+    Ok(Reply::Violated {
+        round: 1,
+        counts,
+        tree,
+    })
+}
+
+fn spent(alloc: Global) -> Result<Reply, NoMemory>
+    ensures { IfOk result (λ reply. HasKindOfOrder reply) }
+{
+    let counts = numbers(alloc, &[2])?;
+    Ok(Reply::Spent { round: 1, counts })
+}
+
+fn cut(alloc: Global) -> Result<Reply, NoMemory>
+    ensures { IfOk result (λ reply. HasKindOfOrder reply) }
+{
+    let gone = ids(alloc, &[id(0, 0), id(0, 1)])?;
+    let last = last(alloc, &[(0, id(0, 1)), (5, id(0, 0))])?;
+    Ok(Reply::Cut {
         fence: id(0, 1),
-        gone: Sequence::new([id(0, 0), id(0, 1)].to_vec(alloc)?),
-        last: Sequence::new([(0, id(0, 1)), (5, id(0, 0))].to_vec(alloc)?),
-    };
-    let line = "[\"cut\",[0,1],[[0,0],[0,1]],[[0,0,1],[5,0,0]]]\n";
-    assert!(rt; is_written_as(alloc, &reply, line)?);
-    Ok(())
+        gone,
+        last,
+    })
+}
+
+/// How far two sessions are, and how many were received of them.
+fn far(alloc: Global) -> Result<(Sequence<u64>, Sequence<u64>), NoMemory> {
+    let marks = numbers(alloc, &[2, 0])?;
+    let received = numbers(alloc, &[2, 1])?;
+    Ok((marks, received))
+}
+
+/// Which of two sessions are closed, and who wrote last.
+fn rest(alloc: Global) -> Result<(Sequence<bool>, Sequence<(u64, TxnId)>), NoMemory> {
+    let closed = Sequence::new([false, true].to_vec(alloc)?);
+    let last = last(alloc, &[(5, id(0, 1))])?;
+    Ok((closed, last))
+}
+
+fn shown(alloc: Global) -> Result<Reply, NoMemory>
+    ensures { IfOk result (λ reply. HasKindOfOrder reply) }
+{
+    let (marks, received) = far(alloc)?;
+    let (closed, last) = rest(alloc)?;
+    Ok(Reply::Show {
+        marks,
+        received,
+        closed,
+        last,
+        remaining: 1,
+    })
+}
+
+fn reply_of(alloc: Global, told: Told) -> Result<Reply, NoMemory>
+    ensures { IfOk result (λ reply. HasKindOfOrder reply) }
+{
+    match told {
+        Told::Done => Ok(Reply::Done),
+        Told::No(refusal) => Ok(Reply::No(refusal)),
+        Told::Serial => ordered(alloc, Kind::Serial),
+        Told::Pending => ordered(alloc, Kind::Pending),
+        Told::Violated => violated(alloc),
+        Told::Spent => spent(alloc),
+        Told::Cut => cut(alloc),
+        Told::Show => shown(alloc),
+    }
+}
+
+fn text_of(alloc: Global, told: Told) -> Result<Vec<u8>, NoMemory> {
+    let reply = reply_of(alloc, told)?;
+    write_reply(alloc, &reply)
 }
 
 #[test]
-fn shown_state(rt: HostRuntime) -> Result<(), Fail> {
-    let alloc = rt.alloc();
-    let writer = TxnId {
-        session: 0,
-        number: 1,
-    };
-    let reply = Reply::Show {
-        marks: numbers(alloc, &[2, 0])?,
-        received: numbers(alloc, &[2, 1])?,
-        closed: Sequence::new([false, true].to_vec(alloc)?),
-        last: Sequence::new([(5, writer)].to_vec(alloc)?),
-        remaining: 1,
-    };
-    let line = "[\"show\",[2,0],[2,1],[false,true],[[5,0,1]],1]\n";
-    assert!(rt; is_written_as(alloc, &reply, line)?);
+fn replies_are_written_so(rt: HostRuntime) -> Result<(), Fail> {
+    for (told, line) in rows() {
+        let text = text_of(rt.alloc(), *told)?;
+        assert!(rt; text.as_slice() == line.as_bytes(), "at {line}");
+    }
     Ok(())
 }
