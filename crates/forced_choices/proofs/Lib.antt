@@ -9,6 +9,7 @@ pub mod Touches
 pub mod Forced
 pub mod SettledReads
 pub mod OpenReads
+pub mod PlacesOfWriters
 pub mod WriterRows
 pub mod TableReads
 pub mod SaturationLaws

@@ -14,7 +14,7 @@ use Rattle.forced_choices.specs.declared.branch.Top.{Top}
 use Rattle.forced_choices.specs.declared.table.Table.{Table}
 use Rattle.forced_choices.specs.Stacks.{HavePassed, last_passed, levels_onto, passed_onto}
 use Rattle.forced_choices.specs.Tables.{ArePassed, choices_at}
-use Rattle.forced_choices.specs.Undecided.{IsUndecided, AreAllDecided}
+use Rattle.forced_choices.specs.Undecided.{AreAllDecided}
 use Rattle.forced_choices.proofs.Members.{in_left, in_from_contains, contains_from_in}
 use Rattle.forced_choices.proofs.Stacked.{split_last, last_of_marked, graph_again, back_is, with_marks}
 

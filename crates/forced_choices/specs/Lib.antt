@@ -13,5 +13,6 @@ pub mod Stacks
 pub mod Tables
 pub mod Touching
 pub mod Undecided
+pub mod WriterPlaces
 pub mod Ranks
 pub mod Nodes

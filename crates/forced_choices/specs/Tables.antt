@@ -13,6 +13,7 @@ use Rattle.forced_choices.specs.declared.table.Table.{Table}
 use Rattle.forced_choices.specs.Listing.{all_ids, choices_of}
 use Rattle.forced_choices.specs.Masks.{AreWriters, choices_in}
 use Rattle.forced_choices.specs.Undecided.{AreAllDecided}
+use Rattle.forced_choices.specs.WriterPlaces.{ArePlaces}
 
 -- the columns have the two
 pub record IsAtColumns (nodes : List (Option TxnId)) (placed : Placed) : Type 0 where
@@ -38,10 +39,11 @@ pub record AreReads (parts : Parts) (nodes : List (Option TxnId)) (ids : List Tx
 abbrev pub AreAtColumns : List (Option TxnId) → Table → Type 0
 AreAtColumns nodes table = (k : ℕ) (d : TxnId) → k < length table.ids.items → IsAt nodes (slice_index table.writers.columns.items k) (slice_index_or table.ids.items k d)
 
--- all ids, the writers of each key among them, and all reads from what remains
+-- all ids, the writers of each key among them and where they stand, and all reads from what remains
 pub record IsTable (parts : Parts) (nodes : List (Option TxnId)) (table : Table) : Type 0 where
   pub ids : table.ids.items ≡ all_ids parts
   pub writers : AreWriters parts nodes table.ids.items table.writers
+  pub places : ArePlaces parts table.ids.items table.places
   pub reads : AreReads parts nodes table.ids.items table.reads.items (choices_of parts table.ids.items table.ids.items)
 
 -- the first so many reads have no undecided choice

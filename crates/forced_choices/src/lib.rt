@@ -6,6 +6,7 @@ mod building;
 mod columns;
 mod listing;
 mod open;
+mod places;
 mod ranks;
 mod reads;
 mod rules;

@@ -1,11 +1,13 @@
-ghost use Rattle.std.specs.Prelude.{◌≡◌, ◌++◌, OnOk, IfOk, IsTrue, ◌<◌, length};
+ghost use Rattle.std.specs.Prelude.{◌≡◌, ◌++◌, OnOk, IfOk, IsTrue, ◌<◌, All, length};
 ghost use Rattle.txn.specs.History.{writes_key};
 ghost use Rattle.std.specs.List.{flat_map};
 ghost use Rattle.order_check.specs.Based.{remaining_at, remaining_ids};
 ghost use Rattle.order_check.specs.Good.{IsGood};
 ghost use Rattle.forced_choices.specs.Listing.{all_ids, writes_here, is_other, reads_of, session_arc, session_arcs, base_arcs, is_base_source, arcs_from_writer, arcs_of_read, arcs_of_reads};
 ghost use Rattle.forced_choices.specs.Masks.{is_third};
+ghost use Rattle.forced_choices.specs.WriterPlaces.{those_at, ArePlaces};
 
+use crate::places::{Places, places_among};
 use crate::reads::Read;
 use order_check::Parts;
 use std::alloc::Global;
@@ -98,13 +100,15 @@ fn push_base_arcs(
     arcs: &mut Vec<Arc>,
     parts: &Parts,
     ids: &[TxnId],
+    places: &[usize],
     reader: TxnId,
     key: u64,
 ) -> Result<(), NoMemory>
-    ensures { OnOk result (arcs.new.items ≡ arcs.old.items ++ base_arcs parts.now ids.now reader key) }
+    requires { All (λ place. place < length ids.now) places.now }
+    ensures { OnOk result (arcs.new.items ≡ arcs.old.items ++ base_arcs parts.now (those_at ids.now places.now) reader key) }
 {
-    for id in ids {
-        let other = *id;
+    for place in places {
+        let other = ids[*place];
         if is_other(parts, reader, key, other) {
             arcs.push(Arc::Base {
                 key,
@@ -151,14 +155,17 @@ fn push_arcs_of_read(
     arcs: &mut Vec<Arc>,
     parts: &Parts,
     ids: &[TxnId],
+    places: &Places,
     reader: TxnId,
     read: (u64, Source),
 ) -> Result<(), NoMemory>
+    requires { ArePlaces parts.now ids.now places.now }
     ensures { OnOk result (arcs.new.items ≡ arcs.old.items ++ arcs_of_read parts.now ids.now reader read) }
 {
     push_arc_from_writer(arcs, parts, reader, read)?;
     if is_base_source(parts, read.0, read.1) {
-        push_base_arcs(arcs, parts, ids, reader, read.0)?;
+        let others = places.of_key(read.0);
+        push_base_arcs(arcs, parts, ids, others, reader, read.0)?;
     }
     Ok(())
 }
@@ -167,24 +174,28 @@ fn push_arcs_of_reader(
     arcs: &mut Vec<Arc>,
     parts: &Parts,
     ids: &[TxnId],
+    places: &Places,
     reader: TxnId,
 ) -> Result<(), NoMemory>
+    requires { ArePlaces parts.now ids.now places.now }
     ensures { OnOk result (arcs.new.items ≡ arcs.old.items ++ flat_map (arcs_of_read parts.now ids.now reader) (reads_of parts.now reader)) }
 {
     for read in reads_of(parts, reader) {
-        push_arcs_of_read(arcs, parts, ids, reader, *read)?;
+        push_arcs_of_read(arcs, parts, ids, places, reader, *read)?;
     }
     Ok(())
 }
 
 /// The arcs of sessions and reads.
 pub fn arcs_among(alloc: Global, parts: &Parts, ids: &[TxnId]) -> Result<Vec<Arc>, NoMemory>
+    requires { IsGood parts.now }
     ensures { IfOk result (λ arcs. arcs.items ≡ session_arcs parts.now ids.now ++ arcs_of_reads parts.now ids.now ids.now) }
 {
+    let places = places_among(alloc, parts, ids)?;
     let mut arcs = Vec::new(alloc);
     push_session_arcs(&mut arcs, parts, ids)?;
     for reader in ids {
-        push_arcs_of_reader(&mut arcs, parts, ids, *reader)?;
+        push_arcs_of_reader(&mut arcs, parts, ids, &places, *reader)?;
     }
     Ok(arcs)
 }

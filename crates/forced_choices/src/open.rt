@@ -1,5 +1,5 @@
 // The choices that a graph leaves undecided, found 64 transactions at a time.
-ghost use Rattle.std.specs.Prelude.{◌≡◌, ◌∷◌, [], ◌++◌, ◌↔◌, ℕ, true, List, IfOk, OnOk, MatchOption, drop, length};
+ghost use Rattle.std.specs.Prelude.{◌≡◌, ◌∷◌, [], ◌++◌, ◌↔◌, ◌<◌, ℕ, true, All, List, IfOk, OnOk, MatchOption, drop, length};
 ghost use Rattle.txn.specs.declared.transactions.TxnId.{TxnId};
 ghost use Rattle.txn.specs.declared.choices.Choice.{Choice};
 ghost use Rattle.known_graph.specs.Bits.{HasBit};
@@ -8,6 +8,7 @@ ghost use Rattle.forced_choices.specs.Listing.{all_ids, choices_of};
 ghost use Rattle.forced_choices.specs.Masks.{AreTold, is_third, choice_of, choices_in};
 ghost use Rattle.forced_choices.specs.Tables.{ArePassed, IsAtColumns, IsPlaced, IsTable};
 ghost use Rattle.forced_choices.specs.Undecided.{AreFound, AreAllDecided, IsFirstFound, TellsOpen};
+ghost use Rattle.forced_choices.specs.WriterPlaces.{those_at};
 
 use crate::listing::is_third;
 use crate::reads::{Placed, Read};
@@ -79,22 +80,24 @@ fn push_open_with(
     Ok(())
 }
 
-/// Adds the open choices of a read, which are those with a column in the row.
+/// Adds the open choices of a read with those at the places, which are those with a column in the row.
 fn push_open_columns(
     found: &mut Vec<Choice>,
     parts: &Parts,
     ids: &[TxnId],
+    places: &[usize],
     writers: &Writers,
     graph: &Graph,
     row: &[u64],
     read: Read,
 ) -> Result<(), NoMemory>
-    requires { AreTold parts.now graph.now.arcs ids.now writers.now.columns.items row.now read }
-    ensures { OnOk result ((front : List Choice) → AreFound graph.now.arcs front found.old.items → AreFound graph.now.arcs (front ++ choices_in parts.now ids.now read) found.new.items) }
+    requires places { All (λ place. place < length ids.now) places.now }
+    requires told { AreTold parts.now graph.now.arcs ids.now writers.now.columns.items row.now read }
+    ensures { OnOk result ((front : List Choice) → AreFound graph.now.arcs front found.old.items → AreFound graph.now.arcs (front ++ choices_in parts.now (those_at ids.now places.now) read) found.new.items) }
 {
-    for place in 0..ids.len() {
-        let column = writers.column(place);
-        push_open_with(found, parts, graph, row, column, read, ids[place])?;
+    for place in places {
+        let column = writers.column(*place);
+        push_open_with(found, parts, graph, row, column, read, ids[*place])?;
     }
     Ok(())
 }
@@ -122,6 +125,7 @@ fn push_open_of_read(
         found,
         parts,
         ids,
+        table.places.of_key(placed.read.key),
         &table.writers,
         graph,
         row.as_slice(),

@@ -1,4 +1,4 @@
-ghost use Rattle.std.specs.Prelude.{◌≡◌, [], ◌∷◌, ◌++◌, List, true, false, IfOk, OnOk};
+ghost use Rattle.std.specs.Prelude.{◌≡◌, ◌<◌, [], ◌∷◌, ◌++◌, List, All, length, true, false, IfOk, OnOk};
 ghost use Rattle.txn.specs.declared.transactions.TxnId.{TxnId};
 ghost use Rattle.txn.specs.declared.choices.Choice.{Choice};
 ghost use Rattle.txn.specs.declared.choices.Side.{Side};
@@ -13,6 +13,7 @@ ghost use Rattle.forced_choices.specs.Masks.{AreThere, AreSettledBut, is_third, 
 ghost use Rattle.forced_choices.specs.Rules.{premise, conclusion};
 ghost use Rattle.forced_choices.specs.Tables.{IsPlaced, IsTable, choices_at};
 ghost use Rattle.forced_choices.specs.Touching.{AreNoted};
+ghost use Rattle.forced_choices.specs.WriterPlaces.{those_at};
 
 use crate::columns::columns_left;
 use crate::listing::is_third;
@@ -153,30 +154,41 @@ fn look_at_other(
     Ok(())
 }
 
-/// Takes each side that is left of the choices of a read, of which only those with a column in the row may have one.
+/// Takes each side that is left of the choices of a read with those at the places, of which only those with a column in the row
+/// may have one.
 fn look_at_columns(
     alloc: Global,
     parts: &Parts,
     table: &Table,
+    places: &[usize],
     graph: &mut Graph,
     log: &mut Vec<ForceStep>,
     touched: &mut Touched,
     row: &[u64],
     read: Read,
 ) -> Result<(), NoMemory>
+    requires places { All (λ place. place < length table.now.ids.items) places.now }
     requires choices { (other : TxnId) → is_third parts.now read other ≡ true → IsChoice parts.now (choice_of read other) }
     requires nodes { (id : TxnId) → Remains parts.now id → HasNode graph.old id }
     requires settled { AreSettledBut parts.now graph.old.arcs table.now.ids.items table.now.writers.columns.items row.now read }
     ensures looked { OnOk result (HasLooked parts.now graph.old.nodes (stage_of graph.old log.old.items touched.old) (stage_of graph.new log.new.items touched.new)
-        (choices_in parts.now table.now.ids.items read)) }
+        (choices_in parts.now (those_at table.now.ids.items places.now) read)) }
     ensures nodes { OnOk result (graph.new.nodes ≡ graph.old.nodes) }
     ensures mark { last_mark graph.new ≡ last_mark graph.old }
 {
     let ids = table.ids.as_slice();
-    for place in 0..ids.len() {
-        let column = table.writers.column(place);
+    for place in places {
+        let column = table.writers.column(*place);
         look_at_other(
-            alloc, parts, graph, log, touched, row, column, read, ids[place],
+            alloc,
+            parts,
+            graph,
+            log,
+            touched,
+            row,
+            column,
+            read,
+            ids[*place],
         )?;
     }
     Ok(())
@@ -209,6 +221,7 @@ fn look_at_read(
         alloc,
         parts,
         table,
+        table.places.of_key(placed.read.key),
         graph,
         log,
         touched,

@@ -13,6 +13,7 @@ ghost use Rattle.forced_choices.specs.Listing.{choices_of, choices_of_read, read
 ghost use Rattle.forced_choices.specs.Tables.{AreReads, IsAtColumns, IsTable};
 
 use crate::listing::{reads_of, remaining_ids_of, writes};
+use crate::places::{Places, places_among};
 use crate::reads::{Placed, Read};
 use crate::writers::{Writers, column_of, writers_of};
 use known_graph::Graph;
@@ -20,12 +21,13 @@ use order_check::Parts;
 use std::alloc::Global;
 use txn::{NoMemory, Source, TxnId};
 
-/// All that remains, the writers of each key, and the reads from what remains, each with its columns.
+/// All that remains, the writers of each key, where they stand, and the reads from what remains, each with its columns.
 #[derive(Drop, Debug)]
 pub struct Table {
     /// In order of id.
     pub ids: Vec<TxnId>,
     pub writers: Writers,
+    pub places: Places,
     /// In order of reader.
     pub reads: Vec<Placed>,
 }
@@ -121,10 +123,12 @@ pub fn table_of(alloc: Global, parts: &Parts, graph: &Graph) -> Result<Table, No
 {
     let ids = remaining_ids_of(alloc, parts)?;
     let writers = writers_of(alloc, parts, graph, ids.as_slice())?;
+    let places = places_among(alloc, parts, ids.as_slice())?;
     let reads = reads_among(alloc, parts, graph, ids.as_slice())?;
     Ok(Table {
         ids,
         writers,
+        places,
         reads,
     })
 }

@@ -1,5 +1,4 @@
-use Rattle.std.proofs.Common.{◌≡◌, ◌-◌, length, Some, sym, subst}
-use Rattle.std.specs.List.{slice_get}
+use Rattle.std.proofs.Common.{sym}
 use Rattle.forced_choices.proofs.Passed.{last_passed_of}
 use Rattle.forced_choices.proofs.branch.passed_by.Goals as goal
 

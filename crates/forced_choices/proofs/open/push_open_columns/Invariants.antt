@@ -2,7 +2,8 @@ use Rattle.std.proofs.Common.{List, ◌++◌, take}
 use Rattle.txn.specs.declared.choices.Choice.{Choice}
 use Rattle.forced_choices.specs.Masks.{choices_in}
 use Rattle.forced_choices.specs.Undecided.{AreFound}
+use Rattle.forced_choices.specs.WriterPlaces.{those_at}
 use Rattle.forced_choices.proofs.open.push_open_columns.Given as goal
 
 abbrev pub invariant-loop-place : goal.invariant-loop-place
-invariant-loop-place l = (front : List Choice) → AreFound l.graph.arcs front l.initial.found.items → AreFound l.graph.arcs (front ++ choices_in l.parts (take l.place l.ids) l.read) l.found.items
+invariant-loop-place l = (front : List Choice) → AreFound l.graph.arcs front l.initial.found.items → AreFound l.graph.arcs (front ++ choices_in l.parts (those_at l.ids (take l.place-index l.places)) l.read) l.found.items

@@ -1,9 +1,12 @@
-use Rattle.std.proofs.Common.{ℕ, ◌++◌, List, sym, subst}
+use Rattle.std.proofs.Common.{ℕ, ◌<◌, ◌∙◌, ◌++◌, List, length, ap, sym, subst}
+use Rattle.std.specs.Prelude.{All}
 use Rattle.known_graph.specs.Bits.{HasBit}
 use Rattle.txn.specs.declared.transactions.TxnId.{TxnId}
 use Rattle.forced_choices.specs.Masks.{AreTold, choices_in}
 use Rattle.forced_choices.specs.Undecided.{AreFound}
 use Rattle.forced_choices.proofs.OpenReads.{told_by_writers, decided_all, found_skip}
+use Rattle.forced_choices.specs.WriterPlaces.{those_at}
+use Rattle.forced_choices.proofs.PlacesOfWriters.{choices_at_places}
 use Rattle.forced_choices.proofs.open.push_open_of_read.Goals as goal
 
 pub returns-then-is_clear : goal.returns-then-is_clear
@@ -17,8 +20,8 @@ returns-then-is_clear c = λ front so.
     let bare = λ (j : ℕ). subst (λ (row : List ℕ). ¬ HasBit row j) c.deref.ensures.value (c.is_clear.ensures.0 c.if-is_clear.true j) in
     found_skip arcs front c.args.found.now.items (choices_in parts table.ids.items read) so (decided_all parts arcs table.ids.items table.writers.columns.items row read bare told)
 
-pub push_open_columns-requires : goal.push_open_columns-requires
-push_open_columns-requires c =
+pub push_open_columns-requires-clause-told : goal.push_open_columns-requires-clause-told
+push_open_columns-requires-clause-told c =
     let parts = c.args.parts.now in
     let arcs = c.args.graph.now.arcs in
     let table = c.args.table.now in
@@ -27,5 +30,17 @@ push_open_columns-requires c =
     let by_row = subst (λ (row : List ℕ). AreTold parts arcs table.ids.items table.writers.columns.items row read) (sym c.as_slice.ensures.value) told in
     subst (λ (ids : List TxnId). AreTold parts arcs ids table.writers.columns.items c.as_slice.result.now read) (sym c.as_slice-ids.ensures.value) by_row
 
+pub push_open_columns-requires-clause-places : goal.push_open_columns-requires-clause-places
+push_open_columns-requires-clause-places c =
+    let table = c.args.table.now in
+    let below = subst (λ (xs : List ℕ). All (λ place. place < length table.ids.items) xs) (sym c.of_key.ensures) (c.requires.table.places.below c.args.placed.read.key) in
+    subst (λ (ids : List TxnId). All (λ place. place < length ids) c.of_key.result.now) (sym c.as_slice-ids.ensures.value) below
+
 pub returns : goal.returns
-returns c = λ front so. subst (λ (ids : List TxnId). AreFound c.args.graph.now.arcs (front ++ choices_in c.args.parts.now ids c.args.placed.read) c.push_open_columns.new.found.items) c.as_slice-ids.ensures.value (c.in_ok-push_open_columns.ensures front so)
+returns c = λ front so.
+    let parts = c.args.parts.now in
+    let table = c.args.table.now in
+    let read = c.args.placed.read in
+    let places = c.of_key.result.now in
+    let is = ap (λ (ids : List TxnId). choices_in parts (those_at ids places) read) c.as_slice-ids.ensures.value ∙ ap (λ xs. choices_in parts (those_at table.ids.items xs) read) c.of_key.ensures ∙ choices_at_places parts table.ids.items table.places.lists read c.requires.table.places in
+    subst (λ choices. AreFound c.args.graph.now.arcs (front ++ choices) c.push_open_columns.new.found.items) is (c.in_ok-push_open_columns.ensures front so)

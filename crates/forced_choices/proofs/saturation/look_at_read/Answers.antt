@@ -1,8 +1,11 @@
-use Rattle.std.proofs.Common.{ℕ, List, sym, subst}
+use Rattle.std.proofs.Common.{ℕ, ◌<◌, ◌∙◌, List, length, ap, sym, subst}
+use Rattle.std.specs.Prelude.{All, OnOk}
 use Rattle.known_graph.specs.Bits.{HasBit}
-use Rattle.forced_choices.specs.Forcing.{stage_of}
+use Rattle.forced_choices.specs.Forcing.{stage_of, HasLooked}
 use Rattle.forced_choices.specs.Masks.{AreSettledBut, choices_in}
 use Rattle.forced_choices.proofs.SettledReads.{settled_by_mask, settled_all, looked_all_there, third_is_choice}
+use Rattle.forced_choices.specs.WriterPlaces.{those_at}
+use Rattle.forced_choices.proofs.PlacesOfWriters.{choices_at_places}
 use Rattle.forced_choices.proofs.saturation.look_at_read.Goals as goal
 
 pub returns-then-is_clear-clause-looked : goal.returns-then-is_clear-clause-looked
@@ -27,3 +30,17 @@ look_at_columns-requires-clause-settled c =
     let read = c.args.placed.read in
     let but = settled_by_mask parts c.args.graph.now.nodes arcs table.ids.items table.writers c.mask-mask.result.now c.in_ok-row.row.items read c.requires.table.writers c.mask-mask.ensures c.in_ok-row.ensures in
     subst (λ (row : List ℕ). AreSettledBut parts arcs table.ids.items table.writers.columns.items row read) (sym c.as_slice.ensures.value) but
+
+pub look_at_columns-requires-clause-places : goal.look_at_columns-requires-clause-places
+look_at_columns-requires-clause-places c = let table = c.args.table.now in subst (λ (xs : List ℕ). All (λ place. place < length table.ids.items) xs) (sym c.of_key.ensures) (c.requires.table.places.below c.args.placed.read.key)
+
+pub returns-clause-looked : goal.returns-clause-looked
+returns-clause-looked c =
+    let parts = c.args.parts.now in
+    let table = c.args.table.now in
+    let read = c.args.placed.read in
+    let new = c.look_at_columns.new in
+    let is = ap (λ xs. choices_in parts (those_at table.ids.items xs) read) c.of_key.ensures ∙ choices_at_places parts table.ids.items table.places.lists read c.requires.table.places in
+    let start = stage_of c.args.graph.now c.args.log.now.items c.args.touched.now in
+    let then = stage_of new.graph new.log.items new.touched in
+    subst (λ choices. OnOk c.look_at_columns.result (HasLooked parts c.args.graph.now.nodes start then choices)) is c.look_at_columns.ensures.looked

@@ -3,6 +3,7 @@ use Rattle.txn.specs.declared.transactions.TxnId.{TxnId}
 use Rattle.forced_choices.specs.Listing.{choices_of}
 use Rattle.forced_choices.specs.Masks.{AreWriters}
 use Rattle.forced_choices.specs.Tables.{AreReads}
+use Rattle.forced_choices.specs.WriterPlaces.{ArePlaces}
 use Rattle.forced_choices.proofs.ListedIds.{listed_remains}
 use Rattle.forced_choices.proofs.Members.{In, in_place}
 use Rattle.forced_choices.proofs.table.table_of.Goals as goal
@@ -19,5 +20,6 @@ returns c =
     record {
       ids = c.in_ok-ids.ensures;
       writers = subst (λ (ids : List TxnId). AreWriters parts nodes ids c.in_ok-writers.writers) c.as_slice.ensures.value c.in_ok-writers.ensures;
-      reads = subst (λ (ids : List TxnId). AreReads parts nodes ids c.in_ok-reads.reads.items (choices_of parts ids ids)) c.as_slice-2.ensures.value c.in_ok-reads.ensures;
+      places = subst (λ (ids : List TxnId). ArePlaces parts ids c.in_ok-places.places) c.as_slice-2.ensures.value c.in_ok-places.ensures;
+      reads = subst (λ (ids : List TxnId). AreReads parts nodes ids c.in_ok-reads.reads.items (choices_of parts ids ids)) c.as_slice-3.ensures.value c.in_ok-reads.ensures;
     }

@@ -1,0 +1,127 @@
+-- The places of the writers of a key: as one more is put in, and that they stand for all ids where only writers count.
+use Rattle.std.proofs.Common.{◌≡◌, ◌≢◌, ℕ, ◌+◌, ◌<◌, ◌||◌, Bool, true, false, cond, List, [], ◌∷◌, ◌++◌, length, get_or, take, drop, refl, sym, ap, ◌∙◌, inl, inr, subst, arith, nat_eq, nat_lt, append-nil, Some, ◌-◌, not}
+use Rattle.std.specs.Prelude.{Vec, map, filter, All}
+use Rattle.std.specs.List.{list_any}
+use Rattle.std.specs.declared.alloc.Global.{Global}
+use Rattle.std.specs.BTreeMap.{BTreeMap}
+use Rattle.std.proofs.lemmas.Bool.{eqb-true, eqb-false, ltb-true, lt-ltb, false≢true}
+use Rattle.std.proofs.lemmas.List.{take-append-drop, map-append, map_more}
+use Rattle.std.proofs.lemmas.List.Elements.{filter_more, filter-append, All-push}
+use Rattle.txn.specs.declared.transactions.TxnId.{TxnId}
+use Rattle.txn.specs.declared.transactions.Txn.{Txn}
+use Rattle.txn.specs.declared.choices.Arc.TheVariants.{Base}
+use Rattle.txn.specs.Transactions.{same_id}
+use Rattle.order_check.specs.declared.remainder.Parts.{Parts}
+use Rattle.order_check.specs.Based.{mark_of, remaining_at}
+use Rattle.order_check.specs.Good.{IsGood}
+use Rattle.forced_choices.specs.declared.reads.Read.{Read}
+use Rattle.forced_choices.specs.Listing.{writes_here, is_other, base_arcs}
+use Rattle.forced_choices.specs.Masks.{is_third, choice_of, choices_in}
+use Rattle.forced_choices.specs.WriterPlaces.{places_at, those_at, AreWriterPlaces}
+use Rattle.forced_choices.proofs.Members.{In, Ascends, ascends_of}
+use Rattle.forced_choices.proofs.ListedChoices.{and_parts}
+use Rattle.forced_choices.proofs.ChoicesAscend.{looked_up}
+use Rattle.forced_choices.proofs.SettledReads.{third_writes}
+use Rattle.forced_choices.proofs.OpenReads.{ascends_back}
+use Rattle.forced_choices.proofs.Distinct.{take_whole}
+
+abbrev pub no_id : TxnId
+no_id = record { session = 0; number = 0 }
+
+-- the places of a key are taken out, and put back with one more
+pub pushed_at : (old mid new : BTreeMap ℕ (Vec ℕ Global)) (key place : ℕ) (taken more : List ℕ) → taken ≡ places_at old key → ((other : ℕ) → other ≢ key → places_at mid other ≡ places_at old other) → more ≡ taken ++ place ∷ [] → places_at new key ≡ more → ((other : ℕ) → other ≢ key → places_at new other ≡ places_at mid other) →
+    (other : ℕ) → places_at new other ≡ places_at old other ++ cond (nat_eq other key) (place ∷ []) []
+pushed_at old mid new key place taken more was others pushed put rest other = by_test (nat_eq other key) refl
+  where
+    by_test : (t : Bool) → nat_eq other key ≡ t → places_at new other ≡ places_at old other ++ cond t (place ∷ []) []
+    by_test true e =
+        let is : other ≡ key = eqb-true other key e in
+        ap (places_at new) is ∙ put ∙ pushed ∙ ap (λ xs. xs ++ place ∷ []) (was ∙ ap (places_at old) (sym is))
+    by_test false e =
+        let apart : other ≢ key = eqb-false other key e in
+        rest other apart ∙ others other apart ∙ sym (append-nil (places_at old other))
+
+-- a key below all of these is none of them
+above_none : (key : ℕ) (xs : List ℕ) → ((y : ℕ) → In xs y → nat_lt key y ≡ true) → list_any (nat_eq key) xs ≡ false
+above_none key [] above = refl
+above_none key (x ∷ xs) above = by_test (nat_eq key x) refl (above_none key xs (λ y h. above y (inr h)))
+  where
+    by_test : (t : Bool) → nat_eq key x ≡ t → list_any (nat_eq key) xs ≡ false → (t || list_any (nat_eq key) xs) ≡ false
+    by_test true e rest = let is = eqb-true key x e in let up = ltb-true key x (above x (inl refl)) in absurd (omega arith)
+    by_test false e rest = rest
+
+-- one more of the keys, which is none of those that follow
+pub one_more : (other key place : ℕ) (before rest : List ℕ) → Ascends nat_lt (key ∷ rest) → (before ++ cond (nat_eq other key) (place ∷ []) []) ++ cond (list_any (nat_eq other) rest) (place ∷ []) [] ≡ before ++ cond (list_any (nat_eq other) (key ∷ rest)) (place ∷ []) []
+one_more other key place before rest up = by_test (nat_eq other key) refl
+  where
+    by_test : (t : Bool) → nat_eq other key ≡ t → (before ++ cond t (place ∷ []) []) ++ cond (list_any (nat_eq other) rest) (place ∷ []) [] ≡ before ++ cond (t || list_any (nat_eq other) rest) (place ∷ []) []
+    by_test true e =
+        let is : other ≡ key = eqb-true other key e in
+        let none : list_any (nat_eq other) rest ≡ false = ap (λ k. list_any (nat_eq k) rest) is ∙ above_none key rest up.0 in
+        ap (λ t. (before ++ place ∷ []) ++ cond t (place ∷ []) []) none ∙ append-nil (before ++ place ∷ [])
+    by_test false e = ap (λ xs. xs ++ cond (list_any (nat_eq other) rest) (place ∷ []) []) (append-nil before)
+
+-- the rest of a list that ascends does
+pub ascends_drop : (keys : List ℕ) (j : ℕ) → Ascends nat_lt keys → Ascends nat_lt (drop j keys)
+ascends_drop keys j up = ascends_back nat_lt (take j keys) (drop j keys) (subst (λ xs. Ascends nat_lt xs) (sym (take-append-drop j keys)) up)
+
+below_through : (a b c : ℕ) → nat_lt a b ≡ true → nat_lt b c ≡ true → nat_lt a c ≡ true
+below_through a b c first second = let one = ltb-true a b first in let two = ltb-true b c second in lt-ltb a c (omega arith)
+
+-- the writes of what remains ascend
+pub writes_ascend : (parts : Parts) (id : TxnId) (txn : Txn) → IsGood parts → remaining_at parts id ≡ Some txn → Ascends nat_lt txn.writes
+writes_ascend parts id txn good e = ascends_of nat_lt below_through txn.writes (good.well_formed id.session (id.number - mark_of parts id.session) txn (looked_up parts id txn e).1).lists.writes_rise
+
+-- the writers among one more of the ids
+pub places_more : (parts : Parts) (ids : List TxnId) (old new : BTreeMap ℕ (Vec ℕ Global)) (n : ℕ) → n < length ids → ((key : ℕ) → places_at new key ≡ places_at old key ++ cond (writes_here parts key (get_or ids n no_id)) (n ∷ []) []) → AreWriterPlaces parts ids old n → AreWriterPlaces parts ids new (n + 1)
+places_more parts ids old new n within more are = record {
+  below = λ key. subst (λ (xs : List ℕ). All (λ place. place < n + 1) xs) (sym (more key)) (by_below key (writes_here parts key (get_or ids n no_id)));
+  listed = λ key. ap (those_at ids) (more key) ∙ map-append at (places_at old key) (cond (writes_here parts key (get_or ids n no_id)) (n ∷ []) []) ∙ ap (λ xs. xs ++ those_at ids (cond (writes_here parts key (get_or ids n no_id)) (n ∷ []) [])) (are.listed key)
+      ∙ ap (λ xs. filter (writes_here parts key) (take n ids) ++ xs) (by_test (writes_here parts key (get_or ids n no_id))) ∙ sym (filter_more (writes_here parts key) ids n no_id within);
+}
+  where
+    at : ℕ → TxnId
+    at place = get_or ids place no_id
+
+    wider : (key : ℕ) → All (λ place. place < n + 1) (places_at old key)
+    wider key k d inside = let low = are.below key k d inside in omega arith
+
+    by_below : (key : ℕ) (t : Bool) → All (λ place. place < n + 1) (places_at old key ++ cond t (n ∷ []) [])
+    by_below key true = All-push (λ place. place < n + 1) (places_at old key) n (wider key) (omega arith)
+    by_below key false = subst (λ (xs : List ℕ). All (λ place. place < n + 1) xs) (sym (append-nil (places_at old key))) (wider key)
+
+    by_test : (t : Bool) → those_at ids (cond t (n ∷ []) []) ≡ cond t (get_or ids n no_id ∷ []) []
+    by_test true = refl
+    by_test false = refl
+
+-- what passes the one test passes the other: to keep what passes both is to keep what passes the one
+filter_both : {X : Type 0} (p q : X → Bool) → ((x : X) → q x ≡ true → p x ≡ true) → (xs : List X) → filter q (filter p xs) ≡ filter q xs
+filter_both p q implied [] = refl
+filter_both {X} p q implied (x ∷ xs) = by_test (p x) refl (q x) refl (filter_both p q implied xs)
+  where
+    by_test : (t : Bool) → p x ≡ t → (u : Bool) → q x ≡ u → filter q (filter p xs) ≡ filter q xs → filter q (cond t (x ∷ filter p xs) (filter p xs)) ≡ cond u (x ∷ filter q xs) (filter q xs)
+    by_test true e true f rest = ap (λ t. cond t (x ∷ filter q (filter p xs)) (filter q (filter p xs))) f ∙ ap (λ ys. x ∷ ys) rest
+    by_test true e false f rest = ap (λ t. cond t (x ∷ filter q (filter p xs)) (filter q (filter p xs))) f ∙ rest
+    by_test false e true f rest = absurd (false≢true (sym e ∙ implied x f))
+    by_test false e false f rest = rest
+
+-- the writers of the key are all that count
+writers_at : (parts : Parts) (ids : List TxnId) (lists : BTreeMap ℕ (Vec ℕ Global)) (key : ℕ) → AreWriterPlaces parts ids lists (length ids) → those_at ids (places_at lists key) ≡ filter (writes_here parts key) ids
+writers_at parts ids lists key are = are.listed key ∙ ap (filter (writes_here parts key)) (take_whole ids (length ids) (omega arith))
+
+pub choices_at_places : (parts : Parts) (ids : List TxnId) (lists : BTreeMap ℕ (Vec ℕ Global)) (read : Read) → AreWriterPlaces parts ids lists (length ids) → choices_in parts (those_at ids (places_at lists read.key)) read ≡ choices_in parts ids read
+choices_at_places parts ids lists read are =
+    ap (λ xs. choices_in parts xs read) (writers_at parts ids lists read.key are)
+    ∙ ap (map (choice_of read)) (filter_both (writes_here parts read.key) (is_third parts read) (third_writes parts read) ids)
+
+pub base_at_places : (parts : Parts) (ids : List TxnId) (lists : BTreeMap ℕ (Vec ℕ Global)) (reader : TxnId) (key : ℕ) → AreWriterPlaces parts ids lists (length ids) → base_arcs parts (those_at ids (places_at lists key)) reader key ≡ base_arcs parts ids reader key
+base_at_places parts ids lists reader key are =
+    ap (λ xs. base_arcs parts xs reader key) (writers_at parts ids lists key are)
+    ∙ ap (map (Base key reader)) (filter_both (writes_here parts key) (is_other parts reader key) (λ other is. (and_parts (not (same_id other reader)) (writes_here parts key other) is).1) ids)
+
+-- the choices with one more
+pub choices_places_more : (parts : Parts) (ids : List TxnId) (places : List ℕ) (read : Read) (k d : ℕ) → k < length places → choices_in parts (those_at ids (take (k + 1) places)) read ≡ choices_in parts (those_at ids (take k places)) read ++ choices_in parts (get_or ids (get_or places k d) no_id ∷ []) read
+choices_places_more parts ids places read k d within =
+    ap (λ xs. choices_in parts xs read) (map_more (λ place. get_or ids place no_id) places k d within)
+    ∙ ap (λ xs. map (choice_of read) xs) (filter-append (is_third parts read) (those_at ids (take k places)) (get_or ids (get_or places k d) no_id ∷ []))
+    ∙ map-append (choice_of read) (filter (is_third parts read) (those_at ids (take k places))) (filter (is_third parts read) (get_or ids (get_or places k d) no_id ∷ []))
