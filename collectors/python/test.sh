@@ -1,6 +1,7 @@
 #!/usr/bin/env bash
 # Tests the collectors: the unit tests, then a PostgreSQL of its own that is audited while clients run on it. It wants the auditor, built
-# (crates/cobra_audit/out/cobra_audit, or what COBRA_AUDIT names), and tells in one line what is skipped where PostgreSQL isn't installed.
+# (crates/cobra_audit/out/cobra_audit, or what COBRA_AUDIT names), and tells in one line what is skipped where PostgreSQL or psycopg2 isn't
+# installed. It ends within minutes: what hangs is killed, and fails.
 #
 #     collectors/python/test.sh [--install]      --install: as root, first installs Debian's postgresql and python3-psycopg2
 set -euo pipefail
@@ -16,25 +17,41 @@ python=python3
 for each in /usr/bin/python3 python3; do
     if "$each" -c "import psycopg2" 2> /dev/null; then python=$each; break; fi
 done
-"$python" -m unittest
-if ! "$python" -c "import psycopg2" 2> /dev/null || ! ls /usr/lib/postgresql/*/bin/initdb > /dev/null 2>&1; then
-    echo "PostgreSQL or psycopg2 is not installed: nothing was audited live"
+
+folder=$(mktemp -d)
+chmod 711 "$folder" # servers in it run as another user, where this runs as root
+export TMPDIR=$folder
+clean() { # servers of tests that were killed, too
+    for each in "$folder"/*/data/postmaster.pid; do
+        [ ! -f "$each" ] || kill -QUIT "$(head -n 1 "$each")" 2> /dev/null || true
+    done
+    rm -rf "$folder"
+}
+trap clean EXIT
+trap 'exit 1' INT TERM
+limited() { # a Python program, for at most so many seconds: at their end it says where each thread stands
+    local seconds=$1
+    shift
+    (ulimit -c 0; exec timeout --foreground -s ABRT -k 10 "$seconds" "$python" -X faulthandler "$@")
+}
+
+limited 600 -m unittest
+if ! "$python" -c "import psycopg2" 2> /dev/null || ! "$python" -c "import sys; from zanteyard.cluster import program; sys.exit(not program('initdb'))"; then
+    echo "skipped: what needs PostgreSQL and psycopg2, which aren't both installed (nothing was audited live)"
     exit 0
 fi
 live=$(realpath ../../examples/postgres_live.py)
-folder=$(mktemp -d)
-trap 'rm -rf "$folder"' EXIT
 cd "$folder"
 wanted() { # what is told at the end, and then how to run it
     local wanted=$1
     shift
-    "$python" "$live" --seconds 4 --unaudited 0 "$@" > told || true
+    limited 150 "$live" --seconds 4 --unaudited 0 "$@" > told || true
     tail -n 3 told
     grep -q "^[a-z]* at [a-z ]*: $wanted" told || { cat told; echo "wanted: $wanted"; exit 1; }
 }
 for workload in counter skew mixed blind; do
     wanted "serial; [1-9][0-9]* cuts in" --level serializable --workload $workload
 done
-wanted "violated;" --level repeatable --workload skew
-wanted "violated;" --level committed --workload counter
+wanted "violated;" --level repeatable --workload skew --every 256
+wanted "violated;" --level committed --workload counter --every 256
 echo "the collectors' tests passed"

@@ -1,0 +1,31 @@
+#!/usr/bin/env bash
+# The test command: the gate (`rt ci`: every proof from nothing, the edits that must be refused, the programs and their tests), and then the
+# Python tests of the collectors, over the auditor that the gate has just proved and built. It installs nothing. The last line is the gate's own,
+# `N passed, M failed`. Where the Python tests fail it counts one more as failed, so that whoever sees that line alone doesn't take it for a pass.
+set -euo pipefail
+cd "$(dirname "$0")"
+export COBRA_AUDIT=$PWD/crates/cobra_audit/out/cobra_audit PYTHONDONTWRITEBYTECODE=1
+rm -f "$COBRA_AUDIT" # what stands there later is of this run
+told=$(mktemp)
+trap 'rm -f "$told"' EXIT
+
+gate=0
+rt ci | tee "$told" || gate=$?
+passed=0 failed=0
+if [[ $(tail -n 1 "$told") =~ ^([0-9]+)\ passed,\ ([0-9]+)\ failed$ ]]; then
+    passed=${BASH_REMATCH[1]} failed=${BASH_REMATCH[2]}
+else
+    echo "FAILED: the gate ended without its last line (status $gate)"
+    gate=1
+fi
+[ "$gate" -eq 0 ] || [ "$failed" -gt 0 ] || failed=1
+
+echo "== collectors/python"
+python=0
+collectors/python/test.sh 2>&1 || python=$?
+if [ "$python" -ne 0 ]; then
+    echo "FAILED: collectors/python/test.sh (status $python)"
+    failed=$((failed + 1))
+fi
+echo "$passed passed, $failed failed"
+[ "$failed" -eq 0 ]
