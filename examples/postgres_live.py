@@ -2,7 +2,7 @@
 as a script for cobra_audit, and as a picture.
 
     python3 examples/postgres_live.py [--level serializable|repeatable|committed] [--workload counter|skew|mixed|blind] [--seconds N]
-        [--clients N] [--every N] [--unaudited N]
+        [--clients N] [--rate N] [--every N] [--unaudited N]
 
 It first runs the clients without the auditor, to tell what that costs. The status is 0 where all that was audited is serial.
 """
@@ -64,10 +64,11 @@ class Nothing:
 class Clients:
     """Each in a thread, over a session of its own, until the time is up or `is_over()`."""
 
-    def __init__(self, sessions, workload, seconds, is_over):
+    def __init__(self, sessions, workload, seconds, is_over, rate=None):
         self.workload, self.is_over, self.committed, self.aborted, self.failures = workload, is_over, 0, 0, []
-        self.until = time.monotonic() + seconds
+        self.pause = len(sessions) / rate if rate else 0.0  # of each client, from the begin of a transaction to that of the next
         self.began = time.monotonic()
+        self.until = self.began + seconds
         threads = [threading.Thread(target=self.client, args=it) for it in enumerate(sessions)]
         for thread in threads:
             thread.start()
@@ -78,8 +79,10 @@ class Clients:
 
     def client(self, number, session):
         committed = aborted = 0
+        due = self.began
         try:
             while time.monotonic() < self.until and not self.is_over():
+                due = self.wait(due)
                 try:
                     session.run(lambda transaction: self.workload(transaction, number), attempts=1)
                     committed += 1
@@ -89,6 +92,12 @@ class Clients:
             self.failures.append(error)
         self.committed += committed
         self.aborted += aborted
+
+    def wait(self, due):
+        """Until then; returns when the next transaction is due. Who is late doesn't catch up."""
+        if self.pause:
+            time.sleep(max(0.0, min(due, self.until) - time.monotonic()))
+        return max(due, time.monotonic() - self.pause) + self.pause
 
     def rate(self):
         if self.failures:
@@ -115,7 +124,7 @@ def audited_run(asked, stores):
     """The clients beside the auditor, which then tells of all that it took in."""
     with Auditor(asked.clients) as auditor:
         live = LiveAuditor(auditor, "live", asked.every)
-        clients = Clients([live.session(store) for store in stores], WORKLOADS[asked.workload], asked.seconds, lambda: live.is_over)
+        clients = Clients([live.session(store) for store in stores], WORKLOADS[asked.workload], asked.seconds, lambda: live.is_over, asked.rate)
         live.stop()
         if isinstance(live.failure, Full):
             print(f"stopped: {auditor.limit} transactions remain, and this is all that the auditor holds")
@@ -134,7 +143,8 @@ def main():
     asked.add_argument("--seconds", type=float, default=10.0)
     asked.add_argument("--unaudited", type=float, default=3.0, help="seconds without the auditor, to compare with; 0 for none")
     asked.add_argument("--clients", type=int, default=8, help="2 to 64")
-    asked.add_argument("--every", type=int, default=256, help="transactions from one meeting to the next")
+    asked.add_argument("--rate", type=float, help="transactions a second that all clients together begin at most; else as many as they can")
+    asked.add_argument("--every", type=int, default=LiveAuditor.EVERY, help="transactions from one meeting to the next")
     asked = asked.parse_args()
     try:
         from zanteyard.postgres_store import PostgresStore, prepare
@@ -148,7 +158,7 @@ def main():
         alone = None
         if asked.unaudited:
             sessions = [Session(Nothing(), number, store, "unaudited") for number, store in enumerate(stores)]
-            alone = Clients(sessions, WORKLOADS[asked.workload], asked.unaudited, lambda: False)
+            alone = Clients(sessions, WORKLOADS[asked.workload], asked.unaudited, lambda: False, asked.rate)
         live, clients = audited_run(asked, stores)
     print(f"{asked.workload} at {LEVELS[asked.level]}: {live.report.kind}; {live.cuts} cuts in {live.rounds} rounds")
     compared = f", {alone.rate():.0f} without the auditor" if alone else ""

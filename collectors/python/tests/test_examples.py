@@ -5,8 +5,10 @@ import sys
 import tempfile
 import unittest
 
+from zanteyard import Session
 from zanteyard.auditor import PROGRAM
 from zanteyard.cluster import program
+from zanteyard.memory_store import MemoryStore
 
 EXAMPLES = os.path.normpath(os.path.join(os.path.dirname(os.path.abspath(__file__)), "../../../examples"))
 
@@ -15,7 +17,7 @@ EXAMPLES = os.path.normpath(os.path.join(os.path.dirname(os.path.abspath(__file_
 class Examples(unittest.TestCase):
     def told(self, name, *arguments):
         with tempfile.TemporaryDirectory() as folder:
-            ended = subprocess.run([sys.executable, f"{EXAMPLES}/{name}", *arguments], cwd=folder, stdout=subprocess.PIPE, text=True)
+            ended = subprocess.run([sys.executable, f"{EXAMPLES}/{name}", *arguments], cwd=folder, stdout=subprocess.PIPE, text=True, timeout=200)
             return ended.returncode, ended.stdout.splitlines(), sorted(os.listdir(folder))
 
     def test_sqlite_collector(self):
@@ -23,6 +25,17 @@ class Examples(unittest.TestCase):
             with self.subTest(fault=fault):
                 status, lines, _ = self.told("sqlite_collector.py", fault, PROGRAM)
                 self.assertEqual((status, lines[-1].split(":")[:2]), (0, [fault, f" {kind}"]))
+
+    def test_clients_keep_to_their_rate(self):
+        sys.path.insert(0, EXAMPLES)
+        self.addCleanup(sys.path.remove, EXAMPLES)
+        from postgres_live import Clients, Nothing
+
+        store = MemoryStore()
+        sessions = [Session(Nothing(), number, store.connect()) for number in range(4)]
+        clients = Clients(sessions, lambda transaction, client: transaction.put("x", client), 0.5, lambda: False, rate=100)
+        self.assertLessEqual(1, clients.committed)
+        self.assertLessEqual(clients.committed, 4 * 14)  # 0.5 s of 25 a second each, the first at once and one more at the end
 
     def test_postgres_episodes(self):
         try:

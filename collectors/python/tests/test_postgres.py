@@ -38,7 +38,7 @@ class Postgres(unittest.TestCase):
         self.addCleanup(self.admin.close)
 
     def sessions(self, level="serializable", store=None):
-        made = [Session(self.auditor, number, (store or PostgresStore)(self.dsn, level), "run", 0.2) for number in range(3)]
+        made = [Session(self.auditor, number, (store or PostgresStore)(self.dsn, level), "run", patience=60) for number in range(3)]
         for session in made:
             self.addCleanup(lambda session=session: session.store.connection and session.store.connection.close())
         return made
@@ -85,6 +85,14 @@ class Postgres(unittest.TestCase):
             with self.subTest(level=level):
                 self.setUp()
                 self.assertEqual(self.count_at_once(level), wanted)
+
+    def test_many_keys_are_read_at_once(self):
+        a, b, _ = self.sessions()
+        a.run(lambda t: (t.put("x", "1"), t.put("y", "2"), t.delete("z")))
+        self.assertEqual(b.run(lambda t: t.get_all(["w", "x", "y", "z"])), {"w": None, "x": "1", "y": "2", "z": None})
+        source = (0, 0)
+        self.assertEqual(self.auditor.history[1][0].reads, [("w", "init"), ("x", source), ("y", source), ("z", source)])
+        self.assertEqual(self.kind(), "serial")
 
     def test_a_violation_names_what_was_run(self):
         self.assertEqual(self.count_at_once("read committed"), "violated")

@@ -4,7 +4,7 @@ import os
 import subprocess
 import threading
 import time
-from collections import namedtuple
+from collections import Counter, namedtuple
 
 BUILT = os.path.join(os.path.dirname(__file__), "../../../crates/cobra_audit/out/cobra_audit")
 PROGRAM = os.environ.get("COBRA_AUDIT", os.path.normpath(BUILT))
@@ -12,6 +12,7 @@ PROGRAM = os.environ.get("COBRA_AUDIT", os.path.normpath(BUILT))
 # The certificate is an order where the kind is serial or pending, and the items of a refutation where it is violated.
 Report = namedtuple("Report", "number kind counts certificate", defaults=(None,))
 LIMIT = 4096  # the most transactions that may remain
+LONGEST = 256  # transactions of one line
 # Of a round: how many nodes of the search it may look at, how deep the search is split, and how many workers share it. The next is tried
 # where one hasn't decided.
 EFFORTS = ((4096, 0, 1), (65536, 4, max(1, min(16, os.cpu_count() or 1))))
@@ -52,7 +53,7 @@ class Auditor:
 
     def __init__(self, sessions, limit=LIMIT, program=PROGRAM):
         self.sessions, self.limit = sessions, limit
-        self.numbers = {FENCE: 0}  # of each key, by its name
+        self.numbers, self.names = {FENCE: 0}, [FENCE]  # of each key, by its name; and the other way round
         self.history = [[] for _ in range(sessions)]  # what was taken in and isn't forgotten, as Logged
         self.marks = [0] * sessions  # how many of each session are forgotten
         self.base = {}  # of each key that a forgotten transaction wrote, the last that did
@@ -91,20 +92,27 @@ class Auditor:
             raise Ended(f"cobra_audit ended with status {self.program.wait()}: {self.program.stderr.read().strip()}")
         return json.loads(answer)
 
-    def offer(self, session, number, logged):
+    def offer(self, session, number, *logged):
+        """Transactions that follow one another, the first of this number."""
         with self.lock:
-            self.ask(["offer", session, number, [self.txn(logged)]])
-            self.history[session].append(logged)
+            self.ask(["offer", session, number, [*map(self.txn, logged)]])
+            self.history[session] += logged
 
     def txn(self, logged):
         """As lines have it."""
-        reads = sorted((self.key_number(key), *(() if source == "init" else source)) for key, source in logged.reads)
-        texts = [[key, *(source or ("init",))] for key, *source in reads]  # "init" comes before every transaction
+        reads = sorted([(self.key_number(key), *(() if source == "init" else source)) for key, source in logged.reads])
+        texts = [read if len(read) > 1 else (*read, "init") for read in reads]  # "init" comes before every transaction
         return [texts, sorted(map(self.key_number, logged.writes))]
 
     def key_number(self, key):
+        found = self.numbers.get(key)
+        if found is not None:
+            return found
         with self.lock:
-            return self.numbers.setdefault(key, len(self.numbers))
+            if key not in self.numbers:  # another thread may have come first
+                self.numbers[key] = len(self.names)
+                self.names.append(key)
+            return self.numbers[key]
 
     def close(self, session):
         self.ask(["close", session])
@@ -127,10 +135,8 @@ class Auditor:
             except Refused as error:
                 self.can_cut = "BadLine" not in str(error)
                 raise NoCut(str(error)) from error
-            names = {number: key for key, number in self.numbers.items()}
-            self.base.update((names[key], (session, number)) for key, session, number in last)
-            for session in range(self.sessions):
-                count = sum(1 for id in gone if id[0] == session)
+            self.base.update((self.names[key], (session, number)) for key, session, number in last)
+            for session, count in Counter(session for session, _ in gone).items():
                 del self.history[session][:count]
                 self.marks[session] += count
             return Cut(tuple(fence), len(gone))
@@ -160,9 +166,10 @@ def audited(history, program=PROGRAM):
     with Auditor(len(history), limit, program) as auditor:
         script = [["open", len(history), limit]]
         for session, txns in enumerate(history):
-            for number, logged in enumerate(txns):
-                auditor.offer(session, number, logged)
-                script.append(["offer", session, number, [auditor.txn(logged)]])
+            for first in range(0, len(txns), LONGEST):
+                fragment = txns[first : first + LONGEST]
+                auditor.offer(session, first, *fragment)
+                script.append(["offer", session, first, [*map(auditor.txn, fragment)]])
         report = auditor.round()
         script.append(["round", *auditor.effort])
         return report, "".join(json.dumps(line, separators=(",", ":")) + "\n" for line in script)

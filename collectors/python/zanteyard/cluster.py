@@ -24,12 +24,19 @@ class Cluster:
         self.folder = tempfile.mkdtemp(prefix="zanteyard-")
         if self.user:
             shutil.chown(self.folder, "postgres", "postgres")
-        data = f"{self.folder}/data"
-        self.run("initdb", "-D", data, "-A", "trust", "-U", "postgres", "--no-sync")
+        self.dsn, self.runs = f"host={self.folder} user=postgres dbname=postgres", False
+        try:
+            self.start(f"{self.folder}/data")
+        except BaseException:
+            shutil.rmtree(self.folder, ignore_errors=True)
+            raise
+        return self
+
+    def start(self, data):
+        self.run("initdb", "-D", data, "-A", "trust", "-U", "postgres", "-E", "UTF8", "--locale=C", "--no-sync")
         options = f"-c listen_addresses='' -c unix_socket_directories={self.folder} -c fsync=off"
         self.run("pg_ctl", "-D", data, "-l", f"{self.folder}/log", "-o", options, "-w", "start")
-        self.dsn, self.runs = f"host={self.folder} user=postgres dbname=postgres", True
-        return self
+        self.runs = True
 
     def stop(self):
         """At once, as if it were killed."""

@@ -10,10 +10,12 @@ import threading
 import time
 from collections import deque
 
-from .auditor import FENCE, Ended, Full, NoCut, Refused
+from .auditor import FENCE, LONGEST, Ended, Full, NoCut, Refused
 from .sessions import Session
 
 READS = 200  # of one transaction; the auditor takes 256
+PATIENT = 30  # times as long a meeting waits where the next one may come too late
+PAUSE = 0.05  # seconds, in which more transactions come: a line for each would have the clients wait for their interpreter
 
 
 class LiveAuditor:
@@ -21,15 +23,19 @@ class LiveAuditor:
     session is closed, where another is left for its client; `patience` for how many a meeting waits for a client; `most` how many
     transactions may wait to be taken in before clients have to wait; `tell` is called with a line for each round."""
 
-    def __init__(self, auditor, run_name="", every=256, seconds=2.0, idle=30.0, patience=1.0, most=2048, tell=print):
+    EVERY = 1024
+
+    def __init__(self, auditor, run_name="", every=EVERY, seconds=2.0, idle=30.0, patience=1.0, most=2048, tell=print):
         self.auditor, self.run_name, self.every, self.seconds, self.idle = auditor, run_name, every, seconds, idle
         self.patience, self.most, self.tell = patience, most, tell
         self.sessions = []
         self.left = deque((number, 0) for number in range(auditor.sessions))  # no client has these: the number, and how many fences were run in it
         self.unseen, self.lock = set(), threading.Lock()  # keys written by transactions that hadn't read them, and not read since
         self.waiting = queue.SimpleQueue()
-        self.handed_in, self.met_at, self.met, self.why_not = 0, 0, time.monotonic(), None
-        self.taken_in, self.rounds, self.cuts, self.lag = 0, 0, 0, 0.0
+        self.gate = threading.Lock()  # held while a meeting is
+        self.handed_in_of, self.met_at, self.met, self.why_not = [0] * auditor.sessions, 0, time.monotonic(), None
+        self.taken_in, self.rounds, self.cuts = 0, 0, 0
+        self.lag = self.behind = 0.0  # for how many seconds a transaction waited to be taken in, at most: ever, and since the last round
         self.told_at, self.told_of = time.monotonic(), 0
         self.report, self.failure, self.is_stopping, self.is_meeting = None, None, False, False
         self.thread = threading.Thread(target=self.serve, daemon=True)
@@ -41,13 +47,17 @@ class LiveAuditor:
         if left is None:
             raise ValueError(f"no session is left of {self.auditor.sessions}")
         made = Session(self, left[0], store, self.run_name, renew=self.next_left, **more)
-        made.begun = left[1]
+        made.begun, made.gate = left[1], self.gate
         self.sessions.append(made)
         return made
 
     def next_left(self):
         with self.lock:
             return self.left.popleft() if self.left else None
+
+    @property
+    def handed_in(self):
+        return sum(self.handed_in_of)
 
     @property
     def is_violated(self):
@@ -61,9 +71,11 @@ class LiveAuditor:
     # what sessions call
 
     def offer(self, session, number, logged):
-        with self.lock:
-            self.handed_in += 1
-            self.unseen.update(set(logged.writes) - {key for key, _ in logged.reads})
+        self.handed_in_of[session] += 1  # one thread at a time has the session's turn
+        blind = set(logged.writes).difference(key for key, _ in logged.reads)
+        if blind:
+            with self.lock:
+                self.unseen |= blind
         self.waiting.put((time.monotonic(), (session, number, logged)))
         while threading.current_thread() is not self.thread and self.waiting.qsize() > self.most and not self.goes_on():
             time.sleep(0.001)
@@ -97,35 +109,43 @@ class LiveAuditor:
             self.failure = error
 
     def next_waiting(self):
+        """What waits, up to a session's end or a round."""
+        found = []
         try:
-            return self.waiting.get(timeout=0.05)
+            found.append(self.waiting.get(timeout=0.05))
+            if self.waiting.qsize() < LONGEST and not self.is_stopping:
+                time.sleep(PAUSE)
+            while len(found) < LONGEST and len(found[-1][1]) == 3:
+                found.append(self.waiting.get_nowait())
         except queue.Empty:
-            return None
+            pass
+        return found
 
     def is_due(self):
         new = self.handed_in - self.met_at
         return new >= self.every or (new > 0 and time.monotonic() - self.met >= self.seconds)
 
-    def take_in(self, waiting):
-        if waiting is None:
+    def take_in(self, found):
+        if not found:
             return
-        since, what = waiting
-        self.lag = max(self.lag, time.monotonic() - since)
-        if not what:
+        for session, (first, txns) in fragments(what for _, what in found if len(what) == 3).items():
+            self.offer_all(session, first, txns)
+        self.behind = max(self.behind, time.monotonic() - found[0][0])
+        last = found[-1][1]
+        if not last:
             self.audit()
-        elif len(what) == 1:
-            self.auditor.close(*what)
-        else:
-            self.offer_one(what)
+        elif len(last) == 1:
+            self.auditor.close(*last)
 
-    def offer_one(self, what):
+    def offer_all(self, session, first, txns):
         try:
-            self.auditor.offer(*what)
+            self.auditor.offer(session, first, *txns)
+            self.taken_in += len(txns)
         except Full:
             self.audit()  # a cut may make room
-            if not self.is_violated:
-                self.auditor.offer(*what)
-        self.taken_in += 1
+            for number, logged in enumerate(() if self.is_violated else txns, first):
+                self.auditor.offer(session, number, logged)
+                self.taken_in += 1
 
     def audit(self):
         self.report = self.auditor.round()
@@ -135,7 +155,10 @@ class LiveAuditor:
         rate = (self.taken_in - self.told_of) / max(now - self.told_at, 0.001)
         self.told_at, self.told_of = now, self.taken_in
         remain = sum(map(len, self.auditor.history))
-        self.tell(f"round {self.report.number}: {self.report.kind}; {self.taken_in} transactions, {rate:.0f} a second; {remain} remain; {cut}")
+        self.lag, behind, self.behind = max(self.lag, self.behind), self.behind, 0.0
+        self.tell(
+            f"round {self.report.number}: {self.report.kind}; {self.taken_in} transactions, {rate:.0f} a second, {behind:.2f} s behind; {remain} remain; {cut}"
+        )
 
     def cut(self):
         if self.report.kind not in ("serial", "pending"):
@@ -156,25 +179,31 @@ class LiveAuditor:
     def meet(self):
         """Then a round, once what was handed in before it is taken in."""
         held, self.is_meeting = [], True
-        try:
-            self.why_not = self.hold(held) or self.run_fences(held)
-        except Exception as error:  # the store's: a client will meet it too
-            self.why_not = f"the meeting failed ({str(error).strip() or type(error).__name__})"
-        finally:
-            self.is_meeting = False
-            for session in held:
-                session.turn.release()
+        with self.gate:
+            try:
+                self.why_not = self.hold(held) or self.run_fences(held)
+            except Exception as error:  # the store's: a client will meet it too
+                self.why_not = f"the meeting failed ({str(error).strip() or type(error).__name__})"
+            finally:
+                self.is_meeting = False
+                for session in held:
+                    session.turn.release()
         self.met_at, self.met = self.handed_in, time.monotonic()
         self.waiting.put((time.monotonic(), ()))
 
     def hold(self, held):
         """Holds all open sessions; or says why not."""
-        until = time.monotonic() + self.patience
+        patience = self.patience if self.has_room() else PATIENT * self.patience
+        until = time.monotonic() + patience
         for session in list(self.sessions):
             if not session.turn.acquire(timeout=max(0, until - time.monotonic())):
-                return f"a transaction of session {session.number} took longer than {self.patience} s"
+                return f"a transaction of session {session.number} took longer than {patience} s"
             held.append(session)
         return None
+
+    def has_room(self):
+        """For as many transactions more as come before the next meeting."""
+        return sum(map(len, self.auditor.history)) + self.waiting.qsize() + self.every < self.auditor.limit
 
     def run_fences(self, held):
         held = [session for session in held if session.is_open]
@@ -209,4 +238,12 @@ class LiveAuditor:
         with self.lock:
             keys, self.unseen = sorted(self.unseen - {FENCE}), set()
         for start in range(0, len(keys), READS):
-            session.run_held(lambda transaction: [transaction.get(key) for key in keys[start : start + READS]])
+            session.run_held(lambda transaction: transaction.get_all(keys[start : start + READS]))
+
+
+def fragments(offers):
+    """Of each session, the number of its first transaction, and all of them."""
+    found = {}
+    for session, number, logged in offers:
+        found.setdefault(session, (number, []))[1].append(logged)
+    return found

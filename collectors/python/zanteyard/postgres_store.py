@@ -7,6 +7,7 @@ from .sessions import Aborted, OutcomeUnknown
 TABLE = """CREATE TABLE IF NOT EXISTS zanteyard (
     key text PRIMARY KEY, value text, run text NOT NULL, session int NOT NULL, number bigint NOT NULL)"""
 READ = "SELECT value, run, session, number FROM zanteyard WHERE key = %s"
+READ_ALL = "SELECT key, value, run, session, number FROM zanteyard WHERE key = ANY(%s)"
 WRITE = """INSERT INTO zanteyard VALUES (%s, %s, %s, %s, %s) ON CONFLICT (key) DO UPDATE
     SET value = excluded.value, run = excluded.run, session = excluded.session, number = excluded.number"""
 CONFLICTS = (errors.SerializationFailure, errors.DeadlockDetected)
@@ -48,6 +49,9 @@ class PostgresStore:
     def read(self, key):
         row = self.ask(READ, (key,)).fetchone()
         return None if row is None else (row[0], row[1:])
+
+    def read_all(self, keys):
+        return {row[0]: (row[1], row[2:]) for row in self.ask(READ_ALL, (keys,))}
 
     def write(self, key, value, name):
         self.ask(WRITE, (key, value, *name))

@@ -3,8 +3,9 @@
 A store, as a session wants it, has six calls and may raise Aborted from all but the last. `begin()` and `rollback()`; `read(key)`, which gives
 (value, name), or None where the key isn't there, with the name that was written beside the value; `write(key, value, name)`, where the
 value None deletes the key and leaves the name behind; `commit()`, which raises OutcomeUnknown where no answer came; and `outcome()`, which says of
-the transaction whose commit was sent last, and which had written, whether it is "committed", "aborted" or "unknown". Where it has a
-`statement`, that is what it has run last, as who is told of a violation should see it.
+the transaction whose commit was sent last, and which had written, whether it is "committed", "aborted" or "unknown". It may have
+`read_all(keys)`, which gives by key what `read` gives, for those that are there, and a `statement`, which is what it has run last, as who is told of a
+violation should see it.
 """
 import threading
 import time
@@ -30,6 +31,7 @@ class Session:
         self.auditor, self.number, self.store, self.run_name, self.patience = auditor, number, store, run_name, patience
         self.renew, self.begun, self.is_open = renew, 0, True
         self.turn = threading.Lock()  # held by a transaction from its begin to its end, and by a meeting
+        self.gate = threading.Lock()  # held while sessions meet: else a busy client would take its turn again before the meeting gets it
         self.current = None  # the transaction that holds it
         self.since_fence, self.used_at, self.waited = 0, time.monotonic(), 0.0
 
@@ -37,6 +39,9 @@ class Session:
         if self.current is not None:
             raise ValueError(f"session {self.number} is in a transaction: it runs one at a time")
         came = time.monotonic()
+        if self.gate.locked():
+            with self.gate:
+                pass
         self.turn.acquire()
         self.waited += time.monotonic() - came
         try:
@@ -120,7 +125,15 @@ class Transaction:
         """`statement` is told of a violation in place of the store's."""
         if key in self.written:
             return self.written[key]  # its own write: not logged
-        found = self.store.read(key)
+        return self.was_read(key, self.store.read(key), statement)
+
+    def get_all(self, keys):
+        """The values of keys that weren't written here, by key; at once, where the store has a call for that."""
+        many = getattr(self.store, "read_all", None)
+        found = many(keys) if many else {key: self.store.read(key) for key in keys}
+        return {key: self.was_read(key, found.get(key)) for key in keys}
+
+    def was_read(self, key, found, statement=None):
         read = (key, "init" if found is None else self.source(found[1]))
         self.reads.add(read)
         self.was_run(read, statement)

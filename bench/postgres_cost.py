@@ -1,0 +1,86 @@
+"""What an audit costs the clients of a PostgreSQL: transactions a second with and without the auditor, in turns, and medians.
+
+    python3 bench/postgres_cost.py [--seconds N] [--times N] [--clients N] [--every N] [--workload NAME ..]
+
+Beside them: processor time of this process (the clients and what hands their log on) for each transaction begun, how much of their time clients waited for
+meetings, and how far the auditor was behind at most.
+"""
+import argparse
+import os
+import random
+import statistics
+import sys
+import time
+
+TOP = os.path.join(os.path.dirname(os.path.abspath(__file__)), "..")
+sys.path[:0] = [os.path.join(TOP, "examples"), os.path.join(TOP, "collectors/python")]
+from postgres_live import LEVELS, WORKLOADS, Clients, Nothing
+from zanteyard import Auditor, LiveAuditor, Session
+from zanteyard.cluster import Cluster
+from zanteyard.postgres_store import PostgresStore, prepare
+
+
+class Run:
+    def __init__(self, cluster, asked, workload, name, is_audited):
+        stores = [PostgresStore(cluster.dsn, LEVELS["serializable"]) for _ in range(asked.clients)]
+        run = self.audited if is_audited else self.alone
+        clients = run(asked, stores, WORKLOADS[workload], name)
+        self.rate, self.waited = clients.rate(), 100 * clients.waited
+        self.each = 1e6 * self.took / (clients.committed + clients.aborted)
+        for store in stores:
+            store.connection.close()
+
+    def alone(self, asked, stores, workload, name):
+        sessions = [Session(Nothing(), number, store, name) for number, store in enumerate(stores)]
+        began = time.process_time()
+        clients = Clients(sessions, workload, asked.seconds, lambda: False)
+        self.took = time.process_time() - began
+        return clients
+
+    def audited(self, asked, stores, workload, name):
+        with Auditor(asked.clients) as auditor:
+            live = LiveAuditor(auditor, name, asked.every, tell=lambda line: None)
+            sessions = [live.session(store) for store in stores]
+            began = time.process_time()
+            clients = Clients(sessions, workload, asked.seconds, lambda: live.is_over)
+            live.stop()
+            self.took = time.process_time() - began
+            if live.failure:
+                raise live.failure
+            self.kind, self.lag, self.rounds, self.cuts = live.report.kind, live.lag, live.rounds, live.cuts
+            return clients
+
+
+def main():
+    asked = argparse.ArgumentParser(description=__doc__.splitlines()[0])
+    asked.add_argument("--seconds", type=float, default=20.0)
+    asked.add_argument("--times", type=int, default=5)
+    asked.add_argument("--clients", type=int, default=8)
+    asked.add_argument("--every", type=int, default=LiveAuditor.EVERY)
+    asked.add_argument("--workload", nargs="+", choices=WORKLOADS, default=[*WORKLOADS])
+    asked = asked.parse_args()
+    print("workload, without and with a second, less, us each without and with, waited, behind at most, verdicts, cuts of rounds", flush=True)
+    with Cluster() as cluster:
+        prepare(cluster.dsn)
+        for workload in asked.workload:
+            runs = {False: [], True: []}
+            for turn in range(asked.times):
+                for is_audited in random.sample((False, True), 2):
+                    runs[is_audited].append(Run(cluster, asked, workload, f"{workload} {turn} {is_audited}", is_audited))
+            tell(workload, runs[False], runs[True])
+
+
+def tell(workload, alone, audited):
+    median = lambda runs, name: statistics.median(getattr(run, name) for run in runs)
+    rates = [median(runs, "rate") for runs in (alone, audited)]
+    each = [median(runs, "each") for runs in (alone, audited)]
+    kinds = ", ".join(sorted({run.kind for run in audited}))
+    print(
+        f"{workload:8} {rates[0]:6.0f} {rates[1]:6.0f} {100 * (1 - rates[1] / rates[0]):5.1f}%  {each[0]:5.0f} {each[1]:5.0f}  {median(audited, 'waited'):4.1f}%"
+        f"  {max(run.lag for run in audited):5.2f} s  {kinds}  {sum(run.cuts for run in audited)} of {sum(run.rounds for run in audited)}",
+        flush=True,
+    )
+
+
+if __name__ == "__main__":
+    main()
