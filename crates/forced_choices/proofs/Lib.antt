@@ -23,3 +23,6 @@ pub mod FirstOpen
 pub mod Counting
 pub mod RankedNodes
 pub mod RankedIds
+pub mod Growing
+pub mod LookingBack
+pub mod Grown

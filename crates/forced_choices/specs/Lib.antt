@@ -2,6 +2,7 @@ pub mod Ascending
 pub mod Between
 pub mod BranchState
 pub mod Forcing
+pub mod Growth
 pub mod Kept
 pub mod Listing
 pub mod Masks

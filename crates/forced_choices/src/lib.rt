@@ -4,6 +4,7 @@
 mod branch;
 mod building;
 mod columns;
+mod growth;
 mod listing;
 mod open;
 mod places;

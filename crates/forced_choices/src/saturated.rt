@@ -1,4 +1,4 @@
-ghost use Rattle.std.specs.Prelude.{◌≡◌, ◌↔◌, ◌<◌, [], ◌∷◌, ◌++◌, length, Contains, All, IfOk, OnOk, OnErr, IsTrue, true};
+ghost use Rattle.std.specs.Prelude.{◌≡◌, ◌↔◌, ◌<◌, [], ◌∷◌, ◌++◌, length, Contains, All, IfOk, OnOk, OnErr, IsTrue, filter, true};
 ghost use Rattle.std.specs.List.{AllPairs};
 ghost use Rattle.txn.specs.declared.transactions.TxnId.{TxnId};
 ghost use Rattle.txn.specs.Transactions.{id_below};
@@ -10,12 +10,14 @@ ghost use Rattle.order_check.specs.Cycles.{IsFullLog};
 ghost use Rattle.order_check.specs.Good.{IsGood};
 ghost use Rattle.order_check.specs.Known.{Known, AreOpenChoices};
 ghost use Rattle.order_check.specs.StandsFor.{parts_with};
+ghost use Rattle.forced_choices.specs.Growth.{AreMore, LooksBack, is_fresh};
 ghost use Rattle.forced_choices.specs.Listing.{all_ids, plain_arcs};
 ghost use Rattle.forced_choices.specs.Saturation.{IsSaturationOf};
 ghost use Rattle.forced_choices.specs.SaturatedState.{fragment_of};
 ghost use Rattle.forced_choices.specs.SoFar.{IsRelation};
 
 use crate::building::{add_arcs, graph_of_nodes};
+use crate::growth::{all_look_back, fresh_arcs, go_on_with};
 use crate::listing::{arcs_among, remaining_ids_of};
 use crate::open::open_in;
 use crate::saturation::{Due, saturate};
@@ -25,7 +27,7 @@ use known_graph::Graph;
 use order_check::Parts;
 use std::alloc::Global;
 use std::marker::Model;
-use txn::{Choice, ForceStep, Fragment, NoMemory, Sequence, Txn, TxnId};
+use txn::{Arc, Choice, ForceStep, Fragment, NoMemory, Sequence, Txn, TxnId};
 
 /// The known relation of parts: what every order that explains them has to keep. Contracts see the parts, and the steps
 /// by which sides of choices were forced.
@@ -139,6 +141,49 @@ fn of_whole(alloc: Global, parts: Parts) -> Result<Saturated, NoMemory>
     Ok(saturated_from(parts, graph, Sequence::new(log)))
 }
 
+/// The relation of more parts, of which nothing new has to come before what was there: copies of the graph and the log go on.
+fn gone_on(
+    alloc: Global,
+    parts: &Parts,
+    graph: &Graph,
+    log: &Sequence<ForceStep>,
+    more: Parts,
+    fresh: &[Arc],
+) -> Result<Saturated, NoMemory>
+    requires good { IsGood more }
+    requires more { AreMore parts.now more }
+    requires kept { IsKept parts.now graph.now log.now }
+    requires fresh { fresh.now ≡ filter (is_fresh parts.now) (plain_arcs more) }
+    requires back { All (LooksBack parts.now) fresh.now }
+    ensures { IfOk result (λ saturated. saturated.parts ≡ more) }
+{
+    let mut grown = copy_of_graph(graph)?;
+    let mut steps = copy_of_log(log)?.into_vec();
+    go_on_with(alloc, parts, &more, &mut grown, &mut steps, fresh)?;
+    Ok(saturated_from(more, grown, Sequence::new(steps)))
+}
+
+/// The relation of more parts. It goes on from that of the parts, unless something new has to come before what was there: then
+/// a step of the log may no longer be new, and the relation is built anew.
+fn with_more(
+    alloc: Global,
+    parts: &Parts,
+    graph: &Graph,
+    log: &Sequence<ForceStep>,
+    more: Parts,
+) -> Result<Saturated, NoMemory>
+    requires good { IsGood more }
+    requires more { AreMore parts.now more }
+    requires kept { IsKept parts.now graph.now log.now }
+    ensures { IfOk result (λ saturated. saturated.parts ≡ more) }
+{
+    let fresh = fresh_arcs(alloc, parts, &more)?;
+    if !all_look_back(parts, &fresh) {
+        return of_whole(alloc, more);
+    }
+    gone_on(alloc, parts, graph, log, more, &fresh)
+}
+
 impl Saturated {
     /// The known relation of the parts, which are copied.
     pub fn of(alloc: Global, parts: &Parts) -> Result<Saturated, NoMemory>
@@ -230,8 +275,9 @@ impl Saturated {
         ensures ok { OnOk result (self.new.parts ≡ parts_with self.old.parts fragment.now) }
         ensures err { OnErr result (self.new ≡ self.old) }
     {
-        let parts = with_fragment(&self.parts, fragment)?;
-        self.go_on(alloc, parts)
+        let more = with_fragment(&self.parts, fragment)?;
+        *self = with_more(alloc, &self.parts, &self.graph, &self.log, more)?;
+        Ok(())
     }
 
     /// Goes on with the parts that a cut leaves. It asks nothing of which sessions are closed, nor of the limit: the cut may be one

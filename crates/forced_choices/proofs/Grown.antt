@@ -1,0 +1,138 @@
+-- A relation that has grown: what holds as its new arcs are added, and what they leave settled.
+use Rattle.std.proofs.Common.{◌≡◌, ◌⊎◌, ◌∷◌, ◌++◌, [], Bool, true, false, List, Option, get_or, refl, sym, inl, inr, subst, arith}
+use Rattle.std.specs.Prelude.{All, filter}
+use Rattle.txn.specs.declared.transactions.TxnId.{TxnId}
+use Rattle.txn.specs.declared.choices.Arc.{Arc}
+use Rattle.txn.specs.declared.choices.Arc.TheVariants.{Session, Read, Base, Taken}
+use Rattle.txn.specs.declared.choices.Side.{Side}
+use Rattle.txn.specs.declared.choices.Side.TheVariants.{First, Second}
+use Rattle.txn.specs.declared.choices.ForceStep.{ForceStep}
+use Rattle.txn.specs.Arcs.{start_of, end_of}
+use Rattle.order_check.specs.declared.remainder.Parts.{Parts}
+use Rattle.order_check.specs.Based.{Remains}
+use Rattle.order_check.specs.Good.{IsGood}
+use Rattle.order_check.specs.Cycles.{Sides, IsArc, sides_after}
+use Rattle.order_check.specs.Known.{Known}
+use Rattle.known_graph.specs.Graphs.{GraphState, HasNode}
+use Rattle.known_graph.specs.Reach.{Reaches, by_arc, through}
+use Rattle.forced_choices.specs.declared.touched.Touched.{Touched}
+use Rattle.forced_choices.specs.Between.{IsBetween}
+use Rattle.forced_choices.specs.Forcing.{IsReady, IsThere, Forces, IsClosed, AreAllSettledUnless}
+use Rattle.forced_choices.specs.Growth.{AreMore, LooksBack, is_fresh}
+use Rattle.forced_choices.specs.Kept.{IsKept}
+use Rattle.forced_choices.specs.SoFar.{IsSoFar}
+use Rattle.forced_choices.specs.Touching.{AreNoted}
+use Rattle.forced_choices.proofs.Forced.{there_still}
+use Rattle.forced_choices.proofs.Growing.{known_grows, arc_grows, forced_grow, choice_less}
+use Rattle.forced_choices.proofs.KnownRemain.{known_listed}
+use Rattle.forced_choices.proofs.Linked.{reaches_by, links_known}
+use Rattle.forced_choices.proofs.ListedArcs.{plain_arcs, plain_right, read_listed, arc_apart, arc_remains}
+use Rattle.forced_choices.proofs.ListedIds.{listed_remains}
+use Rattle.forced_choices.proofs.LookingBack.{ends_remain, all_back, plain_before, new_grow}
+use Rattle.forced_choices.proofs.Members.{In, in_from_contains, contains_from_in, in_place, in_left, in_right, in_either, in_filter, filter_in}
+use Rattle.forced_choices.proofs.SaturationLaws.{IsEnd, forces_so_far, full_log, exact}
+
+-- reachability over more arcs
+pub reaches_on : (arcs more : List Arc) (a b : TxnId) → Reaches arcs a b → Reaches (arcs ++ more) a b
+reaches_on arcs more a b (by_arc arc here) = by_arc arc (contains_from_in (arcs ++ more) arc (in_left arcs more arc (in_from_contains arcs arc here)))
+reaches_on arcs more a b (through {b = m} first second) = through (reaches_on arcs more a m first) (reaches_on arcs more m b second)
+
+-- where an arc leads is all that reachability knows of it
+as_taken : (arcs : List Arc) (arc : Arc) (a b : TxnId) → Reaches (arcs ++ arc ∷ []) a b → Reaches (arcs ++ Taken (start_of arc) (end_of arc) ∷ []) a b
+as_taken arcs arc a b (through {b = m} first second) = through (as_taken arcs arc a m first) (as_taken arcs arc m b second)
+as_taken arcs arc a b (by_arc one here) = by_part (in_either arcs (arc ∷ []) one (in_from_contains (arcs ++ arc ∷ []) one here))
+  where
+    taken : Arc
+    taken = Taken (start_of arc) (end_of arc)
+
+    by_part : In arcs one ⊎ In (arc ∷ []) one → Reaches (arcs ++ taken ∷ []) (start_of one) (end_of one)
+    by_part (inl before) = reaches_by (arcs ++ taken ∷ []) one (in_left arcs (taken ∷ []) one before)
+    by_part (inr (inl same)) = subst (λ x. Reaches (arcs ++ taken ∷ []) (start_of x) (end_of x)) same (reaches_by (arcs ++ taken ∷ []) taken (in_right arcs (taken ∷ []) taken (inl refl)))
+    by_part (inr (inr none)) = absurd none
+
+pub noted_as : (nodes : List (Option TxnId)) (arcs : List Arc) (arc : Arc) (old new : Touched) → AreNoted nodes arcs old (arcs ++ Taken (start_of arc) (end_of arc) ∷ []) new → AreNoted nodes arcs old (arcs ++ arc ∷ []) new
+noted_as nodes arcs arc old new noted = record {
+  stay = noted.stay;
+  onto = λ i a b at none r. noted.onto i a b at none (as_taken arcs arc a b r);
+  from = λ j a b at none r. noted.from j a b at none (as_taken arcs arc a b r);
+}
+
+-- arcs that are there from the start are between nodes
+pub plain_between : (parts : Parts) (graph : GraphState) (arcs : List Arc) → IsGood parts → ((id : TxnId) → Remains parts id → HasNode graph id) → ((arc : Arc) → In arcs arc → In (plain_arcs parts) arc) → All (IsBetween graph) arcs
+plain_between parts graph arcs good nodes plain k d within =
+    let arc = get_or arcs k d in
+    let right = plain_right parts arc (plain arc (in_place arcs k d within)) in
+    let remain = arc_remains parts arc right in
+    record { start = nodes (start_of arc) remain.0; end = nodes (end_of arc) remain.1; apart = arc_apart parts arc good right }
+
+-- an arc that is right with no side taken is right with any
+right_any : (parts : Parts) (taken : Sides) (arc : Arc) → IsArc parts [] arc → IsArc parts taken arc
+right_any parts taken (Session from to) right = right
+right_any parts taken (Read key from to) right = right
+right_any parts taken (Base key from to) right = right
+right_any parts taken (Taken from to) (k, within, is) = absurd (omega arith)
+
+right_known : (parts : Parts) (arc : Arc) → IsArc parts [] arc → Known parts [] (start_of arc) (end_of arc)
+right_known parts arc right = links_known parts [] [] (start_of arc) (end_of arc) (λ side h. absurd h) (arc, [], refl, right, refl)
+
+-- what holds of the relation holds with the fresh arcs
+so_far_grown : (parts more : Parts) (arcs fresh : List Arc) (log : List ForceStep) → AreMore parts more → fresh ≡ filter (is_fresh parts) (plain_arcs more) → All (LooksBack parts) fresh → IsSoFar parts [] [] arcs log → IsSoFar more [] [] (arcs ++ fresh) log
+so_far_grown parts more arcs fresh log are same back so = record {
+  right = λ arc h. by_right arc (in_either arcs fresh arc h);
+  known = λ arc h. by_known arc (in_either arcs fresh arc h);
+  plain = λ arc h. by_test arc (is_fresh parts arc) refl h;
+  there = λ side h. absurd h;
+  sides = λ side h. known_grows parts more [] side.0 side.1 are (so.sides side h);
+  reached = λ side h. reaches_on arcs fresh side.0 side.1 (so.reached side h);
+  steps = forced_grow parts more [] log are so.steps;
+  new = new_grow parts more [] log are (λ side h. absurd h) (all_back parts (plain_arcs more) fresh same back) so.steps so.new;
+}
+  where
+    fresh_right : (arc : Arc) → In fresh arc → IsArc more [] arc
+    fresh_right arc h = plain_right more arc (in_filter (is_fresh parts) (plain_arcs more) arc (subst (λ xs. In xs arc) same h)).0
+
+    by_right : (arc : Arc) → In arcs arc ⊎ In fresh arc → IsArc more (sides_after [] log) arc
+    by_right arc (inl h) = arc_grows parts more (sides_after [] log) arc are (so.right arc h)
+    by_right arc (inr h) = right_any more (sides_after [] log) arc (fresh_right arc h)
+
+    by_known : (arc : Arc) → In arcs arc ⊎ In fresh arc → Known more [] (start_of arc) (end_of arc)
+    by_known arc (inl h) = known_grows parts more [] (start_of arc) (end_of arc) are (so.known arc h)
+    by_known arc (inr h) = right_known more arc (fresh_right arc h)
+
+    by_test : (arc : Arc) (t : Bool) → is_fresh parts arc ≡ t → In (plain_arcs more) arc → In (arcs ++ fresh) arc
+    by_test arc true e h = in_right arcs fresh arc (subst (λ xs. In xs arc) (sym same) (filter_in (is_fresh parts) (plain_arcs more) arc h e))
+    by_test arc false e h = let ends = ends_remain parts arc e in in_left arcs fresh arc (so.plain arc (plain_before parts more arc are h ends.0 ends.1))
+
+-- what reaches and what is reached remains
+reached_remain : (parts : Parts) (graph : GraphState) (log : List ForceStep) (a b : TxnId) → IsKept parts graph log → Reaches graph.arcs a b → Remains parts a × Remains parts b
+reached_remain parts graph log a b kept r =
+    let listed = known_listed parts log [] graph a b kept.relation ((kept.exact a b).0 r) in
+    (listed_remains parts a (in_from_contains _ a listed.0), listed_remains parts b (in_from_contains _ b listed.1))
+
+-- where neither the writer nor the reader of a choice is touched, it was a choice, and was settled
+pub settled_grown : (parts more : Parts) (graph : GraphState) (log : List ForceStep) (nodes : List (Option TxnId)) (fresh : List Arc) (none since : Touched) → AreMore parts more → fresh ≡ filter (is_fresh parts) (plain_arcs more) → All (LooksBack parts) fresh → IsKept parts graph log → AreNoted nodes graph.arcs none (graph.arcs ++ fresh) since → AreAllSettledUnless more nodes (graph.arcs ++ fresh) since
+settled_grown parts more graph log nodes fresh none since are same back kept noted choice is i j at_writer at_reader no_source no_target side =
+    there_still nodes graph.arcs none (graph.arcs ++ fresh) since choice i j side noted (λ a b r. reaches_on graph.arcs fresh a b r) at_writer at_reader no_source no_target (was_there side)
+  where
+    grown : IsSoFar more [] [] (graph.arcs ++ fresh) log
+    grown = so_far_grown parts more graph.arcs fresh log are same back kept.relation.so_far
+
+    was_read : Reaches graph.arcs choice.writer choice.reader
+    was_read = noted.onto i choice.writer choice.reader at_writer no_source (reaches_by (graph.arcs ++ fresh) (Read choice.key choice.writer choice.reader) (grown.plain (Read choice.key choice.writer choice.reader) (read_listed more choice.reader choice.writer choice.key is.reads is.written)))
+
+    ends : Remains parts choice.writer × Remains parts choice.reader
+    ends = reached_remain parts graph log choice.writer choice.reader kept was_read
+
+    other_remains : (side : Side) → IsReady graph.arcs (record { choice = choice; side = side }) → Remains parts choice.other
+    other_remains Second ready = (reached_remain parts graph log choice.writer choice.other kept ready).1
+    other_remains First ready = (reached_remain parts graph log choice.other choice.reader kept ready).0
+
+    was_there : (side : Side) → IsThere graph.arcs (record { choice = choice; side = side })
+    was_there side ready = kept.relation.closed (record { choice = choice; side = side }) (choice_less parts more choice are ends.1 ends.0 (other_remains side ready) is) ready
+
+-- and in the end the relation is that of more parts
+pub kept_grown : (parts more : Parts) (old : GraphState) (log : List ForceStep) (fresh : List Arc) (new : GraphState) (then : List ForceStep) → IsGood more → AreMore parts more → fresh ≡ filter (is_fresh parts) (plain_arcs more) → All (LooksBack parts) fresh → IsKept parts old log → Forces more (old.arcs ++ fresh) log new.arcs then → IsClosed more new.arcs → ((id : TxnId) → Remains more id → HasNode new id) → IsKept more new then
+kept_grown parts more old log fresh new then good are same back kept forces closed nodes =
+    let so = forces_so_far more [] [] (old.arcs ++ fresh) log new.arcs then forces (so_far_grown parts more old.arcs fresh log are same back kept.relation.so_far) in
+    let end : IsEnd more [] [] new.arcs then = record { so_far = so; closed = closed } in
+    record { good = good; exact = λ a b. exact more [] [] new.arcs then a b end; full = full_log more new.arcs then end; relation = record { nodes = nodes; so_far = so; closed = closed } }

@@ -1,0 +1,8 @@
+use Rattle.std.proofs.Common.{take}
+use Rattle.txn.specs.declared.choices.Arc.{Arc}
+use Rattle.forced_choices.specs.Ascending.{In}
+use Rattle.forced_choices.specs.Growth.{LooksBack}
+use Rattle.forced_choices.proofs.growth.all_look_back.Given as goal
+
+abbrev pub invariant-loop-arc : goal.invariant-loop-arc
+invariant-loop-arc l = (arc : Arc) → In (take l.arc-index l.arcs) arc → LooksBack l.parts arc
