@@ -1,0 +1,6 @@
+-- answered here, so that a wrong body is refused at once
+use Rattle.std.proofs.Common.{rules}
+use Rattle.round_state.proofs.state.Engine.reply_to_close.Goals as goal
+
+pub returns-in-Ok-clause-right : goal.returns-in-Ok-clause-right
+returns-in-Ok-clause-right c = search rules
