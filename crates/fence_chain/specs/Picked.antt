@@ -1,6 +1,6 @@
 -- For private clauses: ids picked out of a list, and fences put in known order.
-use Rattle.std.specs.Prelude.{◌≡◌, ◌⊎◌, ◌↔◌, true, All, Contains, List, [], ◌∷◌, ◌++◌}
-use Rattle.std.specs.List.{AllPairs}
+use Rattle.std.specs.Prelude.{◌≡◌, ◌≤◌, ◌⊎◌, ◌↔◌, ℕ, true, Contains, List, [], ◌∷◌, ◌++◌, length}
+use Rattle.std.specs.List.{AllPairs, AllWithin}
 use Rattle.txn.specs.declared.transactions.TxnId.{TxnId}
 use Rattle.txn.specs.Transactions.{id_below}
 use Rattle.order_check.specs.declared.remainder.Parts.{Parts}
@@ -19,13 +19,12 @@ pub record IsPicked (Has : TxnId → Type 0) (ids picked : List TxnId) : Type 0 
 abbrev pub PicksOne : (TxnId → Type 0) → TxnId → List TxnId → List TxnId → Type 0
 PicksOne Has id old new = (Has id × (new ≡ old ++ id ∷ [])) ⊎ ((¬ Has id) × (new ≡ old))
 
--- they are one, or one is known to come before the other
-abbrev pub AreOrdered : Parts → TxnId → TxnId → Type 0
-AreOrdered parts fence other = (fence ≡ other) ⊎ (IsBefore parts other fence ⊎ IsBefore parts fence other)
-
--- the fence is, or comes before or after, each of these
-abbrev pub IsOrderedAmong : Parts → List TxnId → TxnId → Type 0
-IsOrderedAmong parts fences fence = All (AreOrdered parts fence) fences
+-- those ahead of the first place come before the fence, and those from the second on come after it
+pub record IsBetween (parts : Parts) (fence : TxnId) (chain : List TxnId) (low high : ℕ) : Type 0 where
+  pub rise : low ≤ high
+  pub within : high ≤ length chain
+  pub before : AllWithin (λ other. IsBefore parts other fence) chain 0 low
+  pub after : AllWithin (IsBefore parts fence) chain high (length chain)
 
 -- the fence is one more, and each comes before those behind it
 pub record IsPutIn (parts : Parts) (fence : TxnId) (old new : List TxnId) : Type 0 where

@@ -1,77 +1,55 @@
-ghost use Rattle.std.specs.Prelude.{◌↔◌, ◌≡◌, ◌<◌, ◌≤◌, ◌⊎◌, All, Contains, IfOk, OnOk, IsTrue, length};
-ghost use Rattle.std.specs.List.{AllPairs, AllWithin, HoldsAt};
+ghost use Rattle.std.specs.Prelude.{◌-◌, ◌<◌, ◌⊎◌, All, Contains, IfOk, OnOk};
+ghost use Rattle.std.specs.List.{AllPairs};
 ghost use Rattle.txn.specs.declared.transactions.TxnId.{TxnId};
 ghost use Rattle.order_check.specs.Settled.{IsBefore};
+ghost use Rattle.forced_choices.specs.OrderedAmong.{AreOrdered};
 ghost use Rattle.fence_chain.specs.Chains.{IsChain};
-ghost use Rattle.fence_chain.specs.Picked.{AreInOrder, AreOrdered, IsOrderedAmong, IsPicked, IsPutIn, IsSorting, PicksOne};
+ghost use Rattle.fence_chain.specs.Picked.{AreInOrder, IsBetween, IsPutIn, IsSorting};
 
 use crate::fences::fences_among;
 use forced_choices::Saturated;
 use std::alloc::Global;
 use txn::{NoMemory, TxnId};
 
-/// Whether the two are one, or one is known to come before the other.
-fn are_ordered(known: &Saturated, fence: TxnId, other: TxnId) -> bool
-    ensures { IsTrue result ↔ AreOrdered known.now.parts fence other }
-{
-    fence == other || known.reaches(other, fence) || known.reaches(fence, other)
-}
-
-fn is_ordered_among(known: &Saturated, fence: TxnId, fences: &[TxnId]) -> bool
-    ensures { IsTrue result ↔ IsOrderedAmong known.now.parts fences.now fence }
-{
-    for other in fences {
-        if !are_ordered(known, fence, *other) {
-            return false;
-        }
-    }
-    true
-}
-
-fn push_chained(
-    chained: &mut Vec<TxnId>,
+/// Where the fence's place is between two places, the half of them in which it is.
+fn half_of(
     known: &Saturated,
-    fences: &[TxnId],
     fence: TxnId,
-) -> Result<(), NoMemory>
-    ensures { OnOk result (PicksOne (IsOrderedAmong known.now.parts fences.now) fence chained.old.items chained.new.items) }
+    chain: &[TxnId],
+    low: usize,
+    high: usize,
+) -> (usize, usize)
+    requires chained { AllPairs (IsBefore known.now.parts) chain.now }
+    requires ordered { All (λ other. IsBefore known.now.parts other fence ⊎ IsBefore known.now.parts fence other) chain.now }
+    requires some { low < high }
+    requires between { IsBetween known.now.parts fence chain.now low high }
+    ensures less { result.1 - result.0 < high - low }
+    ensures between { IsBetween known.now.parts fence chain.now result.0 result.1 }
 {
-    if !is_ordered_among(known, fence, fences) {
-        return Ok(());
+    let middle = low + (high - low) / 2;
+    if known.reaches(fence, chain[middle]) {
+        return (low, middle);
     }
-    chained.push(fence)?;
-    Ok(())
+    (middle + 1, high)
 }
 
-/// Those of the fences that are known to come before or after every other one.
-#[tactic(auto, using(crate::proofs::Picking::picked_none, crate::proofs::Picking::picked_all))]
-fn chained_among(alloc: Global, known: &Saturated, fences: &[TxnId]) -> Result<Vec<TxnId>, NoMemory>
-    requires { AreInOrder fences.now }
-    ensures { IfOk result (λ chained. IsPicked (IsOrderedAmong known.now.parts fences.now) fences.now chained.items) }
-{
-    let mut chained = Vec::new(alloc);
-    for fence in fences {
-        push_chained(&mut chained, known, fences, *fence)?;
-    }
-    Ok(chained)
-}
-
-/// The first place whose fence is known to come after this one.
+/// The first place whose fence is known to come after this one, found by halves.
 fn place_of(known: &Saturated, fence: TxnId, chain: &[TxnId]) -> usize
-    ensures within { result ≤ length chain.now }
-    ensures before { AllWithin (λ other. ¬ IsBefore known.now.parts fence other) chain.now 0 result }
-    ensures after { result < length chain.now → HoldsAt (IsBefore known.now.parts fence) chain.now result }
+    requires chained { AllPairs (IsBefore known.now.parts) chain.now }
+    requires ordered { All (λ other. IsBefore known.now.parts other fence ⊎ IsBefore known.now.parts fence other) chain.now }
+    ensures { IsBetween known.now.parts fence chain.now result result }
 {
-    for (place, other) in chain.iter().enumerate() {
-        if known.reaches(fence, *other) {
-            return place;
-        }
+    let mut low = 0;
+    let mut high = chain.len();
+    while low < high {
+        let half = half_of(known, fence, chain, low, high);
+        low = half.0;
+        high = half.1;
     }
-    chain.len()
+    low
 }
 
 /// Puts the fence at its place of the chain.
-#[tactic(auto, using(crate::proofs::Chained::put_at))]
 fn put_in(chain: &mut Vec<TxnId>, known: &Saturated, fence: TxnId) -> Result<(), NoMemory>
     requires chained { AllPairs (IsBefore known.now.parts) chain.old.items }
     requires ordered { All (λ other. IsBefore known.now.parts other fence ⊎ IsBefore known.now.parts fence other) chain.old.items }
@@ -96,15 +74,15 @@ fn chain_of(alloc: Global, known: &Saturated, fences: &[TxnId]) -> Result<Vec<Tx
     Ok(chain)
 }
 
-/// The remaining fences that are known to come before or after every other one, in known order. It asks two questions of the
-/// relation for each pair of fences.
-#[tactic(auto, using(crate::proofs::Chained::is_chain, crate::proofs::Chained::picked_ordered))]
+/// The remaining fences that are known to come before or after every other one, in known order. Where there are n it asks some
+/// n log n questions of the relation.
 pub fn chain(alloc: Global, known: &Saturated) -> Result<Vec<TxnId>, NoMemory>
     ensures { IfOk result (λ fences. IsChain known.now.parts fences.items) }
 {
     let ids = known.ids(alloc)?;
     let fences = fences_among(alloc, known.parts(), ids.as_slice())?;
-    let chained = chained_among(alloc, known, fences.as_slice())?;
+    let all = fences.as_slice();
+    let chained = known.ordered_with_all(alloc, all, all)?;
     let chain = chain_of(alloc, known, chained.as_slice())?;
     Ok(chain)
 }

@@ -26,3 +26,4 @@ pub mod RankedIds
 pub mod Growing
 pub mod LookingBack
 pub mod Grown
+pub mod OrderedAll

@@ -17,3 +17,5 @@ pub mod Undecided
 pub mod WriterPlaces
 pub mod Ranks
 pub mod Nodes
+pub mod OrderedAmong
+pub mod Picked

@@ -1,6 +1,7 @@
 //! What every order has to keep, kept up to date as transactions arrive, and the choices that it leaves open.
 #![tactic(auto)]
 
+mod among;
 mod branch;
 mod building;
 mod columns;

@@ -3,6 +3,7 @@ ghost use Rattle.std.specs.List.{AllPairs};
 ghost use Rattle.txn.specs.declared.transactions.TxnId.{TxnId};
 ghost use Rattle.txn.specs.Transactions.{id_below};
 ghost use Rattle.known_graph.specs.Graphs.{HasNode};
+ghost use Rattle.known_graph.specs.Reach.{Reaches};
 ghost use Rattle.forced_choices.specs.Kept.{IsKept};
 ghost use Rattle.order_check.specs.Based.{received_count, Remains};
 ghost use Rattle.order_check.specs.Cuts.{IsContentCutOff};
@@ -199,6 +200,14 @@ impl Saturated {
         ensures good { IsGood result.now }
     {
         &self.parts
+    }
+
+    /// The graph of the relation.
+    pub(crate) fn graph(&self) -> &Graph
+        ensures exact { (a b : TxnId) → Reaches result.now.arcs a b ↔ Known self.now.parts [] a b }
+        ensures nodes { (id : TxnId) → Remains self.now.parts id → HasNode result.now id }
+    {
+        &self.graph
     }
 
     /// Whole copies of the parts, of the graph and of the log.

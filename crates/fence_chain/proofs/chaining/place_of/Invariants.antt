@@ -1,6 +1,9 @@
-use Rattle.std.specs.List.{AllWithin}
-use Rattle.order_check.specs.Settled.{IsBefore}
+use Rattle.std.proofs.Common.{◌-◌}
+use Rattle.fence_chain.specs.Picked.{IsBetween}
 use Rattle.fence_chain.proofs.chaining.place_of.Given as goal
 
-abbrev pub invariant-loop-place : goal.invariant-loop-place
-invariant-loop-place l = AllWithin (λ other. ¬ IsBefore l.known.parts l.fence other) l.chain 0 l.place
+abbrev pub invariant-loop-low : goal.invariant-loop-low
+invariant-loop-low l = IsBetween l.known.parts l.fence l.chain l.low l.high
+
+abbrev pub decreases-loop-low : goal.decreases-loop-low
+decreases-loop-low l = l.high - l.low
