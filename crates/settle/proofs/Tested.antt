@@ -1,6 +1,6 @@
 -- What a settled fence meets, and what the tests of its lines say together.
 use Rattle.std.proofs.Common.{◌≡◌, ◌≢◌, ℕ, ◌<◌, ◌⊎◌, Bool, true, false, List, length, get_or, refl, inl, inr, Option, Some, None, IsSome}
-use Rattle.std.specs.Prelude.{◌↔◌, All, Any, Contains, IsSomeAnd, slice_get}
+use Rattle.std.specs.Prelude.{◌↔◌, All, Contains, IsSomeAnd, slice_get}
 use Rattle.std.proofs.lemmas.List.Elements.{All-contains, Contains-get_or}
 use Rattle.txn.specs.declared.transactions.TxnId.{TxnId}
 use Rattle.txn.specs.declared.transactions.Txn.{Txn}
@@ -13,9 +13,8 @@ use Rattle.order_check.specs.Known.{ReadsKey}
 use Rattle.order_check.specs.Settled.{IsBefore, InFront, IsPast, IsSettled}
 use Rattle.order_check.specs.StandsFor.{IsOpenSession}
 use Rattle.fence_chain.specs.Chains.{IsRemainingFence}
-use Rattle.settle.specs.Lines.{AreRemaining, ArePast, HasReceivedReads, IsClosedOrPast, IsOrderedAmong, IsOrderedWith, IsPastBy, IsReceivedSource, reads_in}
+use Rattle.settle.specs.Lines.{ArePast, HasReceivedReads, IsClosedOrPast, IsOrderedFence, IsReceivedSource, reads_in}
 use Rattle.settle.specs.Writers.{HaveLastWriters}
-use Rattle.settle.proofs.Noted.{same_or_not}
 use Rattle.settle.proofs.Written.{none_in_none}
 
 -- a fence that is settled with the sessions that are open
@@ -34,35 +33,18 @@ closed_or_not None = inr (λ e. cc)
 closed_or_not (Some true) = inl refl
 closed_or_not (Some false) = inr (λ e. cc)
 
-pub settled_past : (parts : Parts) (fence : TxnId) (ids : List TxnId) → AreRemaining parts ids → IsSettledNow parts fence → ArePast parts fence ids
-settled_past parts fence ids remaining settled s within = by_flag (closed_or_not (slice_get parts.closed s))
+pub settled_past : (parts : Parts) (fence : TxnId) → IsSettledNow parts fence → ArePast parts fence
+settled_past parts fence settled s within = by_flag (closed_or_not (slice_get parts.closed s))
   where
-    by_flag : (slice_get parts.closed s ≡ Some true) ⊎ (slice_get parts.closed s ≢ Some true) → IsClosedOrPast parts fence ids s
+    by_flag : (slice_get parts.closed s ≡ Some true) ⊎ (slice_get parts.closed s ≢ Some true) → IsClosedOrPast parts fence s
     by_flag (inl closed) = inl closed
-    by_flag (inr live) = inr (by_id (settled.past s within (within, live)))
-      where
-        by_id : IsPast parts fence s → Any (IsPastBy parts fence s) ids
-        by_id (id, session, remains, past) = let (k, under, is) = remaining.all id remains in (k, id, under, is, (session, past))
+    by_flag (inr live) = inr (settled.past s within (within, live))
 
-pub past_open : (parts : Parts) (fence : TxnId) (ids : List TxnId) → AreRemaining parts ids → ArePast parts fence ids → (s : ℕ) → s < length parts.remain → IsOpenSession parts s → IsPast parts fence s
-past_open parts fence ids remaining past s within live = by_case (past s within)
+pub past_open : (parts : Parts) (fence : TxnId) → ArePast parts fence → (s : ℕ) → s < length parts.remain → IsOpenSession parts s → IsPast parts fence s
+past_open parts fence past s within live = by_case (past s within)
   where
-    by_case : IsClosedOrPast parts fence ids s → IsPast parts fence s
+    by_case : IsClosedOrPast parts fence s → IsPast parts fence s
     by_case (inl closed) = absurd (live.1 closed)
-    by_case (inr (k, id, under, is, by)) = (id, by.0, remaining.only id (k, under, is), by.1)
-
-pub settled_ordered : (parts : Parts) (fence : TxnId) (ids : List TxnId) → AreRemaining parts ids → IsSettledNow parts fence → IsOrderedAmong parts fence ids
-settled_ordered parts fence ids remaining settled k d within = by_id (same_or_not (get_or ids k d) fence)
-  where
-    by_id : (get_or ids k d ≡ fence) ⊎ (get_or ids k d ≡ fence → ⊥) → IsOrderedWith parts fence (get_or ids k d)
-    by_id (inl same) = inl same
-    by_id (inr apart) = inr (settled.ordered (get_or ids k d) (remaining.only (get_or ids k d) (Contains-get_or ids k d within)) apart)
-
-pub ordered_all : (parts : Parts) (fence : TxnId) (ids : List TxnId) → AreRemaining parts ids → IsOrderedAmong parts fence ids → (id : TxnId) → Remains parts id → id ≢ fence → IsBefore parts id fence ⊎ IsBefore parts fence id
-ordered_all parts fence ids remaining ordered id remains apart = by_case (All-contains (IsOrderedWith parts fence) ids id ordered (remaining.all id remains))
-  where
-    by_case : IsOrderedWith parts fence id → IsBefore parts id fence ⊎ IsBefore parts fence id
-    by_case (inl same) = absurd (apart same)
     by_case (inr h) = h
 
 reads_there : (parts : Parts) (id : TxnId) (read : ℕ × Source) → Contains (reads_in (remaining_at parts id)) read → ReadsKey parts id read.0 read.1
@@ -93,11 +75,11 @@ pub received_all : (parts : Parts) (fence : TxnId) (front : List TxnId) → ((id
 received_all parts fence front in_front received id writer key there reads =
     All-contains (λ read. IsReceivedSource parts read.1) (reads_in (remaining_at parts id)) (key, By writer) (All-contains (HasReceivedReads parts) front id received ((in_front id).1 there)) (there_reads parts id key (By writer) reads)
 
-pub is_settled : (parts : Parts) (fence : TxnId) (ids front : List TxnId) → IsRemainingFence parts fence → AreRemaining parts ids → ((id : TxnId) → Contains front id ↔ InFront parts fence id) → ArePast parts fence ids → IsOrderedAmong parts fence ids → All (HasReceivedReads parts) front → HaveLastWriters parts fence → IsSettledNow parts fence
-is_settled parts fence ids front is remaining in_front past ordered received have = record {
-  remains = is;
-  ordered = ordered_all parts fence ids remaining ordered;
-  past = past_open parts fence ids remaining past;
+pub is_settled : (parts : Parts) (fence : TxnId) (front : List TxnId) → IsOrderedFence parts fence → ((id : TxnId) → Contains front id ↔ InFront parts fence id) → ArePast parts fence → All (HasReceivedReads parts) front → HaveLastWriters parts fence → IsSettledNow parts fence
+is_settled parts fence front is in_front past received have = record {
+  remains = is.remains;
+  ordered = is.ordered;
+  past = past_open parts fence past;
   nothing_pending = received_all parts fence front in_front received;
   last_writers = have;
 }

@@ -1,38 +1,44 @@
 -- For private clauses: what a settled fence has to meet, said of listed ids.
-use Rattle.std.specs.Prelude.{◌≡◌, ◌⊎◌, ℕ, ◌<◌, ⊤, true, slice_get, All, Any, Contains, List, [], ◌∷◌, ◌++◌, Option, Some, None, length}
+use Rattle.std.specs.Prelude.{◌≡◌, ◌≢◌, ◌⊎◌, ◌↔◌, ℕ, ◌<◌, ◌≤◌, ⊤, true, slice_get, All, Contains, List, [], ◌∷◌, ◌++◌, Option, Some, None, length}
+use Rattle.std.specs.List.{AllPairs}
 use Rattle.txn.specs.declared.transactions.TxnId.{TxnId}
 use Rattle.txn.specs.declared.transactions.Txn.{Txn}
 use Rattle.txn.specs.declared.transactions.Source.{Source}
 use Rattle.txn.specs.declared.transactions.Source.TheVariants.{Init, By}
 use Rattle.order_check.specs.declared.remainder.Parts.{Parts}
 use Rattle.order_check.specs.Based.{Remains, IsReceived, remaining_at}
-use Rattle.order_check.specs.Settled.{IsBefore, IsSettled, IsCutAt}
+use Rattle.order_check.specs.Settled.{IsBefore, IsPast, IsSettled, IsCutAt}
 use Rattle.order_check.specs.StandsFor.{IsOpenSession}
+use Rattle.fence_chain.specs.Chains.{IsRemainingFence}
 use Rattle.settle.specs.declared.cuts.Cut.{Cut}
 
--- the list has each id that remains, and no other
-pub record AreRemaining (parts : Parts) (ids : List TxnId) : Type 0 where
-  pub all : (id : TxnId) → Remains parts id → Contains ids id
-  pub only : (id : TxnId) → Contains ids id → Remains parts id
+-- a remaining fence that each other remaining transaction comes before or after
+pub record IsOrderedFence (parts : Parts) (fence : TxnId) : Type 0 where
+  pub remains : IsRemainingFence parts fence
+  pub ordered : (id : TxnId) → Remains parts id → id ≢ fence → IsBefore parts id fence ⊎ IsBefore parts fence id
 
--- it is the fence, or is known to come before or after it
-abbrev pub IsOrderedWith : Parts → TxnId → TxnId → Type 0
-IsOrderedWith parts fence id = (id ≡ fence) ⊎ (IsBefore parts id fence ⊎ IsBefore parts fence id)
+-- these are the remaining fences that each other remaining transaction comes before or after, and each comes before those behind it
+pub record IsOrderedChain (parts : Parts) (fences : List TxnId) : Type 0 where
+  pub members : (id : TxnId) → Contains fences id ↔ IsOrderedFence parts id
+  pub order : AllPairs (IsBefore parts) fences
 
-abbrev pub IsOrderedAmong : Parts → TxnId → List TxnId → Type 0
-IsOrderedAmong parts fence ids = All (IsOrderedWith parts fence) ids
+-- it remains, and no higher number of its session does
+pub record IsLastRemaining (parts : Parts) (s : ℕ) (last : TxnId) : Type 0 where
+  pub session : last.session ≡ s
+  pub remains : Remains parts last
+  pub highest : (id : TxnId) → id.session ≡ s → Remains parts id → id.number ≤ last.number
 
--- it is of the session, and is the fence or comes after it
-abbrev pub IsPastBy : Parts → TxnId → ℕ → TxnId → Type 0
-IsPastBy parts fence s id = (id.session ≡ s) × ((id ≡ fence) ⊎ IsBefore parts fence id)
+-- it is the fence or comes after it
+abbrev pub IsPastBy : Parts → TxnId → TxnId → Type 0
+IsPastBy parts fence id = (id ≡ fence) ⊎ IsBefore parts fence id
 
--- the session is closed, or has one that is the fence or comes after it
-abbrev pub IsClosedOrPast : Parts → TxnId → List TxnId → ℕ → Type 0
-IsClosedOrPast parts fence ids s = (slice_get parts.closed s ≡ Some true) ⊎ Any (IsPastBy parts fence s) ids
+-- the session is closed, or past the fence
+abbrev pub IsClosedOrPast : Parts → TxnId → ℕ → Type 0
+IsClosedOrPast parts fence s = (slice_get parts.closed s ≡ Some true) ⊎ IsPast parts fence s
 
 -- each session is closed, or past the fence
-abbrev pub ArePast : Parts → TxnId → List TxnId → Type 0
-ArePast parts fence ids = (s : ℕ) → s < length parts.remain → IsClosedOrPast parts fence ids s
+abbrev pub ArePast : Parts → TxnId → Type 0
+ArePast parts fence = (s : ℕ) → s < length parts.remain → IsClosedOrPast parts fence s
 
 -- the source is the initial state, or an id that is received
 abbrev pub IsReceivedSource : Parts → Source → Type 0

@@ -2,12 +2,11 @@ ghost use Rattle.std.specs.Prelude.{◌↔◌, [], Contains, IfOk, IsSomeAnd};
 ghost use Rattle.txn.specs.declared.transactions.TxnId.{TxnId};
 ghost use Rattle.order_check.specs.Explains.{Explains};
 ghost use Rattle.order_check.specs.Known.{Known};
-ghost use Rattle.fence_chain.specs.Chains.{IsRemainingFence};
 ghost use Rattle.settle.specs.Found.{IsFound};
-ghost use Rattle.settle.specs.Lines.{AreRemaining, IsCutOrNone, IsFoundAmong};
+ghost use Rattle.settle.specs.Lines.{IsCutOrNone, IsFoundAmong, IsOrderedChain, IsOrderedFence};
 
 use crate::cuts::Cut;
-use crate::lines::{are_past, is_ordered_among, none_waits};
+use crate::lines::{are_past, none_waits};
 use crate::writers::last_writers;
 use fence_chain::{chain, ids_in_front};
 use forced_choices::Saturated;
@@ -17,21 +16,12 @@ use std::alloc::Global;
 use txn::{NoMemory, Sequence, TxnId};
 
 /// The cut at the fence, where it is settled.
-fn cut_at(
-    alloc: Global,
-    known: &Saturated,
-    ids: &[TxnId],
-    fence: TxnId,
-) -> Result<Option<Cut>, NoMemory>
+fn cut_at(alloc: Global, known: &Saturated, fence: TxnId) -> Result<Option<Cut>, NoMemory>
     requires acyclic { (id : TxnId) → ¬ Known known.now.parts [] id id }
-    requires remaining { AreRemaining known.now.parts ids.now }
-    requires fence { IsRemainingFence known.now.parts fence }
+    requires fence { IsOrderedFence known.now.parts fence }
     ensures { IfOk result (IsCutOrNone known.now.parts fence) }
 {
-    if !are_past(known, fence, ids) {
-        return Ok(None);
-    }
-    if !is_ordered_among(known, fence, ids) {
+    if !are_past(known, fence) {
         return Ok(None);
     }
     let front = ids_in_front(alloc, known, fence)?;
@@ -53,20 +43,28 @@ fn cut_at(
 fn last_cut(
     alloc: Global,
     known: &Saturated,
-    ids: &[TxnId],
     mut fences: Vec<TxnId>,
 ) -> Result<Option<Cut>, NoMemory>
     requires acyclic { (id : TxnId) → ¬ Known known.now.parts [] id id }
-    requires remaining { AreRemaining known.now.parts ids.now }
-    requires fences { (id : TxnId) → Contains fences.items id → IsRemainingFence known.now.parts id }
+    requires fences { (id : TxnId) → Contains fences.items id → IsOrderedFence known.now.parts id }
     ensures { IfOk result (IsFoundAmong known.now.parts fences.items) }
 {
     while let Some(fence) = fences.pop() {
-        if let Some(cut) = cut_at(alloc, known, ids, fence)? {
+        if let Some(cut) = cut_at(alloc, known, fence)? {
             return Ok(Some(cut));
         }
     }
     Ok(None)
+}
+
+/// The fences that each other remaining transaction comes before or after, in known order.
+fn ordered_chain(alloc: Global, known: &Saturated) -> Result<Vec<TxnId>, NoMemory>
+    ensures { IfOk result (λ fences. IsOrderedChain known.now.parts fences.items) }
+{
+    let ids = known.ids(alloc)?;
+    let fences = chain(alloc, known)?;
+    let ordered = known.ordered_with_all(alloc, fences.as_slice(), ids.as_slice())?;
+    Ok(ordered)
 }
 
 /// The cut that is found where the relation has no cycle.
@@ -75,9 +73,8 @@ fn find_known(alloc: Global, known: &Saturated) -> Result<Option<Cut>, NoMemory>
     requires { (id : TxnId) → ¬ Known known.now.parts [] id id }
     ensures { IfOk result (IsFound known.now.parts) }
 {
-    let ids = known.ids(alloc)?;
-    let fences = chain(alloc, known)?;
-    let found = last_cut(alloc, known, ids.as_slice(), fences)?;
+    let fences = ordered_chain(alloc, known)?;
+    let found = last_cut(alloc, known, fences)?;
     Ok(found)
 }
 

@@ -1,64 +1,62 @@
 //! What a settled fence has to meet, last writers apart.
-ghost use Rattle.std.specs.Prelude.{◌≡◌, ◌↔◌, All, Any, Contains, IsTrue};
+ghost use Rattle.std.specs.Prelude.{◌≡◌, ◌↔◌, All, IsTrue, MatchOption};
 ghost use Rattle.txn.specs.declared.transactions.TxnId.{TxnId};
 ghost use Rattle.order_check.specs.Based.{Remains, remaining_at};
 ghost use Rattle.order_check.specs.Good.{IsGood};
-ghost use Rattle.order_check.specs.Settled.{InFront};
-ghost use Rattle.settle.specs.Lines.{ArePast, IsClosedOrPast, HasReceivedReads, IsOrderedAmong, IsOrderedWith, IsPastBy, IsReceivedSource, reads_in};
+ghost use Rattle.order_check.specs.Settled.{IsPast};
+ghost use Rattle.settle.specs.Lines.{ArePast, IsClosedOrPast, IsLastRemaining, IsPastBy, HasReceivedReads, IsReceivedSource, reads_in};
 
 use forced_choices::Saturated;
 use order_check::Parts;
 use txn::{Source, TxnId};
 
-fn is_ordered_with(known: &Saturated, fence: TxnId, id: TxnId) -> bool
-    ensures { IsTrue result ↔ IsOrderedWith known.now.parts fence id }
+/// The last transaction of the session that remains.
+#[tactic(auto, using(crate::proofs::Past::none_remain, crate::proofs::Past::last_remains))]
+fn last_remaining(parts: &Parts, session: u8) -> Option<TxnId>
+    requires { IsGood parts.now }
+    ensures { MatchOption result ((id : TxnId) → id.session ≡ session → ¬ Remains parts.now id) (IsLastRemaining parts.now session) }
 {
-    id == fence || known.reaches(id, fence) || known.reaches(fence, id)
-}
-
-/// Whether each of the ids is the fence, or is known to come before or after it.
-pub fn is_ordered_among(known: &Saturated, fence: TxnId, ids: &[TxnId]) -> bool
-    ensures { IsTrue result ↔ IsOrderedAmong known.now.parts fence ids.now }
-{
-    for id in ids {
-        if !is_ordered_with(known, fence, *id) {
-            return false;
-        }
+    let received = parts.received_count(session);
+    if received == parts.mark_of(session) {
+        return None;
     }
-    true
+    Some(TxnId {
+        session,
+        number: received - 1,
+    })
 }
 
-fn is_past_by(known: &Saturated, fence: TxnId, session: u8, id: TxnId) -> bool
-    ensures { IsTrue result ↔ IsPastBy known.now.parts fence session id }
+/// Whether it is the fence or comes after it.
+fn is_past_by(known: &Saturated, fence: TxnId, id: TxnId) -> bool
+    ensures { IsTrue result ↔ IsPastBy known.now.parts fence id }
 {
-    id.session == session && (id == fence || known.reaches(fence, id))
+    id == fence || known.reaches(fence, id)
 }
 
-/// Whether the session has one of the ids that is the fence or comes after it.
-fn is_past(known: &Saturated, fence: TxnId, session: u8, ids: &[TxnId]) -> bool
-    ensures { IsTrue result ↔ Any (IsPastBy known.now.parts fence session) ids.now }
+/// Whether the session has a remaining transaction that is the fence or comes after it: whether its last one does.
+#[tactic(auto, using(crate::proofs::Past::past_by_last, crate::proofs::Past::no_past))]
+fn is_past(known: &Saturated, fence: TxnId, session: u8) -> bool
+    ensures { IsTrue result ↔ IsPast known.now.parts fence session }
 {
-    for id in ids {
-        if is_past_by(known, fence, session, *id) {
-            return true;
-        }
+    match last_remaining(known.parts(), session) {
+        Some(last) => is_past_by(known, fence, last),
+        None => false,
     }
-    false
 }
 
 /// Whether the session is closed, or past the fence.
-fn is_closed_or_past(known: &Saturated, fence: TxnId, ids: &[TxnId], session: u8) -> bool
-    ensures { IsTrue result ↔ IsClosedOrPast known.now.parts fence ids.now session }
+fn is_closed_or_past(known: &Saturated, fence: TxnId, session: u8) -> bool
+    ensures { IsTrue result ↔ IsClosedOrPast known.now.parts fence session }
 {
-    known.parts().is_closed(session) || is_past(known, fence, session, ids)
+    known.parts().is_closed(session) || is_past(known, fence, session)
 }
 
 /// Whether each open session is past the fence.
-pub fn are_past(known: &Saturated, fence: TxnId, ids: &[TxnId]) -> bool
-    ensures { IsTrue result ↔ ArePast known.now.parts fence ids.now }
+pub fn are_past(known: &Saturated, fence: TxnId) -> bool
+    ensures { IsTrue result ↔ ArePast known.now.parts fence }
 {
     for session in 0..known.parts().sessions() as u8 {
-        if !is_closed_or_past(known, fence, ids, session) {
+        if !is_closed_or_past(known, fence, session) {
             return false;
         }
     }
