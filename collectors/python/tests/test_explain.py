@@ -50,6 +50,11 @@ class Explaining(unittest.TestCase):
         self.assertIsNotNone(circle(history))  # p has 1.0 before 0.0, and q 0.0 before 1.0
         self.assertIsNone(circle([[txn(writes="p")], [txn(writes="p")], [txn(("p", (0, 0)))]]))
 
+    def test_time_is_up(self):
+        base = ("x", (0, 0))
+        lost = [[txn(writes="x"), txn(base, writes="x")], [txn(base, writes="x")]]
+        self.assertEqual(reasons(lost, seconds=0), ["it takes more than 0 s to say why in words; the auditor's refutation says it"])
+
     def test_statements_are_told_of_what_is_left(self):
         select, update = "SELECT v FROM t\n  WHERE k = 'x'", "UPDATE t SET v = v + 1 WHERE k = 'y' RETURNING name"
         x, y = ("x", (0, 0)), ("y", "init")

@@ -2,6 +2,7 @@
 
 What must come before what follows from sessions, from reads, and from other writers of what was read, which stand before the writer
 or after the reader. Where that goes round in a circle no order is left; where none does, it takes a trial of all orders to see it."""
+import time
 from collections import namedtuple
 
 from .auditor import name, version
@@ -51,7 +52,11 @@ def path(arcs, start, end):
     return None
 
 
-def forced_arcs(txns, arcs, name=name):
+class TooLong(Exception):
+    """The time is up."""
+
+
+def forced_arcs(txns, arcs, name, ends):
     """What follows of other writers."""
     for reader, logged in txns.items():
         for key, writer in logged.reads:
@@ -60,6 +65,8 @@ def forced_arcs(txns, arcs, name=name):
             for other, its in txns.items():
                 if key not in its.writes or other in (reader, writer):
                     continue
+                if time.monotonic() > ends:
+                    raise TooLong
                 read = f"{name(reader)} read {key} from {name(writer)}, and {name(other)}, which wrote it too, comes"
                 after, before = path(arcs, writer, other), path(arcs, other, reader)
                 if after:
@@ -68,8 +75,9 @@ def forced_arcs(txns, arcs, name=name):
                     yield Arc(other, writer, f"{read} before {name(reader)}", tuple(before))
 
 
-def circle(history, name=name):
-    """Arcs that lead from a transaction back to itself, or None."""
+def circle(history, name=name, seconds=60):
+    """Arcs that lead from a transaction back to itself, or None; raises TooLong."""
+    ends = time.monotonic() + seconds
     txns = table(history)
     arcs = list(plain_arcs(txns, name))
     while True:
@@ -77,19 +85,22 @@ def circle(history, name=name):
         if circles:
             return min(circles, key=len)
         known = {(arc.start, arc.end) for arc in arcs}
-        new = {(arc.start, arc.end): arc for arc in forced_arcs(txns, arcs, name)}
+        new = {(arc.start, arc.end): arc for arc in forced_arcs(txns, arcs, name, ends)}
         more = [arc for ends, arc in new.items() if ends not in known]
         if not more:
             return None
         arcs += more
 
 
-def reasons(history, name=name):
-    """The lines that tell it, each after those from which it follows."""
+def reasons(history, name=name, seconds=60):
+    """The lines that tell it, each after those from which it follows; or one that says that it took longer."""
     wrong = list(wrong_reads(history, name))
     if wrong:
         return wrong
-    around = circle(history, name)
+    try:
+        around = circle(history, name, seconds)
+    except TooLong:
+        return [f"it takes more than {seconds} s to say why in words; the auditor's refutation says it"]
     if around is None:
         return ["each order fails in its own way"]
     told = []

@@ -3,7 +3,7 @@ import shutil
 import subprocess
 
 from .auditor import deeds, name, statements_of
-from .explain import circle
+from .explain import TooLong, circle
 
 
 def quoted(*lines):
@@ -22,8 +22,11 @@ def below(arcs):
 
 def dot_text(history, name=name):
     """Each transaction with what it did, a column for each session. The circle's arcs are bold and red, those from which they follow
-    are grey; an arc goes from what comes before to what comes after."""
-    around = circle(history, name) or []
+    are grey; an arc goes from what comes before to what comes after. There is none where it takes too long to find them."""
+    try:
+        around = circle(history, name) or []
+    except TooLong:
+        around = []
     lines = ["digraph violation {", "  node [shape=box, fontname=Helvetica]; edge [fontname=Helvetica, fontsize=10];"]
     for session, txns in enumerate(history):
         for number, logged in enumerate(txns):
