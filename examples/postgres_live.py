@@ -66,7 +66,8 @@ class Clients:
 
     def __init__(self, sessions, workload, seconds, is_over, rate=None):
         self.workload, self.is_over, self.committed, self.aborted, self.failures = workload, is_over, 0, 0, []
-        self.pause = len(sessions) / rate if rate else 0.0  # of each client, from the begin of a transaction to that of the next
+        self.count = len(sessions)
+        self.pause = self.count / rate if rate else 0.0  # of each client, from the begin of a transaction to that of the next
         self.began = time.monotonic()
         self.until = self.began + seconds
         threads = [threading.Thread(target=self.client, args=it) for it in enumerate(sessions)]
@@ -79,7 +80,7 @@ class Clients:
 
     def client(self, number, session):
         committed = aborted = 0
-        due = self.began
+        due = self.began + number * self.pause / self.count  # in turn, and not all at once
         try:
             while time.monotonic() < self.until and not self.is_over():
                 due = self.wait(due)
