@@ -86,18 +86,37 @@ class Meetings(WithProgram):
         self.assertEqual(self.ended(live).kind, "serial")
         self.assertEqual([line for line in self.told if "took longer" in line], [])
 
-    def test_each_session_has_two_fences_and_the_unseen_is_read(self):
+    def test_each_session_has_two_fences_and_the_unseen_is_read_between(self):
         live, store = self.live(3, every=2), MemoryStore()
+        self.auditor.can_cut = False  # so that all remains to be looked at
         a, b = (live.session(store.connect()) for _ in range(2))
         a.run(set_to("x", 1))
         b.run(set_to("x", 2))
         self.wait_for(lambda: live.rounds)
         self.ended(live)
-        fences = [[[key for key in one.writes] for one in txns] for txns in self.auditor.history]
-        if not self.auditor.marks[0]:
-            self.assertEqual([writes.count([FENCE]) for writes in fences], [2, 2, 1])  # the third has no client
-            self.assertIn(("x", (1, 0)), [read for one in self.auditor.history[1][-1:] for read in one.reads])
+        fence = lambda *before: ([(FENCE, *before)], [FENCE])
+        done = [[(one.reads, one.writes) for one in txns] for txns in self.auditor.history]
+        self.assertEqual(done[0], [([], ["x"]), fence("init"), fence((2, 0))])
+        self.assertEqual(done[1], [([], ["x"]), fence((0, 1)), ([("x", (1, 0))], []), fence((0, 2))])
+        self.assertEqual(done[2], [fence((1, 1))])  # it has no client
         self.assertEqual(live.report.kind, "serial")
+
+    def test_a_client_goes_on_while_the_others_second_fences_are_run(self):
+        live, store = self.live(2, every=2), MemoryStore()
+        a, b = (live.session(store.connect()) for _ in range(2))
+        fence = b.fence
+
+        def later():
+            fence()
+            if b.number_of_fences:  # the second one
+                a.run(add_one("x"))
+            b.number_of_fences += 1
+
+        b.number_of_fences, b.fence = 0, later
+        a.run(add_one("x")), b.run(add_one("x"))
+        self.wait_for(lambda: live.cuts)
+        self.assertEqual(self.ended(live).kind, "serial")
+        self.assertEqual(b.number_of_fences, 2)
 
     def wait_for(self, condition):
         until = time.monotonic() + 60  # where other programs have the processors
@@ -192,7 +211,7 @@ for line in sys.stdin:
 class Fragments(unittest.TestCase):
     def test_of_each_session(self):
         a, b, c = (Logged((), (key,)) for key in "abc")
-        self.assertEqual(fragments([(1, 3, a), (0, 0, b), (1, 4, c)]), {1: (3, [a, c]), 0: (0, [b])})
+        self.assertEqual(fragments([(1, 3, a), (0, 0, b), (1, 4, c)]), [(1, 3, [a, c]), (0, 0, [b])])
 
 
 class MadeUp(unittest.TestCase):

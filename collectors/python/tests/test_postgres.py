@@ -2,7 +2,7 @@
 import os
 import unittest
 
-from zanteyard import Aborted, Auditor, OutcomeUnknown, Session, smaller, words
+from zanteyard import FENCE, Aborted, Auditor, OutcomeUnknown, Session, smaller, words
 from zanteyard.auditor import PROGRAM
 from zanteyard.cluster import Cluster, program
 
@@ -18,6 +18,13 @@ LACKING = [
     for name, there in (("psycopg2", psycopg2), ("initdb of PostgreSQL", program("initdb")), (PROGRAM, os.path.isfile(PROGRAM)))
     if not there
 ]
+
+
+class Lossy(PostgresStore if psycopg2 else object):
+    def send_commit(self):
+        super().send_commit()
+        self.connection.close()
+        raise psycopg2.OperationalError("the answer is lost")
 
 
 @unittest.skipIf(LACKING, f"not installed or not built: {', '.join(LACKING)}")
@@ -94,6 +101,23 @@ class Postgres(unittest.TestCase):
         self.assertEqual(self.auditor.history[1][0].reads, [("w", "init"), ("x", source), ("y", source), ("z", source)])
         self.assertEqual(self.kind(), "serial")
 
+    def test_a_fence_is_read_and_written_by_one_statement(self):
+        a, b, _ = self.sessions()
+        for session in (a, b, a):
+            session.fence()
+        fence = lambda *before: ([(FENCE, *before)], [FENCE])
+        done = [[(one.reads, one.writes) for one in txns] for txns in self.auditor.history]
+        self.assertEqual(done, [[fence("init"), fence((1, 0))], [fence((0, 0))], []])
+        run = dict(self.auditor.history[1][0].statements)
+        self.assertEqual(run[(FENCE, (0, 0))], run[(FENCE,)])
+        self.assertIn(f"key = '{FENCE}') INSERT INTO zanteyard VALUES ('{FENCE}', '', 'run', 1, 0) ON CONFLICT", run[(FENCE,)])
+        self.assertEqual(self.kind(), "serial")
+
+    def test_the_answer_to_a_fence_is_lost(self):
+        a = self.sessions(store=Lossy)[0]
+        a.fence()
+        self.assertEqual((self.auditor.history[0][0].outcome, a.is_open), ("committed", True))
+
     def test_a_violation_names_what_was_run(self):
         self.assertEqual(self.count_at_once("read committed"), "violated")
         told = list(words(smaller(self.auditor.history)))
@@ -124,12 +148,6 @@ class Postgres(unittest.TestCase):
         self.assertEqual(self.kind(), "serial")
 
     def test_an_answer_that_is_lost(self):
-        class Lossy(PostgresStore):
-            def send_commit(self):
-                super().send_commit()
-                self.connection.close()
-                raise psycopg2.OperationalError("the answer is lost")
-
         a = self.sessions(store=Lossy)[0]
         a.run(lambda t: t.put("x", "1"))
         b = self.sessions()[1]

@@ -16,7 +16,7 @@ LONGEST = 256  # transactions of one line
 # Of a round: how many nodes of the search it may look at, how deep the search is split, and how many workers share it. The next is tried
 # where one hasn't decided.
 EFFORTS = ((4096, 0, 1), (65536, 4, max(1, min(16, os.cpu_count() or 1))))
-WAITS = (0.1, 0.5, 0.0)  # seconds after each time that a line was answered NoMemory
+WAITS = (0.1, 0.5)  # seconds after which a line that was answered NoMemory is given again
 FENCE = "zanteyard fence"  # the key on which sessions run fences; its number is 0
 # What one transaction did: reads are pairs of a key's name and a source, which is "init" or (session, number); writes are names of keys.
 # Statements are for who is told of a violation: pairs of a deed, which is a read or (key,) for a write, and what was run for it.
@@ -69,34 +69,55 @@ class Auditor:
             self.end()
             raise
 
+    @property
+    def remaining(self):
+        return sum(map(len, self.history))
+
     def ask(self, line):
-        text = json.dumps(line, separators=(",", ":"))
+        text = written(line)
+        return self.settled(text, *self.replies_to([text]))
+
+    def settled(self, text, reply):
+        """The reply, where the line isn't refused for good."""
         for wait in WAITS:
-            reply = self.reply_to(text)
-            if reply[0] != "no":
-                return reply
-            if reply[2] != "NoMemory":
+            if reply[0] != "no" or reply[2] != "NoMemory":
                 break
             time.sleep(wait)
-        raise KINDS.get(reply[2], Refused)(f"{text} was answered {reply[2]}")
+            (reply,) = self.replies_to([text])
+        if reply[0] == "no":
+            raise KINDS.get(reply[2], Refused)(f"{text} was answered {reply[2]}")
+        return reply
 
-    def reply_to(self, text):
+    def replies_to(self, texts):
+        """Lines that are written at once: their replies together have to fit into a pipe."""
         with self.lock:
             try:
-                self.program.stdin.write(text + "\n")
+                self.program.stdin.write("".join(text + "\n" for text in texts))
                 self.program.stdin.flush()
-                answer = self.program.stdout.readline()
+                answers = [self.program.stdout.readline() for _ in texts]
             except (OSError, ValueError) as error:
                 raise Ended(f"cobra_audit can't be reached: {error}") from error
-        if not answer:
-            raise Ended(f"cobra_audit ended with status {self.program.wait()}: {self.program.stderr.read().strip()}")
-        return json.loads(answer)
+            if not all(answers):
+                raise Ended(f"cobra_audit ended with status {self.program.wait()}: {self.program.stderr.read().strip()}")
+        return [json.loads(answer) for answer in answers]
 
     def offer(self, session, number, *logged):
         """Transactions that follow one another, the first of this number."""
+        if self.offer_all([(session, number, logged)]):
+            raise Full(f"there is no room for transaction {number} of session {session}")
+
+    def offer_all(self, fragments):
+        """The same of several fragments, each (session, number of the first, transactions): gives those for which there was no room."""
+        refused = []
         with self.lock:
-            self.ask(["offer", session, number, [*map(self.txn, logged)]])
-            self.history[session] += logged
+            texts = [written(["offer", session, first, [*map(self.txn, txns)]]) for session, first, txns in fragments]
+            for fragment, text, reply in zip(fragments, texts, self.replies_to(texts)):
+                try:
+                    self.settled(text, reply)
+                    self.history[fragment[0]] += fragment[2]
+                except Full:
+                    refused.append(fragment)
+        return refused
 
     def txn(self, logged):
         """As lines have it."""
@@ -160,6 +181,10 @@ class Auditor:
         self.end()
 
 
+def written(line):
+    return json.dumps(line, separators=(",", ":"))
+
+
 def audited(history, program=PROGRAM):
     """The report of an auditor of its own, and the script that gives it."""
     limit = max(1, sum(map(len, history)))
@@ -172,7 +197,7 @@ def audited(history, program=PROGRAM):
                 script.append(["offer", session, first, [*map(auditor.txn, fragment)]])
         report = auditor.round()
         script.append(["round", *auditor.effort])
-        return report, "".join(json.dumps(line, separators=(",", ":")) + "\n" for line in script)
+        return report, "".join(written(line) + "\n" for line in script)
 
 
 START = "everything before the cut"  # a key that the first transaction of such a history writes, and that each session reads first

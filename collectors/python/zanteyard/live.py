@@ -1,21 +1,21 @@
 """An auditor that goes along with clients as they run: fences, rounds and cuts, in a thread of its own.
 
 Clients hand in what they did and go on. Now and then there is a meeting: as each session comes to the end of its transaction it is held
-there, a fence is run in each, then a second one in each, and then what was written unseen is read once; then all go on. So every
-transaction of before comes before the last of the first fences, every one of later after it, and of each key it is known who wrote it
-last: the auditor can forget what stands in front of that fence.
+there, and a fence is run in it; behind the last of these what was written unseen is read once; then a second fence is run in one session after
+another, and each goes on behind its own. So every transaction of before comes before the last of the first fences, every one of later
+after it, and of each key it is known who wrote it last: the auditor can forget what stands in front of that fence.
 """
 import queue
 import threading
 import time
 from collections import deque
 
-from .auditor import FENCE, LONGEST, Ended, Full, NoCut, Refused
+from .auditor import FENCE, LONGEST, Ended, NoCut, Refused
 from .sessions import Session
 
 READS = 200  # of one transaction; the auditor takes 256
 PATIENT = 30  # times as long a meeting waits where the next one may come too late
-PAUSE = 0.05  # seconds, in which more transactions come: a line for each would have the clients wait for their interpreter
+PAUSE = 0.02  # seconds, in which more transactions come: a line for each would have the clients wait for their interpreter
 
 
 class LiveAuditor:
@@ -32,8 +32,9 @@ class LiveAuditor:
         self.left = deque((number, 0) for number in range(auditor.sessions))  # no client has these: the number, and how many fences were run in it
         self.unseen, self.lock = set(), threading.Lock()  # keys written by transactions that hadn't read them, and not read since
         self.waiting = queue.SimpleQueue()
-        self.gate = threading.Lock()  # held while a meeting is
+        self.gate = threading.Lock()  # held while a meeting waits for sessions
         self.handed_in_of, self.met_at, self.met, self.why_not = [0] * auditor.sessions, 0, time.monotonic(), None
+        self.fenced = None  # the session in which the last of a meeting's first fences was run
         self.taken_in, self.rounds, self.cuts = 0, 0, 0
         self.lag = self.behind = 0.0  # for how many seconds a transaction waited to be taken in, at most: ever, and since the last round
         self.told_at, self.told_of = time.monotonic(), 0
@@ -72,12 +73,18 @@ class LiveAuditor:
 
     def offer(self, session, number, logged):
         self.handed_in_of[session] += 1  # one thread at a time has the session's turn
-        blind = set(logged.writes).difference(key for key, _ in logged.reads)
-        if blind:
-            with self.lock:
-                self.unseen |= blind
-        self.waiting.put((time.monotonic(), (session, number, logged)))
-        while threading.current_thread() is not self.thread and self.waiting.qsize() > self.most and not self.goes_on():
+        if logged.writes:
+            read = {key for key, _ in logged.reads}
+            blind = [key for key in logged.writes if key not in read]
+            if blind:
+                with self.lock:
+                    self.unseen.update(blind)
+        self.waiting.put((time.monotonic(), session, number, logged))
+        if self.waiting.qsize() > self.most and threading.current_thread() is not self.thread:
+            self.wait_for_room()
+
+    def wait_for_room(self):
+        while self.waiting.qsize() > self.most and not self.goes_on():
             time.sleep(0.001)
 
     def goes_on(self):
@@ -85,7 +92,7 @@ class LiveAuditor:
         return self.is_meeting or self.is_over
 
     def close(self, session):
-        self.waiting.put((time.monotonic(), (session,)))
+        self.waiting.put((time.monotonic(), session))
 
     def stop(self):
         """Takes in all that was handed in, and gives the report on it."""
@@ -109,13 +116,12 @@ class LiveAuditor:
             self.failure = error
 
     def next_waiting(self):
-        """What waits, up to a session's end or a round."""
+        """What waits, up to a session's end or a round. Nobody is woken for it: that would cost a client more than its whole log."""
+        if self.waiting.qsize() < LONGEST and not self.is_stopping:
+            time.sleep(PAUSE)
         found = []
         try:
-            found.append(self.waiting.get(timeout=0.05))
-            if self.waiting.qsize() < LONGEST and not self.is_stopping:
-                time.sleep(PAUSE)
-            while len(found) < LONGEST and len(found[-1][1]) == 3:
+            while len(found) < LONGEST and (not found or is_transaction(found[-1])):
                 found.append(self.waiting.get_nowait())
         except queue.Empty:
             pass
@@ -128,21 +134,20 @@ class LiveAuditor:
     def take_in(self, found):
         if not found:
             return
-        for session, (first, txns) in fragments(what for _, what in found if len(what) == 3).items():
-            self.offer_all(session, first, txns)
+        self.offer_all(fragments(one[1:] for one in found if is_transaction(one)))
         self.behind = max(self.behind, time.monotonic() - found[0][0])
-        last = found[-1][1]
-        if not last:
+        last = found[-1]
+        if len(last) == 1:
             self.audit()
-        elif len(last) == 1:
-            self.auditor.close(*last)
+        elif len(last) == 2:
+            self.auditor.close(last[1])
 
-    def offer_all(self, session, first, txns):
-        try:
-            self.auditor.offer(session, first, *txns)
-            self.taken_in += len(txns)
-        except Full:
+    def offer_all(self, found):
+        refused = self.auditor.offer_all(found)
+        self.taken_in += sum(len(txns) for _, _, txns in found) - sum(len(txns) for _, _, txns in refused)
+        if refused:
             self.audit()  # a cut may make room
+        for session, first, txns in refused:
             for number, logged in enumerate(() if self.is_violated else txns, first):
                 self.auditor.offer(session, number, logged)
                 self.taken_in += 1
@@ -154,10 +159,10 @@ class LiveAuditor:
         now = time.monotonic()
         rate = (self.taken_in - self.told_of) / max(now - self.told_at, 0.001)
         self.told_at, self.told_of = now, self.taken_in
-        remain = sum(map(len, self.auditor.history))
         self.lag, behind, self.behind = max(self.lag, self.behind), self.behind, 0.0
         self.tell(
-            f"round {self.report.number}: {self.report.kind}; {self.taken_in} transactions, {rate:.0f} a second, {behind:.2f} s behind; {remain} remain; {cut}"
+            f"round {self.report.number}: {self.report.kind}; {self.taken_in} transactions, {rate:.0f} a second, {behind:.2f} s behind; "
+            f"{self.auditor.remaining} remain; {cut}"
         )
 
     def cut(self):
@@ -178,48 +183,59 @@ class LiveAuditor:
 
     def meet(self):
         """Then a round, once what was handed in before it is taken in."""
-        held, self.is_meeting = [], True
-        with self.gate:
-            try:
-                self.why_not = self.hold(held) or self.run_fences(held)
-            except Exception as error:  # the store's: a client will meet it too
-                self.why_not = f"the meeting failed ({str(error).strip() or type(error).__name__})"
-            finally:
-                self.is_meeting = False
-                for session in held:
-                    session.turn.release()
+        held, self.is_meeting = deque(), True
+        try:
+            with self.gate:
+                self.why_not = self.first_fences(held) or self.between(held)
+            if not self.why_not:
+                self.second_fences(held)
+        except Exception as error:  # the store's: a client will meet it too
+            self.why_not = f"the meeting failed ({str(error).strip() or type(error).__name__})"
+        finally:
+            self.is_meeting = False
+            for session in held:
+                session.turn.release()
         self.met_at, self.met = self.handed_in, time.monotonic()
-        self.waiting.put((time.monotonic(), ()))
+        self.waiting.put((time.monotonic(),))
 
-    def hold(self, held):
-        """Holds all open sessions; or says why not."""
+    def first_fences(self, held):
+        """Holds all sessions, and runs the fence of one while others come to the end of their transactions; or says why it can't."""
         patience = self.patience if self.has_room() else PATIENT * self.patience
-        until = time.monotonic() + patience
+        until, self.fenced = time.monotonic() + patience, None
         for session in list(self.sessions):
             if not session.turn.acquire(timeout=max(0, until - time.monotonic())):
                 return f"a transaction of session {session.number} took longer than {patience} s"
             held.append(session)
+            if session.is_open and session.since_fence:
+                session.fence()
+                self.fenced = session
         return None
 
     def has_room(self):
         """For as many transactions more as come before the next meeting."""
-        return sum(map(len, self.auditor.history)) + self.waiting.qsize() + self.every < self.auditor.limit
+        return self.auditor.remaining + self.waiting.qsize() + self.every < self.auditor.limit
 
-    def run_fences(self, held):
-        held = [session for session in held if session.is_open]
+    def between(self, held):
+        """What is done while all are held; or says why it isn't."""
         for session in held:
-            if session.since_fence:
-                session.fence()
-            if self.left and time.monotonic() - session.used_at > self.idle:
+            if session.is_open and self.left and time.monotonic() - session.used_at > self.idle:
                 session.close()  # its client takes another, once it comes back
-        held = [session for session in held if session.is_open]
-        if not held:
+        still_open = [session for session in held if session.is_open]
+        if not still_open:
             return "no client has a session"
-        for session in held:
-            session.fence()
-        self.fence_left(held[-1])
-        self.read_unseen(held[-1])
+        reader = still_open[-1]
+        if reader is not self.fenced:
+            reader.fence()  # else it wouldn't read behind the last of the first fences
+        self.read_unseen(reader)
+        self.fence_left(reader)
         return None
+
+    def second_fences(self, held):
+        """Each client goes on behind its own, while the next one's is run."""
+        while held:
+            if held[0].is_open:
+                held[0].fence()
+            held.popleft().turn.release()
 
     def fence_left(self, lender):
         """The sessions that no client has are open too: each needs its fence, which is run over another's connection."""
@@ -241,9 +257,14 @@ class LiveAuditor:
             session.run_held(lambda transaction: transaction.get_all(keys[start : start + READS]))
 
 
+def is_transaction(one):
+    """Of what waits: behind the moment at which it was handed in a round has nothing, a session's end the session, and a transaction three things."""
+    return len(one) == 4
+
+
 def fragments(offers):
-    """Of each session, the number of its first transaction, and all of them."""
+    """Of each session that is among them, (session, number of the first, transactions)."""
     found = {}
     for session, number, logged in offers:
-        found.setdefault(session, (number, []))[1].append(logged)
-    return found
+        found.setdefault(session, (session, number, []))[2].append(logged)
+    return [*found.values()]

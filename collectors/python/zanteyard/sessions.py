@@ -4,8 +4,8 @@ A store, as a session wants it, has six calls and may raise Aborted from all but
 (value, name), or None where the key isn't there, with the name that was written beside the value; `write(key, value, name)`, where the
 value None deletes the key and leaves the name behind; `commit()`, which raises OutcomeUnknown where no answer came; and `outcome()`, which says of
 the transaction whose commit was sent last, and which had written, whether it is "committed", "aborted" or "unknown". It may have
-`read_all(keys)`, which gives by key what `read` gives, for those that are there, and a `statement`, which is what it has run last, as who is told of a
-violation should see it.
+`read_all(keys)`, which gives by key what `read` gives, for those that are there; `exchange(key, value, name)`, which writes as `write` does and gives
+what `read` gave before; and a `statement`, which is what it has run last, as who is told of a violation should see it.
 """
 import threading
 import time
@@ -31,7 +31,7 @@ class Session:
         self.auditor, self.number, self.store, self.run_name, self.patience = auditor, number, store, run_name, patience
         self.renew, self.begun, self.is_open = renew, 0, True
         self.turn = threading.Lock()  # held by a transaction from its begin to its end, and by a meeting
-        self.gate = threading.Lock()  # held while sessions meet: else a busy client would take its turn again before the meeting gets it
+        self.gate = threading.Lock()  # held while a meeting waits for the turn: else a busy client would take it again before the meeting gets it
         self.current = None  # the transaction that holds it
         self.since_fence, self.used_at, self.waited = 0, time.monotonic(), 0.0
 
@@ -86,7 +86,7 @@ class Session:
 
     def fence(self):
         """For who holds the session's turn."""
-        self.run_held(lambda transaction: (transaction.get(FENCE), transaction.put(FENCE, "")))
+        self.run_held(lambda transaction: transaction.exchange(FENCE, ""))
         self.since_fence = 0
 
     def close(self):
@@ -119,6 +119,7 @@ class Transaction:
     def __init__(self, session, number, holds=True):
         self.session, self.store, self.number, self.holds = session, session.store, number, holds
         self.reads, self.written, self.is_over = set(), {}, False
+        self.sent = ()  # keys that were written and needn't be at the commit
         self.statements = {}  # of each deed, as Logged has them
 
     def get(self, key, statement=None):
@@ -157,12 +158,29 @@ class Transaction:
     def delete(self, key, statement=None):
         self.put(key, None, statement)
 
+    def exchange(self, key, value):
+        """Reads the key and writes it: at once, where the store has a call for that. It has to be the last that is done with the key."""
+        both = getattr(self.store, "exchange", None)
+        if both is None:
+            self.get(key)
+            self.put(key, value)
+        else:
+            self.was_read(key, both(key, value, self.name))
+            self.put(key, value)
+            self.was_run((key,))
+            self.sent = (*self.sent, key)
+
+    @property
+    def name(self):
+        """Which is written beside values."""
+        return (self.session.run_name, self.session.number, self.number)
+
     def commit(self):
         try:
-            name = (self.session.run_name, self.session.number, self.number)
             for key in sorted(self.written):
-                self.store.write(key, self.written[key], name)
-                self.was_run((key,))
+                if key not in self.sent:
+                    self.store.write(key, self.written[key], self.name)
+                    self.was_run((key,))
             self.store.commit()
         except OutcomeUnknown:
             self.find_out()
