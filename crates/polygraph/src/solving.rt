@@ -4,7 +4,7 @@ ghost use Rattle.polygraph.specs.Outcomes.{IsCube, cube_count, split_choices};
 ghost use Rattle.polygraph.specs.Solving.{IsLawful};
 ghost use Rattle.polygraph.specs.declared.solving.Cube.TheVariants as cubes;
 
-use crate::cubes::{branch_at, first_choices, search};
+use crate::cubes::{branch_at, first_choices, search, sides_at};
 use crate::problems::Problem;
 use order_check::scans_are_bounded;
 use refutation::Tree;
@@ -71,6 +71,7 @@ pub fn solve_cube(
     scans_are_bounded();
     let choices = first_choices(problem.choices(), depth);
     let (mut branch, steps) = branch_at(alloc, problem.known(), choices, cube)?;
-    let found = search(alloc, &mut branch, steps.as_slice(), share)?;
+    let taken = sides_at(alloc, choices, cube)?;
+    let found = search(alloc, &mut branch, taken, steps.as_slice(), share)?;
     Ok(found)
 }

@@ -18,5 +18,5 @@ pub use laws::{
     refuted_has_no_order, refutes_with_more,
 };
 pub use reads::{is_overwritten, is_silent, reads_of};
-pub use shortening::shortened;
+pub use shortening::{shortened, shortened_with};
 pub use trees::{Leaf, Tree};
