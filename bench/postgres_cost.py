@@ -2,12 +2,13 @@
 
     python3 bench/postgres_cost.py [--seconds N] [--times N] [--clients N] [--every N] [--workload NAME ..]
 
-Beside them: processor time of this process (the clients and what hands their log on) for each transaction begun, how much of their time clients waited for
-meetings, and how far the auditor was behind at most.
+Beside them: processor time for each transaction begun, of this process (the clients, and what hands their log over) and of those that audit it; how much of
+their time clients waited for meetings, and how far the auditor was behind at most.
 """
 import argparse
 import os
 import random
+import resource
 import statistics
 import sys
 import time
@@ -15,18 +16,26 @@ import time
 TOP = os.path.join(os.path.dirname(os.path.abspath(__file__)), "..")
 sys.path[:0] = [os.path.join(TOP, "examples"), os.path.join(TOP, "collectors/python")]
 from postgres_live import LEVELS, WORKLOADS, Clients, Nothing
-from zanteyard import Auditor, LiveAuditor, Session
+from zanteyard import AuditorApart, LiveAuditor, Session
 from zanteyard.cluster import Cluster
 from zanteyard.postgres_store import PostgresStore, prepare
+
+
+def of_children():
+    """Processor time of the processes that this one has started and that have ended."""
+    used = resource.getrusage(resource.RUSAGE_CHILDREN)
+    return used.ru_utime + used.ru_stime
 
 
 class Run:
     def __init__(self, cluster, asked, workload, name, is_audited):
         stores = [PostgresStore(cluster.dsn, LEVELS["serializable"]) for _ in range(asked.clients)]
         run = self.audited if is_audited else self.alone
+        before = of_children()
         clients = run(asked, stores, WORKLOADS[workload], name)
         self.rate, self.waited = clients.rate(), 100 * clients.waited
-        self.each = 1e6 * self.took / (clients.committed + clients.aborted)
+        begun = clients.committed + clients.aborted
+        self.each, self.beside = 1e6 * self.took / begun, 1e6 * (of_children() - before) / begun
         for store in stores:
             store.connection.close()
 
@@ -38,7 +47,7 @@ class Run:
         return clients
 
     def audited(self, asked, stores, workload, name):
-        with Auditor(asked.clients) as auditor:
+        with AuditorApart(asked.clients) as auditor:
             live = LiveAuditor(auditor, name, asked.every, tell=lambda line: None)
             sessions = [live.session(store) for store in stores]
             began = time.process_time()
@@ -59,7 +68,7 @@ def main():
     asked.add_argument("--every", type=int, default=LiveAuditor.EVERY)
     asked.add_argument("--workload", nargs="+", choices=WORKLOADS, default=[*WORKLOADS])
     asked = asked.parse_args()
-    print("workload, without and with a second, less, us each without and with, waited, behind at most, verdicts, cuts of rounds", flush=True)
+    print("workload, without and with a second, less, us each without and with, beside, waited, behind at most, verdicts, cuts of rounds", flush=True)
     with Cluster() as cluster:
         prepare(cluster.dsn)
         for workload in asked.workload:
@@ -76,8 +85,8 @@ def tell(workload, alone, audited):
     each = [median(runs, "each") for runs in (alone, audited)]
     kinds = ", ".join(sorted({run.kind for run in audited}))
     print(
-        f"{workload:8} {rates[0]:6.0f} {rates[1]:6.0f} {100 * (1 - rates[1] / rates[0]):5.1f}%  {each[0]:5.0f} {each[1]:5.0f}  {median(audited, 'waited'):4.1f}%"
-        f"  {max(run.lag for run in audited):5.2f} s  {kinds}  {sum(run.cuts for run in audited)} of {sum(run.rounds for run in audited)}",
+        f"{workload:8} {rates[0]:6.0f} {rates[1]:6.0f} {100 * (1 - rates[1] / rates[0]):5.1f}%  {each[0]:5.0f} {each[1]:5.0f} {median(audited, 'beside'):5.0f}"
+        f"  {median(audited, 'waited'):4.1f}%  {max(run.lag for run in audited):5.2f} s  {kinds}  {sum(run.cuts for run in audited)} of {sum(run.rounds for run in audited)}",
         flush=True,
     )
 

@@ -14,7 +14,7 @@ import threading
 import time
 
 sys.path.insert(0, os.path.join(os.path.dirname(os.path.abspath(__file__)), "../collectors/python"))
-from zanteyard import Aborted, Auditor, Ended, Full, LiveAuditor, Session, audited, draw, from_start, reasons, smaller, words
+from zanteyard import Aborted, AuditorApart, Ended, Full, LiveAuditor, Session, audited, draw, from_start, reasons, smaller, words
 from zanteyard.cluster import Cluster, program
 
 LEVELS = {"serializable": "serializable", "repeatable": "repeatable read", "committed": "read committed"}
@@ -123,7 +123,7 @@ def tell(auditor, name):
 
 def audited_run(asked, stores):
     """The clients beside the auditor, which then tells of all that it took in."""
-    with Auditor(asked.clients) as auditor:
+    with AuditorApart(asked.clients) as auditor:
         live = LiveAuditor(auditor, "live", asked.every)
         clients = Clients([live.session(store) for store in stores], WORKLOADS[asked.workload], asked.seconds, lambda: live.is_over, asked.rate)
         live.stop()

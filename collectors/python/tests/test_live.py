@@ -7,7 +7,7 @@ import threading
 import time
 import unittest
 
-from zanteyard import FENCE, Aborted, Auditor, Full, LiveAuditor, Logged, NoCut, NoMemory, audited, dot_text, draw, from_start, reasons, smaller, words
+from zanteyard import FENCE, Aborted, Auditor, AuditorApart, Ended, Full, LiveAuditor, Logged, NoCut, NoMemory, Refused, audited, dot_text, draw, from_start, reasons, smaller, words
 from zanteyard.auditor import PROGRAM
 from zanteyard.live import fragments
 from zanteyard.memory_store import MemoryStore
@@ -25,13 +25,15 @@ def set_to(key, value):
 
 
 class WithProgram(unittest.TestCase):
+    AUDITOR = Auditor
+
     def setUp(self):
         if not os.path.isfile(PROGRAM):
             self.skipTest(f"{PROGRAM} is not built: see README.md")
         self.told = []
 
     def live(self, sessions, limit=4096, **more):
-        self.auditor = Auditor(sessions, limit)
+        self.auditor = self.AUDITOR(sessions, limit)
         self.addCleanup(self.auditor.end)
         return LiveAuditor(self.auditor, **{"every": 20, "seconds": 600.0, "patience": 60.0, "tell": self.told.append, **more})
 
@@ -163,7 +165,7 @@ class Meetings(WithProgram):
         for _ in range(3):
             a.run(add_one("x"))
         self.wait_for(lambda: live.taken_in == 3)
-        for every, has_room in ((4, True), (5, False)):
+        for every, has_room in ((19, True), (20, False)):  # a quarter of it comes before the next meeting where one fails
             live.every = every
             self.assertEqual(live.has_room(), has_room)
         self.assertEqual(self.ended(live).kind, "serial")
@@ -192,11 +194,45 @@ class Meetings(WithProgram):
     def test_a_program_that_is_killed(self):
         live, store = self.live(1, every=1), MemoryStore()
         a = live.session(store.connect())
-        self.auditor.program.kill()
+        self.kill()
         a.run(add_one("x"))  # the client goes on
         self.wait_for(lambda: live.failure)
         self.assertIn("cobra_audit", str(live.failure))
         a.run(add_one("x"))
+
+    def kill(self):
+        self.auditor.program.kill()
+
+
+class MeetingsApart(Meetings):
+    """The same over an auditor in a process of its own."""
+
+    AUDITOR = AuditorApart
+
+    def kill(self):
+        self.auditor.process.kill()
+
+    def test_what_is_asked_of_it(self):
+        lost = Logged([("x", "init")], ["x"], "committed", ((("x", "init"), "SELECT x"),))
+        with AuditorApart(2, 3) as auditor:
+            self.assertEqual(auditor.offer_all([(0, 0, [lost]), (1, 0, [lost])]), [])
+            self.assertEqual(auditor.offer_all([(0, 1, [lost, lost]), (1, 1, [Logged((), ())])]), [(0, 1, [lost, lost])])  # there is room for one
+            with self.assertRaises(Full):
+                auditor.offer(0, 1, lost)
+            with self.assertRaises(Refused):
+                auditor.close(7)
+            with self.assertRaises(NoCut):
+                auditor.truncate()
+            self.assertTrue(auditor.can_cut)
+            self.assertEqual((auditor.round().kind, auditor.remaining, auditor.marks, auditor.base), ("violated", 3, [0, 0], {}))
+            self.assertEqual(auditor.history, [[lost], [lost, Logged((), ())]])
+        self.assertEqual((auditor.end(), auditor.process.returncode), (None, 0))
+        with self.assertRaises(Ended):
+            auditor.round()
+
+    def test_a_program_that_is_not_there(self):
+        with self.assertRaisesRegex(Ended, "nowhere can't be started"):
+            AuditorApart(1, program="/nowhere")
 
 
 SCRIPTED = """#!{python}

@@ -206,14 +206,15 @@ START = "everything before the cut"  # a key that the first transaction of such 
 def from_start(auditor):
     """What remains as a history without a cut and without fences' own key, and the names of its transactions. Where something is forgotten,
     a first transaction stands for it: it writes the last version of each key, and every session begins with one that reads from it."""
-    gone, some_gone = (0, 0), any(auditor.marks)
+    marks, base = auditor.marks, auditor.base
+    gone, some_gone = (0, 0), any(marks)
 
     def moved(key, source):
         if source == "init" or not some_gone:
             return source
-        if source[1] >= auditor.marks[source[0]]:
-            return (source[0], source[1] - auditor.marks[source[0]] + 1)
-        return "init" if auditor.base.get(key, source) != source else gone  # an older one than the last is as wrong as the initial state
+        if source[1] >= marks[source[0]]:
+            return (source[0], source[1] - marks[source[0]] + 1)
+        return "init" if base.get(key, source) != source else gone  # an older one than the last is as wrong as the initial state
 
     def plain(key):
         return "fence" if key == FENCE else key  # what is left of a fence may be none
@@ -231,13 +232,13 @@ def from_start(auditor):
     history = [[without_cut(one) for one in txns] for txns in auditor.history]
     if not some_gone:
         return history, name
-    first = Logged((), (START, *sorted(map(plain, auditor.base))), "forgotten")
+    first = Logged((), (START, *sorted(map(plain, base))), "forgotten")
     after = Logged(((START, gone),), (), "forgotten")
 
     def renamed(id):
-        return f"{id[0]}.{id[1] - 1 + auditor.marks[id[0]]}" if id[1] else ("the cut" if id == gone else f"the cut in {id[0]}")
+        return f"{id[0]}.{id[1] - 1 + marks[id[0]]}" if id[1] else ("the cut" if id == gone else f"the cut in {id[0]}")
 
-    renamed.older = {plain(key): "in a version older than that at the cut" for key in auditor.base}
+    renamed.older = {plain(key): "in a version older than that at the cut" for key in base}
     return [[after if session else first, *txns] for session, txns in enumerate(history)], renamed
 
 

@@ -19,11 +19,12 @@ PAUSE = 0.02  # seconds, in which more transactions come: a line for each would 
 
 
 class LiveAuditor:
-    """`every` so many transactions, or after `seconds` where there were any, is a meeting and a round; `idle` for how many seconds until a
-    session is closed, where another is left for its client; `patience` for how many a meeting waits for a client; `most` how many
-    transactions may wait to be taken in before clients have to wait; `tell` is called with a line for each round."""
+    """`every` so many transactions (a quarter of that where the last meeting failed), or after `seconds` where there were any, is a meeting and a
+    round; `idle` for how many seconds until a session is closed, where another is left for its client; `patience` for how many a meeting
+    waits for a client; `most` how many transactions may wait to be taken in before clients have to wait; `tell` is called with a line for
+    each round. The auditor is an Auditor, or, so that clients are held up less, an AuditorApart."""
 
-    EVERY = 1024
+    EVERY = 2048
 
     def __init__(self, auditor, run_name="", every=EVERY, seconds=2.0, idle=30.0, patience=1.0, most=2048, tell=print):
         self.auditor, self.run_name, self.every, self.seconds, self.idle = auditor, run_name, every, seconds, idle
@@ -55,6 +56,11 @@ class LiveAuditor:
     def next_left(self):
         with self.lock:
             return self.left.popleft() if self.left else None
+
+    @property
+    def soon(self):
+        """How many transactions come before the next meeting where one fails."""
+        return max(1, self.every // 4)
 
     @property
     def handed_in(self):
@@ -129,7 +135,7 @@ class LiveAuditor:
 
     def is_due(self):
         new = self.handed_in - self.met_at
-        return new >= self.every or (new > 0 and time.monotonic() - self.met >= self.seconds)
+        return new >= (self.soon if self.why_not else self.every) or (new > 0 and time.monotonic() - self.met >= self.seconds)
 
     def take_in(self, found):
         if not found:
@@ -212,8 +218,8 @@ class LiveAuditor:
         return None
 
     def has_room(self):
-        """For as many transactions more as come before the next meeting."""
-        return self.auditor.remaining + self.waiting.qsize() + self.every < self.auditor.limit
+        """For as many transactions more as come before the next meeting, if this one fails."""
+        return self.auditor.remaining + self.waiting.qsize() + self.soon < self.auditor.limit
 
     def between(self, held):
         """What is done while all are held; or says why it isn't."""
