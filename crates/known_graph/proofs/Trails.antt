@@ -10,7 +10,7 @@ use Rattle.known_graph.specs.Bits.{HasBit}
 use Rattle.known_graph.specs.Rows.{row_at, HasAt}
 use Rattle.known_graph.specs.SavedWords.{IsSavedFrom, IsWordOf, IsSavedIn, IsMoreOf, since, HadBefore}
 use Rattle.known_graph.specs.declared.trail.Saved.{Saved}
-use Rattle.known_graph.proofs.Words.{bit_or-either}
+use Rattle.known_graph.proofs.Words.{bit_or-either, no_bit_zero}
 
 -- a word is that of a bit, or isn't
 pub cases_word : (saved : Saved) (i j : ℕ) → IsWordOf saved i j ⊎ (¬ IsWordOf saved i j)
@@ -149,6 +149,16 @@ AreSavedBelow-same rows old new row more word same below j within has = elim (ca
       let joined = (bit_or-either (get_or (row_at rows row) (j / 64) 0) (get_or more (j / 64) 0) (j % 64)).1 (inr has) in
       let here : bit_or (get_or (row_at rows row) (j / 64) 0) (get_or more (j / 64) 0) ≡ get_or (row_at rows row) (j / 64) 0 = subst (λ w. bit_or (get_or (row_at rows row) w 0) (get_or more w 0) ≡ get_or (row_at rows row) w 0) is same in
       inl (ap (λ w. bit_at w (j % 64)) (sym here) ∙ joined)
+]
+
+-- nothing has to be saved where the other row is zero
+pub AreSavedBelow-none : (rows : List (Vec ℕ Global)) (old : List Saved) (row : ℕ) (more : List ℕ) (done : ℕ) → ((k : ℕ) → k < done → get_or more k 0 ≡ 0) → AreSavedBelow rows old old row more done
+AreSavedBelow-none rows old row more done none j before has = absurd (no_bit_zero more j (none (j / 64) before) has)
+
+pub AreSavedBelow-all : (rows : List (Vec ℕ Global)) (old new : List Saved) (row : ℕ) (more : List ℕ) (done : ℕ) → ((k : ℕ) → done ≤ k → get_or more k 0 ≡ 0) → AreSavedBelow rows old new row more done → (j : ℕ) → HasBit more j → HasAt rows row j ⊎ IsSavedIn (since old new) row j
+AreSavedBelow-all rows old new row more done none below j has = elim (cases_lt (j / 64) done) [
+  | inl before ↦ below j before has
+  | inr past ↦ absurd (no_bit_zero more j (none (j / 64) past) has)
 ]
 
 -- each bit that is joined into the rows so far stands there, or its word is saved

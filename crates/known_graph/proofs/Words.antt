@@ -1,7 +1,8 @@
 -- The bits of a row after a word of it is written.
-use Rattle.std.proofs.Common.{◌≡◌, ◌≢◌, ◌⊎◌, ◌↔◌, ℕ, ◌+◌, ◌-◌, ◌*◌, ◌/◌, ◌%◌, ◌^◌, ◌<◌, ◌≤◌, List, length, get_or, set, sym, ap, subst, ◌∙◌, inl, inr, arith, w64}
+use Rattle.std.proofs.Common.{◌≡◌, ◌≢◌, ◌⊎◌, ◌↔◌, ℕ, ◌+◌, ◌-◌, ◌*◌, ◌/◌, ◌%◌, ◌^◌, ◌<◌, ◌≤◌, List, length, get_or, set, refl, sym, ap, subst, ◌∙◌, inl, inr, arith, w64}
 use Rattle.std.specs.Prelude.{bit_and, bit_or}
 use Rattle.std.specs.Int.{bit_at, trailing_zeros}
+use Rattle.std.specs.Int.Bits.{or_zero_r}
 use Rattle.std.proofs.lemmas.Bool.{cases_eq, cases_lt}
 use Rattle.std.proofs.lemmas.List.{get_or-set_same, get_or-set_other, get_or_past}
 use Rattle.std.proofs.lemmas.Nat.Bits.{bit_at_or, bit_at-lt, bit_at-zero, bit_at_set_same, bit_at_set_other, bit_at_clear_same, bit_at_clear_other, bit_at_and, bit_at_not, bit_at_above, bit_at-trailing_zeros}
@@ -100,10 +101,13 @@ module _ (row : List ℕ) (column : ℕ) (within : column / 64 < length row) whe
         ]
   ]
 
-pub no_bit : (row : List ℕ) (j : ℕ) → length row ≤ j / 64 → ¬ HasBit row j
-no_bit row j past has =
-    let none : bit_at (get_or row (j / 64) 0) (j % 64) ≡ 0 = ap (λ w. bit_at w (j % 64)) (get_or_past row (j / 64) 0 past) ∙ bit_at-zero (j % 64) in
+pub no_bit_zero : (row : List ℕ) (j : ℕ) → get_or row (j / 64) 0 ≡ 0 → ¬ HasBit row j
+no_bit_zero row j is has =
+    let none : bit_at (get_or row (j / 64) 0) (j % 64) ≡ 0 = ap (λ w. bit_at w (j % 64)) is ∙ bit_at-zero (j % 64) in
     omega (arith, none, has)
+
+pub no_bit : (row : List ℕ) (j : ℕ) → length row ≤ j / 64 → ¬ HasBit row j
+no_bit row j past = no_bit_zero row j (get_or_past row (j / 64) 0 past)
 
 -- a row whose words are joined
 pub record Joined (old more new : List ℕ) (done : ℕ) : Type 0 where
@@ -111,8 +115,9 @@ pub record Joined (old more new : List ℕ) (done : ℕ) : Type 0 where
   pub joined : (i : ℕ) → i < done → get_or new i 0 ≡ bit_or (get_or old i 0) (get_or more i 0)
   pub rest : (i : ℕ) → done ≤ i → get_or new i 0 ≡ get_or old i 0
 
-pub HasBit-joined : (old more new : List ℕ) → Joined old more new (length more) → (j : ℕ) → HasBit new j ↔ (HasBit old j ⊎ HasBit more j)
-HasBit-joined old more new is j = elim (cases_lt (j / 64) (length more)) [
+-- behind its words that are joined the other row has none
+pub HasBit-joined : (old more new : List ℕ) (done : ℕ) → ((k : ℕ) → done ≤ k → get_or more k 0 ≡ 0) → Joined old more new done → (j : ℕ) → HasBit new j ↔ (HasBit old j ⊎ HasBit more j)
+HasBit-joined old more new done none is j = elim (cases_lt (j / 64) done) [
   | inl below ↦
       let word = ap (λ w. bit_at w (j % 64)) (is.joined (j / 64) below) in
       let either = bit_or-either (get_or old (j / 64) 0) (get_or more (j / 64) 0) (j % 64) in
@@ -122,10 +127,18 @@ HasBit-joined old more new is j = elim (cases_lt (j / 64) (length more)) [
         λ has. inl (sym word ∙ has),
         λ was. elim was [
           | inl has ↦ word ∙ has
-          | inr other ↦ absurd (no_bit more j past other)
+          | inr other ↦ absurd (no_bit_zero more j (none (j / 64) past) other)
         ],
       )
 ]
+
+-- nothing is joined where the other row is zero
+pub Joined-none : (old more : List ℕ) (done : ℕ) → ((k : ℕ) → k < done → get_or more k 0 ≡ 0) → Joined old more old done
+Joined-none old more done none = record {
+  len = refl;
+  joined = λ i before. sym (ap (λ w. bit_or (get_or old i 0) w) (none i before) ∙ or_zero_r (get_or old i 0));
+  rest = λ i after. refl;
+}
 
 -- a row whose words are cleared
 pub record Zeroed (old new : List ℕ) (done : ℕ) : Type 0 where
@@ -134,9 +147,7 @@ pub record Zeroed (old new : List ℕ) (done : ℕ) : Type 0 where
 
 pub no_bit_zeroed : (old new : List ℕ) (done : ℕ) → length old ≤ done → Zeroed old new done → (j : ℕ) → ¬ HasBit new j
 no_bit_zeroed old new done all is j has = elim (cases_lt (j / 64) done) [
-  | inl below ↦
-      let none : bit_at (get_or new (j / 64) 0) (j % 64) ≡ 0 = ap (λ w. bit_at w (j % 64)) (is.zero (j / 64) below) ∙ bit_at-zero (j % 64) in
-      omega (arith, none, has)
+  | inl below ↦ no_bit_zero new j (is.zero (j / 64) below) has
   | inr past ↦ no_bit new j (omega (arith, is.len)) has
 ]
 

@@ -10,6 +10,7 @@ mod nearest;
 mod nodes;
 mod paths;
 mod rows;
+mod spans;
 mod trail;
 
 pub use bits::{clear_bit, clear_bits, has_bit, is_clear, keep_bits, or_into, set_bit};

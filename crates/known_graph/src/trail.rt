@@ -4,10 +4,12 @@ ghost use Rattle.known_graph.specs.Bits.{HasBit};
 ghost use Rattle.known_graph.specs.Rows.{row_at, HasAt, HaveSameLengths};
 ghost use Rattle.known_graph.specs.Joining.{CanJoin};
 ghost use Rattle.known_graph.specs.SavedWords.{IsWithin, IsSavedIn, AreSaved, IsMoreOf, since, HadBefore};
+ghost use Rattle.known_graph.specs.Spans.{IsSpanOf};
 
 use crate::bits::next_bit;
 use crate::joins::Joins;
 use crate::rows::words_at;
+use crate::spans::{Span, span_of};
 use std::alloc::Global;
 use txn::NoMemory;
 
@@ -124,14 +126,16 @@ fn save_row(
     rows: &[Vec<u64>],
     row: usize,
     more: &[u64],
+    span: Span,
 ) -> Result<(), NoMemory>
     requires within { row < length rows.now }
+    requires span { IsSpanOf more.now span }
     requires fits { length more.now ≡ length (row_at rows.now row) }
     ensures more { IsMoreOf rows.now saved.old.items saved.new.items }
     ensures all { OnOk result ((j : ℕ) → HasBit more.now j → HasAt rows.now row j ⊎ IsSavedIn (since saved.old.items saved.new.items) row j) }
 {
     let words = words_at(rows, row);
-    for word in 0..more.len() {
+    for word in span.front..span.behind {
         let bits = words[word];
         if !changes(bits, more[word]) {
             continue;
@@ -152,9 +156,10 @@ fn save_all(
     ensures more { IsMoreOf rows.now saved.old.items saved.new.items }
     ensures all { OnOk result (AreSaved rows.now (since saved.old.items saved.new.items) places.now more.now) }
 {
+    let span = span_of(more);
     let mut at = 0;
     while let Some(i) = next_bit(places, at) {
-        save_row(saved, rows, i, more)?;
+        save_row(saved, rows, i, more, span)?;
         at = i + 1;
     }
     Ok(())
