@@ -54,6 +54,9 @@ class Explaining(unittest.TestCase):
         base = ("x", (0, 0))
         lost = [[txn(writes="x"), txn(base, writes="x")], [txn(base, writes="x")]]
         self.assertEqual(reasons(lost, seconds=0), ["it takes more than 0 s to say why in words; the auditor's refutation says it"])
+        around = [[Logged((("x", (1, 0)),), ("y",))], [Logged((("y", (0, 0)),), ("x",))]]  # seen without what follows of other writers
+        self.assertEqual(len(reasons(around)), 3)
+        self.assertEqual(reasons(around, seconds=-1), ["it takes more than -1 s to say why in words; the auditor's refutation says it"])
 
     def test_statements_are_told_of_what_is_left(self):
         select, update = "SELECT v FROM t\n  WHERE k = 'x'", "UPDATE t SET v = v + 1 WHERE k = 'y' RETURNING name"

@@ -75,13 +75,22 @@ def forced_arcs(txns, arcs, name, ends):
                     yield Arc(other, writer, f"{read} before {name(reader)}", tuple(before))
 
 
+def circles_of(txns, arcs, ends):
+    for id in txns:
+        if time.monotonic() > ends:
+            raise TooLong
+        way = path(arcs, id, id)
+        if way:
+            yield way
+
+
 def circle(history, name=name, seconds=60):
     """Arcs that lead from a transaction back to itself, or None; raises TooLong."""
     ends = time.monotonic() + seconds
     txns = table(history)
     arcs = list(plain_arcs(txns, name))
     while True:
-        circles = [way for way in (path(arcs, id, id) for id in txns) if way]
+        circles = [*circles_of(txns, arcs, ends)]
         if circles:
             return min(circles, key=len)
         known = {(arc.start, arc.end) for arc in arcs}

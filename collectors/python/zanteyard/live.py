@@ -15,7 +15,7 @@ from .sessions import Session
 
 READS = 200  # of one transaction; the auditor takes 256
 PATIENT = 30  # times as long a meeting waits where the next one may come too late
-PAUSE = 0.02  # seconds, in which more transactions come: a line for each would have the clients wait for their interpreter
+PAUSE = 0.04  # seconds, in which more transactions come: a line for each would have the clients wait for their interpreter
 
 
 class LiveAuditor:
