@@ -1,5 +1,6 @@
 //! Cuts that are applied: what they leave, and the verdict of that.
 ghost use Rattle.std.specs.Prelude.{IfOk, Some};
+ghost use Rattle.order_check.specs.Cuts.{IsCutOff};
 ghost use Rattle.order_check.specs.Good.{IsGood};
 ghost use Rattle.settle.specs.Found.{IsFound};
 
@@ -82,16 +83,18 @@ fn rows() -> &'static [Row] {
 }
 
 /// What the cut leaves of the parts that it was found in.
-fn cut_through(alloc: Global, problem: &Problem, cut: &Cut) -> Result<Parts, NoMemory>
-    requires { IsFound problem.now.known.parts (Some cut.now) }
-    ensures { IfOk result IsGood }
+pub fn cut_through(alloc: Global, parts: &Parts, cut: &Cut) -> Result<Parts, NoMemory>
+    requires good { IsGood parts.now }
+    requires found { IsFound parts.now (Some cut.now) }
+    ensures good { IfOk result IsGood }
+    ensures cut_off { IfOk result (IsCutOff parts.now cut.now.gone) }
 {
     front_of_itself();
     settled_stays_settled();
     cuts_of_fronts_fit();
-    let mut parts = problem.parts().clone()?;
-    apply(alloc, &mut parts, cut.gone.as_slice(), &cut.last)?;
-    Ok(parts)
+    let mut left = parts.clone()?;
+    apply(alloc, &mut left, cut.gone.as_slice(), &cut.last)?;
+    Ok(left)
 }
 
 fn is_left(rt: &impl Abort, alloc: Global, parts: &Parts, row: &Row) -> Result<(), NoMemory>
@@ -112,8 +115,8 @@ fn is_cut(rt: &impl Abort, alloc: Global, problem: &Problem, row: &Row) -> Resul
     is_explained(rt, alloc, problem, row.order)?;
     match find(alloc, problem, row.order)? {
         Some(cut) => {
-            let parts = cut_through(alloc, problem, &cut)?;
-            is_left(rt, alloc, &parts, row)
+            let left = cut_through(alloc, problem.parts(), &cut)?;
+            is_left(rt, alloc, &left, row)
         }
         None => panic!(rt; "{}", row.name),
     }

@@ -5,11 +5,12 @@ ghost use Rattle.txn.specs.declared.choices.Arc.TheVariants.{Taken};
 ghost use Rattle.txn.specs.Arcs.{end_of};
 ghost use Rattle.known_graph.specs.Graphs.{HasNode};
 
+use crate::closure::Relation;
 use known_graph::{Addition, Graph};
 use std::alloc::Global;
 use std::process::Abort;
 use std::test::Fail;
-use txn::{Arc, TxnId};
+use txn::{Arc, NoMemory, TxnId};
 
 const SMALL: usize = 12;
 
@@ -73,40 +74,10 @@ fn add(
     Ok(matches!(&graph.add_arc(alloc, arc)?, Addition::Cycle(_)))
 }
 
-fn place(i: usize, j: usize) -> usize {
-    i.wrapping_mul(LARGE).wrapping_add(j)
-}
-
-// Which of up to 150 nodes reaches which, a row after another.
-fn has(reached: &[bool], i: usize, j: usize) -> bool {
-    reached.get(place(i, j)).copied() == Some(true)
-}
-
-fn note(reached: &mut [bool], i: usize, j: usize) {
-    let place = place(i, j);
-    if place < reached.len() {
-        reached[place] = true;
-    }
-}
-
-// Adds to the row of i what k reaches.
-fn join_row(reached: &mut [bool], count: usize, i: usize, k: usize) {
-    for j in 0..count {
-        if has(reached, k, j) {
-            note(reached, i, j);
-        }
-    }
-}
-
-// Warshall's closure.
-fn close(reached: &mut [bool], count: usize) {
-    for k in 0..count {
-        for i in 0..count {
-            if has(reached, i, k) {
-                join_row(reached, count, i, k);
-            }
-        }
-    }
+// No arc yet.
+fn no_pairs(alloc: Global, nodes: usize) -> Result<Relation, NoMemory> {
+    let ids: Vec<TxnId> = (0..nodes).map(id).collect(alloc)?;
+    Relation::none(alloc, ids.as_slice())
 }
 
 // Adds arcs drawn at random, to the graph and to what is reached by one arc.
@@ -114,7 +85,7 @@ fn add_drawn(
     rt: &impl Abort,
     alloc: Global,
     graph: &mut Graph,
-    reached: &mut [bool],
+    reached: &mut Relation,
     seed: u64,
     nodes: usize,
     arcs: usize,
@@ -127,17 +98,17 @@ fn add_drawn(
         let to = next(&mut state, nodes);
         if from != to {
             add(rt, alloc, graph, from, to)?;
-            note(reached, from, to);
+            reached.note((id(from), id(to)));
         }
     }
     Ok(())
 }
 
-fn assert_row(rt: &impl Abort, graph: &Graph, reached: &[bool], nodes: usize, i: usize) {
+fn assert_row(rt: &impl Abort, graph: &Graph, reached: &Relation, nodes: usize, i: usize) {
     for j in 0..nodes {
         assert_eq!(rt;
             graph.reaches(id(i), id(j)),
-            has(reached, i, j),
+            reached.contains((id(i), id(j))),
             "from {i} to {j}"
         );
     }
@@ -152,13 +123,11 @@ fn assert_closure(
     arcs: usize,
 ) -> Result<(), Fail> {
     let mut graph = with_nodes(rt, alloc, nodes)?;
-    let mut table = Vec::new(alloc);
-    table.resize(LARGE * LARGE, false)?;
-    let reached = table.as_mut_slice();
-    add_drawn(rt, alloc, &mut graph, reached, seed, nodes, arcs)?;
-    close(reached, nodes);
+    let mut reached = no_pairs(alloc, nodes)?;
+    add_drawn(rt, alloc, &mut graph, &mut reached, seed, nodes, arcs)?;
+    reached.close();
     for i in 0..nodes {
-        assert_row(rt, &graph, reached, nodes, i);
+        assert_row(rt, &graph, &reached, nodes, i);
     }
     Ok(())
 }
@@ -188,28 +157,24 @@ fn assert_drawn(
     arcs: usize,
 ) -> Result<(), Fail> {
     let mut again = with_nodes(rt, alloc, LARGE)?;
-    let mut table = Vec::new(alloc);
-    table.resize(LARGE * LARGE, false)?;
-    let reached = table.as_mut_slice();
+    let mut reached = no_pairs(alloc, LARGE)?;
     for seed in seeds {
-        add_drawn(rt, alloc, &mut again, reached, *seed, LARGE, arcs)?;
+        add_drawn(rt, alloc, &mut again, &mut reached, *seed, LARGE, arcs)?;
     }
-    close(reached, LARGE);
+    reached.close();
     for i in 0..LARGE {
-        assert_row(rt, graph, reached, LARGE, i);
+        assert_row(rt, graph, &reached, LARGE, i);
     }
     Ok(())
 }
 
 // Two marks, each with arcs behind it, to which the graph comes back.
 fn assert_backs(rt: &impl Abort, alloc: Global, graph: &mut Graph, seed: u64) -> Result<(), Fail> {
-    let mut table = Vec::new(alloc);
-    table.resize(LARGE * LARGE, false)?;
-    let unread = table.as_mut_slice();
+    let mut unread = no_pairs(alloc, 0)?;
     graph.mark()?;
-    add_drawn(rt, alloc, graph, unread, seed, LARGE, DRAWN)?;
+    add_drawn(rt, alloc, graph, &mut unread, seed, LARGE, DRAWN)?;
     graph.mark()?;
-    add_drawn(rt, alloc, graph, unread, seed ^ 1, LARGE, DRAWN)?;
+    add_drawn(rt, alloc, graph, &mut unread, seed ^ 1, LARGE, DRAWN)?;
     assert_drawn(rt, alloc, graph, &[seed, seed ^ 1], DRAWN)?;
     graph.back();
     assert_drawn(rt, alloc, graph, &[seed], DRAWN)?;

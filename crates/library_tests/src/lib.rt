@@ -2,6 +2,10 @@
 #![tactic(auto)]
 
 #[cfg(test)]
+mod arrivals;
+#[cfg(test)]
+mod closure;
+#[cfg(test)]
 mod cuts;
 #[cfg(test)]
 mod desks;
@@ -19,6 +23,8 @@ mod marks;
 mod orders;
 #[cfg(test)]
 mod plain;
+#[cfg(test)]
+mod relations;
 #[cfg(test)]
 mod scans;
 #[cfg(test)]

@@ -1,17 +1,16 @@
-//! The known relation, plainly: a list of pairs that grows until no rule gives another.
+//! The known relation, plainly: a table of pairs that grows until no rule gives another.
+use crate::closure::{Pair, Relation};
 use order_check::Parts;
 use refutation::{is_overwritten, is_silent, reads_of};
 use std::alloc::Global;
 use txn::Source::{self, By, Init};
 use txn::{Choice, NoMemory, TxnId};
 
-/// The one stands before the other.
-pub type Pair = (TxnId, TxnId);
-
 /// What is there from the start.
 #[derive(Drop)]
 pub struct Facts {
-    plain: Vec<Pair>,
+    pub ids: Vec<TxnId>,
+    pub plain: Vec<Pair>,
     pub choices: Vec<Choice>,
     bad: bool,
 }
@@ -19,7 +18,7 @@ pub struct Facts {
 fn ids_of(alloc: Global, parts: &Parts) -> Result<Vec<TxnId>, NoMemory> {
     let mut ids = Vec::new(alloc);
     for session in 0..3 {
-        for number in 0..8 {
+        for number in 0..80 {
             let id = TxnId { session, number };
             if parts.remaining_at(id).is_some() {
                 ids.push(id)?;
@@ -103,6 +102,7 @@ fn note_session(facts: &mut Facts, ids: &[TxnId], from: TxnId) -> Result<(), NoM
 pub fn facts_of(alloc: Global, parts: &Parts) -> Result<Facts, NoMemory> {
     let ids = ids_of(alloc, parts)?;
     let mut facts = Facts {
+        ids: Vec::new(alloc),
         plain: Vec::new(alloc),
         choices: Vec::new(alloc),
         bad: false,
@@ -111,64 +111,63 @@ pub fn facts_of(alloc: Global, parts: &Parts) -> Result<Facts, NoMemory> {
         note_session(&mut facts, ids.as_slice(), *id)?;
         note_reads(&mut facts, parts, ids.as_slice(), *id)?;
     }
+    facts.ids = ids;
     Ok(facts)
 }
 
-/// Adds the pairs that this one gives with those.
-fn add_joined(pairs: &mut Vec<Pair>, those: &[Pair], first: Pair) -> Result<(), NoMemory> {
-    for second in those {
-        let pair = (first.0, second.1);
-        if first.1 == second.0 && !pairs.as_slice().contains(&pair) {
-            pairs.push(pair)?;
-        }
-    }
-    Ok(())
-}
-
 /// A pair that the choice gives, and that isn't there.
-fn forced(pairs: &[Pair], choice: Choice) -> Option<Pair> {
+fn forced(known: &Relation, choice: Choice) -> Option<Pair> {
     let after = (choice.reader, choice.other);
     let before = (choice.other, choice.writer);
-    if pairs.contains(&(choice.writer, choice.other)) && !pairs.contains(&after) {
+    if known.contains((choice.writer, choice.other)) && !known.contains(after) {
         return Some(after);
     }
-    if pairs.contains(&(choice.other, choice.reader)) && !pairs.contains(&before) {
+    if known.contains((choice.other, choice.reader)) && !known.contains(before) {
         return Some(before);
     }
     None
 }
 
-/// Adds pairs that the rules give; whether there were some.
-fn grow(pairs: &mut Vec<Pair>, choices: &[Choice]) -> Result<bool, NoMemory> {
-    let those = pairs.clone()?;
-    for first in &those {
-        add_joined(pairs, those.as_slice(), *first)?;
-    }
+/// Adds the pairs that the choices give; whether there were some.
+fn grow(known: &mut Relation, choices: &[Choice]) -> bool {
+    let mut more = false;
     for choice in choices {
-        if let Some(pair) = forced(pairs.as_slice(), *choice) {
-            pairs.push(pair)?;
+        if let Some(pair) = forced(known, *choice) {
+            known.note(pair);
+            more = true;
         }
     }
-    Ok(pairs.len() > those.len())
+    more
 }
 
 /// What is known with these sides.
-pub fn known_with(facts: &Facts, sides: &[Pair]) -> Result<Vec<Pair>, NoMemory> {
-    let mut pairs = facts.plain.clone()?;
-    pairs.extend_from_slice(sides)?;
-    for _ in 0..81 {
-        if !grow(&mut pairs, facts.choices.as_slice())? {
+pub fn known_with(alloc: Global, facts: &Facts, sides: &[Pair]) -> Result<Relation, NoMemory> {
+    let mut known = Relation::none(alloc, facts.ids.as_slice())?;
+    known.note_all(facts.plain.as_slice());
+    known.note_all(sides);
+    for _ in 0..1_000_000 {
+        known.close();
+        if !grow(&mut known, facts.choices.as_slice()) {
             break;
         }
     }
-    Ok(pairs)
+    Ok(known)
 }
 
-pub fn is_open(known: &[Pair], choice: Choice) -> bool {
-    !known.contains(&(choice.writer, choice.other))
-        && !known.contains(&(choice.other, choice.reader))
-        && !known.contains(&(choice.other, choice.writer))
-        && !known.contains(&(choice.reader, choice.other))
+pub fn is_open(known: &Relation, choice: Choice) -> bool {
+    !known.contains((choice.writer, choice.other))
+        && !known.contains((choice.other, choice.reader))
+        && !known.contains((choice.other, choice.writer))
+        && !known.contains((choice.reader, choice.other))
+}
+
+/// The pair that a side of the choice is.
+pub fn side_of(choice: Choice, first: bool) -> Pair {
+    if first {
+        (choice.other, choice.writer)
+    } else {
+        (choice.reader, choice.other)
+    }
 }
 
 /// A node as it is looked at.
@@ -178,8 +177,8 @@ pub enum Node {
     Open(Choice),
 }
 
-fn node_of(facts: &Facts, known: &[Pair]) -> Node {
-    if facts.bad || known.iter().any(|pair| pair.0 == pair.1) {
+fn node_of(facts: &Facts, known: &Relation) -> Node {
+    if facts.bad || known.has_cycle() {
         return Node::Closed;
     }
     for choice in &facts.choices {
@@ -190,7 +189,7 @@ fn node_of(facts: &Facts, known: &[Pair]) -> Node {
     Node::Decided
 }
 
-pub fn look(facts: &Facts, sides: &[Pair]) -> Result<Node, NoMemory> {
-    let known = known_with(facts, sides)?;
-    Ok(node_of(facts, known.as_slice()))
+pub fn look(alloc: Global, facts: &Facts, sides: &[Pair]) -> Result<Node, NoMemory> {
+    let known = known_with(alloc, facts, sides)?;
+    Ok(node_of(facts, &known))
 }

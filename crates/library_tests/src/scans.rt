@@ -1,7 +1,8 @@
 //! A plain search, over a plain relation: what it finds within how many nodes is compared with the solver's answers, over generated
 //! histories of at most eight transactions.
+use crate::closure::Pair;
 use crate::generated::{Dice, parts_by};
-use crate::plain::{Facts, Node, Pair, facts_of, is_open, known_with, look};
+use crate::plain::{Facts, Node, facts_of, is_open, known_with, look, side_of};
 use crate::searches::{Said, problem_of, solved};
 use order_check::{Parts, find_order};
 use polygraph::{Cube, Problem, solve_cube};
@@ -16,14 +17,6 @@ fn with_side(sides: &Vec<Pair>, side: Pair) -> Result<Vec<Pair>, NoMemory> {
     Ok(more)
 }
 
-fn side_of(choice: Choice, first: bool) -> Pair {
-    if first {
-        (choice.other, choice.writer)
-    } else {
-        (choice.reader, choice.other)
-    }
-}
-
 /// What is found from these sides, and how many nodes were looked at. Nodes that wait are on a stack.
 fn scan(alloc: Global, facts: &Facts, sides: Vec<Pair>) -> Result<(Said, u64), NoMemory> {
     let mut waiting = Vec::new(alloc);
@@ -32,7 +25,7 @@ fn scan(alloc: Global, facts: &Facts, sides: Vec<Pair>) -> Result<(Said, u64), N
         let Some(sides) = waiting.pop() else {
             return Ok(("no", looked));
         };
-        match look(facts, sides.as_slice())? {
+        match look(alloc, facts, sides.as_slice())? {
             Node::Closed => {}
             Node::Decided => return Ok(("yes", looked + 1)),
             Node::Open(choice) => {
@@ -46,10 +39,10 @@ fn scan(alloc: Global, facts: &Facts, sides: Vec<Pair>) -> Result<(Said, u64), N
 
 /// The first so many open choices.
 fn first_open(alloc: Global, facts: &Facts, depth: usize) -> Result<Vec<Choice>, NoMemory> {
-    let known = known_with(facts, &[])?;
+    let known = known_with(alloc, facts, &[])?;
     let mut open = Vec::new(alloc);
     for choice in &facts.choices {
-        if open.len() < depth && is_open(known.as_slice(), *choice) {
+        if open.len() < depth && is_open(&known, *choice) {
             open.push(*choice)?;
         }
     }

@@ -100,24 +100,37 @@ fn cycle(alloc: Global, arcs: &[Arc]) -> Result<Tree, NoMemory> {
     Ok(Tree::Close(Leaf::Cycle(Sequence::new(arcs.to_vec(alloc)?))))
 }
 
-fn wants(
+fn is_judged(
     rt: &impl Abort,
     alloc: Global,
     parts: &Parts,
     tree: &Tree,
     wanted: bool,
-) -> Result<(), Fail> {
+) -> Result<(), NoMemory> {
     assert!(rt; parts.is_good());
-    assert_eq!(rt; check(alloc, parts, tree)?, wanted);
+    let refutes = check(alloc, parts, tree)?;
+    assert!(rt; refutes == wanted);
     Ok(())
+}
+
+/// Stops unless the tree, where memory sufficed to make it, refutes the table's parts as wanted.
+fn wants(
+    rt: &impl Abort,
+    alloc: Global,
+    table: &Table,
+    tree: Result<Tree, NoMemory>,
+    wanted: bool,
+) -> Result<(), NoMemory> {
+    let tree = tree?;
+    let parts = table.parts(alloc)?;
+    is_judged(rt, alloc, &parts, &tree, wanted)
 }
 
 #[test]
 fn forged_cycles_are_refused(rt: HostRuntime) -> Result<(), Fail> {
     let alloc = rt.alloc();
-    let parts = WRITE_SKEW.parts(alloc)?;
     for arcs in forged() {
-        wants(&rt, alloc, &parts, &cycle(alloc, arcs)?, false)?;
+        wants(&rt, alloc, &WRITE_SKEW, cycle(alloc, arcs), false)?;
     }
     Ok(())
 }
@@ -154,10 +167,9 @@ fn leaf(gone: bool, reader: TxnId, key: u64) -> Tree {
     }
 }
 
-fn judges(rt: &impl Abort, alloc: Global, table: &Table, rows: &[Row]) -> Result<(), Fail> {
-    let parts = table.parts(alloc)?;
+fn judges(rt: &impl Abort, alloc: Global, table: &Table, rows: &[Row]) -> Result<(), NoMemory> {
     for (gone, reader, key, wanted) in rows {
-        wants(rt, alloc, &parts, &leaf(*gone, *reader, *key), *wanted)?;
+        wants(rt, alloc, table, Ok(leaf(*gone, *reader, *key)), *wanted)?;
     }
     Ok(())
 }
@@ -165,7 +177,8 @@ fn judges(rt: &impl Abort, alloc: Global, table: &Table, rows: &[Row]) -> Result
 #[test]
 fn bad_reads_close(rt: HostRuntime) -> Result<(), Fail> {
     judges(&rt, rt.alloc(), &WRITE_SKEW, of_skew())?;
-    judges(&rt, rt.alloc(), &GONE, of_gone())
+    judges(&rt, rt.alloc(), &GONE, of_gone())?;
+    Ok(())
 }
 
 /// The two readers of the lost update, each with the other as the other writer.
@@ -230,9 +243,9 @@ fn forced(alloc: Global, side: Side) -> Result<Tree, NoMemory> {
 #[test]
 fn forced_sides_close_the_lost_update(rt: HostRuntime) -> Result<(), Fail> {
     let alloc = rt.alloc();
-    let parts = LOST_UPDATE.parts(alloc)?;
-    wants(&rt, alloc, &parts, &forced(alloc, Side::Second)?, true)?;
-    wants(&rt, alloc, &parts, &forced(alloc, Side::First)?, false)
+    wants(&rt, alloc, &LOST_UPDATE, forced(alloc, Side::Second), true)?;
+    wants(&rt, alloc, &LOST_UPDATE, forced(alloc, Side::First), false)?;
+    Ok(())
 }
 
 /// The leaves below the splits of both choices, by the cube's number.
@@ -245,23 +258,25 @@ fn leaves(alloc: Global) -> Result<Vec<Tree>, NoMemory> {
     Ok(trees)
 }
 
+fn joined(rt: &impl Abort, alloc: Global, choices: [Choice; 2]) -> Result<Tree, NoMemory> {
+    let trees = leaves(alloc)?;
+    assert!(rt; trees.len() == 4);
+    join(alloc, &choices, trees)
+}
+
 #[test]
 fn joined_leaves_close_the_lost_update(rt: HostRuntime) -> Result<(), Fail> {
     let alloc = rt.alloc();
-    let parts = LOST_UPDATE.parts(alloc)?;
-    let trees = leaves(alloc)?;
-    assert!(&rt; trees.len() == 4);
-    let tree = join(alloc, &[EARLIER, LATER], trees)?;
-    wants(&rt, alloc, &parts, &tree, true)?;
-    let trees = leaves(alloc)?;
-    assert!(&rt; trees.len() == 4);
-    let tree = join(alloc, &[LATER, EARLIER], trees)?;
-    wants(&rt, alloc, &parts, &tree, false)
+    let tree = joined(&rt, alloc, [EARLIER, LATER]);
+    wants(&rt, alloc, &LOST_UPDATE, tree, true)?;
+    let tree = joined(&rt, alloc, [LATER, EARLIER]);
+    wants(&rt, alloc, &LOST_UPDATE, tree, false)?;
+    Ok(())
 }
 
-/// The tree below so many nodes without steps.
-fn under(alloc: Global, tree: Tree, nodes: u64) -> Result<Tree, NoMemory> {
-    let mut tree = tree;
+/// The cycle of the write skew below so many nodes without steps.
+fn under(alloc: Global, nodes: u64) -> Result<Tree, NoMemory> {
+    let mut tree = cycle(alloc, &SKEWED)?;
     for _ in 0..nodes {
         tree = Tree::Force {
             steps: Sequence::new(Vec::new(alloc)),
@@ -274,11 +289,9 @@ fn under(alloc: Global, tree: Tree, nodes: u64) -> Result<Tree, NoMemory> {
 #[test]
 fn a_tree_is_at_most_4096_deep(rt: HostRuntime) -> Result<(), Fail> {
     let alloc = rt.alloc();
-    let parts = WRITE_SKEW.parts(alloc)?;
-    let deep = under(alloc, cycle(alloc, &SKEWED)?, 4096)?;
-    wants(&rt, alloc, &parts, &deep, true)?;
-    let deeper = under(alloc, deep, 1)?;
-    wants(&rt, alloc, &parts, &deeper, false)
+    wants(&rt, alloc, &WRITE_SKEW, under(alloc, 4096), true)?;
+    wants(&rt, alloc, &WRITE_SKEW, under(alloc, 4097), false)?;
+    Ok(())
 }
 
 /// So many splits below one another, turn by turn on the first side and on the second.
@@ -305,15 +318,9 @@ fn zigzag(alloc: Global, splits: u64) -> Result<Tree, NoMemory> {
 #[test]
 fn very_deep_trees_are_judged_and_let_go(rt: HostRuntime) -> Result<(), Fail> {
     let alloc = rt.alloc();
-    let parts = LOST_UPDATE.parts(alloc)?;
-    wants(&rt, alloc, &parts, &zigzag(alloc, 100_000)?, false)?;
-    wants(
-        &rt,
-        alloc,
-        &parts,
-        &under(alloc, cycle(alloc, &SKEWED)?, 100_000)?,
-        false,
-    )
+    wants(&rt, alloc, &LOST_UPDATE, zigzag(alloc, 100_000), false)?;
+    wants(&rt, alloc, &LOST_UPDATE, under(alloc, 100_000), false)?;
+    Ok(())
 }
 
 /// How many steps, splits and leaves a tree has that isn't deep.
@@ -366,27 +373,40 @@ fn idle_split(alloc: Global) -> Result<Tree, NoMemory> {
     halves(alloc, EARLIER, first, forced_twice(alloc)?)
 }
 
+/// Stops unless the tree refutes the parts, and so many items of it are left once it is shortened.
+fn is_shortened(
+    rt: &impl Abort,
+    alloc: Global,
+    parts: &Parts,
+    tree: Tree,
+    wanted: u64,
+) -> Result<(), NoMemory> {
+    assert!(rt; parts.is_good());
+    let refutes = check(alloc, parts, &tree)?;
+    assert!(rt; refutes);
+    let short = shortened(alloc, parts, tree)?;
+    assert!(rt; items_of(&short) == wanted);
+    Ok(())
+}
+
 fn shortens(
     rt: &impl Abort,
     alloc: Global,
     table: &Table,
-    tree: Tree,
+    tree: Result<Tree, NoMemory>,
     wanted: u64,
-) -> Result<(), Fail> {
+) -> Result<(), NoMemory> {
+    let tree = tree?;
     let parts = table.parts(alloc)?;
-    assert!(rt; parts.is_good());
-    assert!(rt; check(alloc, &parts, &tree)?);
-    let short = shortened(alloc, &parts, tree)?;
-    assert_eq!(rt; items_of(&short), wanted);
-    Ok(())
+    is_shortened(rt, alloc, &parts, tree, wanted)
 }
 
 #[test]
 fn what_plays_no_part_is_left_out(rt: HostRuntime) -> Result<(), Fail> {
     let alloc = rt.alloc();
-    let deep = under(alloc, cycle(alloc, &SKEWED)?, 4096)?;
-    shortens(&rt, alloc, &WRITE_SKEW, deep, 1)?;
-    shortens(&rt, alloc, &LOST_UPDATE, forced_twice(alloc)?, 3)?;
-    shortens(&rt, alloc, &LOST_UPDATE, idle_split(alloc)?, 3)?;
-    shortens(&rt, alloc, &LOST_UPDATE, ladder(alloc, 4095)?, 5)
+    shortens(&rt, alloc, &WRITE_SKEW, under(alloc, 4096), 1)?;
+    shortens(&rt, alloc, &LOST_UPDATE, forced_twice(alloc), 3)?;
+    shortens(&rt, alloc, &LOST_UPDATE, idle_split(alloc), 3)?;
+    shortens(&rt, alloc, &LOST_UPDATE, ladder(alloc, 4095), 5)?;
+    Ok(())
 }
