@@ -5,10 +5,11 @@ Run at the top of the repository:
 
     python3 bench/relation.py
 
-It puts bench/relation, a program over txn, order_check and forced_choices, into a repository of its own in a temporary folder, proves and
+It puts bench/relation, a program over the libraries up to settle and truncate, into a repository of its own in a temporary folder, proves and
 builds it there (many minutes, where the libraries below it aren't proved yet), and runs it over generated histories of 8 sessions: the relation
-made of the whole, its open choices, a branch of it, and the same relation made transaction by transaction. Each time is the least of
-three. How fast the machine copies memory stands beside. With a program's path it is that which runs.
+made of the whole, its open choices, a branch of it; the same relation made transaction by transaction and in fragments of 64, in the order in
+which the store fills these; and what a cut of its first half leaves of it, where all sessions make two fences in the middle. Each time is the
+least of three. How fast the machine copies memory stands beside. With a program's path it is that which runs.
 """
 import pathlib
 import shutil
@@ -19,15 +20,12 @@ import time
 
 import histories
 
-LOW = ["txn", "order_check", "known_graph", "forced_choices"]
-CRATES = """txn: thiserror
-order_check: txn
-known_graph: txn slab
-forced_choices: txn order_check known_graph
-relation: txn order_check forced_choices
-"""
-WHOLE = [500, 1000, 2048, 4096]
-ONE_BY_ONE = [500, 1000]
+LOW = ["txn", "order_check", "known_graph", "forced_choices", "fence_chain", "refutation", "polygraph", "settle", "truncate"]
+SIZES = [500, 1000, 2048, 4096]
+LARGE = [2048, 4096]
+# What the program is to time.
+WHOLE, ONE_BY_ONE, FRAGMENTS, CUT = range(4)
+SESSIONS, KEYS, FRAGMENT = 8, 400, 64
 
 
 def lay_out(top, folder):
@@ -39,7 +37,10 @@ def lay_out(top, folder):
         copy.parent.mkdir(parents=True, exist_ok=True)
         shutil.copy(path, copy)
     shutil.copy(top / "HANDLES", folder / "HANDLES")
-    (folder / "crates.txt").write_text(CRATES, encoding="ascii")
+    lines = (top / "crates.txt").read_text(encoding="ascii").splitlines()
+    wanted = [line for line in lines if line.split(":")[0] in LOW]
+    wanted.append("relation: txn order_check forced_choices polygraph settle truncate")
+    (folder / "crates.txt").write_text("\n".join(wanted) + "\n", encoding="ascii")
     return crates / "relation"
 
 
@@ -52,15 +53,39 @@ def line_of(session, reads, writes):
     return " ".join(words)
 
 
-def history(kind, transactions, one_by_one, sessions=8, keys=400):
-    """The program's input: what is timed, and then the transactions in the order of the store."""
-    store = histories.Store(sessions, 1, 0)
-    lines = ["1" if one_by_one else "0"]
-    for _ in range(transactions):
-        session = store.random.randrange(sessions)
-        store.execute(session, *histories.KINDS[kind](store.random, keys))
-        lines.append(line_of(session, *store.logs[session][-1]))
-    return "\n".join(lines) + "\n"
+def store_of(kind, transactions, meet):
+    """A store with a history, and who made which transaction: as many of each session, and where they meet, two fences of each in the middle."""
+    store = histories.Store(SESSIONS, 1, 0)
+    drawn = [number % SESSIONS for number in range(transactions - 2 * SESSIONS * meet)]
+    store.random.shuffle(drawn)
+    fences = [*range(SESSIONS), *range(SESSIONS)] * meet
+    half = len(drawn) // 2
+    for session in drawn[:half]:
+        store.execute(session, *histories.KINDS[kind](store.random, KEYS))
+    for session in fences:
+        store.execute(session, [0], [0])
+    for session in drawn[half:]:
+        store.execute(session, *histories.KINDS[kind](store.random, KEYS))
+    return store, drawn[:half] + fences + drawn[half:]
+
+
+def in_fragments(sessions):
+    """The order in which fragments come, each when it is full."""
+    waiting, order = [0] * SESSIONS, []
+    for session in sessions:
+        waiting[session] += 1
+        if waiting[session] == FRAGMENT:
+            order += [session] * FRAGMENT
+            waiting[session] = 0
+    return order + [session for session in range(SESSIONS) for _ in range(waiting[session])]
+
+
+def history(kind, transactions, timed):
+    """The program's input: what is timed, and then the transactions."""
+    store, sessions = store_of(kind, transactions, timed == CUT)
+    logs = [iter(log) for log in store.logs]
+    order = in_fragments(sessions) if timed == FRAGMENTS else sessions
+    return "\n".join([str(timed), *(line_of(session, *next(logs[session])) for session in order)]) + "\n"
 
 
 def peak_of(process):
@@ -95,16 +120,17 @@ def table(program):
     print("| Kind | Transactions | Made of the whole, ms | Sides forced | Open choices | Listing them, ms | A branch, ms | Its first open choice, ms | Peak, MiB |")
     print("|---|---|---|---|---|---|---|---|---|")
     for kind in histories.KINDS:
-        for count in WHOLE:
-            told, peak = least(program, history(kind, count, False))
+        for count in SIZES:
+            told, peak = least(program, history(kind, count, WHOLE))
             times = {name: f"{told[name] / 1000:.1f}" for name in ["of", "open_choices", "branch", "first_open"]}
-            print(f"| {kind} | {count:,} | {times['of']} | {told['forced']:,} | {told['open']:,} | {times['open_choices']} | {times['branch']} | {times['first_open']} | {peak:.0f} |")
-    print("\n| Kind | Transactions | Made one by one, s | Sides forced |")
-    print("|---|---|---|---|")
+            print(f"| {kind} | {count:,} | {times['of']} | {told['forced']:,} | {told['open']:,} | {times['open_choices']} | {times['branch']} | {times['first_open']} | {peak:.0f} |", flush=True)
+    print("\n| Kind | Transactions | Made one by one, s | In fragments of 64, s | Sides forced | Cut in the middle, ms | Gone |")
+    print("|---|---|---|---|---|---|---|")
     for kind in histories.KINDS:
-        for count in ONE_BY_ONE:
-            told, _ = least(program, history(kind, count, True))
-            print(f"| {kind} | {count:,} | {told['add'] / 1e6:.2f} | {told['forced']:,} |")
+        for count in LARGE:
+            one, together, cut = (least(program, history(kind, count, timed))[0] for timed in [ONE_BY_ONE, FRAGMENTS, CUT])
+            cut_in = f"{cut['cut'] / 1000:.1f}" if "cut" in cut else "none"
+            print(f"| {kind} | {count:,} | {one['add'] / 1e6:.2f} | {together['add'] / 1e6:.2f} | {one['forced']:,} | {cut_in} | {cut['gone']:,} |", flush=True)
 
 
 def main():
