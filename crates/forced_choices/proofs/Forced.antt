@@ -1,7 +1,9 @@
 -- Sides forced one after another: their steps grow in number, no more than there are pairs of ids.
-use Rattle.std.proofs.Common.{◌≡◌, ◌≢◌, ℕ, ◌+◌, ◌≤◌, ◌⊎◌, List, [], ◌∷◌, ◌++◌, Option, length, refl, sym, ap, ◌∙◌, inl, inr, subst, suc, arith}
+use Rattle.std.proofs.Common.{◌≡◌, ◌≢◌, ℕ, ◌+◌, ◌/◌, ◌%◌, ◌≤◌, ◌⊎◌, get_or, List, [], ◌∷◌, ◌++◌, Option, length, refl, sym, ap, ◌∙◌, inl, inr, subst, suc, arith}
 use Rattle.std.specs.Prelude.{⊤, map}
 use Rattle.std.specs.List.{flat_map}
+use Rattle.std.specs.Int.{bit_at}
+use Rattle.std.proofs.lemmas.Bool.{cases_eq}
 use Rattle.std.proofs.lemmas.List.{append_assoc}
 use Rattle.txn.specs.declared.transactions.TxnId.{TxnId}
 use Rattle.txn.specs.declared.choices.Arc.{Arc}
@@ -21,11 +23,11 @@ use Rattle.forced_choices.specs.Listing.{all_ids, reads_of, choices_of_read, cho
 use Rattle.forced_choices.specs.Rules.{arc_of_side, conclusion}
 use Rattle.order_check.specs.Based.{Remains}
 use Rattle.forced_choices.specs.declared.touched.Touched.{Touched}
-use Rattle.forced_choices.specs.Touching.{AreNoted}
+use Rattle.forced_choices.specs.Touching.{AreNoted, IsTouchedIn, MayBeJoined}
 use Rattle.forced_choices.proofs.Touches.{noted_none, noted_both, touched_same, touched_more}
 use Rattle.forced_choices.proofs.Members.{In, in_either, in_right, flat_map_in, map_in}
 use Rattle.forced_choices.proofs.ListedIds.{remaining_listed}
-use Rattle.forced_choices.proofs.ListedChoices.{choice_listed, writer_remains, reader_remains}
+use Rattle.forced_choices.proofs.ListedChoices.{writer_remains, reader_remains}
 use Rattle.forced_choices.proofs.Linked.{reaches_more, reaches_by}
 
 -- one side more
@@ -84,19 +86,31 @@ on_kept old new rule nodes on = record {
   apart = on.apart;
 }
 
--- what is there stays there, where it isn't touched
-pub there_still : (nodes : List (Option TxnId)) (arcs : List Arc) (old : Touched) (new : List Arc) (then : Touched) (choice : Choice) (i j : ℕ) (side : Side) → AreNoted nodes arcs old new then → ((a b : TxnId) → Reaches arcs a b → Reaches new a b) → IsAt nodes i choice.writer → IsAt nodes j choice.reader → (¬ HasBit then.sources.items i) → (¬ HasBit then.targets.items j) → IsThere arcs (record { choice = choice; side = side }) → IsThere new (record { choice = choice; side = side })
-there_still nodes arcs old new then choice i j Second noted more at_writer at_reader no_source no_target there ready = more choice.reader choice.other (there (noted.onto i choice.writer choice.other at_writer no_source ready))
-there_still nodes arcs old new then choice i j First noted more at_writer at_reader no_source no_target there ready = more choice.other choice.writer (there (noted.from j choice.other choice.reader at_reader no_target ready))
+-- what wasn't joined was reached before
+pub joined_before : (nodes : List (Option TxnId)) (arcs : List Arc) (old : Touched) (new : List Arc) (then : Touched) (i j : ℕ) (a b : TxnId) → AreNoted nodes arcs old new then → IsAt nodes i a → IsAt nodes j b → (¬ MayBeJoined then i j) → Reaches new a b → Reaches arcs a b
+joined_before nodes arcs old new then i j a b noted at_a at_b apart r = by_bit (cases_eq (bit_at (get_or then.sources.items (i / 64) 0) (i % 64)) 1)
+  where
+    by_bit : HasBit then.sources.items i ⊎ (¬ HasBit then.sources.items i) → Reaches arcs a b
+    by_bit (inl has) = noted.from j a b at_b (λ hit. apart (has, hit)) r
+    by_bit (inr none) = noted.onto i a b at_a none r
+
+-- what is there stays there, where nothing that rules a side out was joined
+pub there_still : (nodes : List (Option TxnId)) (arcs : List Arc) (old : Touched) (new : List Arc) (then : Touched) (choice : Choice) (i j k : ℕ) (side : Side) → AreNoted nodes arcs old new then → ((a b : TxnId) → Reaches arcs a b → Reaches new a b) → IsAt nodes i choice.writer → IsAt nodes j choice.reader → IsAt nodes k choice.other → (¬ MayBeJoined then i k) → (¬ MayBeJoined then k j) → IsThere arcs (record { choice = choice; side = side }) → IsThere new (record { choice = choice; side = side })
+there_still nodes arcs old new then choice i j k Second noted more at_writer at_reader at_other no_after no_before there ready = more choice.reader choice.other (there (joined_before nodes arcs old new then i k choice.writer choice.other noted at_writer at_other no_after ready))
+there_still nodes arcs old new then choice i j k First noted more at_writer at_reader at_other no_after no_before there ready = more choice.other choice.writer (there (joined_before nodes arcs old new then k j choice.other choice.reader noted at_other at_reader no_before ready))
+
+-- what may be joined now may be later
+joined_later : (some more : Touched) (i j : ℕ) → IsTouchedIn some more → (¬ MayBeJoined more i j) → ¬ MayBeJoined some i j
+joined_later some more i j stay none has = none (stay.sources i has.0, stay.targets j has.1)
 
 pub settled_still : (parts : Parts) (nodes : List (Option TxnId)) (middle then : Stage) (choice : Choice) → Continues parts nodes middle then → IsSettledUnless nodes middle.arcs middle.touched choice → IsSettledUnless nodes then.arcs then.touched choice
-settled_still parts nodes middle then choice on settled i j at_writer at_reader no_source no_target side =
-    there_still nodes middle.arcs middle.touched then.arcs then.touched choice i j side on.noted (λ a b r. forces_reach parts middle.arcs middle.log then.arcs then.log a b on.forces r) at_writer at_reader no_source no_target
-    (settled i j at_writer at_reader (λ has. no_source (on.noted.stay.sources i has)) (λ has. no_target (on.noted.stay.targets j has)) side)
+settled_still parts nodes middle then choice on settled i j k at_writer at_reader at_other no_read no_after no_before side =
+    there_still nodes middle.arcs middle.touched then.arcs then.touched choice i j k side on.noted (λ a b r. forces_reach parts middle.arcs middle.log then.arcs then.log a b on.forces r) at_writer at_reader at_other no_after no_before
+    (settled i j k at_writer at_reader at_other (joined_later middle.touched then.touched i j on.noted.stay no_read) (joined_later middle.touched then.touched i k on.noted.stay no_after) (joined_later middle.touched then.touched k j on.noted.stay no_before) side)
 
 pub all_there_still : (parts : Parts) (nodes : List (Option TxnId)) (start then : Stage) (choice : Choice) → Continues parts nodes start then → ((side : Side) → IsThere start.arcs (record { choice = choice; side = side })) → IsSettledUnless nodes then.arcs then.touched choice
-all_there_still parts nodes start then choice on there i j at_writer at_reader no_source no_target side =
-    there_still nodes start.arcs start.touched then.arcs then.touched choice i j side on.noted (λ a b r. forces_reach parts start.arcs start.log then.arcs then.log a b on.forces r) at_writer at_reader no_source no_target (there side)
+all_there_still parts nodes start then choice on there i j k at_writer at_reader at_other no_read no_after no_before side =
+    there_still nodes start.arcs start.touched then.arcs then.touched choice i j k side on.noted (λ a b r. forces_reach parts start.arcs start.log then.arcs then.log a b on.forces r) at_writer at_reader at_other no_after no_before (there side)
 
 -- looking at one side after another, and at choices after choices
 pub looked_none : (parts : Parts) (nodes : List (Option TxnId)) (here : Stage) → HasLooked parts nodes here here []
@@ -108,10 +122,10 @@ looked_sides parts nodes start middle then choice second first = record {
   settled = λ other h. by_choice other h;
 }
   where
-    by_side : (i j : ℕ) → IsAt nodes i choice.writer → IsAt nodes j choice.reader → (¬ HasBit then.touched.sources.items i) → (¬ HasBit then.touched.targets.items j) → (side : Side) → IsThere then.arcs (record { choice = choice; side = side })
-    by_side i j at_writer at_reader no_source no_target Second =
-        there_still nodes middle.arcs middle.touched then.arcs then.touched choice i j Second first.continues.noted (λ a b r. forces_reach parts middle.arcs middle.log then.arcs then.log a b first.continues.forces r) at_writer at_reader no_source no_target second.there
-    by_side i j at_writer at_reader no_source no_target First = first.there
+    by_side : (i j k : ℕ) → IsAt nodes i choice.writer → IsAt nodes j choice.reader → IsAt nodes k choice.other → (¬ MayBeJoined then.touched i j) → (¬ MayBeJoined then.touched i k) → (¬ MayBeJoined then.touched k j) → (side : Side) → IsThere then.arcs (record { choice = choice; side = side })
+    by_side i j k at_writer at_reader at_other no_read no_after no_before Second =
+        there_still nodes middle.arcs middle.touched then.arcs then.touched choice i j k Second first.continues.noted (λ a b r. forces_reach parts middle.arcs middle.log then.arcs then.log a b first.continues.forces r) at_writer at_reader at_other no_after no_before second.there
+    by_side i j k at_writer at_reader at_other no_read no_after no_before First = first.there
 
     by_choice : (other : Choice) → In (choice ∷ []) other → IsSettledUnless nodes then.arcs then.touched other
     by_choice other (inl same) = subst (λ c. IsSettledUnless nodes then.arcs then.touched c) same by_side
@@ -224,16 +238,17 @@ choices_more parts ids [] reader = refl
 choices_more parts ids (one ∷ readers) reader = ap (λ more. flat_map (choices_of_read parts ids one) (reads_of parts one) ++ more) (choices_more parts ids readers reader) ∙ sym (append_assoc (flat_map (choices_of_read parts ids one) (reads_of parts one)) (choices_of parts ids readers) (choices_of parts ids (reader ∷ [])))
 
 -- what isn't touched is settled once all reads were looked at; where nothing was forced, nothing is touched
-pub all_settled : (parts : Parts) (nodes : List (Option TxnId)) (start then : Stage) → HasLooked parts nodes start then (choices_of parts (all_ids parts) (all_ids parts)) → AreAllSettledUnless parts nodes then.arcs then.touched
-all_settled parts nodes start then looked choice is = looked.settled choice (choice_listed parts choice is)
+pub all_settled : (parts : Parts) (nodes : List (Option TxnId)) (start then : Stage) (choices : List Choice) → ((choice : Choice) → IsChoice parts choice → In choices choice) → HasLooked parts nodes start then choices → AreAllSettledUnless parts nodes then.arcs then.touched
+all_settled parts nodes start then choices all looked choice is = looked.settled choice (all choice is)
 
 pub closed_of : (parts : Parts) (nodes : List (Option TxnId)) (arcs : List Arc) (some : Touched) → ((id : TxnId) → Remains parts id → HasKey nodes id) → AreAllSettledUnless parts nodes arcs some → ((i : ℕ) → ¬ HasBit some.sources.items i) → ((j : ℕ) → ¬ HasBit some.targets.items j) → IsClosed parts arcs
 closed_of parts nodes arcs some there settled no_source no_target rule is =
     let writer = there rule.choice.writer (writer_remains parts rule.choice.writer rule.choice.key is.written) in
     let reader = there rule.choice.reader (reader_remains parts rule.choice.reader rule.choice.key (By rule.choice.writer) is.reads) in
-    settled rule.choice is writer.0 reader.0 writer.1 reader.1 (no_source writer.0) (no_target reader.0) rule.side
+    let other = there rule.choice.other (writer_remains parts rule.choice.other rule.choice.key is.other) in
+    settled rule.choice is writer.0 reader.0 other.0 writer.1 reader.1 other.1 (λ has. no_source writer.0 has.0) (λ has. no_source writer.0 has.0) (λ has. no_source other.0 has.0) rule.side
 
 -- one more arc leaves what was closed settled, unless it is touched
 pub settled_after : (parts : Parts) (nodes : List (Option TxnId)) (arcs : List Arc) (old : Touched) (arc : Arc) (then : Touched) → IsClosed parts arcs → AreNoted nodes arcs old (arcs ++ arc ∷ []) then → AreAllSettledUnless parts nodes (arcs ++ arc ∷ []) then
-settled_after parts nodes arcs old arc then closed noted choice is i j at_writer at_reader no_source no_target side =
-    there_still nodes arcs old (arcs ++ arc ∷ []) then choice i j side noted (λ a b r. reaches_more arcs arc a b r) at_writer at_reader no_source no_target (closed (record { choice = choice; side = side }) is)
+settled_after parts nodes arcs old arc then closed noted choice is i j k at_writer at_reader at_other no_read no_after no_before side =
+    there_still nodes arcs old (arcs ++ arc ∷ []) then choice i j k side noted (λ a b r. reaches_more arcs arc a b r) at_writer at_reader at_other no_after no_before (closed (record { choice = choice; side = side }) is)

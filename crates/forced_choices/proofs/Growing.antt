@@ -76,7 +76,7 @@ base_more : (parts more : Parts) (key : ℕ) (source : Source) → AreMore parts
 base_more parts more key Init are h = are.base key ∙ h
 base_more parts more key (By writer) are h = are.base key ∙ h
 
-base_less : (parts more : Parts) (key : ℕ) (source : Source) → AreMore parts more → IsBaseSource more key source → IsBaseSource parts key source
+pub base_less : (parts more : Parts) (key : ℕ) (source : Source) → AreMore parts more → IsBaseSource more key source → IsBaseSource parts key source
 base_less parts more key Init are h = sym (are.base key) ∙ h
 base_less parts more key (By writer) are h = sym (are.base key) ∙ h
 

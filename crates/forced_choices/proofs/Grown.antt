@@ -1,6 +1,8 @@
 -- A relation that has grown: what holds as its new arcs are added, and what they leave settled.
-use Rattle.std.proofs.Common.{◌≡◌, ◌⊎◌, ◌∷◌, ◌++◌, [], Bool, true, false, List, Option, get_or, refl, sym, inl, inr, subst, arith}
-use Rattle.std.specs.Prelude.{All, filter}
+use Rattle.std.proofs.Common.{◌≡◌, ◌≢◌, ◌⊎◌, ◌∷◌, ◌++◌, [], ◌∙◌, Bool, true, false, List, Option, Some, None, get_or, refl, sym, inl, inr, subst, arith}
+use Rattle.std.specs.Prelude.{All, ◌↔◌, slice_index_or}
+use Rattle.std.proofs.lemmas.Bool.{cases_eq}
+use Rattle.std.proofs.lemmas.List.{append_assoc, append-nil}
 use Rattle.txn.specs.declared.transactions.TxnId.{TxnId}
 use Rattle.txn.specs.declared.choices.Arc.{Arc}
 use Rattle.txn.specs.declared.choices.Arc.TheVariants.{Session, Read, Base, Taken}
@@ -13,23 +15,23 @@ use Rattle.order_check.specs.Based.{Remains}
 use Rattle.order_check.specs.Good.{IsGood}
 use Rattle.order_check.specs.Cycles.{Sides, IsArc, sides_after}
 use Rattle.order_check.specs.Known.{Known}
-use Rattle.known_graph.specs.Graphs.{GraphState, HasNode}
+use Rattle.known_graph.specs.Graphs.{GraphState, HasKey, HasNode, IsAt, IsPut}
 use Rattle.known_graph.specs.Reach.{Reaches, by_arc, through}
 use Rattle.forced_choices.specs.declared.touched.Touched.{Touched}
 use Rattle.forced_choices.specs.Between.{IsBetween}
-use Rattle.forced_choices.specs.Forcing.{IsReady, IsThere, Forces, IsClosed, AreAllSettledUnless}
-use Rattle.forced_choices.specs.Growth.{AreMore, LooksBack, is_fresh}
+use Rattle.forced_choices.specs.Forcing.{IsReady, IsThere, Forces, unforced, forced, taken_arc, IsClosed, AreAllSettledUnless}
+use Rattle.forced_choices.specs.Growth.{GoesOn, NodesStay, is_fresh}
 use Rattle.forced_choices.specs.Kept.{IsKept}
 use Rattle.forced_choices.specs.SoFar.{IsSoFar}
 use Rattle.forced_choices.specs.Touching.{AreNoted}
-use Rattle.forced_choices.proofs.Forced.{there_still}
+use Rattle.forced_choices.proofs.Forced.{there_still, joined_before}
 use Rattle.forced_choices.proofs.Growing.{known_grows, arc_grows, forced_grow, choice_less}
 use Rattle.forced_choices.proofs.KnownRemain.{known_listed}
 use Rattle.forced_choices.proofs.Linked.{reaches_by, links_known}
 use Rattle.forced_choices.proofs.ListedArcs.{plain_arcs, plain_right, read_listed, arc_apart, arc_remains}
 use Rattle.forced_choices.proofs.ListedIds.{listed_remains}
 use Rattle.forced_choices.proofs.LookingBack.{ends_remain, all_back, plain_before, new_grow}
-use Rattle.forced_choices.proofs.Members.{In, in_from_contains, contains_from_in, in_place, in_left, in_right, in_either, in_filter, filter_in}
+use Rattle.forced_choices.proofs.Members.{In, in_from_contains, contains_from_in, in_place, in_left, in_right, in_either}
 use Rattle.forced_choices.proofs.SaturationLaws.{IsEnd, forces_so_far, full_log, exact}
 
 -- reachability over more arcs
@@ -76,32 +78,38 @@ right_known : (parts : Parts) (arc : Arc) → IsArc parts [] arc → Known parts
 right_known parts arc right = links_known parts [] [] (start_of arc) (end_of arc) (λ side h. absurd h) (arc, [], refl, right, refl)
 
 -- what holds of the relation holds with the fresh arcs
-so_far_grown : (parts more : Parts) (arcs fresh : List Arc) (log : List ForceStep) → AreMore parts more → fresh ≡ filter (is_fresh parts) (plain_arcs more) → All (LooksBack parts) fresh → IsSoFar parts [] [] arcs log → IsSoFar more [] [] (arcs ++ fresh) log
-so_far_grown parts more arcs fresh log are same back so = record {
+so_far_grown : (parts more : Parts) (graph : GraphState) (fresh : List Arc) (log : List ForceStep) → GoesOn parts more graph log fresh → IsSoFar more [] [] (graph.arcs ++ fresh) log
+so_far_grown parts more graph fresh log goes = record {
   right = λ arc h. by_right arc (in_either arcs fresh arc h);
   known = λ arc h. by_known arc (in_either arcs fresh arc h);
   plain = λ arc h. by_test arc (is_fresh parts arc) refl h;
   there = λ side h. absurd h;
-  sides = λ side h. known_grows parts more [] side.0 side.1 are (so.sides side h);
+  sides = λ side h. known_grows parts more [] side.0 side.1 goes.are (so.sides side h);
   reached = λ side h. reaches_on arcs fresh side.0 side.1 (so.reached side h);
-  steps = forced_grow parts more [] log are so.steps;
-  new = new_grow parts more [] log are (λ side h. absurd h) (all_back parts (plain_arcs more) fresh same back) so.steps so.new;
+  steps = forced_grow parts more [] log goes.are so.steps;
+  new = new_grow parts more [] log goes.are (λ side h. absurd h) (all_back parts more fresh goes.arcs goes.back) so.steps so.new;
 }
   where
+    arcs : List Arc
+    arcs = graph.arcs
+
+    so : IsSoFar parts [] [] graph.arcs log
+    so = goes.kept.relation.so_far
+
     fresh_right : (arc : Arc) → In fresh arc → IsArc more [] arc
-    fresh_right arc h = plain_right more arc (in_filter (is_fresh parts) (plain_arcs more) arc (subst (λ xs. In xs arc) same h)).0
+    fresh_right arc h = plain_right more arc (goes.arcs.right arc h)
 
     by_right : (arc : Arc) → In arcs arc ⊎ In fresh arc → IsArc more (sides_after [] log) arc
-    by_right arc (inl h) = arc_grows parts more (sides_after [] log) arc are (so.right arc h)
+    by_right arc (inl h) = arc_grows parts more (sides_after [] log) arc goes.are (so.right arc h)
     by_right arc (inr h) = right_any more (sides_after [] log) arc (fresh_right arc h)
 
     by_known : (arc : Arc) → In arcs arc ⊎ In fresh arc → Known more [] (start_of arc) (end_of arc)
-    by_known arc (inl h) = known_grows parts more [] (start_of arc) (end_of arc) are (so.known arc h)
+    by_known arc (inl h) = known_grows parts more [] (start_of arc) (end_of arc) goes.are (so.known arc h)
     by_known arc (inr h) = right_known more arc (fresh_right arc h)
 
     by_test : (arc : Arc) (t : Bool) → is_fresh parts arc ≡ t → In (plain_arcs more) arc → In (arcs ++ fresh) arc
-    by_test arc true e h = in_right arcs fresh arc (subst (λ xs. In xs arc) (sym same) (filter_in (is_fresh parts) (plain_arcs more) arc h e))
-    by_test arc false e h = let ends = ends_remain parts arc e in in_left arcs fresh arc (so.plain arc (plain_before parts more arc are h ends.0 ends.1))
+    by_test arc true e h = in_right arcs fresh arc (goes.arcs.all arc h e)
+    by_test arc false e h = let ends = ends_remain parts arc e in in_left arcs fresh arc (so.plain arc (plain_before parts more arc goes.are h ends.0 ends.1))
 
 -- what reaches and what is reached remains
 reached_remain : (parts : Parts) (graph : GraphState) (log : List ForceStep) (a b : TxnId) → IsKept parts graph log → Reaches graph.arcs a b → Remains parts a × Remains parts b
@@ -109,16 +117,19 @@ reached_remain parts graph log a b kept r =
     let listed = known_listed parts log [] graph a b kept.relation ((kept.exact a b).0 r) in
     (listed_remains parts a (in_from_contains _ a listed.0), listed_remains parts b (in_from_contains _ b listed.1))
 
--- where neither the writer nor the reader of a choice is touched, it was a choice, and was settled
-pub settled_grown : (parts more : Parts) (graph : GraphState) (log : List ForceStep) (nodes : List (Option TxnId)) (fresh : List Arc) (none since : Touched) → AreMore parts more → fresh ≡ filter (is_fresh parts) (plain_arcs more) → All (LooksBack parts) fresh → IsKept parts graph log → AreNoted nodes graph.arcs none (graph.arcs ++ fresh) since → AreAllSettledUnless more nodes (graph.arcs ++ fresh) since
-settled_grown parts more graph log nodes fresh none since are same back kept noted choice is i j at_writer at_reader no_source no_target side =
-    there_still nodes graph.arcs none (graph.arcs ++ fresh) since choice i j side noted (λ a b r. reaches_on graph.arcs fresh a b r) at_writer at_reader no_source no_target (was_there side)
+-- where nothing that concerns a choice was joined, it was a choice, and was settled
+pub settled_grown : (parts more : Parts) (graph : GraphState) (log : List ForceStep) (nodes : List (Option TxnId)) (fresh : List Arc) (none since : Touched) → GoesOn parts more graph log fresh → AreNoted nodes graph.arcs none (graph.arcs ++ fresh) since → AreAllSettledUnless more nodes (graph.arcs ++ fresh) since
+settled_grown parts more graph log nodes fresh none since goes noted choice is i j k at_writer at_reader at_other no_read no_after no_before side =
+    there_still nodes graph.arcs none (graph.arcs ++ fresh) since choice i j k side noted (λ a b r. reaches_on graph.arcs fresh a b r) at_writer at_reader at_other no_after no_before (was_there side)
   where
+    kept : IsKept parts graph log
+    kept = goes.kept
+
     grown : IsSoFar more [] [] (graph.arcs ++ fresh) log
-    grown = so_far_grown parts more graph.arcs fresh log are same back kept.relation.so_far
+    grown = so_far_grown parts more graph fresh log goes
 
     was_read : Reaches graph.arcs choice.writer choice.reader
-    was_read = noted.onto i choice.writer choice.reader at_writer no_source (reaches_by (graph.arcs ++ fresh) (Read choice.key choice.writer choice.reader) (grown.plain (Read choice.key choice.writer choice.reader) (read_listed more choice.reader choice.writer choice.key is.reads is.written)))
+    was_read = joined_before nodes graph.arcs none (graph.arcs ++ fresh) since i j choice.writer choice.reader noted at_writer at_reader no_read (reaches_by (graph.arcs ++ fresh) (Read choice.key choice.writer choice.reader) (grown.plain (Read choice.key choice.writer choice.reader) (read_listed more choice.reader choice.writer choice.key is.reads is.written)))
 
     ends : Remains parts choice.writer × Remains parts choice.reader
     ends = reached_remain parts graph log choice.writer choice.reader kept was_read
@@ -128,11 +139,43 @@ settled_grown parts more graph log nodes fresh none since are same back kept not
     other_remains First ready = (reached_remain parts graph log choice.other choice.reader kept ready).0
 
     was_there : (side : Side) → IsThere graph.arcs (record { choice = choice; side = side })
-    was_there side ready = kept.relation.closed (record { choice = choice; side = side }) (choice_less parts more choice are ends.1 ends.0 (other_remains side ready) is) ready
+    was_there side ready = kept.relation.closed (record { choice = choice; side = side }) (choice_less parts more choice goes.are ends.1 ends.0 (other_remains side ready) is) ready
+
+-- steps that are forced are so behind others
+forces_behind : (parts : Parts) (arcs : List Arc) (log : List ForceStep) (new : List Arc) (steps : List ForceStep) → Forces parts arcs [] new steps → Forces parts arcs log new (log ++ steps)
+forces_behind parts arcs log new steps unforced = subst (λ (xs : List ForceStep). Forces parts arcs log arcs xs) (sym (append-nil log)) unforced
+forces_behind parts arcs log new steps (forced {between = between} {some = some} rule step before is left step_is) =
+    subst (λ (xs : List ForceStep). Forces parts arcs log (between ++ taken_arc rule ∷ []) xs) (append_assoc log some (step ∷ [])) (forced rule step (forces_behind parts arcs log between some before) is left step_is)
 
 -- and in the end the relation is that of more parts
-pub kept_grown : (parts more : Parts) (old : GraphState) (log : List ForceStep) (fresh : List Arc) (new : GraphState) (then : List ForceStep) → IsGood more → AreMore parts more → fresh ≡ filter (is_fresh parts) (plain_arcs more) → All (LooksBack parts) fresh → IsKept parts old log → Forces more (old.arcs ++ fresh) log new.arcs then → IsClosed more new.arcs → ((id : TxnId) → Remains more id → HasNode new id) → IsKept more new then
-kept_grown parts more old log fresh new then good are same back kept forces closed nodes =
-    let so = forces_so_far more [] [] (old.arcs ++ fresh) log new.arcs then forces (so_far_grown parts more old.arcs fresh log are same back kept.relation.so_far) in
+pub kept_grown : (parts more : Parts) (old : GraphState) (log : List ForceStep) (fresh : List Arc) (new : GraphState) (steps : List ForceStep) → IsGood more → GoesOn parts more old log fresh → Forces more (old.arcs ++ fresh) [] new.arcs steps → IsClosed more new.arcs → ((id : TxnId) → Remains more id → HasNode new id) → IsKept more new (log ++ steps)
+kept_grown parts more old log fresh new steps good goes forces closed nodes =
+    let then = log ++ steps in
+    let so = forces_so_far more [] [] (old.arcs ++ fresh) log new.arcs then (forces_behind more (old.arcs ++ fresh) log new.arcs steps forces) (so_far_grown parts more old fresh log goes) in
     let end : IsEnd more [] [] new.arcs then = record { so_far = so; closed = closed } in
     record { good = good; exact = λ a b. exact more [] [] new.arcs then a b end; full = full_log more new.arcs then end; relation = record { nodes = nodes; so_far = so; closed = closed } }
+
+-- who is there stays there
+pub key_stays : (old new : List (Option TxnId)) (id : TxnId) → NodesStay old new → HasKey old id → HasKey new id
+key_stays old new id stay (key, at) = (key, stay key id at)
+
+-- and so it is where one was put at a vacant key
+pub put_stays : (old new : List (Option TxnId)) (id : TxnId) → IsPut old new id → NodesStay old new
+put_stays old new id (place, vacant, there, others) key other at = by_place (cases_eq key place)
+  where
+    by_place : (key ≡ place) ⊎ (key ≢ place) → IsAt new key other
+    by_place (inl same) = let held : slice_index_or old place None ≡ Some other = subst (λ k. IsAt old k other) same at in absurd (cc (sym vacant ∙ held))
+    by_place (inr apart) = others key apart ∙ at
+
+-- what is kept is kept with more nodes
+pub kept_more_nodes : (parts : Parts) (old new : GraphState) (log : List ForceStep) → IsKept parts old log → new.arcs ≡ old.arcs → NodesStay old.nodes new.nodes → IsKept parts new log
+kept_more_nodes parts old new log kept same stay = record {
+  good = kept.good;
+  exact = λ a b. subst (λ arcs. Reaches arcs a b ↔ Known parts [] a b) (sym same) (kept.exact a b);
+  full = kept.full;
+  relation = record {
+    nodes = λ id remains. key_stays old.nodes new.nodes id stay (kept.relation.nodes id remains);
+    so_far = subst (λ arcs. IsSoFar parts [] [] arcs log) (sym same) kept.relation.so_far;
+    closed = subst (λ arcs. IsClosed parts arcs) (sym same) kept.relation.closed;
+  };
+}

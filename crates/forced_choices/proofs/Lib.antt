@@ -12,6 +12,7 @@ pub mod OpenReads
 pub mod PlacesOfWriters
 pub mod WriterRows
 pub mod TableReads
+pub mod Lookups
 pub mod SaturationLaws
 pub mod Distinct
 pub mod Keeping
@@ -27,3 +28,10 @@ pub mod Growing
 pub mod LookingBack
 pub mod Grown
 pub mod OrderedAll
+pub mod CatchingUp
+pub mod FreshArcs
+pub mod KeptWriters
+pub mod KeptReads
+pub mod KeptTables
+pub mod CutBack
+pub mod CaughtUp

@@ -42,7 +42,7 @@ base_source_from parts key None (By writer) e h = absurd (false≢true h)
 base_source_from parts key (Some last) Init e h = absurd (false≢true h)
 base_source_from parts key (Some last) (By writer) e h = e ∙ ap Some (same_from_test last writer h)
 
-base_source_test : (parts : Parts) (key : ℕ) (source : Source) → IsBaseSource parts key source → is_base_source parts key source ≡ true
+pub base_source_test : (parts : Parts) (key : ℕ) (source : Source) → IsBaseSource parts key source → is_base_source parts key source ≡ true
 base_source_test parts key Init h = ap (λ last. is_last last Init) h
 base_source_test parts key (By writer) h = ap (λ last. is_last last (By writer)) h ∙ same_id_true writer writer refl
 
@@ -94,7 +94,7 @@ next_listed parts id remains before some =
     let here : In (session_arc parts id) (Session (one_before id) id) = subst (λ t. In (cond t (Session (one_before id) id ∷ []) []) (Session (one_before id) id)) (sym test) (inl refl) in
     in_left (session_arcs parts (all_ids parts)) (arcs_of_reads parts (all_ids parts) (all_ids parts)) (Session (one_before id) id) (flat_map_in (session_arc parts) (all_ids parts) id (Session (one_before id) id) (remaining_listed parts id remains) here)
 
-of_read_listed : (parts : Parts) (reader : TxnId) (key : ℕ) (source : Source) (arc : Arc) → ReadsKey parts reader key source → In (arcs_of_read parts (all_ids parts) reader (key, source)) arc → In (plain_arcs parts) arc
+pub of_read_listed : (parts : Parts) (reader : TxnId) (key : ℕ) (source : Source) (arc : Arc) → ReadsKey parts reader key source → In (arcs_of_read parts (all_ids parts) reader (key, source)) arc → In (plain_arcs parts) arc
 of_read_listed parts reader key source arc reads h =
     in_right (session_arcs parts (all_ids parts)) (arcs_of_reads parts (all_ids parts) (all_ids parts)) arc
     (flat_map_in (λ reader. flat_map (arcs_of_read parts (all_ids parts) reader) (reads_of parts reader)) (all_ids parts) reader arc

@@ -17,11 +17,11 @@ use Rattle.order_check.specs.declared.remainder.Parts.{Parts}
 use Rattle.order_check.specs.Based.{remaining_at, Remains}
 use Rattle.order_check.specs.Cycles.{Sides, IsArc, IsPath, Links, side_taken, AreForced, AreNew}
 use Rattle.order_check.specs.Known.{IsChoice}
-use Rattle.forced_choices.specs.Growth.{AreMore, LooksBack, is_fresh}
+use Rattle.forced_choices.specs.Growth.{AreFresh, AreMore, LooksBack, is_fresh}
 use Rattle.forced_choices.specs.Listing.{all_ids, reads_of, writes_here, is_other, one_before, session_arc, session_arcs, base_arcs, is_base_source, writer_arcs, arcs_from_writer, arcs_of_read, arcs_of_reads}
 use Rattle.forced_choices.proofs.Growing.{reads_less, writes_less, reads_base_less}
 use Rattle.forced_choices.proofs.KnownRemain.{DoRemain}
-use Rattle.forced_choices.proofs.Members.{In, in_from_contains, contains_from_in, in_either, in_flat_map, in_map, filter_in}
+use Rattle.forced_choices.proofs.Members.{In, in_from_contains, contains_from_in, in_either, in_flat_map, in_map}
 use Rattle.forced_choices.proofs.ListedArcs.{plain_arcs, plain_right, next_listed, read_listed, base_listed}
 use Rattle.forced_choices.proofs.ListedChoices.{and_parts, writer_remains, reader_remains}
 
@@ -34,8 +34,8 @@ ends_remain parts arc e = and_parts (is_some (remaining_at parts (start_of arc))
     from_not false e = absurd (false≢true (sym e))
 
 -- where the fresh arcs look back, all do
-pub all_back : (parts : Parts) (arcs fresh : List Arc) → fresh ≡ filter (is_fresh parts) arcs → All (LooksBack parts) fresh → (arc : Arc) → In arcs arc → LooksBack parts arc
-all_back parts arcs fresh same back arc h = by_test (is_fresh parts arc) refl
+pub all_back : (parts more : Parts) (fresh : List Arc) → AreFresh parts more fresh → All (LooksBack parts) fresh → (arc : Arc) → In (plain_arcs more) arc → LooksBack parts arc
+all_back parts more fresh are back arc h = by_test (is_fresh parts arc) refl
   where
     in_fresh : (fresh : List Arc) → All (LooksBack parts) fresh → In fresh arc → LooksBack parts arc
     in_fresh fresh back h = by_place (contains_from_in fresh arc h)
@@ -44,11 +44,11 @@ all_back parts arcs fresh same back arc h = by_test (is_fresh parts arc) refl
         by_place (k, within, is) = subst (λ a. LooksBack parts a) is (back k arc within)
 
     by_test : (t : Bool) → is_fresh parts arc ≡ t → LooksBack parts arc
-    by_test true e = in_fresh fresh back (subst (λ xs. In xs arc) (sym same) (filter_in (is_fresh parts) arcs arc h e))
+    by_test true e = in_fresh fresh back (are.all arc h e)
     by_test false e = λ end. (ends_remain parts arc e).0
 
 -- an arc of a session leads to the next
-abbrev LeadsToNext : Arc → Type 0
+abbrev pub LeadsToNext : Arc → Type 0
 LeadsToNext (Session from to) = (from ≡ one_before to) × (0 < to.number)
 LeadsToNext (Read key from to) = ⊤
 LeadsToNext (Base key from to) = ⊤
@@ -91,7 +91,7 @@ read_next parts ids reader read arc h = by_part (in_either (arcs_from_writer par
     by_part (inl h) = writer_next parts reader read.0 read.1 arc h
     by_part (inr h) = by_test (is_base_source parts read.0 read.1) h
 
-plain_next : (parts : Parts) (arc : Arc) → In (plain_arcs parts) arc → LeadsToNext arc
+pub plain_next : (parts : Parts) (arc : Arc) → In (plain_arcs parts) arc → LeadsToNext arc
 plain_next parts arc h = by_part (in_either (session_arcs parts (all_ids parts)) (arcs_of_reads parts (all_ids parts) (all_ids parts)) arc h)
   where
     by_part : In (session_arcs parts (all_ids parts)) arc ⊎ In (arcs_of_reads parts (all_ids parts) (all_ids parts)) arc → LeadsToNext arc

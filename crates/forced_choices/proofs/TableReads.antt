@@ -15,12 +15,14 @@ use Rattle.known_graph.specs.Graphs.{IsAt}
 use Rattle.forced_choices.specs.declared.reads.Read.{Read}
 use Rattle.forced_choices.specs.declared.reads.Placed.{Placed}
 use Rattle.forced_choices.specs.declared.touched.Touched.{Touched}
-use Rattle.forced_choices.specs.Forcing.{AreAllSettledUnless}
-use Rattle.forced_choices.specs.Masks.{AreThere, choices_in}
+use Rattle.forced_choices.specs.declared.writers.Writers.{Writers}
+use Rattle.forced_choices.specs.Forcing.{AreAllSettledUnless, IsThere}
+use Rattle.forced_choices.specs.Touching.{MayBeJoined}
+use Rattle.forced_choices.specs.Masks.{AreThere, AreWriters, choice_of, choices_in, mask_of}
 use Rattle.forced_choices.specs.Tables.{IsPlaced, IsAtColumns, AreReads, choices_at}
 use Rattle.forced_choices.specs.Undecided.{IsUndecided, AreAllDecided, AreFound, IsFirstFound}
 use Rattle.forced_choices.proofs.Members.{In, Ascends, in_right, in_either}
-use Rattle.forced_choices.proofs.SettledReads.{each_choice, third_parts, third_is_choice}
+use Rattle.forced_choices.proofs.SettledReads.{each_choice, third_parts, third_is_choice, third_writes}
 use Rattle.forced_choices.proofs.OpenReads.{ascends_back}
 
 abbrev no_id : TxnId
@@ -48,11 +50,16 @@ of_read parts ids read choice reads written h = each_choice parts read (λ c. Is
     let is = third_is_choice parts read (get_or ids k d) reads written facts.1 in
     (subst (λ (x : Choice). IsChoice parts x) (sym facts.0) is, ap (λ (x : Choice). x.writer) facts.0, ap (λ (x : Choice). x.reader) facts.0)) choice h
 
--- those of a read that isn't touched are settled
-pub untouched_there : (parts : Parts) (nodes : List (Option TxnId)) (arcs : List Arc) (ids : List TxnId) (some : Touched) (placed : Placed) → IsPlaced parts nodes placed → AreAllSettledUnless parts nodes arcs some → (¬ HasBit some.sources.items placed.writer_at) → (¬ HasBit some.targets.items placed.reader_at) → AreThere arcs (choices_in parts ids placed.read)
-untouched_there parts nodes arcs ids some placed is settled no_source no_target choice side h =
-    let facts = of_read parts ids placed.read choice is.reads is.written h in
-    settled choice facts.0 placed.writer_at placed.reader_at (subst (λ id. IsAt nodes placed.writer_at id) (sym facts.1) is.columns.writer) (subst (λ id. IsAt nodes placed.reader_at id) (sym facts.2) is.columns.reader) no_source no_target side
+-- those of a read of which nothing was joined are settled
+pub untouched_there : (parts : Parts) (nodes : List (Option TxnId)) (arcs : List Arc) (ids : List TxnId) (writers : Writers) (some : Touched) (placed : Placed) → IsPlaced parts nodes placed → AreWriters parts nodes ids writers → AreAllSettledUnless parts nodes arcs some → (¬ MayBeJoined some placed.writer_at placed.reader_at) → ((k : ℕ) → HasBit (mask_of writers.masks placed.read.key) k → ¬ MayBeJoined some placed.writer_at k) → ((k : ℕ) → HasBit (mask_of writers.masks placed.read.key) k → ¬ MayBeJoined some k placed.reader_at) → AreThere arcs (choices_in parts ids placed.read)
+untouched_there parts nodes arcs ids writers some placed is are settled no_read no_after no_before choice side h =
+    each_choice parts placed.read (λ c. IsThere arcs (record { choice = c; side = side })) ids (λ k d within c here.
+    let other = get_or ids k d in
+    let facts = third_parts parts placed.read other c here in
+    let of = third_is_choice parts placed.read other is.reads is.written facts.1 in
+    let column = get_or writers.columns.items k 0 in
+    let bit = are.masked k d placed.read.key within (third_writes parts placed.read other facts.1) in
+    subst (λ (x : Choice). IsThere arcs (record { choice = x; side = side })) (sym facts.0) (settled (choice_of placed.read other) of placed.writer_at placed.reader_at column is.columns.writer is.columns.reader (are.placed k d within) no_read (no_after column bit) (no_before column bit) side)) choice h
 
 -- reads that are put at the end
 pub reads_none : (parts : Parts) (nodes : List (Option TxnId)) (ids : List TxnId) → AreReads parts nodes ids [] []

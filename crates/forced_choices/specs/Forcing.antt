@@ -9,13 +9,12 @@ use Rattle.txn.specs.declared.choices.ForceStep.{ForceStep}
 use Rattle.order_check.specs.declared.remainder.Parts.{Parts}
 use Rattle.order_check.specs.Known.{IsChoice}
 use Rattle.forced_choices.specs.declared.rules.Rule.{Rule}
-use Rattle.known_graph.specs.Bits.{HasBit}
 use Rattle.known_graph.specs.Graphs.{GraphState, HasNode, IsAt}
 use Rattle.known_graph.specs.Reach.{Reaches, IsPathOf}
 use Rattle.forced_choices.specs.Ascending.{In}
 use Rattle.forced_choices.specs.Rules.{premise, conclusion}
 use Rattle.forced_choices.specs.declared.touched.Touched.{Touched}
-use Rattle.forced_choices.specs.Touching.{IsTouchedIn, AreNoted}
+use Rattle.forced_choices.specs.Touching.{IsTouchedIn, AreNoted, MayBeJoined}
 
 -- the side is forced: what rules the other out is reached
 abbrev pub IsReady : List Arc → Rule → Type 0
@@ -71,9 +70,10 @@ pub record Continues (parts : Parts) (nodes : List (Option TxnId)) (start then :
   pub noted : AreNoted nodes start.arcs start.touched then.arcs then.touched
   pub same : length then.log ≡ length start.log → IsTouchedIn then.touched start.touched
 
--- where neither the writer nor the reader is touched, each side of the choice that is forced is there
+-- where the reader hasn't come to be reached from the writer, nor the other writer from the writer, nor the reader from the other
+-- writer, each side of the choice that is forced is there
 abbrev pub IsSettledUnless : List (Option TxnId) → List Arc → Touched → Choice → Type 0
-IsSettledUnless nodes arcs touched choice = (i j : ℕ) → IsAt nodes i choice.writer → IsAt nodes j choice.reader → (¬ HasBit touched.sources.items i) → (¬ HasBit touched.targets.items j) → (side : Side) → IsThere arcs (record { choice = choice; side = side })
+IsSettledUnless nodes arcs touched choice = (i j k : ℕ) → IsAt nodes i choice.writer → IsAt nodes j choice.reader → IsAt nodes k choice.other → (¬ MayBeJoined touched i j) → (¬ MayBeJoined touched i k) → (¬ MayBeJoined touched k j) → (side : Side) → IsThere arcs (record { choice = choice; side = side })
 
 -- the same of all choices
 abbrev pub AreAllSettledUnless : Parts → List (Option TxnId) → List Arc → Touched → Type 0

@@ -19,3 +19,5 @@ pub mod Ranks
 pub mod Nodes
 pub mod OrderedAmong
 pub mod Picked
+pub mod FreshArcs
+pub mod KeptTables

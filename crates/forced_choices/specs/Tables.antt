@@ -6,9 +6,10 @@ use Rattle.txn.specs.declared.transactions.Source.TheVariants.{By}
 use Rattle.txn.specs.declared.choices.Arc.{Arc}
 use Rattle.txn.specs.declared.choices.Choice.{Choice}
 use Rattle.order_check.specs.declared.remainder.Parts.{Parts}
-use Rattle.order_check.specs.Known.{ReadsKey, WritesKey}
+use Rattle.order_check.specs.Known.{ReadsKey, WritesKey, IsChoice}
 use Rattle.known_graph.specs.Graphs.{IsAt}
 use Rattle.forced_choices.specs.declared.reads.Placed.{Placed}
+use Rattle.forced_choices.specs.Ascending.{In}
 use Rattle.forced_choices.specs.declared.table.Table.{Table}
 use Rattle.forced_choices.specs.Listing.{all_ids, choices_of}
 use Rattle.forced_choices.specs.Masks.{AreWriters, choices_in}
@@ -45,6 +46,14 @@ pub record IsTable (parts : Parts) (nodes : List (Option TxnId)) (table : Table)
   pub writers : AreWriters parts nodes table.ids.items table.writers
   pub places : ArePlaces parts table.ids.items table.places
   pub reads : AreReads parts nodes table.ids.items table.reads.items (choices_of parts table.ids.items table.ids.items)
+
+-- What a saturation looks up: writers of each key, and where they stand among the ids; and reads, whose choices with the ids are all
+-- that there are.
+pub record IsLookup (parts : Parts) (nodes : List (Option TxnId)) (table : Table) : Type 0 where
+  pub writers : AreWriters parts nodes table.ids.items table.writers
+  pub places : ArePlaces parts table.ids.items table.places
+  pub placed : All (IsPlaced parts nodes) table.reads.items
+  pub all : (choice : Choice) → IsChoice parts choice → In (choices_at parts table.ids.items table.reads.items) choice
 
 -- the first so many reads have no undecided choice
 abbrev pub ArePassed : Parts → List Arc → Table → ℕ → Type 0

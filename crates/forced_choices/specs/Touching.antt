@@ -5,7 +5,9 @@ use Rattle.txn.specs.declared.choices.Arc.{Arc}
 use Rattle.known_graph.specs.Bits.{HasBit}
 use Rattle.known_graph.specs.Graphs.{IsAt}
 use Rattle.known_graph.specs.Reach.{Reaches}
+use Rattle.known_graph.specs.Spans.{IsSpanOf}
 use Rattle.forced_choices.specs.declared.touched.Touched.{Touched}
+use Rattle.forced_choices.specs.declared.touched.Spans.{Spans}
 
 -- each column that the one has the other has
 pub record IsTouchedIn (some more : Touched) : Type 0 where
@@ -17,3 +19,12 @@ pub record AreNoted (nodes : List (Option TxnId)) (arcs : List Arc) (old : Touch
   pub stay : IsTouchedIn old then
   pub onto : (i : ℕ) (a b : TxnId) → IsAt nodes i a → (¬ HasBit then.sources.items i) → Reaches new a b → Reaches arcs a b
   pub from : (j : ℕ) (a b : TxnId) → IsAt nodes j b → (¬ HasBit then.targets.items j) → Reaches new a b → Reaches arcs a b
+
+-- the one at the first column may have come to reach the one at the second
+abbrev pub MayBeJoined : Touched → ℕ → ℕ → Type 0
+MayBeJoined touched i j = HasBit touched.sources.items i × HasBit touched.targets.items j
+
+-- where its two rows have bits
+pub record AreSpansOf (touched : Touched) (spans : Spans) : Type 0 where
+  pub sources : IsSpanOf touched.sources.items spans.sources
+  pub targets : IsSpanOf touched.targets.items spans.targets

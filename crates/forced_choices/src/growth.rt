@@ -1,75 +1,48 @@
 // A relation that goes on with more transactions, none of which has to come before one that was there.
-ghost use Rattle.std.specs.Prelude.{◌≡◌, ◌∷◌, [], ◌++◌, All, IfOk, OnOk, IsTrue, filter, is_some};
+ghost use Rattle.std.specs.Prelude.{◌≡◌, ◌∷◌, [], ◌++◌, ◌↔◌, List, All, IfOk, OnOk, IsTrue};
 ghost use Rattle.txn.specs.declared.transactions.TxnId.{TxnId};
-ghost use Rattle.order_check.specs.Based.{Remains, remaining_at};
+ghost use Rattle.txn.specs.declared.choices.Arc.{Arc};
+ghost use Rattle.txn.specs.declared.choices.ForceStep.{ForceStep};
+ghost use Rattle.txn.specs.Arcs.{start_of, end_of};
+ghost use Rattle.order_check.specs.declared.remainder.Parts.{Parts};
+ghost use Rattle.order_check.specs.Based.{Remains};
 ghost use Rattle.order_check.specs.Good.{IsGood};
-ghost use Rattle.known_graph.specs.Graphs.{HasNode};
+ghost use Rattle.known_graph.specs.Graphs.{HasNode, last_mark};
 ghost use Rattle.forced_choices.specs.Ascending.{In};
 ghost use Rattle.forced_choices.specs.Between.{IsBetween};
-ghost use Rattle.forced_choices.specs.Growth.{AreMore, LooksBack, is_fresh};
+ghost use Rattle.forced_choices.specs.Growth.{GoesOn, IsOf, NodesStay};
 ghost use Rattle.forced_choices.specs.Kept.{IsKept};
-ghost use Rattle.forced_choices.specs.Listing.{plain_arcs};
+ghost use Rattle.forced_choices.specs.Tables.{IsLookup};
 ghost use Rattle.forced_choices.specs.Touching.{AreNoted};
 
-use crate::listing::{arcs_among, remaining_ids_of};
 use crate::saturation::{Due, saturate};
-use crate::table::table_of;
+use crate::table::Table;
 use crate::touched::{Touched, note, untouched};
 use known_graph::Graph;
 use order_check::Parts;
 use std::alloc::Global;
-use txn::{Arc, ForceStep, NoMemory, TxnId};
+use txn::{Arc, ForceStep, Fragment, NoMemory, TxnId};
 
-/// Whether the transaction is among what remains.
-fn remains(parts: &Parts, id: TxnId) -> bool
-    ensures { result ≡ is_some (remaining_at parts.now id) }
+/// Whether the id is one of the fragment's, or would come behind them.
+fn is_of(fragment: &Fragment, id: TxnId) -> bool
+    ensures { IsTrue result ↔ IsOf fragment.now id }
 {
-    parts.remaining_at(id).is_some()
+    id.session == fragment.session && fragment.first <= id.number
 }
 
-/// Whether an end of the arc isn't among the parts.
-fn is_fresh(parts: &Parts, arc: Arc) -> bool
-    ensures { result ≡ is_fresh parts.now arc }
+/// Whether the arc doesn't lead from one of the fragment's transactions to another's.
+fn looks_back(fragment: &Fragment, arc: Arc) -> bool
+    ensures { IsTrue result → IsOf fragment.now (start_of arc) → IsOf fragment.now (end_of arc) }
 {
-    !(remains(parts, arc.start()) && remains(parts, arc.end()))
+    is_of(fragment, arc.end()) || !is_of(fragment, arc.start())
 }
 
-/// Those of the arcs that have a new end.
-fn fresh_among(alloc: Global, parts: &Parts, arcs: &[Arc]) -> Result<Vec<Arc>, NoMemory>
-    ensures { IfOk result (λ fresh. fresh.items ≡ filter (is_fresh parts.now) arcs.now) }
-{
-    let mut fresh = Vec::new(alloc);
-    for arc in arcs {
-        if is_fresh(parts, *arc) {
-            fresh.push(*arc)?;
-        }
-    }
-    Ok(fresh)
-}
-
-/// The arcs that are there from the start of more parts, and that these ones don't have.
-pub fn fresh_arcs(alloc: Global, parts: &Parts, more: &Parts) -> Result<Vec<Arc>, NoMemory>
-    requires { IsGood more.now }
-    ensures { IfOk result (λ fresh. fresh.items ≡ filter (is_fresh parts.now) (plain_arcs more.now)) }
-{
-    let ids = remaining_ids_of(alloc, more)?;
-    let arcs = arcs_among(alloc, more, &ids)?;
-    fresh_among(alloc, parts, &arcs)
-}
-
-/// Whether the arc doesn't lead from what is new to what was there.
-fn looks_back(parts: &Parts, arc: Arc) -> bool
-    ensures { IsTrue result → LooksBack parts.now arc }
-{
-    !remains(parts, arc.end()) || remains(parts, arc.start())
-}
-
-/// Whether none of the arcs leads from what is new to what was there.
-pub fn all_look_back(parts: &Parts, arcs: &[Arc]) -> bool
-    ensures { IsTrue result → All (LooksBack parts.now) arcs.now }
+/// Whether none of the arcs leads from one of the fragment's transactions to another's.
+pub fn all_look_back(fragment: &Fragment, arcs: &[Arc]) -> bool
+    ensures { IsTrue result → All (λ arc. IsOf fragment.now (start_of arc) → IsOf fragment.now (end_of arc)) arcs.now }
 {
     for arc in arcs {
-        if !looks_back(parts, *arc) {
+        if !looks_back(fragment, *arc) {
             return false;
         }
     }
@@ -79,8 +52,8 @@ pub fn all_look_back(parts: &Parts, arcs: &[Arc]) -> bool
 /// Adds the transaction where it isn't there yet.
 fn add_missing(graph: &mut Graph, id: TxnId) -> Result<(), NoMemory>
     ensures there { OnOk result (HasNode graph.new id) }
-    ensures kept { OnOk result ((other : TxnId) → HasNode graph.old other → HasNode graph.new other) }
-    ensures arcs { OnOk result (graph.new.arcs ≡ graph.old.arcs) }
+    ensures stay { NodesStay graph.old.nodes graph.new.nodes }
+    ensures arcs { graph.new.arcs ≡ graph.old.arcs }
 {
     if graph.contains(id) {
         return Ok(());
@@ -90,9 +63,10 @@ fn add_missing(graph: &mut Graph, id: TxnId) -> Result<(), NoMemory>
 }
 
 /// Adds those of the transactions that aren't there yet.
-fn add_nodes(graph: &mut Graph, ids: &[TxnId]) -> Result<(), NoMemory>
+pub fn add_nodes(graph: &mut Graph, ids: &[TxnId]) -> Result<(), NoMemory>
     ensures nodes { OnOk result ((id : TxnId) → In ids.now id → HasNode graph.new id) }
-    ensures arcs { OnOk result (graph.new.arcs ≡ graph.old.arcs) }
+    ensures stay { NodesStay graph.old.nodes graph.new.nodes }
+    ensures arcs { graph.new.arcs ≡ graph.old.arcs }
 {
     for id in ids {
         add_missing(graph, *id)?;
@@ -109,8 +83,9 @@ fn add_noted(
 ) -> Result<(), NoMemory>
     requires { IsBetween graph.old arc }
     ensures arcs { OnOk result (graph.new.arcs ≡ graph.old.arcs ++ arc ∷ []) }
-    ensures nodes { OnOk result (graph.new.nodes ≡ graph.old.nodes) }
+    ensures nodes { graph.new.nodes ≡ graph.old.nodes }
     ensures noted { OnOk result (AreNoted graph.old.nodes graph.old.arcs touched.old graph.new.arcs touched.new) }
+    ensures mark { last_mark graph.new ≡ last_mark graph.old }
 {
     let from = arc.start();
     let to = arc.end();
@@ -128,8 +103,9 @@ fn add_all_noted(
 ) -> Result<(), NoMemory>
     requires { All (IsBetween graph.old) arcs.now }
     ensures arcs { OnOk result (graph.new.arcs ≡ graph.old.arcs ++ arcs.now) }
-    ensures nodes { OnOk result (graph.new.nodes ≡ graph.old.nodes) }
+    ensures nodes { graph.new.nodes ≡ graph.old.nodes }
     ensures noted { OnOk result (AreNoted graph.old.nodes graph.old.arcs touched.old graph.new.arcs touched.new) }
+    ensures mark { last_mark graph.new ≡ last_mark graph.old }
 {
     for arc in arcs {
         add_noted(alloc, graph, touched, *arc)?;
@@ -137,40 +113,26 @@ fn add_all_noted(
     Ok(())
 }
 
-/// The graph of more parts, before sides are forced, and what is touched by their arcs.
-fn grow(alloc: Global, more: &Parts, graph: &mut Graph, fresh: &[Arc]) -> Result<Touched, NoMemory>
-    requires good { IsGood more.now }
-    requires fresh { (arc : Arc) → In fresh.now arc → In (plain_arcs more.now) arc }
-    ensures nodes { IfOk result (λ since. (id : TxnId) → Remains more.now id → HasNode graph.new id) }
-    ensures arcs { IfOk result (λ since. graph.new.arcs ≡ graph.old.arcs ++ fresh.now) }
-    ensures noted { IfOk result (λ since. (none : Touched) × AreNoted graph.new.nodes graph.old.arcs none graph.new.arcs since) }
-{
-    let ids = remaining_ids_of(alloc, more)?;
-    add_nodes(graph, &ids)?;
-    let mut since = untouched(alloc);
-    add_all_noted(alloc, graph, &mut since, fresh)?;
-    Ok(since)
-}
-
-/// Goes on with more parts: their arcs are added, and what these touch is looked at again.
+/// Goes on with more parts: their arcs are added, and what these touch is looked at again. Given are the steps that are forced then.
 pub fn go_on_with(
     alloc: Global,
-    parts: &Parts,
     more: &Parts,
+    table: &Table,
     graph: &mut Graph,
-    log: &mut Vec<ForceStep>,
     fresh: &[Arc],
-) -> Result<(), NoMemory>
+) -> Result<Vec<ForceStep>, NoMemory>
     requires good { IsGood more.now }
-    requires more { AreMore parts.now more.now }
-    requires kept { IsKept parts.now graph.old log.old.items }
-    requires fresh { fresh.now ≡ filter (is_fresh parts.now) (plain_arcs more.now) }
-    requires back { All (LooksBack parts.now) fresh.now }
-    ensures { OnOk result (IsKept more.now graph.new log.new.items) }
+    requires nodes { (id : TxnId) → Remains more.now id → HasNode graph.old id }
+    requires table { IsLookup more.now graph.old.nodes table.now }
+    requires goes_on { (parts : Parts) × (log : List ForceStep) × GoesOn parts more.now graph.old log fresh.now }
+    ensures kept { IfOk result (λ steps. (parts : Parts) (log : List ForceStep) → GoesOn parts more.now graph.old log fresh.now → IsKept more.now graph.new (log ++ steps.items)) }
+    ensures nodes { OnOk result (graph.new.nodes ≡ graph.old.nodes) }
+    ensures mark { last_mark graph.new ≡ last_mark graph.old }
 {
-    let since = grow(alloc, more, graph, fresh)?;
-    let table = table_of(alloc, more, graph)?;
+    let mut since = untouched(alloc);
+    add_all_noted(alloc, graph, &mut since, fresh)?;
     let due = Due { all: false, since };
-    saturate(alloc, more, &table, graph, log, due)?;
-    Ok(())
+    let mut steps = Vec::new(alloc);
+    saturate(alloc, more, table, graph, &mut steps, due)?;
+    Ok(steps)
 }

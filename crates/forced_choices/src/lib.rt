@@ -4,8 +4,11 @@
 mod among;
 mod branch;
 mod building;
+mod catching_up;
 mod columns;
+mod fresh;
 mod growth;
+mod kept;
 mod listing;
 mod open;
 mod places;
@@ -16,6 +19,7 @@ mod saturated;
 mod saturation;
 mod table;
 mod touched;
+mod whole;
 mod writers;
 
 pub use branch::Branch;

@@ -87,7 +87,7 @@ fn push_session_arc(arcs: &mut Vec<Arc>, parts: &Parts, id: TxnId) -> Result<(),
     Ok(())
 }
 
-fn push_session_arcs(arcs: &mut Vec<Arc>, parts: &Parts, ids: &[TxnId]) -> Result<(), NoMemory>
+pub fn push_session_arcs(arcs: &mut Vec<Arc>, parts: &Parts, ids: &[TxnId]) -> Result<(), NoMemory>
     ensures { OnOk result (arcs.new.items ≡ arcs.old.items ++ session_arcs parts.now ids.now) }
 {
     for id in ids {
@@ -151,7 +151,7 @@ fn push_arc_from_writer(
     }
 }
 
-fn push_arcs_of_read(
+pub fn push_arcs_of_read(
     arcs: &mut Vec<Arc>,
     parts: &Parts,
     ids: &[TxnId],
@@ -170,7 +170,7 @@ fn push_arcs_of_read(
     Ok(())
 }
 
-fn push_arcs_of_reader(
+pub fn push_arcs_of_reader(
     arcs: &mut Vec<Arc>,
     parts: &Parts,
     ids: &[TxnId],

@@ -69,7 +69,7 @@ fn add_place(
 }
 
 /// Puts a place at the end of those of each of these keys.
-fn add_to_each(
+pub fn add_to_each(
     alloc: Global,
     lists: &mut BTreeMap<u64, Vec<usize>>,
     keys: &[u64],
@@ -85,7 +85,7 @@ fn add_to_each(
 }
 
 /// What a remaining transaction writes.
-fn written_by(parts: &Parts, id: TxnId) -> &[u64]
+pub fn written_by(parts: &Parts, id: TxnId) -> &[u64]
     requires { IsGood parts.now }
     ensures ascend { Ascends nat_lt result.now }
     ensures exact { (key : ℕ) → list_any (nat_eq key) result.now ≡ writes_here parts.now key id }

@@ -1,4 +1,4 @@
-ghost use Rattle.std.specs.Prelude.{◌≡◌, ◌↔◌, ◌<◌, [], ◌∷◌, ◌++◌, length, Contains, All, IfOk, OnOk, OnErr, IsTrue, filter, true};
+ghost use Rattle.std.specs.Prelude.{◌≡◌, ◌↔◌, ◌<◌, [], length, Contains, IfOk, OnOk, OnErr, IsTrue, true};
 ghost use Rattle.std.specs.List.{AllPairs};
 ghost use Rattle.txn.specs.declared.transactions.TxnId.{TxnId};
 ghost use Rattle.txn.specs.Transactions.{id_below};
@@ -11,24 +11,20 @@ ghost use Rattle.order_check.specs.Cycles.{IsFullLog};
 ghost use Rattle.order_check.specs.Good.{IsGood};
 ghost use Rattle.order_check.specs.Known.{Known, AreOpenChoices};
 ghost use Rattle.order_check.specs.StandsFor.{parts_with};
-ghost use Rattle.forced_choices.specs.Growth.{AreMore, LooksBack, is_fresh};
-ghost use Rattle.forced_choices.specs.Listing.{all_ids, plain_arcs};
-ghost use Rattle.forced_choices.specs.Saturation.{IsSaturationOf};
 ghost use Rattle.forced_choices.specs.SaturatedState.{fragment_of};
 ghost use Rattle.forced_choices.specs.SoFar.{IsRelation};
 
-use crate::building::{add_arcs, graph_of_nodes};
-use crate::growth::{all_look_back, fresh_arcs, go_on_with};
-use crate::listing::{arcs_among, remaining_ids_of};
+use crate::catching_up::catch_up;
+use crate::kept::{KeptTable, kept_table_of};
+use crate::listing::remaining_ids_of;
 use crate::open::open_in;
-use crate::saturation::{Due, saturate};
 use crate::table::table_of;
-use crate::touched::untouched;
+use crate::whole::saturation_of;
 use known_graph::Graph;
 use order_check::Parts;
 use std::alloc::Global;
 use std::marker::Model;
-use txn::{Arc, Choice, ForceStep, Fragment, NoMemory, Sequence, Txn, TxnId};
+use txn::{Choice, ForceStep, Fragment, NoMemory, Sequence, Txn, TxnId};
 
 /// The known relation of parts: what every order that explains them has to keep. Contracts see the parts, and the steps
 /// by which sides of choices were forced.
@@ -37,13 +33,17 @@ pub struct Saturated {
     parts: Parts,
     graph: Graph,
     log: Sequence<ForceStep>,
+    /// What additions look up; none where it isn't made yet.
+    kept: Option<KeptTable>,
 }
 
 impl Model for Saturated {
     ghost use Rattle.std.specs.Coded.{codes};
     ghost use Rattle.order_check.specs.Codes.{coded_last};
     ghost use Rattle.forced_choices.specs.SaturatedState.{SaturatedState};
+    ghost use Rattle.std.specs.Prelude.{IfSome};
     ghost use Rattle.forced_choices.specs.Kept.{IsKept};
+    ghost use Rattle.forced_choices.specs.KeptTables.{IsKeptTable};
 
     ghost Value = { SaturatedState };
 
@@ -51,38 +51,7 @@ impl Model for Saturated {
 
     ghost view = { λ s. record { parts = s.parts; log = s.log } };
 
-    ghost invariant = { λ s. IsKept s.parts s.graph s.log };
-}
-
-/// The graph of the arcs that are there from the start.
-#[tactic(auto, using(crate::proofs::Keeping::ids_distinct))]
-fn plain_graph(alloc: Global, parts: &Parts, ids: &[TxnId]) -> Result<Graph, NoMemory>
-    requires good { IsGood parts.now }
-    requires listed { ids.now ≡ all_ids parts.now }
-    ensures nodes { IfOk result (λ graph. (id : TxnId) → HasNode graph id ↔ Contains (all_ids parts.now) id) }
-    ensures arcs { IfOk result (λ graph. graph.arcs ≡ plain_arcs parts.now) }
-{
-    let arcs = arcs_among(alloc, parts, ids)?;
-    let mut graph = graph_of_nodes(alloc, ids)?;
-    add_arcs(alloc, &mut graph, arcs.as_slice())?;
-    Ok(graph)
-}
-
-/// The graph of the known relation, and the steps that were forced.
-fn saturation_of(alloc: Global, parts: &Parts) -> Result<(Graph, Vec<ForceStep>), NoMemory>
-    requires { IsGood parts.now }
-    ensures { IfOk result (λ made. IsSaturationOf parts.now made.0 made.1.items) }
-{
-    let ids = remaining_ids_of(alloc, parts)?;
-    let mut graph = plain_graph(alloc, parts, ids.as_slice())?;
-    let table = table_of(alloc, parts, &graph)?;
-    let mut log = Vec::new(alloc);
-    let all = Due {
-        all: true,
-        since: untouched(alloc),
-    };
-    saturate(alloc, parts, &table, &mut graph, &mut log, all)?;
-    Ok((graph, log))
+    ghost invariant = { λ s. IsKept s.parts s.graph s.log × IfSome s.kept (IsKeptTable s.parts s.graph.nodes) };
 }
 
 /// A whole copy.
@@ -97,17 +66,6 @@ fn copy_of_txns(txns: &Sequence<Txn>) -> Result<Sequence<Txn>, NoMemory>
     ensures { IfOk result (λ copy. copy ≡ txns.now) }
 {
     txns.clone()
-}
-
-/// A copy, with the fragment at the end of its session.
-fn with_fragment(parts: &Parts, fragment: &Fragment) -> Result<Parts, NoMemory>
-    requires { fragment.now.session < length parts.now.remain }
-    ensures { IfOk result (λ more. more ≡ parts_with parts.now fragment.now) }
-{
-    let txns = copy_of_txns(&fragment.txns)?;
-    let mut more = copy_of_parts(parts)?;
-    more.remain.append_at(usize::from(fragment.session), txns)?;
-    Ok(more)
 }
 
 /// A whole copy.
@@ -129,7 +87,12 @@ fn saturated_from(parts: Parts, graph: Graph, log: Sequence<ForceStep>) -> Satur
     ensures parts { result.parts ≡ parts }
     ensures log { result.log ≡ log }
 {
-    Saturated { parts, graph, log }
+    Saturated {
+        parts,
+        graph,
+        log,
+        kept: None,
+    }
 }
 
 /// The known relation of the parts.
@@ -140,49 +103,6 @@ fn of_whole(alloc: Global, parts: Parts) -> Result<Saturated, NoMemory>
 {
     let (graph, log) = saturation_of(alloc, &parts)?;
     Ok(saturated_from(parts, graph, Sequence::new(log)))
-}
-
-/// The relation of more parts, of which nothing new has to come before what was there: copies of the graph and the log go on.
-fn gone_on(
-    alloc: Global,
-    parts: &Parts,
-    graph: &Graph,
-    log: &Sequence<ForceStep>,
-    more: Parts,
-    fresh: &[Arc],
-) -> Result<Saturated, NoMemory>
-    requires good { IsGood more }
-    requires more { AreMore parts.now more }
-    requires kept { IsKept parts.now graph.now log.now }
-    requires fresh { fresh.now ≡ filter (is_fresh parts.now) (plain_arcs more) }
-    requires back { All (LooksBack parts.now) fresh.now }
-    ensures { IfOk result (λ saturated. saturated.parts ≡ more) }
-{
-    let mut grown = copy_of_graph(graph)?;
-    let mut steps = copy_of_log(log)?.into_vec();
-    go_on_with(alloc, parts, &more, &mut grown, &mut steps, fresh)?;
-    Ok(saturated_from(more, grown, Sequence::new(steps)))
-}
-
-/// The relation of more parts. It goes on from that of the parts, unless something new has to come before what was there: then
-/// a step of the log may no longer be new, and the relation is built anew.
-fn with_more(
-    alloc: Global,
-    parts: &Parts,
-    graph: &Graph,
-    log: &Sequence<ForceStep>,
-    more: Parts,
-) -> Result<Saturated, NoMemory>
-    requires good { IsGood more }
-    requires more { AreMore parts.now more }
-    requires kept { IsKept parts.now graph.now log.now }
-    ensures { IfOk result (λ saturated. saturated.parts ≡ more) }
-{
-    let fresh = fresh_arcs(alloc, parts, &more)?;
-    if !all_look_back(parts, &fresh) {
-        return of_whole(alloc, more);
-    }
-    gone_on(alloc, parts, graph, log, more, &fresh)
 }
 
 impl Saturated {
@@ -284,9 +204,31 @@ impl Saturated {
         ensures ok { OnOk result (self.new.parts ≡ parts_with self.old.parts fragment.now) }
         ensures err { OnErr result (self.new ≡ self.old) }
     {
-        let more = with_fragment(&self.parts, fragment)?;
-        *self = with_more(alloc, &self.parts, &self.graph, &self.log, more)?;
-        Ok(())
+        let kept = match self.kept.take() {
+            Some(kept) => kept,
+            None => kept_table_of(alloc, &self.parts, &self.graph)?,
+        };
+        let txns = copy_of_txns(&fragment.txns)?;
+        let place = usize::from(fragment.session);
+        let before = self.parts.remaining_of(fragment.session).len();
+        self.parts.remain.append_at(place, txns)?;
+        match catch_up(
+            alloc,
+            &self.parts,
+            fragment,
+            kept,
+            &mut self.graph,
+            &mut self.log,
+        ) {
+            Ok(kept) => {
+                self.kept = kept;
+                Ok(())
+            }
+            Err(error) => {
+                self.parts.remain.truncate_at(place, before);
+                Err(error)
+            }
+        }
     }
 
     /// Goes on with the parts that a cut leaves. It asks nothing of which sessions are closed, nor of the limit: the cut may be one

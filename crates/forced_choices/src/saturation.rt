@@ -1,4 +1,4 @@
-ghost use Rattle.std.specs.Prelude.{◌≡◌, ◌<◌, [], ◌∷◌, ◌++◌, List, All, length, true, false, IfOk, OnOk};
+ghost use Rattle.std.specs.Prelude.{◌≡◌, ◌<◌, ℕ, [], ◌∷◌, ◌++◌, List, All, length, true, false, IfOk, OnOk};
 ghost use Rattle.txn.specs.declared.transactions.TxnId.{TxnId};
 ghost use Rattle.txn.specs.declared.choices.Choice.{Choice};
 ghost use Rattle.txn.specs.declared.choices.Side.{Side};
@@ -11,8 +11,8 @@ ghost use Rattle.known_graph.specs.Graphs.{HasNode, last_mark};
 ghost use Rattle.forced_choices.specs.Forcing.{Stage, stage_of, AreAllSettledUnless, IsLeft, IsOn, IsStepOf, Forces, HasLookedAt, HasLooked, IsClosed, taken_arc};
 ghost use Rattle.forced_choices.specs.Masks.{AreThere, AreSettledBut, is_third, choice_of, choices_in};
 ghost use Rattle.forced_choices.specs.Rules.{premise, conclusion};
-ghost use Rattle.forced_choices.specs.Tables.{IsPlaced, IsTable, choices_at};
-ghost use Rattle.forced_choices.specs.Touching.{AreNoted};
+ghost use Rattle.forced_choices.specs.Tables.{IsLookup, IsPlaced, choices_at};
+ghost use Rattle.forced_choices.specs.Touching.{AreNoted, AreSpansOf, MayBeJoined};
 ghost use Rattle.forced_choices.specs.WriterPlaces.{those_at};
 
 use crate::columns::columns_left;
@@ -20,7 +20,7 @@ use crate::listing::is_third;
 use crate::reads::{Placed, Read};
 use crate::rules::{Rule, is_left};
 use crate::table::Table;
-use crate::touched::{Touched, is_touched, note, untouched};
+use crate::touched::{Spans, Touched, is_touched, note, spans_of, untouched};
 use known_graph::{Graph, has_bit, is_clear};
 use order_check::Parts;
 use std::alloc::Global;
@@ -206,7 +206,7 @@ fn look_at_read(
 ) -> Result<(), NoMemory>
     requires placed { IsPlaced parts.now graph.old.nodes placed }
     requires nodes { (id : TxnId) → Remains parts.now id → HasNode graph.old id }
-    requires table { IsTable parts.now graph.old.nodes table.now }
+    requires table { IsLookup parts.now graph.old.nodes table.now }
     ensures looked { OnOk result (HasLooked parts.now graph.old.nodes (stage_of graph.old log.old.items touched.old) (stage_of graph.new log.new.items touched.new)
         (choices_in parts.now table.now.ids.items placed.read)) }
     ensures nodes { OnOk result (graph.new.nodes ≡ graph.old.nodes) }
@@ -237,13 +237,15 @@ pub struct Due {
     pub since: Touched,
 }
 
-/// Whether the read is looked at.
-fn is_due(due: &Due, placed: Placed) -> bool
+/// Whether the read is looked at, the mask being that of the writers of its key.
+fn is_due(due: &Due, spans: Spans, mask: &[u64], placed: Placed) -> bool
+    requires { AreSpansOf due.now.since spans }
     ensures all { result ≡ false → due.now.all ≡ false }
-    ensures writer { result ≡ false → ¬ HasBit due.now.since.sources.items placed.writer_at }
-    ensures reader { result ≡ false → ¬ HasBit due.now.since.targets.items placed.reader_at }
+    ensures read { result ≡ false → ¬ MayBeJoined due.now.since placed.writer_at placed.reader_at }
+    ensures after { result ≡ false → (k : ℕ) → HasBit mask.now k → ¬ MayBeJoined due.now.since placed.writer_at k }
+    ensures before { result ≡ false → (k : ℕ) → HasBit mask.now k → ¬ MayBeJoined due.now.since k placed.reader_at }
 {
-    due.all || is_touched(&due.since, placed)
+    due.all || is_touched(&due.since, spans, mask, placed)
 }
 
 /// Takes each side that is left of the choices of a read, if it is looked at.
@@ -255,11 +257,13 @@ fn look_if_due(
     log: &mut Vec<ForceStep>,
     touched: &mut Touched,
     due: &Due,
+    spans: Spans,
     placed: Placed,
 ) -> Result<(), NoMemory>
     requires placed { IsPlaced parts.now graph.old.nodes placed }
     requires nodes { (id : TxnId) → Remains parts.now id → HasNode graph.old id }
-    requires table { IsTable parts.now graph.old.nodes table.now }
+    requires table { IsLookup parts.now graph.old.nodes table.now }
+    requires spans { AreSpansOf due.now.since spans }
     ensures looked { OnOk result ((start : Stage) (before : List Choice)
         → HasLooked parts.now graph.old.nodes start (stage_of graph.old log.old.items touched.old) before
         → (due.now.all ≡ false → AreAllSettledUnless parts.now graph.old.nodes start.arcs due.now.since)
@@ -267,7 +271,7 @@ fn look_if_due(
     ensures nodes { OnOk result (graph.new.nodes ≡ graph.old.nodes) }
     ensures mark { last_mark graph.new ≡ last_mark graph.old }
 {
-    if !is_due(due, placed) {
+    if !is_due(due, spans, table.writers.mask(placed.read.key), placed) {
         return Ok(());
     }
     look_at_read(alloc, parts, table, graph, log, touched, placed)?;
@@ -285,16 +289,19 @@ fn look_at_all(
     due: &Due,
 ) -> Result<(), NoMemory>
     requires nodes { (id : TxnId) → Remains parts.now id → HasNode graph.old id }
-    requires table { IsTable parts.now graph.old.nodes table.now }
+    requires table { IsLookup parts.now graph.old.nodes table.now }
     requires due { due.now.all ≡ false → AreAllSettledUnless parts.now graph.old.nodes graph.old.arcs due.now.since }
     ensures looked { OnOk result (HasLooked parts.now graph.old.nodes (stage_of graph.old log.old.items touched.old) (stage_of graph.new log.new.items touched.new)
         (choices_at parts.now table.now.ids.items table.now.reads.items)) }
     ensures nodes { OnOk result (graph.new.nodes ≡ graph.old.nodes) }
     ensures mark { last_mark graph.new ≡ last_mark graph.old }
 {
+    let spans = spans_of(&due.since);
     let reads = table.reads.as_slice();
     for placed in reads {
-        look_if_due(alloc, parts, table, graph, log, touched, due, *placed)?;
+        look_if_due(
+            alloc, parts, table, graph, log, touched, due, spans, *placed,
+        )?;
     }
     Ok(())
 }
@@ -309,7 +316,7 @@ pub fn saturate(
     first: Due,
 ) -> Result<(), NoMemory>
     requires nodes { (id : TxnId) → Remains parts.now id → HasNode graph.old id }
-    requires table { IsTable parts.now graph.old.nodes table.now }
+    requires table { IsLookup parts.now graph.old.nodes table.now }
     requires due { first.all ≡ false → AreAllSettledUnless parts.now graph.old.nodes graph.old.arcs first.since }
     ensures forces { OnOk result (Forces parts.now graph.old.arcs log.old.items graph.new.arcs log.new.items) }
     ensures closed { OnOk result (IsClosed parts.now graph.new.arcs) }

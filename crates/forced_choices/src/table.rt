@@ -33,7 +33,7 @@ pub struct Table {
 }
 
 /// Puts a read at the end, with its columns.
-fn push_placed(reads: &mut Vec<Placed>, graph: &Graph, read: Read) -> Result<(), NoMemory>
+pub fn push_placed(reads: &mut Vec<Placed>, graph: &Graph, read: Read) -> Result<(), NoMemory>
     requires reader { HasNode graph.now read.reader }
     requires writer { HasNode graph.now read.writer }
     ensures { OnOk result ((placed : Placed) × (placed.read ≡ read) × IsAtColumns graph.now.nodes placed × (reads.new.items ≡ reads.old.items ++ placed ∷ [])) }

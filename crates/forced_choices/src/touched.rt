@@ -5,11 +5,12 @@ ghost use Rattle.txn.specs.declared.choices.Arc.TheVariants.{Taken};
 ghost use Rattle.known_graph.specs.Bits.{HasBit};
 ghost use Rattle.known_graph.specs.Graphs.{HasNode, IsAt};
 ghost use Rattle.known_graph.specs.Reach.{Reaches};
-ghost use Rattle.forced_choices.specs.Touching.{AreNoted};
+ghost use Rattle.known_graph.specs.Spans.{IsSpanOf};
+ghost use Rattle.forced_choices.specs.Touching.{AreNoted, AreSpansOf, MayBeJoined};
 
 use crate::reads::Placed;
 use crate::writers::{column_of, widen, with_bit};
-use known_graph::{Graph, clear_bits, has_bit, or_into};
+use known_graph::{Graph, Span, clear_bits, has_bit, or_into, span_of};
 use std::alloc::Global;
 use txn::{NoMemory, TxnId};
 
@@ -89,10 +90,61 @@ pub fn note(
     Ok(())
 }
 
-/// Whether the read's writer reaches more, or its reader is reached by more.
-pub fn is_touched(touched: &Touched, placed: Placed) -> bool
-    ensures writer { result ≡ false → ¬ HasBit touched.now.sources.items placed.writer_at }
-    ensures reader { result ≡ false → ¬ HasBit touched.now.targets.items placed.reader_at }
+/// Where the rows of what is touched have bits.
+#[derive(Clone, Copy)]
+pub struct Spans {
+    pub sources: Span,
+    pub targets: Span,
+}
+
+pub fn spans_of(touched: &Touched) -> Spans
+    ensures { AreSpansOf touched.now result }
 {
-    has_bit(&touched.sources, placed.writer_at) || has_bit(&touched.targets, placed.reader_at)
+    Spans {
+        sources: span_of(&touched.sources),
+        targets: span_of(&touched.targets),
+    }
+}
+
+/// Whether the two rows have a bit in common, of which the second has none outside of the span.
+fn meets(row: &[u64], other: &[u64], span: Span) -> bool
+    requires { IsSpanOf other.now span }
+    ensures { result ≡ false → (j : ℕ) → HasBit row.now j → ¬ HasBit other.now j }
+{
+    let behind = span.behind.min(row.len());
+    for k in span.front..behind {
+        if row[k] & other[k] != 0 {
+            return true;
+        }
+    }
+    false
+}
+
+/// Whether the read's writer may have come to reach its reader or a column of the mask.
+fn may_lead_on(touched: &Touched, spans: Spans, mask: &[u64], placed: Placed) -> bool
+    requires { AreSpansOf touched.now spans }
+    ensures read { result ≡ false → ¬ MayBeJoined touched.now placed.writer_at placed.reader_at }
+    ensures after { result ≡ false → (k : ℕ) → HasBit mask.now k → ¬ MayBeJoined touched.now placed.writer_at k }
+{
+    has_bit(&touched.sources, placed.writer_at)
+        && (has_bit(&touched.targets, placed.reader_at)
+            || meets(mask, &touched.targets, spans.targets))
+}
+
+/// Whether a column of the mask may have come to reach the read's reader.
+fn may_lead_back(touched: &Touched, spans: Spans, mask: &[u64], placed: Placed) -> bool
+    requires { AreSpansOf touched.now spans }
+    ensures { result ≡ false → (k : ℕ) → HasBit mask.now k → ¬ MayBeJoined touched.now k placed.reader_at }
+{
+    has_bit(&touched.targets, placed.reader_at) && meets(mask, &touched.sources, spans.sources)
+}
+
+/// Whether a choice of the read may be forced since, the mask being that of the writers of its key.
+pub fn is_touched(touched: &Touched, spans: Spans, mask: &[u64], placed: Placed) -> bool
+    requires { AreSpansOf touched.now spans }
+    ensures read { result ≡ false → ¬ MayBeJoined touched.now placed.writer_at placed.reader_at }
+    ensures after { result ≡ false → (k : ℕ) → HasBit mask.now k → ¬ MayBeJoined touched.now placed.writer_at k }
+    ensures before { result ≡ false → (k : ℕ) → HasBit mask.now k → ¬ MayBeJoined touched.now k placed.reader_at }
+{
+    may_lead_on(touched, spans, mask, placed) || may_lead_back(touched, spans, mask, placed)
 }

@@ -110,7 +110,7 @@ fn add_writer(
 }
 
 /// Adds a writer to the rows of these keys.
-fn add_writes(
+pub fn add_writes(
     alloc: Global,
     masks: &mut BTreeMap<u64, Vec<u64>>,
     keys: &[u64],
@@ -126,7 +126,7 @@ fn add_writes(
 }
 
 /// What a remaining transaction writes.
-fn writes_of(parts: &Parts, id: TxnId) -> &[u64]
+pub fn writes_of(parts: &Parts, id: TxnId) -> &[u64]
     ensures { (key : ℕ) → writes_here parts.now key id ≡ true → (k : ℕ) × (k < length result.now) × (slice_index result.now k ≡ key) }
 {
     match parts.remaining_at(id) {

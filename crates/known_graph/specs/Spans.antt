@@ -1,4 +1,4 @@
--- For private clauses: which words of a row are worth going over.
+-- Which words of a row are worth going over.
 use Rattle.std.specs.Prelude.{◌≡◌, ◌<◌, ◌≤◌, ℕ, List, length, slice_index_or}
 use Rattle.known_graph.specs.declared.spans.Span.{Span}
 

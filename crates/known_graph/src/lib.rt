@@ -15,3 +15,4 @@ mod trail;
 
 pub use bits::{clear_bit, clear_bits, has_bit, is_clear, keep_bits, or_into, set_bit};
 pub use digraph::{Addition, Graph};
+pub use spans::{Span, span_of};

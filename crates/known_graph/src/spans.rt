@@ -6,7 +6,7 @@ ghost use Rattle.known_graph.specs.Spans.{IsSpanOf};
 
 /// The place of the first word that isn't zero, and the place behind the last one.
 #[derive(Clone, Copy)]
-pub(crate) struct Span {
+pub struct Span {
     pub front: usize,
     pub behind: usize,
 }
@@ -36,7 +36,8 @@ fn behind_of(row: &[u64]) -> usize
     0
 }
 
-pub(crate) fn span_of(row: &[u64]) -> Span
+/// Where the row has words that aren't zero.
+pub fn span_of(row: &[u64]) -> Span
     ensures { IsSpanOf row.now result }
 {
     Span {

@@ -1,7 +1,6 @@
-use Rattle.std.proofs.Common.{◌↔◌, List, ℕ, subst, sym}
+use Rattle.std.proofs.Common.{◌↔◌, List, ℕ, subst}
 use Rattle.std.specs.Prelude.{IsTrue}
 use Rattle.known_graph.specs.Bits.{HasBit}
-use Rattle.forced_choices.specs.Picked.{IsLinkedWith}
 use Rattle.forced_choices.proofs.OrderedAll.{none_left}
 use Rattle.forced_choices.proofs.among.is_linked_with.Goals as goal
 

@@ -5,9 +5,10 @@ use Rattle.txn.specs.declared.choices.Arc.TheVariants.{Taken}
 use Rattle.known_graph.specs.Graphs.{HasKey}
 use Rattle.forced_choices.specs.Forcing.{Forces, AreAllSettledUnless}
 use Rattle.forced_choices.specs.BranchState.{arc_of}
-use Rattle.forced_choices.specs.Tables.{IsTable}
+use Rattle.forced_choices.specs.Tables.{IsLookup}
 use Rattle.forced_choices.proofs.Forced.{settled_after}
 use Rattle.forced_choices.proofs.Keeping.{on_side}
+use Rattle.forced_choices.proofs.Lookups.{lookup_of}
 use Rattle.forced_choices.proofs.Stacked.{relation_assumed, arc_same}
 use Rattle.forced_choices.proofs.branch.relation_with.Goals as goal
 
@@ -35,7 +36,7 @@ pub saturate-requires-clause-nodes : goal.saturate-requires-clause-nodes
 saturate-requires-clause-nodes c = λ id remains. subst (λ nodes. HasKey nodes id) (sym c.in_ok-add_arc.ensures.nodes) (c.requires.nodes id remains)
 
 pub saturate-requires-clause-table : goal.saturate-requires-clause-table
-saturate-requires-clause-table c = subst (λ (nodes : List (Option TxnId)). IsTable c.args.parts.now nodes c.args.table.now) (sym c.in_ok-add_arc.ensures.nodes) c.requires.table
+saturate-requires-clause-table c = subst (λ (nodes : List (Option TxnId)). IsLookup c.args.parts.now nodes c.args.table.now) (sym c.in_ok-add_arc.ensures.nodes) (lookup_of c.args.parts.now c.args.graph.now.nodes c.args.table.now c.requires.table)
 
 pub saturate-requires-clause-due : goal.saturate-requires-clause-due
 saturate-requires-clause-due c = λ e.

@@ -14,7 +14,7 @@ abbrev none : Arc
 none = Session (record { session = 0; number = 0 }) (record { session = 0; number = 0 })
 
 pub loop-arc-init : goal.loop-arc-init
-loop-arc-init c = record { arcs = sym (append-nil c.args.graph.now.arcs); nodes = refl; noted = noted_none c.args.graph.now.nodes c.args.graph.now.arcs c.args.touched.now }
+loop-arc-init c = record { arcs = sym (append-nil c.args.graph.now.arcs); nodes = refl; noted = noted_none c.args.graph.now.nodes c.args.graph.now.arcs c.args.touched.now; mark = refl }
 
 on_kept : (old new : GraphState) (arc : Arc) → new.nodes ≡ old.nodes → IsBetween old arc → IsBetween new arc
 on_kept old new arc same there = record {
@@ -37,8 +37,9 @@ loop-arc-preserved c =
     let noted = subst (λ nodes. AreNoted nodes c.loop-arc.graph.arcs c.loop-arc.touched new.graph.arcs new.touched) before.nodes c.in_ok-add_noted.ensures.noted in
     record {
       arcs = c.in_ok-add_noted.ensures.arcs ∙ ap (λ xs. xs ++ arc ∷ []) before.arcs ∙ append_assoc graph.arcs (take k arcs) (arc ∷ []) ∙ ap (λ xs. graph.arcs ++ xs) (sym (take_more arcs k none c.loop-arc-test.true));
-      nodes = c.in_ok-add_noted.ensures.nodes ∙ before.nodes;
+      nodes = c.add_noted.ensures.nodes ∙ before.nodes;
       noted = noted_both graph.nodes graph.arcs c.args.touched.now c.loop-arc.graph.arcs c.loop-arc.touched new.graph.arcs new.touched before.noted noted;
+      mark = c.add_noted.ensures.mark ∙ before.mark;
     }
 
 pub returns-clause-arcs : goal.returns-clause-arcs

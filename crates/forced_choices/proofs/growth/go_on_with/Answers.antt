@@ -1,43 +1,42 @@
-use Rattle.std.proofs.Common.{◌≡◌, ◌++◌, List, sym, subst}
+use Rattle.std.proofs.Common.{◌∙◌, List, Option, sym, subst, subst₂}
 use Rattle.txn.specs.declared.transactions.TxnId.{TxnId}
 use Rattle.txn.specs.declared.choices.Arc.{Arc}
+use Rattle.txn.specs.declared.choices.ForceStep.{ForceStep}
 use Rattle.order_check.specs.Based.{Remains}
 use Rattle.known_graph.specs.Graphs.{HasKey}
 use Rattle.forced_choices.specs.Forcing.{Forces, AreAllSettledUnless}
-use Rattle.forced_choices.specs.Growth.{is_fresh}
-use Rattle.forced_choices.specs.Listing.{plain_arcs}
+use Rattle.forced_choices.specs.Tables.{IsLookup}
 use Rattle.forced_choices.specs.Touching.{AreNoted}
-use Rattle.forced_choices.proofs.Grown.{settled_grown, kept_grown}
-use Rattle.forced_choices.proofs.Members.{In, in_filter}
+use Rattle.forced_choices.proofs.Grown.{plain_between, settled_grown, kept_grown}
 use Rattle.forced_choices.proofs.growth.go_on_with.Goals as goal
 
-pub grow-requires-clause-fresh : goal.grow-requires-clause-fresh
-grow-requires-clause-fresh c = λ arc h. (in_filter (is_fresh c.args.parts.now) (plain_arcs c.args.more.now) arc (subst (λ (xs : List Arc). In xs arc) c.requires.fresh h)).0
+pub add_all_noted-requires : goal.add_all_noted-requires
+add_all_noted-requires c = plain_between c.args.more.now c.args.graph.now c.args.fresh.now c.requires.good c.requires.nodes c.requires.goes_on.2.arcs.right
+
+pub saturate-requires-clause-nodes : goal.saturate-requires-clause-nodes
+saturate-requires-clause-nodes c = λ id remains. subst (λ nodes. HasKey nodes id) (sym c.add_all_noted.ensures.nodes) (c.requires.nodes id remains)
+
+pub saturate-requires-clause-table : goal.saturate-requires-clause-table
+saturate-requires-clause-table c = subst (λ (nodes : List (Option TxnId)). IsLookup c.args.more.now nodes c.args.table.now) (sym c.add_all_noted.ensures.nodes) c.requires.table
 
 pub saturate-requires-clause-due : goal.saturate-requires-clause-due
 saturate-requires-clause-due c = λ e.
-    let parts = c.args.parts.now in
     let more = c.args.more.now in
     let old = c.args.graph.now in
     let fresh = c.args.fresh.now in
-    let graph = c.grow.new.graph in
-    let since = c.in_ok-since.since in
-    let arcs : graph.arcs ≡ old.arcs ++ fresh = c.in_ok-since.ensures.arcs in
-    let noted = c.in_ok-since.ensures.noted in
-    let here = subst (λ (arcs : List Arc). AreNoted graph.nodes old.arcs noted.0 arcs since) arcs noted.1 in
-    subst (λ (arcs : List Arc). AreAllSettledUnless more graph.nodes arcs since) (sym arcs) (settled_grown parts more old c.args.log.now.items graph.nodes fresh noted.0 since c.requires.more c.requires.fresh c.requires.back c.requires.kept here)
+    let since = c.add_all_noted.new.touched in
+    let none = c.untouched-since.result in
+    let noted = subst (λ (arcs : List Arc). AreNoted old.nodes old.arcs none arcs since) c.in_ok-add_all_noted.ensures.arcs c.in_ok-add_all_noted.ensures.noted in
+    let settled = settled_grown c.requires.goes_on.0 more old c.requires.goes_on.1 old.nodes fresh none since c.requires.goes_on.2 noted in
+    subst₂ (λ (nodes : List (Option TxnId)) (arcs : List Arc). AreAllSettledUnless more nodes arcs since) (sym c.add_all_noted.ensures.nodes) (sym c.in_ok-add_all_noted.ensures.arcs) settled
 
-pub returns : goal.returns
-returns c =
-    let parts = c.args.parts.now in
+pub returns-clause-kept : goal.returns-clause-kept
+returns-clause-kept c = λ parts log goes.
     let more = c.args.more.now in
     let old = c.args.graph.now in
-    let log = c.args.log.now.items in
     let fresh = c.args.fresh.now in
-    let graph = c.grow.new.graph in
     let new = c.saturate.new.graph in
-    let then = c.saturate.new.log.items in
-    let arcs : graph.arcs ≡ old.arcs ++ fresh = c.in_ok-since.ensures.arcs in
-    let forces = subst (λ (arcs : List Arc). Forces more arcs log new.arcs then) arcs c.in_ok-saturate.ensures.forces in
-    let nodes : (id : TxnId) → Remains more id → HasKey new.nodes id = λ id remains. subst (λ nodes. HasKey nodes id) (sym c.in_ok-saturate.ensures.nodes) (c.in_ok-since.ensures.nodes id remains) in
-    kept_grown parts more old log fresh new then c.requires.good c.requires.more c.requires.fresh c.requires.back c.requires.kept forces c.in_ok-saturate.ensures.closed nodes
+    let steps = c.saturate.new.log.items in
+    let forces = subst₂ (λ (arcs : List Arc) (none : List ForceStep). Forces more arcs none new.arcs steps) c.in_ok-add_all_noted.ensures.arcs c.new-steps.ensures.items c.in_ok-saturate.ensures.forces in
+    let nodes : (id : TxnId) → Remains more id → HasKey new.nodes id = λ id remains. subst (λ nodes. HasKey nodes id) (sym (c.in_ok-saturate.ensures.nodes ∙ c.add_all_noted.ensures.nodes)) (c.requires.nodes id remains) in
+    kept_grown parts more old log fresh new steps c.requires.good goes forces c.in_ok-saturate.ensures.closed nodes

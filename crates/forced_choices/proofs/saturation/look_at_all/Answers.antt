@@ -5,7 +5,7 @@ use Rattle.known_graph.specs.Graphs.{HasKey}
 use Rattle.forced_choices.specs.declared.reads.Placed.{Placed}
 use Rattle.forced_choices.specs.Forcing.{Stage, stage_of, HasLooked, AreAllSettledUnless}
 use Rattle.forced_choices.specs.Masks.{choices_in}
-use Rattle.forced_choices.specs.Tables.{IsPlaced, IsTable, choices_at}
+use Rattle.forced_choices.specs.Tables.{IsLookup, IsPlaced, choices_at}
 use Rattle.forced_choices.proofs.Distinct.{take_whole}
 use Rattle.forced_choices.proofs.Forced.{looked_none}
 use Rattle.forced_choices.proofs.TableReads.{no_read, at_more}
@@ -19,14 +19,14 @@ look_if_due-requires-clause-placed c =
     let reads = c.as_slice-reads.result.now in
     let k = c.loop-placed.placed-index in
     let within : k < length c.args.table.now.reads.items = subst (λ (xs : List Placed). k < length xs) c.as_slice-reads.ensures.value c.loop-placed-test.true in
-    let here = subst (λ (xs : List Placed). IsPlaced c.args.parts.now c.args.graph.now.nodes (get_or xs k no_read)) (sym c.as_slice-reads.ensures.value) (c.requires.table.reads.placed k no_read within) in
+    let here = subst (λ (xs : List Placed). IsPlaced c.args.parts.now c.args.graph.now.nodes (get_or xs k no_read)) (sym c.as_slice-reads.ensures.value) (c.requires.table.placed k no_read within) in
     subst (λ (nodes : List (Option TxnId)). IsPlaced c.args.parts.now nodes (get_or reads k no_read)) (sym c.loop-placed.invariant.nodes) here
 
 pub look_if_due-requires-clause-nodes : goal.look_if_due-requires-clause-nodes
 look_if_due-requires-clause-nodes c = λ id remains. subst (λ nodes. HasKey nodes id) (sym c.loop-placed.invariant.nodes) (c.requires.nodes id remains)
 
 pub look_if_due-requires-clause-table : goal.look_if_due-requires-clause-table
-look_if_due-requires-clause-table c = subst (λ (nodes : List (Option TxnId)). IsTable c.args.parts.now nodes c.args.table.now) (sym c.loop-placed.invariant.nodes) c.requires.table
+look_if_due-requires-clause-table c = subst (λ (nodes : List (Option TxnId)). IsLookup c.args.parts.now nodes c.args.table.now) (sym c.loop-placed.invariant.nodes) c.requires.table
 
 pub loop-placed-preserved : goal.loop-placed-preserved
 loop-placed-preserved c =

@@ -1,3 +1,5 @@
+use Rattle.std.proofs.Common.{ℕ, List, sym, subst}
+use Rattle.known_graph.specs.Bits.{HasBit}
 use Rattle.forced_choices.specs.Forcing.{stage_of}
 use Rattle.forced_choices.specs.Masks.{choices_in}
 use Rattle.forced_choices.proofs.Forced.{looked_both}
@@ -12,7 +14,8 @@ returns-then-not-is_due-clause-looked c = λ start before looked settled.
     let ids = c.args.table.now.ids.items in
     let no = c.if-not-is_due.true in
     looked_and_there parts nodes start (stage_of c.args.graph.now c.args.log.now.items c.args.touched.now) before (choices_in parts ids c.args.placed.read) looked
-    (untouched_there parts nodes start.arcs ids c.args.due.now.since c.args.placed c.requires.placed (settled (c.is_due.ensures.all no)) (c.is_due.ensures.writer no) (c.is_due.ensures.reader no))
+    (untouched_there parts nodes start.arcs ids c.args.table.now.writers c.args.due.now.since c.args.placed c.requires.placed c.requires.table.writers (settled (c.is_due.ensures.all no)) (c.is_due.ensures.read no)
+    (λ k has. c.is_due.ensures.after no k (subst (λ (mask : List ℕ). HasBit mask k) (sym c.mask.ensures) has)) (λ k has. c.is_due.ensures.before no k (subst (λ (mask : List ℕ). HasBit mask k) (sym c.mask.ensures) has)))
 
 pub returns-clause-looked : goal.returns-clause-looked
 returns-clause-looked c = λ start before looked settled.

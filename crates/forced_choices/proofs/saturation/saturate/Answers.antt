@@ -1,12 +1,11 @@
 use Rattle.std.proofs.Common.{◌≡◌, ℕ, ◌<◌, ◌≤◌, ◌+◌, ◌-◌, ◌*◌, Bool, true, false, List, Option, length, nat_lt, arith, refl, sym, subst, ◌∙◌, if◌then◌else◌}
 use Rattle.std.proofs.lemmas.Bool.{false≢true, ltb-true, ltb-false}
 use Rattle.txn.specs.declared.transactions.TxnId.{TxnId}
-use Rattle.txn.specs.declared.choices.Choice.{Choice}
 use Rattle.order_check.specs.Based.{Remains}
 use Rattle.known_graph.specs.Graphs.{HasKey}
-use Rattle.forced_choices.specs.Forcing.{stage_of, HasLooked, Forces, unforced, AreAllSettledUnless}
-use Rattle.forced_choices.specs.Listing.{all_ids, choices_of}
-use Rattle.forced_choices.specs.Tables.{IsTable}
+use Rattle.forced_choices.specs.Forcing.{stage_of, Forces, unforced, AreAllSettledUnless}
+use Rattle.forced_choices.specs.Listing.{all_ids}
+use Rattle.forced_choices.specs.Tables.{IsLookup, choices_at}
 use Rattle.forced_choices.proofs.Forced.{forces_both, forces_length, forces_bounded, all_settled, closed_of, pairs_of}
 use Rattle.forced_choices.proofs.saturation.saturate.Goals as goal
 
@@ -17,7 +16,7 @@ pub look_at_all-requires-clause-nodes : goal.look_at_all-requires-clause-nodes
 look_at_all-requires-clause-nodes c = λ id remains. subst (λ nodes. HasKey nodes id) (sym c.loop-goes_on.invariant.nodes) (c.requires.nodes id remains)
 
 pub look_at_all-requires-clause-table : goal.look_at_all-requires-clause-table
-look_at_all-requires-clause-table c = subst (λ (nodes : List (Option TxnId)). IsTable c.args.parts.now nodes c.args.table.now) (sym c.loop-goes_on.invariant.nodes) c.requires.table
+look_at_all-requires-clause-table c = subst (λ (nodes : List (Option TxnId)). IsLookup c.args.parts.now nodes c.args.table.now) (sym c.loop-goes_on.invariant.nodes) c.requires.table
 
 -- the measure falls, where steps were added or it doesn't go on
 falls : (bound before after b a : ℕ) (t u : Bool) → u ≡ true → nat_lt b a ≡ t → before ≡ b → after ≡ a → before ≤ after → after ≤ bound → (bound - after) * 2 + (if t then 1 else 0) < (bound - before) * 2 + (if u then 1 else 0)
@@ -48,9 +47,8 @@ loop-goes_on-preserved c =
     let start = stage_of c.loop-goes_on.graph before.items c.untouched-touched.result in
     let last_stage = stage_of new.graph new.log.items new.touched in
     let nodes = c.loop-goes_on.graph.nodes in
-    let listed = subst (λ (xs : List Choice). HasLooked parts nodes start last_stage xs) c.requires.table.reads.listed c.in_ok-look_at_all.ensures.looked in
-    let looked = subst (λ (ids : List TxnId). HasLooked parts nodes start last_stage (choices_of parts ids ids)) c.requires.table.ids listed in
-    let settled = all_settled parts nodes start last_stage looked in
+    let looked = c.in_ok-look_at_all.ensures.looked in
+    let settled = all_settled parts nodes start last_stage (choices_at parts table.ids.items table.reads.items) c.requires.table.all looked in
     let more = forces_length parts start.arcs start.log last_stage.arcs last_stage.log looked.continues.forces in
     let first : length before.items ≡ c.len-before.result = sym (c.len-before.ensures ∙ before.ok.0) in
     let last : length new.log.items ≡ c.len.result = sym (c.len.ensures ∙ new.log.ok.0) in

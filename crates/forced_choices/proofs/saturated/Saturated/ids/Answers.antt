@@ -32,4 +32,4 @@ pub returns-clause-known : goal.returns-clause-known
 returns-clause-known c =
     let parts = c.self.inside.parts in
     subst (λ (s : SaturatedState). (a b : TxnId) → Known s.parts [] a b → Contains c.in_ok-ids.ids.items a × Contains c.in_ok-ids.ids.items b) c.self.view_is
-    (λ a b known. subst (λ (ids : List TxnId). Contains ids a × Contains ids b) (sym c.in_ok-ids.ensures) (known_listed parts c.self.inside.log [] c.self.inside.graph a b c.self.invariant.relation known))
+    (λ a b known. subst (λ (ids : List TxnId). Contains ids a × Contains ids b) (sym c.in_ok-ids.ensures) (known_listed parts c.self.inside.log [] c.self.inside.graph a b c.self.invariant.0.relation known))

@@ -5,7 +5,7 @@ use Rattle.known_graph.specs.Graphs.{HasNode, HasKey}
 use Rattle.forced_choices.specs.Between.{IsBetween}
 use Rattle.forced_choices.specs.Listing.{all_ids, session_arcs, arcs_of_reads}
 use Rattle.forced_choices.proofs.Keeping.{arcs_between}
-use Rattle.forced_choices.proofs.saturated.plain_graph.Goals as goal
+use Rattle.forced_choices.proofs.whole.plain_graph.Goals as goal
 
 pub add_arcs-requires : goal.add_arcs-requires
 add_arcs-requires c =

@@ -2,13 +2,17 @@ use Rattle.std.proofs.Common.{sym, subst, subst₂}
 use Rattle.known_graph.specs.Graphs.{HasKey}
 use Rattle.forced_choices.specs.Forcing.{Forces}
 use Rattle.forced_choices.proofs.Keeping.{node_of}
-use Rattle.forced_choices.proofs.saturated.saturation_of.Goals as goal
+use Rattle.forced_choices.proofs.Lookups.{lookup_of}
+use Rattle.forced_choices.proofs.whole.saturation_of.Goals as goal
 
 pub table_of-requires-clause-nodes : goal.table_of-requires-clause-nodes
 table_of-requires-clause-nodes c = λ id remains. node_of c.args.parts.now c.in_ok-graph.graph id c.in_ok-graph.ensures.nodes remains
 
 pub saturate-requires-clause-nodes : goal.saturate-requires-clause-nodes
 saturate-requires-clause-nodes c = λ id remains. node_of c.args.parts.now c.in_ok-graph.graph id c.in_ok-graph.ensures.nodes remains
+
+pub saturate-requires-clause-table : goal.saturate-requires-clause-table
+saturate-requires-clause-table c = lookup_of c.args.parts.now c.in_ok-graph.graph.nodes c.in_ok-table.table c.in_ok-table.ensures
 
 pub returns : goal.returns
 returns c = record {

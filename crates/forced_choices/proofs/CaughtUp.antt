@@ -1,0 +1,107 @@
+-- A relation that caught up: its table, and the arcs that it goes on with.
+use Rattle.std.proofs.Common.{◌≡◌, ◌⊎◌, ◌++◌, List, Option, refl, sym, ap, ◌∙◌, subst, inl, inr}
+use Rattle.std.specs.Prelude.{All, ◌↔◌, Vec}
+use Rattle.std.specs.declared.alloc.Global.{Global}
+use Rattle.txn.specs.declared.transactions.TxnId.{TxnId}
+use Rattle.txn.specs.declared.transactions.Fragment.{Fragment}
+use Rattle.txn.specs.declared.choices.Arc.{Arc}
+use Rattle.txn.specs.declared.choices.ForceStep.{ForceStep}
+use Rattle.txn.specs.Arcs.{start_of, end_of}
+use Rattle.order_check.specs.declared.remainder.Parts.{Parts}
+use Rattle.order_check.specs.Based.{Remains}
+use Rattle.known_graph.specs.Graphs.{GraphState, HasNode}
+use Rattle.forced_choices.specs.declared.kept.KeptTable.{KeptTable}
+use Rattle.forced_choices.specs.declared.kept.Loose.{Loose}
+use Rattle.forced_choices.specs.declared.reads.Placed.{Placed}
+use Rattle.forced_choices.specs.declared.table.Table.{Table}
+use Rattle.forced_choices.specs.FreshArcs.{new_arcs}
+use Rattle.forced_choices.specs.Growth.{AreFresh, Brings, GoesOn, IsNext, IsOf, LooksBack, NodesStay, ids_of_fragment}
+use Rattle.forced_choices.specs.Kept.{IsKept}
+use Rattle.forced_choices.specs.KeptTables.{AreReadsOf, AreWritersOf, IsKeptTable}
+use Rattle.forced_choices.proofs.CatchingUp.{brings_of, is_new, is_old, more_of}
+use Rattle.forced_choices.proofs.FreshArcs.{back_of, fresh_of, none_first}
+use Rattle.forced_choices.proofs.Growing.{remains_more}
+use Rattle.forced_choices.proofs.Grown.{kept_more_nodes, key_stays}
+use Rattle.forced_choices.proofs.KeptTables.{kept_grown_table, writers_grow}
+use Rattle.forced_choices.proofs.Members.{In, in_either, in_left, in_right}
+
+-- the fragment's transactions are put to the table, and the arcs that they bring are listed
+pub record Catches (parts more : Parts) (fragment : Fragment) (old_nodes nodes : List (Option TxnId)) (old : KeptTable) (table : Table) (fresh : List Arc) : Type 0 where
+  pub next : IsNext parts more fragment
+  pub kept : IsKeptTable parts old_nodes old
+  pub stay : NodesStay old_nodes nodes
+  pub writers : AreWritersOf more nodes old.table → AreWritersOf more nodes table
+  pub longer : table.ids.items ≡ old.table.ids.items ++ ids_of_fragment fragment
+  pub same_reads : table.reads ≡ old.table.reads
+  pub listed : fresh ≡ new_arcs more table.ids.items (ids_of_fragment fragment) old.loose.items
+  pub looks : All (λ arc. IsOf fragment (start_of arc) → IsOf fragment (end_of arc)) fresh
+
+-- the same, of lists that hold what these do
+pub catches_by : (parts more : Parts) (fragment : Fragment) (old_nodes nodes : List (Option TxnId)) (old : KeptTable) (table : Table) (fresh : List Arc) (ids written listed : List TxnId) (loose : List Loose) (looked : List Arc) →
+    ids ≡ ids_of_fragment fragment → written ≡ ids → listed ≡ ids → loose ≡ old.loose.items → looked ≡ fresh →
+    IsNext parts more fragment → IsKeptTable parts old_nodes old → NodesStay old_nodes nodes → (AreWritersOf more nodes old.table → AreWritersOf more nodes table) → table.ids.items ≡ old.table.ids.items ++ written → table.reads ≡ old.table.reads →
+    fresh ≡ new_arcs more table.ids.items listed loose → All (λ arc. IsOf fragment (start_of arc) → IsOf fragment (end_of arc)) looked → Catches parts more fragment old_nodes nodes old table fresh
+catches_by parts more fragment old_nodes nodes old table fresh ids written listed loose looked are w l o k next kept stay writers longer same_reads brought looks = record {
+  next = next;
+  kept = kept;
+  stay = stay;
+  writers = writers;
+  longer = longer ∙ ap (λ (xs : List TxnId). old.table.ids.items ++ xs) (w ∙ are);
+  same_reads = same_reads;
+  listed = brought ∙ ap (λ (xs : List TxnId). new_arcs more table.ids.items xs loose) (l ∙ are) ∙ ap (λ (xs : List Loose). new_arcs more table.ids.items (ids_of_fragment fragment) xs) o;
+  looks = subst (λ (arcs : List Arc). All (λ arc. IsOf fragment (start_of arc) → IsOf fragment (end_of arc)) arcs) k looks;
+}
+
+-- what remains then is on the graph
+pub nodes_then : (parts more : Parts) (fragment : Fragment) (old new : GraphState) (log : List ForceStep) (ids : List TxnId) → IsNext parts more fragment → IsKept parts old log → NodesStay old.nodes new.nodes → ids ≡ ids_of_fragment fragment → ((id : TxnId) → In ids id → HasNode new id) → (id : TxnId) → Remains more id → HasNode new id
+nodes_then parts more fragment old new log ids next kept stay are there id remains = by_part ((brings_of parts more fragment next).all id remains)
+  where
+    by_part : Remains parts id ⊎ In (ids_of_fragment fragment) id → HasNode new id
+    by_part (inl before) = key_stays old.nodes new.nodes id stay (kept.relation.nodes id before)
+    by_part (inr h) = there id (subst (λ (xs : List TxnId). In xs id) (sym are) h)
+
+-- the writers of what was there
+pub writers_then : (parts more : Parts) (fragment : Fragment) (old_nodes nodes : List (Option TxnId)) (old : KeptTable) → IsNext parts more fragment → IsKeptTable parts old_nodes old → NodesStay old_nodes nodes → AreWritersOf more nodes old.table
+writers_then parts more fragment old_nodes nodes old next kept stay = writers_grow parts more old_nodes nodes old.table (λ id. (kept.listed id).0) (more_of parts more fragment next) stay kept.writers
+
+listed_then : (parts more : Parts) (ids new all : List TxnId) → all ≡ ids ++ new → Brings parts more new → ((id : TxnId) → In ids id ↔ Remains parts id) → (id : TxnId) → In all id ↔ Remains more id
+listed_then parts more ids new all are brings listed id = (
+  λ h. by_either (in_either ids new id (subst (λ (xs : List TxnId). In xs id) are h)),
+  λ remains. subst (λ (xs : List TxnId). In xs id) (sym are) (by_part (brings.all id remains)),
+)
+  where
+    by_either : In ids id ⊎ In new id → Remains more id
+    by_either (inl h) = remains_more parts more id brings.are ((listed id).0 h)
+    by_either (inr h) = (brings.brought id h).0
+
+    by_part : Remains parts id ⊎ In new id → In (ids ++ new) id
+    by_part (inl before) = in_left ids new id ((listed id).1 before)
+    by_part (inr h) = in_right ids new id h
+
+pub fresh_then : (parts more : Parts) (fragment : Fragment) (old_nodes nodes : List (Option TxnId)) (old : KeptTable) (table : Table) (fresh : List Arc) → Catches parts more fragment old_nodes nodes old table fresh → AreFresh parts more fresh
+fresh_then parts more fragment old_nodes nodes old table fresh c =
+    let brings = brings_of parts more fragment c.next in
+    let new = ids_of_fragment fragment in
+    let ids = old.table.ids.items in
+    subst (λ (arcs : List Arc). AreFresh parts more arcs) (sym c.listed) (fresh_of parts more old_nodes ids table.ids.items new old.table.reads.items old.loose.items c.next.good brings c.kept.listed (listed_then parts more ids new table.ids.items c.longer brings c.kept.listed) c.kept.reads)
+
+pub back_then : (parts more : Parts) (fragment : Fragment) (old_nodes nodes : List (Option TxnId)) (old : KeptTable) (table : Table) (fresh : List Arc) → Catches parts more fragment old_nodes nodes old table fresh → All (LooksBack parts) fresh
+back_then parts more fragment old_nodes nodes old table fresh c = back_of parts more fragment fresh (λ id remains of. is_new parts more fragment id c.next of) (λ id remains not. is_old parts more fragment id c.next remains not) (fresh_then parts more fragment old_nodes nodes old table fresh c) c.looks
+
+pub goes_on_then : (parts more : Parts) (fragment : Fragment) (old new : GraphState) (log : List ForceStep) (kept : KeptTable) (table : Table) (fresh : List Arc) → IsKept parts old log → new.arcs ≡ old.arcs → Catches parts more fragment old.nodes new.nodes kept table fresh → GoesOn parts more new log fresh
+goes_on_then parts more fragment old new log kept table fresh is same c = record {
+  are = more_of parts more fragment c.next;
+  kept = kept_more_nodes parts old new log is same c.stay;
+  arcs = fresh_then parts more fragment old.nodes new.nodes kept table fresh c;
+  back = back_then parts more fragment old.nodes new.nodes kept table fresh c;
+}
+
+-- the table of all that remains then
+pub table_then : (parts more : Parts) (fragment : Fragment) (old_nodes nodes : List (Option TxnId)) (old : KeptTable) (table : Table) (fresh : List Arc) (reads : Vec Placed Global) (loose : Vec Loose Global) (new : List TxnId) → new ≡ ids_of_fragment fragment → Catches parts more fragment old_nodes nodes old table fresh →
+    ((ids : List TxnId) → AreReadsOf more nodes ids table.reads.items old.loose.items → AreReadsOf more nodes (ids ++ new) reads.items loose.items) →
+    IsKeptTable more nodes (record { table = record { ids = table.ids; writers = table.writers; places = table.places; reads = reads }; loose = loose })
+table_then parts more fragment old_nodes nodes old table fresh reads loose new are c put =
+    let brought = fresh_then parts more fragment old_nodes nodes old table fresh c in
+    let back = back_then parts more fragment old_nodes nodes old table fresh c in
+    let ids = ids_of_fragment fragment in
+    kept_grown_table parts more old_nodes nodes old table reads loose ids ids new refl are (brings_of parts more fragment c.next) c.stay (none_first parts more fresh brought back) c.kept c.writers c.longer c.same_reads put

@@ -1,0 +1,145 @@
+-- A table that is kept, as transactions arrive, and what a saturation looks up in it.
+use Rattle.std.proofs.Common.{◌≡◌, ◌⊎◌, ℕ, Bool, cond, List, [], ◌∷◌, ◌++◌, length, get_or, take, Option, refl, sym, ap, ◌∙◌, inl, inr, subst, not, arith}
+use Rattle.std.specs.Prelude.{Vec, filter}
+use Rattle.std.specs.declared.alloc.Global.{Global}
+use Rattle.txn.specs.declared.transactions.TxnId.{TxnId}
+use Rattle.txn.specs.declared.transactions.Source.{Source}
+use Rattle.txn.specs.declared.transactions.Source.TheVariants.{By}
+use Rattle.txn.specs.declared.choices.Choice.{Choice}
+use Rattle.txn.specs.History.{writes_key}
+use Rattle.txn.specs.Transactions.{same_id}
+use Rattle.order_check.specs.declared.remainder.Parts.{Parts}
+use Rattle.order_check.specs.Based.{Remains}
+use Rattle.order_check.specs.Known.{IsChoice, ReadsKey, WritesKey}
+use Rattle.forced_choices.specs.declared.kept.KeptTable.{KeptTable}
+use Rattle.forced_choices.specs.declared.kept.Loose.{Loose}
+use Rattle.forced_choices.specs.declared.reads.Placed.{Placed}
+use Rattle.forced_choices.specs.declared.reads.Read.{Read}
+use Rattle.forced_choices.specs.declared.table.Table.{Table}
+use Rattle.forced_choices.specs.Growth.{AreMore, Brings, NodesStay}
+use Rattle.forced_choices.specs.KeptTables.{AreReadsOf, AreWritersOf, IsAmong, IsKeptTable, IsLoose}
+use Rattle.forced_choices.specs.Listing.{is_other, writes_here}
+use Rattle.forced_choices.specs.Masks.{choice_of, choices_in, is_third}
+use Rattle.forced_choices.specs.Tables.{IsLookup, IsPlaced, choices_at}
+use Rattle.forced_choices.proofs.Distinct.{take_whole}
+use Rattle.forced_choices.proofs.Growing.{reads_less, reads_more, remains_more, writes_less, writes_more}
+use Rattle.forced_choices.proofs.ListedChoices.{and_both, apart_test, reader_remains, writer_remains}
+use Rattle.forced_choices.proofs.Members.{In, filter_in, flat_map_in, in_either, in_left, in_place, in_right, map_in}
+
+-- what holds of the ids that remained
+filter_same : {X : Type 0} (p q : X → Bool) (xs : List X) → ((x : X) → In xs x → p x ≡ q x) → filter p xs ≡ filter q xs
+filter_same p q [] same = refl
+filter_same p q (x ∷ xs) same = ap (λ t. cond t (x ∷ filter p xs) (filter p xs)) (same x (inl refl)) ∙ ap (λ ys. cond (q x) (x ∷ ys) ys) (filter_same p q xs (λ y h. same y (inr h)))
+
+-- the writers of each key among what remained are those with more parts
+pub writers_grow : (parts more : Parts) (old_nodes nodes : List (Option TxnId)) (table : Table) → ((id : TxnId) → In table.ids.items id → Remains parts id) → AreMore parts more → NodesStay old_nodes nodes → AreWritersOf parts old_nodes table → AreWritersOf more nodes table
+writers_grow parts more old_nodes nodes table remain are stay writers = record {
+  writers = record {
+    counted = writers.writers.counted;
+    placed = λ k d below. stay (get_or table.writers.columns.items k 0) (get_or ids k d) (writers.writers.placed k d below);
+    masked = λ k d key below writes. writers.writers.masked k d key below (writes_less parts more (get_or ids k d) key are (remain (get_or ids k d) (in_place ids k d below)) writes);
+  };
+  places = record {
+    below = writers.places.below;
+    listed = λ key. writers.places.listed key ∙ filter_same (writes_here parts key) (writes_here more key) (take (length ids) ids) (λ id h. ap (λ found. writes_key found key) (sym (are.same id (remain id (subst (λ (xs : List TxnId). In xs id) (take_whole ids (length ids) (omega arith)) h)))));
+  };
+}
+  where
+    ids : List TxnId
+    ids = table.ids.items
+
+-- and so are their reads, where none of them names a new writer of its key
+pub reads_grow : (parts more : Parts) (old_nodes nodes : List (Option TxnId)) (ids : List TxnId) (reads : List Placed) (loose : List Loose) → ((id : TxnId) → In ids id → Remains parts id) → AreMore parts more → NodesStay old_nodes nodes →
+    ((reader writer : TxnId) (key : ℕ) → Remains parts reader → ReadsKey more reader key (By writer) → WritesKey more writer key → Remains parts writer) →
+    AreReadsOf parts old_nodes ids reads loose → AreReadsOf more nodes ids reads loose
+reads_grow parts more old_nodes nodes ids reads loose remain are stay none_new so = record {
+  placed = λ k d within. placed (get_or reads k d) (so.placed k d within);
+  are_loose = λ one h. is_loose one (so.are_loose one h);
+  of_these = so.of_these;
+  each = λ reader key source h is. so.each reader key source h (reads_less parts more reader key source are (remain reader h) is);
+}
+  where
+    placed : (one : Placed) → IsPlaced parts old_nodes one → IsPlaced more nodes one
+    placed one is = record {
+      reads = reads_more parts more one.read.reader one.read.key (By one.read.writer) are is.reads;
+      written = writes_more parts more one.read.writer one.read.key are is.written;
+      columns = record { reader = stay one.reader_at one.read.reader is.columns.reader; writer = stay one.writer_at one.read.writer is.columns.writer };
+    }
+
+    is_loose : (one : Loose) → IsLoose parts one → IsLoose more one
+    is_loose one is = record {
+      reads = reads_more parts more one.reader one.key one.source are is.reads;
+      none = λ writer from writes.
+          let reads = subst (λ (source : Source). ReadsKey more one.reader one.key source) from (reads_more parts more one.reader one.key one.source are is.reads) in
+          let there = none_new one.reader writer one.key (reader_remains parts one.reader one.key one.source is.reads) reads writes in
+          is.none writer from (writes_less parts more writer one.key are there writes);
+    }
+
+-- a choice is among those of its read
+same_read : (a b : Read) → a.reader ≡ b.reader → a.key ≡ b.key → a.writer ≡ b.writer → a ≡ b
+same_read a b reader key writer =
+    ap (λ (r : TxnId). let x : Read = record { reader = r; key = a.key; writer = a.writer } in x) reader
+    ∙ ap (λ (k : ℕ). let x : Read = record { reader = b.reader; key = k; writer = a.writer } in x) key
+    ∙ ap (λ (w : TxnId). let x : Read = record { reader = b.reader; key = b.key; writer = w } in x) writer
+
+of_choice : (parts : Parts) (ids : List TxnId) (choice : Choice) → IsChoice parts choice → In ids choice.other → In (choices_in parts ids (record { reader = choice.reader; key = choice.key; writer = choice.writer })) choice
+of_choice parts ids choice is there =
+    let read : Read = record { reader = choice.reader; key = choice.key; writer = choice.writer } in
+    let other = and_both (not (same_id choice.other choice.reader)) (writes_here parts choice.key choice.other) (apart_test choice.other choice.reader is.not_reader) is.other in
+    let third = and_both (not (same_id choice.other choice.writer)) (is_other parts choice.reader choice.key choice.other) (apart_test choice.other choice.writer is.not_writer) other in
+    map_in (choice_of read) (filter (is_third parts read) ids) choice.other (filter_in (is_third parts read) ids choice.other there third)
+
+-- the kept table covers all choices
+pub kept_lookup : (parts : Parts) (nodes : List (Option TxnId)) (kept : KeptTable) → IsKeptTable parts nodes kept → IsLookup parts nodes kept.table
+kept_lookup parts nodes kept is = record {
+  writers = is.writers.writers;
+  places = is.writers.places;
+  placed = is.reads.placed;
+  all = λ choice one. by_kept choice one (is.reads.each choice.reader choice.key (By choice.writer) ((is.listed choice.reader).1 (reader_remains parts choice.reader choice.key (By choice.writer) one.reads)) one.reads);
+}
+  where
+    by_kept : (choice : Choice) → IsChoice parts choice → IsAmong kept.table.reads.items choice.reader choice.key (By choice.writer) ⊎ In kept.loose.items (record { reader = choice.reader; key = choice.key; source = By choice.writer }) → In (choices_at parts kept.table.ids.items kept.table.reads.items) choice
+    by_kept choice one (inr h) = absurd ((is.reads.are_loose (record { reader = choice.reader; key = choice.key; source = By choice.writer }) h).none choice.writer refl one.written)
+    by_kept choice one (inl among) =
+        let read : Read = record { reader = choice.reader; key = choice.key; writer = choice.writer } in
+        let from : By choice.writer ≡ By among.placed.read.writer = among.same_source in
+        let writer : choice.writer ≡ among.placed.read.writer = cc in
+        let same : read ≡ among.placed.read = same_read read among.placed.read (sym among.same_reader) (sym among.same_key) writer in
+        let other = (is.listed choice.other).1 (writer_remains parts choice.other choice.key one.other) in
+        flat_map_in (λ (placed : Placed). choices_in parts kept.table.ids.items placed.read) kept.table.reads.items among.placed choice among.among
+        (subst (λ (r : Read). In (choices_in parts kept.table.ids.items r) choice) same (of_choice parts kept.table.ids.items choice one other))
+
+-- the kept table, with the writers and the reads of new transactions: the two lists are theirs
+pub kept_grown_table : (parts more : Parts) (old_nodes nodes : List (Option TxnId)) (old : KeptTable) (table : Table) (reads : Vec Placed Global) (loose : Vec Loose Global) (new writing reading : List TxnId) → writing ≡ new → reading ≡ new →
+    Brings parts more new → NodesStay old_nodes nodes → ((reader writer : TxnId) (key : ℕ) → Remains parts reader → ReadsKey more reader key (By writer) → WritesKey more writer key → Remains parts writer) → IsKeptTable parts old_nodes old →
+    (AreWritersOf more nodes old.table → AreWritersOf more nodes table) → table.ids.items ≡ old.table.ids.items ++ writing → table.reads ≡ old.table.reads →
+    ((ids : List TxnId) → AreReadsOf more nodes ids table.reads.items old.loose.items → AreReadsOf more nodes (ids ++ reading) reads.items loose.items) →
+    IsKeptTable more nodes (record { table = record { ids = table.ids; writers = table.writers; places = table.places; reads = reads }; loose = loose })
+kept_grown_table parts more old_nodes nodes old table reads loose new writing reading wrote read brings stay none_new is add_writers longer same_reads add_reads = record {
+  listed = λ id. (
+    λ h. by_part id (in_either ids new id (subst (λ (xs : List TxnId). In xs id) all h)),
+    λ remains. subst (λ (xs : List TxnId). In xs id) (sym all) (by_old id (brings.all id remains)),
+  );
+  writers = let grown = add_writers (writers_grow parts more old_nodes nodes old.table remain brings.are stay is.writers) in record { writers = grown.writers; places = grown.places };
+  reads = subst (λ (xs : List TxnId). AreReadsOf more nodes xs reads.items loose.items) (ap (λ xs. ids ++ xs) read ∙ sym all) (add_reads ids old_reads);
+}
+  where
+    ids : List TxnId
+    ids = old.table.ids.items
+
+    all : table.ids.items ≡ ids ++ new
+    all = longer ∙ ap (λ xs. ids ++ xs) wrote
+
+    remain : (id : TxnId) → In ids id → Remains parts id
+    remain id h = (is.listed id).0 h
+
+    old_reads : AreReadsOf more nodes ids table.reads.items old.loose.items
+    old_reads = subst (λ (xs : Vec Placed Global). AreReadsOf more nodes ids xs.items old.loose.items) (sym same_reads) (reads_grow parts more old_nodes nodes ids old.table.reads.items old.loose.items remain brings.are stay none_new is.reads)
+
+    by_part : (id : TxnId) → In ids id ⊎ In new id → Remains more id
+    by_part id (inl h) = remains_more parts more id brings.are (remain id h)
+    by_part id (inr h) = (brings.brought id h).0
+
+    by_old : (id : TxnId) → Remains parts id ⊎ In new id → In (ids ++ new) id
+    by_old id (inl h) = in_left ids new id ((is.listed id).1 h)
+    by_old id (inr h) = in_right ids new id h

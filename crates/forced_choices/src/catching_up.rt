@@ -1,0 +1,124 @@
+// A relation that catches up with parts to which a fragment was added.
+ghost use Rattle.std.specs.Prelude.{◌≡◌, ◌+◌, ◌<◌, ◌^◌, length, IfOk, IfSome, OnOk, OnErr};
+ghost use Rattle.txn.specs.declared.transactions.TxnId.{TxnId};
+ghost use Rattle.order_check.specs.declared.remainder.Parts.{Parts};
+ghost use Rattle.order_check.specs.Based.{Remains};
+ghost use Rattle.order_check.specs.Good.{IsGood};
+ghost use Rattle.known_graph.specs.Graphs.{HasNode, last_mark};
+ghost use Rattle.forced_choices.specs.Growth.{GoesOn, IsNext, NodesStay, ids_of_fragment};
+ghost use Rattle.forced_choices.specs.Kept.{IsKept};
+ghost use Rattle.forced_choices.specs.KeptTables.{IsKeptTable};
+ghost use Rattle.forced_choices.specs.Tables.{IsLookup};
+
+use crate::fresh::fresh_arcs;
+use crate::growth::{add_nodes, all_look_back, go_on_with};
+use crate::kept::{KeptTable, add_reads, add_writers};
+use crate::table::Table;
+use crate::whole::saturation_of;
+use known_graph::Graph;
+use order_check::Parts;
+use std::alloc::Global;
+use txn::{Arc, ForceStep, Fragment, NoMemory, Sequence, TxnId};
+
+/// The ids of a fragment's transactions, in order.
+fn ids_of(alloc: Global, fragment: &Fragment) -> Result<Vec<TxnId>, NoMemory>
+    requires { fragment.now.first + length fragment.now.txns < 2 ^ 64 }
+    ensures { IfOk result (λ ids. ids.items ≡ ids_of_fragment fragment.now) }
+{
+    let mut ids = Vec::new(alloc);
+    let mut number = fragment.first;
+    for _txn in fragment.txns.as_slice() {
+        ids.push(TxnId {
+            session: fragment.session,
+            number,
+        })?;
+        number += 1;
+    }
+    Ok(ids)
+}
+
+/// Goes on with more parts, and logs the steps that are forced then.
+fn go_on_logged(
+    alloc: Global,
+    more: &Parts,
+    table: &Table,
+    graph: &mut Graph,
+    log: &mut Sequence<ForceStep>,
+    fresh: &[Arc],
+) -> Result<(), NoMemory>
+    requires good { IsGood more.now }
+    requires nodes { (id : TxnId) → Remains more.now id → HasNode graph.old id }
+    requires table { IsLookup more.now graph.old.nodes table.now }
+    requires goes_on { (parts : Parts) × GoesOn parts more.now graph.old log.old fresh.now }
+    ensures ok { OnOk result (IsKept more.now graph.new log.new) }
+    ensures err { OnErr result (log.new ≡ log.old) }
+    ensures nodes { OnOk result (graph.new.nodes ≡ graph.old.nodes) }
+    ensures mark { last_mark graph.new ≡ last_mark graph.old }
+{
+    let steps = go_on_with(alloc, more, table, graph, fresh)?;
+    log.append(Sequence::new(steps))?;
+    Ok(())
+}
+
+/// The same; where memory is refused, the graph's arcs and the log are as they were. A mark is left on the graph, until the next
+/// transaction is added.
+fn go_on(
+    alloc: Global,
+    more: &Parts,
+    table: &Table,
+    graph: &mut Graph,
+    log: &mut Sequence<ForceStep>,
+    fresh: &[Arc],
+) -> Result<(), NoMemory>
+    requires good { IsGood more.now }
+    requires nodes { (id : TxnId) → Remains more.now id → HasNode graph.old id }
+    requires table { IsLookup more.now graph.old.nodes table.now }
+    requires goes_on { (parts : Parts) × GoesOn parts more.now graph.old log.old fresh.now }
+    ensures ok { OnOk result (IsKept more.now graph.new log.new) }
+    ensures err { OnErr result ((log.new ≡ log.old) × (graph.new.arcs ≡ graph.old.arcs)) }
+    ensures nodes { graph.new.nodes ≡ graph.old.nodes }
+{
+    graph.mark()?;
+    match go_on_logged(alloc, more, table, graph, log, fresh) {
+        Ok(()) => Ok(()),
+        Err(error) => {
+            graph.back();
+            Err(error)
+        }
+    }
+}
+
+/// Makes the relation that of more parts. It goes on from that of the parts, unless one of the fragment has to come before what was
+/// there: then a step of the log may no longer be new, and the relation is made anew; its table is then left to the next call.
+pub fn catch_up(
+    alloc: Global,
+    more: &Parts,
+    fragment: &Fragment,
+    kept: KeptTable,
+    graph: &mut Graph,
+    log: &mut Sequence<ForceStep>,
+) -> Result<Option<KeptTable>, NoMemory>
+    requires good { IsGood more.now }
+    requires next { (parts : Parts) × IsNext parts more.now fragment.now × IsKept parts graph.old log.old × IsKeptTable parts graph.old.nodes kept }
+    ensures kept { IfOk result (λ left. IsKept more.now graph.new log.new) }
+    ensures table { IfOk result (λ left. IfSome left (IsKeptTable more.now graph.new.nodes)) }
+    ensures err { OnErr result ((log.new ≡ log.old) × (graph.new.arcs ≡ graph.old.arcs) × NodesStay graph.old.nodes graph.new.nodes) }
+{
+    let new = ids_of(alloc, fragment)?;
+    let KeptTable {
+        mut table,
+        mut loose,
+    } = kept;
+    add_nodes(graph, &new)?;
+    add_writers(alloc, &mut table, more, graph, &new)?;
+    let fresh = fresh_arcs(alloc, more, &table, &loose, &new)?;
+    if !all_look_back(fragment, &fresh) {
+        let (anew, steps) = saturation_of(alloc, more)?;
+        *graph = anew;
+        *log = Sequence::new(steps);
+        return Ok(None);
+    }
+    add_reads(&mut table.reads, &mut loose, more, graph, &new)?;
+    go_on(alloc, more, &table, graph, log, &fresh)?;
+    Ok(Some(KeptTable { table, loose }))
+}

@@ -1,0 +1,68 @@
+// The arcs that new transactions bring.
+ghost use Rattle.std.specs.Prelude.{◌≡◌, ◌++◌, OnOk, IfOk};
+ghost use Rattle.order_check.specs.Good.{IsGood};
+ghost use Rattle.forced_choices.specs.FreshArcs.{arcs_of_loose, new_arcs};
+ghost use Rattle.forced_choices.specs.Listing.{arcs_of_reads};
+ghost use Rattle.forced_choices.specs.WriterPlaces.{ArePlaces};
+
+use crate::kept::Loose;
+use crate::listing::{push_arcs_of_read, push_arcs_of_reader, push_session_arcs};
+use crate::places::{Places, places_among};
+use crate::table::Table;
+use order_check::Parts;
+use std::alloc::Global;
+use txn::{Arc, NoMemory, TxnId};
+
+/// Puts the arcs of the readers' reads at the end.
+fn push_arcs_of_readers(
+    arcs: &mut Vec<Arc>,
+    parts: &Parts,
+    ids: &[TxnId],
+    places: &Places,
+    readers: &[TxnId],
+) -> Result<(), NoMemory>
+    requires { ArePlaces parts.now ids.now places.now }
+    ensures { OnOk result (arcs.new.items ≡ arcs.old.items ++ arcs_of_reads parts.now ids.now readers.now) }
+{
+    for reader in readers {
+        push_arcs_of_reader(arcs, parts, ids, places, *reader)?;
+    }
+    Ok(())
+}
+
+/// Puts the arcs between loose reads and the new transactions at the end.
+fn push_arcs_of_loose(
+    arcs: &mut Vec<Arc>,
+    parts: &Parts,
+    new: &[TxnId],
+    places: &Places,
+    loose: &[Loose],
+) -> Result<(), NoMemory>
+    requires { ArePlaces parts.now new.now places.now }
+    ensures { OnOk result (arcs.new.items ≡ arcs.old.items ++ arcs_of_loose parts.now new.now loose.now) }
+{
+    for one in loose {
+        push_arcs_of_read(arcs, parts, new, places, one.reader, (one.key, one.source))?;
+    }
+    Ok(())
+}
+
+/// The arcs that new transactions bring, where the table has them among its ids, and the loose reads are those before them.
+pub fn fresh_arcs(
+    alloc: Global,
+    parts: &Parts,
+    table: &Table,
+    loose: &[Loose],
+    new: &[TxnId],
+) -> Result<Vec<Arc>, NoMemory>
+    requires good { IsGood parts.now }
+    requires places { ArePlaces parts.now table.now.ids.items table.now.places }
+    ensures { IfOk result (λ fresh. fresh.items ≡ new_arcs parts.now table.now.ids.items new.now loose.now) }
+{
+    let among_new = places_among(alloc, parts, new)?;
+    let mut arcs = Vec::new(alloc);
+    push_session_arcs(&mut arcs, parts, new)?;
+    push_arcs_of_readers(&mut arcs, parts, table.ids.as_slice(), &table.places, new)?;
+    push_arcs_of_loose(&mut arcs, parts, new, &among_new, loose)?;
+    Ok(arcs)
+}

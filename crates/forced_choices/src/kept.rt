@@ -1,0 +1,206 @@
+// A table that is kept as transactions arrive.
+ghost use Rattle.std.specs.Prelude.{◌≡◌, ◌∷◌, [], ◌++◌, ℕ, List, Option, All, IfOk, OnOk, MatchOption};
+ghost use Rattle.txn.specs.declared.transactions.TxnId.{TxnId};
+ghost use Rattle.txn.specs.declared.transactions.Source.{Source};
+ghost use Rattle.txn.specs.declared.transactions.Source.TheVariants.{By};
+ghost use Rattle.order_check.specs.declared.remainder.Parts.{Parts};
+ghost use Rattle.order_check.specs.Based.{Remains};
+ghost use Rattle.order_check.specs.Good.{IsGood};
+ghost use Rattle.order_check.specs.Known.{ReadsKey, WritesKey};
+ghost use Rattle.known_graph.specs.Graphs.{HasNode};
+ghost use Rattle.forced_choices.specs.KeptTables.{AreReadsAnd, AreReadsOf, AreWritersOf, IsKeptTable};
+
+use crate::listing::{reads_of, remaining_ids_of, writes};
+use crate::places::{Places, add_to_each, written_by};
+use crate::reads::{Placed, Read};
+use crate::table::{Table, push_placed};
+use crate::writers::{Writers, add_writes, column_of, writes_of};
+use known_graph::Graph;
+use order_check::Parts;
+use std::alloc::Global;
+use std::collections::BTreeMap;
+use txn::{NoMemory, Source, TxnId};
+
+/// A read that no remaining writer of its key is the source of.
+#[derive(Clone, Copy, Debug)]
+pub struct Loose {
+    pub reader: TxnId,
+    pub key: u64,
+    pub source: Source,
+}
+
+/// A table whose ids and reads stand in the order in which they came, and the reads that it leaves out.
+#[derive(Drop, Debug)]
+pub struct KeptTable {
+    pub table: Table,
+    pub loose: Vec<Loose>,
+}
+
+/// The source of a read, where it is a remaining writer of the key.
+fn writer_of(parts: &Parts, key: u64, source: Source) -> Option<TxnId>
+    ensures { MatchOption result ((writer : TxnId) → source ≡ By writer → ¬ WritesKey parts.now writer key) (λ writer. (source ≡ By writer) × WritesKey parts.now writer key) }
+{
+    match source {
+        Source::Init => None,
+        Source::By(writer) => {
+            if writes(parts, key, writer) {
+                Some(writer)
+            } else {
+                None
+            }
+        }
+    }
+}
+
+/// Puts a read at the end of those from what remains, or else of the others.
+fn push_read(
+    reads: &mut Vec<Placed>,
+    loose: &mut Vec<Loose>,
+    parts: &Parts,
+    graph: &Graph,
+    reader: TxnId,
+    read: (u64, Source),
+) -> Result<(), NoMemory>
+    requires reads { ReadsKey parts.now reader read.0 read.1 }
+    requires nodes { (id : TxnId) → Remains parts.now id → HasNode graph.now id }
+    ensures { OnOk result ((ids : List TxnId) (some : List (ℕ × Source)) → AreReadsAnd parts.now graph.now.nodes ids reader some reads.old.items loose.old.items
+        → AreReadsAnd parts.now graph.now.nodes ids reader (some ++ read ∷ []) reads.new.items loose.new.items) }
+{
+    let (key, source) = read;
+    match writer_of(parts, key, source) {
+        Some(writer) => push_placed(
+            reads,
+            graph,
+            Read {
+                reader,
+                key,
+                writer,
+            },
+        ),
+        None => {
+            loose.push(Loose {
+                reader,
+                key,
+                source,
+            })?;
+            Ok(())
+        }
+    }
+}
+
+/// Puts the reads of a transaction at the ends.
+fn push_reads_of(
+    reads: &mut Vec<Placed>,
+    loose: &mut Vec<Loose>,
+    parts: &Parts,
+    graph: &Graph,
+    reader: TxnId,
+) -> Result<(), NoMemory>
+    requires { (id : TxnId) → Remains parts.now id → HasNode graph.now id }
+    ensures { OnOk result ((ids : List TxnId) → AreReadsOf parts.now graph.now.nodes ids reads.old.items loose.old.items
+        → AreReadsOf parts.now graph.now.nodes (ids ++ reader ∷ []) reads.new.items loose.new.items) }
+{
+    for read in reads_of(parts, reader) {
+        push_read(reads, loose, parts, graph, reader, *read)?;
+    }
+    Ok(())
+}
+
+/// Puts the reads of these transactions at the ends.
+pub fn add_reads(
+    reads: &mut Vec<Placed>,
+    loose: &mut Vec<Loose>,
+    parts: &Parts,
+    graph: &Graph,
+    new: &[TxnId],
+) -> Result<(), NoMemory>
+    requires nodes { (id : TxnId) → Remains parts.now id → HasNode graph.now id }
+    ensures { OnOk result ((ids : List TxnId) → AreReadsOf parts.now graph.now.nodes ids reads.old.items loose.old.items
+        → AreReadsOf parts.now graph.now.nodes (ids ++ new.now) reads.new.items loose.new.items) }
+{
+    for id in new {
+        push_reads_of(reads, loose, parts, graph, *id)?;
+    }
+    Ok(())
+}
+
+/// Puts a transaction at the end of the ids, and its place and column to the keys that it writes.
+fn add_writer(
+    alloc: Global,
+    table: &mut Table,
+    parts: &Parts,
+    graph: &Graph,
+    id: TxnId,
+) -> Result<(), NoMemory>
+    requires good { IsGood parts.now }
+    requires node { HasNode graph.now id }
+    ensures writers { OnOk result (AreWritersOf parts.now graph.now.nodes table.old → AreWritersOf parts.now graph.now.nodes table.new) }
+    ensures ids { OnOk result (table.new.ids.items ≡ table.old.ids.items ++ id ∷ []) }
+    ensures reads { OnOk result (table.new.reads ≡ table.old.reads) }
+{
+    let place = table.ids.len();
+    let column = column_of(graph, id);
+    add_writes(
+        alloc,
+        &mut table.writers.masks,
+        writes_of(parts, id),
+        column,
+    )?;
+    table.writers.columns.push(column)?;
+    add_to_each(alloc, &mut table.places.lists, written_by(parts, id), place)?;
+    table.ids.push(id)?;
+    Ok(())
+}
+
+/// Puts these transactions at the end of the ids, and their places and columns to the keys that they write.
+pub fn add_writers(
+    alloc: Global,
+    table: &mut Table,
+    parts: &Parts,
+    graph: &Graph,
+    new: &[TxnId],
+) -> Result<(), NoMemory>
+    requires good { IsGood parts.now }
+    requires nodes { All (HasNode graph.now) new.now }
+    ensures writers { OnOk result (AreWritersOf parts.now graph.now.nodes table.old → AreWritersOf parts.now graph.now.nodes table.new) }
+    ensures ids { OnOk result (table.new.ids.items ≡ table.old.ids.items ++ new.now) }
+    ensures reads { OnOk result (table.new.reads ≡ table.old.reads) }
+{
+    for id in new {
+        add_writer(alloc, table, parts, graph, *id)?;
+    }
+    Ok(())
+}
+
+/// A table of nothing.
+fn empty_table(alloc: Global) -> Table
+    ensures ids { result.ids.items ≡ [] }
+    ensures reads { result.reads.items ≡ [] }
+    ensures writers { (parts : Parts) (nodes : List (Option TxnId)) → AreWritersOf parts nodes result }
+{
+    Table {
+        ids: Vec::new(alloc),
+        writers: Writers {
+            masks: BTreeMap::new(alloc),
+            columns: Vec::new(alloc),
+        },
+        places: Places {
+            lists: BTreeMap::new(alloc),
+        },
+        reads: Vec::new(alloc),
+    }
+}
+
+/// The table of the parts, on a graph that has all that remains.
+pub fn kept_table_of(alloc: Global, parts: &Parts, graph: &Graph) -> Result<KeptTable, NoMemory>
+    requires good { IsGood parts.now }
+    requires nodes { (id : TxnId) → Remains parts.now id → HasNode graph.now id }
+    ensures { IfOk result (IsKeptTable parts.now graph.now.nodes) }
+{
+    let ids = remaining_ids_of(alloc, parts)?;
+    let mut table = empty_table(alloc);
+    let mut loose = Vec::new(alloc);
+    add_writers(alloc, &mut table, parts, graph, &ids)?;
+    add_reads(&mut table.reads, &mut loose, parts, graph, &ids)?;
+    Ok(KeptTable { table, loose })
+}

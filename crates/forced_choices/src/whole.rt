@@ -1,0 +1,48 @@
+// The relation of parts, made of the whole.
+ghost use Rattle.std.specs.Prelude.{◌≡◌, ◌↔◌, Contains, IfOk};
+ghost use Rattle.txn.specs.declared.transactions.TxnId.{TxnId};
+ghost use Rattle.known_graph.specs.Graphs.{HasNode};
+ghost use Rattle.order_check.specs.Good.{IsGood};
+ghost use Rattle.forced_choices.specs.Listing.{all_ids, plain_arcs};
+ghost use Rattle.forced_choices.specs.Saturation.{IsSaturationOf};
+
+use crate::building::{add_arcs, graph_of_nodes};
+use crate::listing::{arcs_among, remaining_ids_of};
+use crate::saturation::{Due, saturate};
+use crate::table::table_of;
+use crate::touched::untouched;
+use known_graph::Graph;
+use order_check::Parts;
+use std::alloc::Global;
+use txn::{ForceStep, NoMemory, TxnId};
+
+/// The graph of the arcs that are there from the start.
+#[tactic(auto, using(crate::proofs::Keeping::ids_distinct))]
+fn plain_graph(alloc: Global, parts: &Parts, ids: &[TxnId]) -> Result<Graph, NoMemory>
+    requires good { IsGood parts.now }
+    requires listed { ids.now ≡ all_ids parts.now }
+    ensures nodes { IfOk result (λ graph. (id : TxnId) → HasNode graph id ↔ Contains (all_ids parts.now) id) }
+    ensures arcs { IfOk result (λ graph. graph.arcs ≡ plain_arcs parts.now) }
+{
+    let arcs = arcs_among(alloc, parts, ids)?;
+    let mut graph = graph_of_nodes(alloc, ids)?;
+    add_arcs(alloc, &mut graph, arcs.as_slice())?;
+    Ok(graph)
+}
+
+/// The graph of the known relation, and the steps that were forced.
+pub fn saturation_of(alloc: Global, parts: &Parts) -> Result<(Graph, Vec<ForceStep>), NoMemory>
+    requires { IsGood parts.now }
+    ensures { IfOk result (λ made. IsSaturationOf parts.now made.0 made.1.items) }
+{
+    let ids = remaining_ids_of(alloc, parts)?;
+    let mut graph = plain_graph(alloc, parts, ids.as_slice())?;
+    let table = table_of(alloc, parts, &graph)?;
+    let mut log = Vec::new(alloc);
+    let all = Due {
+        all: true,
+        since: untouched(alloc),
+    };
+    saturate(alloc, parts, &table, &mut graph, &mut log, all)?;
+    Ok((graph, log))
+}
