@@ -103,22 +103,20 @@ class Meetings(WithProgram):
         self.assertEqual(done[2], [fence((1, 1))])  # it has no client
         self.assertEqual(live.report.kind, "serial")
 
-    def test_a_client_goes_on_while_the_others_second_fences_are_run(self):
+    def test_no_client_goes_on_before_all_second_fences_are_run(self):
         live, store = self.live(2, every=2), MemoryStore()
         a, b = (live.session(store.connect()) for _ in range(2))
-        fence = b.fence
+        fence, could_go_on = b.fence, []
 
         def later():
+            could_go_on.append(a.turn.acquire(blocking=False))
             fence()
-            if b.number_of_fences:  # the second one
-                a.run(add_one("x"))
-            b.number_of_fences += 1
 
-        b.number_of_fences, b.fence = 0, later
+        b.fence = later
         a.run(add_one("x")), b.run(add_one("x"))
         self.wait_for(lambda: live.cuts)
         self.assertEqual(self.ended(live).kind, "serial")
-        self.assertEqual(b.number_of_fences, 2)
+        self.assertEqual(could_go_on, [False, False])
 
     def wait_for(self, condition):
         until = time.monotonic() + 60  # where other programs have the processors

@@ -1,8 +1,8 @@
 """An auditor that goes along with clients as they run: fences, rounds and cuts, in a thread of its own.
 
 Clients hand in what they did and go on. Now and then there is a meeting: as each session comes to the end of its transaction it is held
-there, and a fence is run in it; behind the last of these what was written unseen is read once; then a second fence is run in one session after
-another, and each goes on behind its own. So every transaction of before comes before the last of the first fences, every one of later
+there, and a fence is run in it; behind the last of these what was written unseen is read once; then a second fence is run in each, and all
+go on. So every transaction of before comes before the last of the first fences, every one of later
 after it, and of each key it is known who wrote it last: the auditor can forget what stands in front of that fence.
 """
 import queue
@@ -193,8 +193,8 @@ class LiveAuditor:
         try:
             with self.gate:
                 self.why_not = self.first_fences(held) or self.between(held)
-            if not self.why_not:
-                self.second_fences(held)
+                if not self.why_not:
+                    self.second_fences(held)
         except Exception as error:  # the store's: a client will meet it too
             self.why_not = f"the meeting failed ({str(error).strip() or type(error).__name__})"
         finally:
@@ -237,11 +237,11 @@ class LiveAuditor:
         return None
 
     def second_fences(self, held):
-        """Each client goes on behind its own, while the next one's is run."""
-        while held:
-            if held[0].is_open:
-                held[0].fence()
-            held.popleft().turn.release()
+        """While all are held, so that the store aborts none: the number of an attempt that aborts stands behind its session's first fence, and
+        not behind the last one of all, which then isn't settled."""
+        for session in held:
+            if session.is_open:
+                session.fence()
 
     def fence_left(self, lender):
         """The sessions that no client has are open too: each needs its fence, which is run over another's connection."""
@@ -259,8 +259,13 @@ class LiveAuditor:
     def read_unseen(self, session):
         with self.lock:
             keys, self.unseen = sorted(self.unseen - {FENCE}), set()
-        for start in range(0, len(keys), READS):
-            session.run_held(lambda transaction: transaction.get_all(keys[start : start + READS]))
+        try:
+            for start in range(0, len(keys), READS):
+                session.run_held(lambda transaction: transaction.get_all(keys[start : start + READS]))
+        except BaseException:  # they are to be read at the next meeting
+            with self.lock:
+                self.unseen.update(keys)
+            raise
 
 
 def is_transaction(one):
