@@ -1,6 +1,6 @@
 // From the first to the last word of a row that isn't zero. A row of a transaction that just came has one such word, and is
 // joined into the rows of all that reach it: what is outside needn't be gone over for each of them.
-ghost use Rattle.std.specs.Prelude.{◌≡◌, ◌⊎◌, ◌↔◌, ℕ, ◌<◌, ◌≤◌, length, slice_index};
+ghost use Rattle.std.specs.Prelude.{◌≡◌, ◌≢◌, ◌⊎◌, ◌↔◌, ℕ, ◌+◌, ◌<◌, ◌≤◌, length, slice_index};
 ghost use Rattle.known_graph.specs.Bits.{HasBit};
 ghost use Rattle.known_graph.specs.Spans.{IsSpanOf};
 
@@ -13,7 +13,8 @@ pub struct Span {
 
 /// The row's length, where all words are zero.
 fn front_of(row: &[u64]) -> usize
-    ensures { (k : ℕ) → k < result → slice_index row.now k ≡ 0 }
+    ensures before { (k : ℕ) → k < result → slice_index row.now k ≡ 0 }
+    ensures first { result < length row.now → slice_index row.now result ≢ 0 }
 {
     for k in 0..row.len() {
         if row[k] != 0 {
@@ -27,6 +28,7 @@ fn front_of(row: &[u64]) -> usize
 fn behind_of(row: &[u64]) -> usize
     ensures within { result ≤ length row.now }
     ensures after { (k : ℕ) → result ≤ k → slice_index row.now k ≡ 0 }
+    ensures last { (k : ℕ) → k + 1 ≡ result → slice_index row.now k ≢ 0 }
 {
     for k in (0..row.len()).rev() {
         if row[k] != 0 {
@@ -38,7 +40,9 @@ fn behind_of(row: &[u64]) -> usize
 
 /// Where the row has words that aren't zero.
 pub fn span_of(row: &[u64]) -> Span
-    ensures { IsSpanOf row.now result }
+    ensures span { IsSpanOf row.now result }
+    ensures first { result.front < length row.now → slice_index row.now result.front ≢ 0 }
+    ensures last { (k : ℕ) → k + 1 ≡ result.behind → slice_index row.now k ≢ 0 }
 {
     Span {
         front: front_of(row),
