@@ -198,7 +198,7 @@ HasBit-without_whole old less new fits done all is j = elim (cases_lt (j / 64) d
   | inr past ↦ (λ has. absurd (no_bit new j (omega (arith, is.len)) has), λ was. absurd (no_bit old j (omega arith) was.0))
 ]
 
-bit_and-both : (a b i : ℕ) → (bit_at (bit_and a b) i ≡ 1) ↔ ((bit_at a i ≡ 1) × (bit_at b i ≡ 1))
+pub bit_and-both : (a b i : ℕ) → (bit_at (bit_and a b) i ≡ 1) ↔ ((bit_at a i ≡ 1) × (bit_at b i ≡ 1))
 bit_and-both a b i =
     let both = bit_at_and a b i in
     let first = bit_at-lt a i in

@@ -4,6 +4,7 @@
 mod bits;
 mod digraph;
 mod drops;
+mod inclusion;
 mod index;
 mod joins;
 mod nearest;
@@ -15,4 +16,5 @@ mod trail;
 
 pub use bits::{clear_bit, clear_bits, has_bit, is_clear, keep_bits, or_into, set_bit};
 pub use digraph::{Addition, Graph};
+pub use inclusion::{is_covered, meet_within};
 pub use spans::{Span, span_of};

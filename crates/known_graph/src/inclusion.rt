@@ -1,0 +1,57 @@
+// Whether rows of words lie within others, answered without a row being made of what is outside.
+ghost use Rattle.std.specs.Prelude.{◌≡◌, ◌≢◌, ◌⊎◌, ◌↔◌, ℕ, ◌/◌, ◌%◌, IsTrue};
+ghost use Rattle.std.specs.Int.{bit_at};
+ghost use Rattle.known_graph.specs.Bits.{HasBit};
+
+use crate::bits::word_of;
+
+/// The word at the place, less the column's bit, which is no other word's.
+fn word_but(word: u64, place: usize, column: usize) -> u64
+    ensures { (j : ℕ) → j / 64 ≡ place → (bit_at result (j % 64) ≡ 1) ↔ ((bit_at word (j % 64) ≡ 1) × (j ≢ column)) }
+{
+    if column / 64 == place {
+        word & !(1u64 << (column % 64))
+    } else {
+        word
+    }
+}
+
+/// Of the word at the place the bits of the columns, but for this one, that the first two rows have and the third hasn't.
+fn outside_at(row: &[u64], other: &[u64], within: &[u64], but: usize, place: usize) -> u64
+    ensures { (j : ℕ) → j / 64 ≡ place → (bit_at result (j % 64) ≡ 1) ↔ (HasBit row.now j × HasBit other.now j × (¬ HasBit within.now j) × (j ≢ but)) }
+{
+    let both = word_of(row, place) & word_of(other, place);
+    word_but(both & !word_of(within, place), place, but)
+}
+
+/// Whether each column that the first two rows have is in the third, or is this one.
+pub fn meet_within(row: &[u64], other: &[u64], within: &[u64], but: usize) -> bool
+    ensures { IsTrue result ↔ ((j : ℕ) → HasBit row.now j → HasBit other.now j → (HasBit within.now j ⊎ (j ≡ but))) }
+{
+    for k in 0..row.len() {
+        if row[k] != 0 && outside_at(row, other, within, but, k) != 0 {
+            return false;
+        }
+    }
+    true
+}
+
+/// Of the word at the place the bits of the row's columns that none of the four has.
+fn uncovered_at(row: &[u64], a: &[u64], b: &[u64], c: &[u64], d: &[u64], place: usize) -> u64
+    ensures { (j : ℕ) → j / 64 ≡ place → (bit_at result (j % 64) ≡ 1) ↔ (HasBit row.now j × (¬ HasBit a.now j) × (¬ HasBit b.now j) × (¬ HasBit c.now j) × (¬ HasBit d.now j)) }
+{
+    let first = word_of(row, place) & !word_of(a, place) & !word_of(b, place);
+    first & !word_of(c, place) & !word_of(d, place)
+}
+
+/// Whether each column of the row is in one of the four.
+pub fn is_covered(row: &[u64], a: &[u64], b: &[u64], c: &[u64], d: &[u64]) -> bool
+    ensures { IsTrue result ↔ ((j : ℕ) → HasBit row.now j → (HasBit a.now j ⊎ HasBit b.now j ⊎ HasBit c.now j ⊎ HasBit d.now j)) }
+{
+    for k in 0..row.len() {
+        if row[k] != 0 && uncovered_at(row, a, b, c, d, k) != 0 {
+            return false;
+        }
+    }
+    true
+}
