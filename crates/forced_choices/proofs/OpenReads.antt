@@ -13,7 +13,7 @@ use Rattle.forced_choices.specs.declared.writers.Writers.{Writers}
 use Rattle.forced_choices.specs.Masks.{AreWriters, AreTold, mask_of, choice_of, choices_in}
 use Rattle.forced_choices.specs.Undecided.{IsUndecided, AreAllDecided, AreFound, TellsOpen}
 use Rattle.forced_choices.proofs.Members.{In, Ascends, in_left, in_right, in_either, ascends_append, ascends_front, ascends_across}
-use Rattle.forced_choices.proofs.SettledReads.{each_choice, third_parts, third_writes}
+use Rattle.forced_choices.proofs.SettledReads.{each_choice, third_parts, third_writes, told_of}
 
 -- nothing is undecided before the first
 pub found_none : (arcs : List Arc) → AreFound arcs [] []
@@ -55,13 +55,7 @@ found_push arcs front found here so is = record {
     before up x y hx (inl e) = subst (λ y. choice_below x y ≡ true) e (ascends_across choice_below front here up x (so.each x hx).0)
     before up x y hx (inr there) = absurd there
 
--- what a row tells of one transaction
-pub told_of : (nodes : List (Option TxnId)) (R : TxnId → Type 0) (row : List ℕ) (j : ℕ) (other : TxnId) → IsAt nodes j other → (HasBit row j ↔ ((b : TxnId) × IsAt nodes j b × R b)) → HasBit row j ↔ R other
-told_of nodes R row j other at tells = ((λ has. by_found (tells.0 has)), (λ related. tells.1 (other, at, related)))
-  where
-    by_found : (b : TxnId) × IsAt nodes j b × R b → R other
-    by_found (b, there, is) = let same : b ≡ other = cc in subst R same is
-
+-- what four rows tell of one transaction
 pub tells_open : (nodes : List (Option TxnId)) (arcs : List Arc) (read : Read) (mask after_writer before_reader before_writer after_reader row : List ℕ) (j : ℕ) (other : TxnId) → HasBit mask j → IsAt nodes j other →
     (HasBit after_writer j ↔ ((b : TxnId) × IsAt nodes j b × Reaches arcs read.writer b)) → (HasBit before_reader j ↔ ((b : TxnId) × IsAt nodes j b × Reaches arcs b read.reader)) →
     (HasBit before_writer j ↔ ((b : TxnId) × IsAt nodes j b × Reaches arcs b read.writer)) → (HasBit after_reader j ↔ ((b : TxnId) × IsAt nodes j b × Reaches arcs read.reader b)) →
@@ -85,11 +79,15 @@ told_by_writers parts nodes arcs ids writers mask row read are is tells k d with
     let column = get_or writers.columns.items k 0 in
     tells column other (subst (λ (mask : List ℕ). HasBit mask column) (sym is) (are.masked k d read.key within (third_writes parts read other third))) (are.placed k d within)
 
--- where the row has no column, none is undecided
-pub decided_all : (parts : Parts) (arcs : List Arc) (ids : List TxnId) (columns row : List ℕ) (read : Read) → ((j : ℕ) → ¬ HasBit row j) → AreTold parts arcs ids columns row read → AreAllDecided arcs (choices_in parts ids read)
-decided_all parts arcs ids columns row read bare told = each_choice parts read (λ c. ¬ IsUndecided arcs c) ids (λ k d within choice h is.
-    let facts = third_parts parts read (get_or ids k d) choice h in
-    bare (get_or columns k 0) ((told k d within facts.1).all (subst (IsUndecided arcs) facts.0 is)))
+-- where no writer of the mask is undecided, none is
+pub decided_all : (parts : Parts) (nodes : List (Option TxnId)) (arcs : List Arc) (ids : List TxnId) (writers : Writers) (mask : List ℕ) (read : Read) → AreWriters parts nodes ids writers → mask ≡ mask_of writers.masks read.key →
+    ((j : ℕ) (other : TxnId) → HasBit mask j → IsAt nodes j other → ¬ IsUndecided arcs (choice_of read other)) → AreAllDecided arcs (choices_in parts ids read)
+decided_all parts nodes arcs ids writers mask read are is none = each_choice parts read (λ c. ¬ IsUndecided arcs c) ids (λ k d within choice h und.
+    let other = get_or ids k d in
+    let column = get_or writers.columns.items k 0 in
+    let facts = third_parts parts read other choice h in
+    let masked = subst (λ (mask : List ℕ). HasBit mask column) (sym is) (are.masked k d read.key within (third_writes parts read other facts.1)) in
+    none column other masked (are.placed k d within) (subst (IsUndecided arcs) facts.0 und))
 
 -- what ascends has its front below its rest
 pub ascends_between : {X : Type 0} (below : X → X → Bool) (xs ys : List X) → Ascends below (xs ++ ys) → (x y : X) → In xs x → In ys y → below x y ≡ true

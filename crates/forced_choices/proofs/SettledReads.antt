@@ -6,6 +6,7 @@ use Rattle.std.proofs.lemmas.Bool.{cases_eq}
 use Rattle.std.proofs.lemmas.List.{map-append, take_more, append-nil}
 use Rattle.std.proofs.lemmas.List.Elements.{filter-append}
 use Rattle.std.proofs.lemmas.Grind.{flat_map-append}
+use Rattle.std.proofs.lemmas.Nat.Bits.{bit_at-zero}
 use Rattle.std.specs.Int.{bit_at}
 use Rattle.txn.specs.declared.transactions.TxnId.{TxnId}
 use Rattle.txn.specs.declared.transactions.Source.{Source}
@@ -104,9 +105,16 @@ each_choice parts read P (one ∷ ids) each choice h = by_part (in_either (choic
     by_part (inl h) rest = each 0 one (omega arith) choice h
     by_part (inr h) rest = rest choice h
 
--- where the row has no column, all are
-pub settled_all : (parts : Parts) (arcs : List Arc) (ids : List TxnId) (columns row : List ℕ) (read : Read) → ((j : ℕ) → ¬ HasBit row j) → AreSettledBut parts arcs ids columns row read → AreThere arcs (choices_in parts ids read)
-settled_all parts arcs ids columns row read bare but choice side h = each_choice parts read (λ c. IsThere arcs (record { choice = c; side = side })) ids (λ k d within c. but k d within (bare (get_or columns k 0)) c side) choice h
+no_bit_of_none : (j : ℕ) → ¬ HasBit [] j
+no_bit_of_none j has = omega (arith, has, bit_at-zero (j % 64))
+
+-- where each writer of the mask is settled, all choices are
+pub settled_all : (parts : Parts) (nodes : List (Option TxnId)) (arcs : List Arc) (ids : List TxnId) (writers : Writers) (mask : List ℕ) (read : Read) → AreWriters parts nodes ids writers → mask ≡ mask_of writers.masks read.key →
+    ((j : ℕ) (other : TxnId) → HasBit mask j → IsAt nodes j other → other ≢ read.reader → other ≢ read.writer → IsSettled arcs read other) →
+    AreThere arcs (choices_in parts ids read)
+settled_all parts nodes arcs ids writers mask read are is tells choice side h =
+    let but = settled_by_mask parts nodes arcs ids writers mask [] read are is (λ j other masked at bare. tells j other masked at) in
+    each_choice parts read (λ c. IsThere arcs (record { choice = c; side = side })) ids (λ k d within c. but k d within (no_bit_of_none (get_or writers.columns.items k 0)) c side) choice h
 
 -- the other writer writes the key
 pub third_writes : (parts : Parts) (read : Read) (other : TxnId) → is_third parts read other ≡ true → writes_here parts read.key other ≡ true
@@ -139,6 +147,20 @@ third_is_choice parts read other reads written is =
       not_writer = apart_from_test other read.writer first.0;
       not_reader = apart_from_test other read.reader second.0;
     }
+
+-- what a row tells of one transaction
+pub told_of : (nodes : List (Option TxnId)) (R : TxnId → Type 0) (row : List ℕ) (j : ℕ) (other : TxnId) → IsAt nodes j other → (HasBit row j ↔ ((b : TxnId) × IsAt nodes j b × R b)) → HasBit row j ↔ R other
+told_of nodes R row j other at tells = ((λ has. by_found (tells.0 has)), (λ related. tells.1 (other, at, related)))
+  where
+    by_found : (b : TxnId) × IsAt nodes j b × R b → R other
+    by_found (b, there, is) = let same : b ≡ other = cc in subst R same is
+
+-- and where another row has the column too
+pub told_within : (nodes : List (Option TxnId)) (R S : TxnId → Type 0) (row within : List ℕ) (but j : ℕ) (other : TxnId) → IsAt nodes j other → (HasBit row j ↔ ((b : TxnId) × IsAt nodes j b × R b)) → (HasBit within j ↔ ((b : TxnId) × IsAt nodes j b × S b)) → (HasBit row j → HasBit within j ⊎ (j ≡ but)) → j ≢ but → R other → S other
+told_within nodes R S row within but j other at tells_row tells_within all apart related = elim (all ((told_of nodes R row j other at tells_row).1 related)) [
+  | inl has ↦ (told_of nodes S within j other at tells_within).0 has
+  | inr same ↦ absurd (apart same)
+]
 
 -- what a row tells, where the mask has the column, and the row less another hasn't
 pub told_by_rows : (nodes : List (Option TxnId)) (R S : TxnId → Type 0) (mask row less left : List ℕ) (j : ℕ) (other : TxnId) → HasBit mask j → IsAt nodes j other → (HasBit row j ↔ ((b : TxnId) × IsAt nodes j b × R b)) → (HasBit less j ↔ ((b : TxnId) × IsAt nodes j b × S b)) → (HasBit left j ↔ (HasBit mask j × HasBit row j × (¬ HasBit less j))) → (¬ HasBit left j) → R other → S other

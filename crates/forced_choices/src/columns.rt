@@ -1,5 +1,5 @@
-// Where a side of a choice may be left, found 64 transactions at a time.
-ghost use Rattle.std.specs.Prelude.{◌≡◌, ◌≢◌, ◌⊎◌, ◌↔◌, ◌≤◌, ℕ, IfOk, length};
+// Whether a side of a choice may be left, and where, found 64 transactions at a time.
+ghost use Rattle.std.specs.Prelude.{◌≡◌, ◌≢◌, ◌⊎◌, ◌↔◌, ◌≤◌, ℕ, true, IfOk, length};
 ghost use Rattle.txn.specs.declared.transactions.TxnId.{TxnId};
 ghost use Rattle.known_graph.specs.Bits.{HasBit};
 ghost use Rattle.known_graph.specs.Graphs.{IsAt};
@@ -7,9 +7,24 @@ ghost use Rattle.forced_choices.specs.Masks.{IsSettled};
 ghost use Rattle.forced_choices.specs.Tables.{IsAtColumns};
 
 use crate::reads::Placed;
-use known_graph::{Graph, clear_bit, clear_bits, keep_bits, or_into};
+use known_graph::{Graph, clear_bit, clear_bits, keep_bits, meet_within, or_into};
 use std::alloc::Global;
 use txn::NoMemory;
+
+/// Whether the columns of the mask where the other writer is after the writer are all after the reader, and those before the reader
+/// all before the writer, but for those of the reader and of the writer. Nearly all reads are so, and no row is made for them.
+pub fn are_settled(graph: &Graph, mask: &[u64], placed: Placed) -> bool
+    requires { IsAtColumns graph.now.nodes placed }
+    ensures { result ≡ true → (j : ℕ) (other : TxnId) → HasBit mask.now j → IsAt graph.now.nodes j other
+        → other ≢ placed.read.reader → other ≢ placed.read.writer → IsSettled graph.now.arcs placed.read other }
+{
+    let after_writer = graph.row_at(placed.writer_at);
+    let after_reader = graph.row_at(placed.reader_at);
+    let before_reader = graph.row_of_sources_at(placed.reader_at);
+    let before_writer = graph.row_of_sources_at(placed.writer_at);
+    meet_within(mask, after_writer, after_reader, placed.reader_at)
+        && meet_within(mask, before_reader, before_writer, placed.writer_at)
+}
 
 /// Keeps the bits that the second row has, and the third hasn't.
 fn narrow(row: &mut [u64], keep: &[u64], less: &[u64])

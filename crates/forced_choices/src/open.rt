@@ -7,17 +7,32 @@ ghost use Rattle.known_graph.specs.Graphs.{IsAt};
 ghost use Rattle.forced_choices.specs.Listing.{all_ids, choices_of};
 ghost use Rattle.forced_choices.specs.Masks.{AreTold, is_third, choice_of, choices_in};
 ghost use Rattle.forced_choices.specs.Tables.{ArePassed, IsAtColumns, IsPlaced, IsTable};
-ghost use Rattle.forced_choices.specs.Undecided.{AreFound, AreAllDecided, IsFirstFound, TellsOpen};
+ghost use Rattle.forced_choices.specs.Undecided.{AreFound, AreAllDecided, IsFirstFound, IsUndecided, TellsOpen};
 ghost use Rattle.forced_choices.specs.WriterPlaces.{those_at};
 
 use crate::listing::is_third;
 use crate::reads::{Placed, Read};
 use crate::table::Table;
 use crate::writers::Writers;
-use known_graph::{Graph, clear_bits, has_bit, is_clear};
+use known_graph::{Graph, clear_bits, has_bit, is_covered};
 use order_check::Parts;
 use std::alloc::Global;
 use txn::{Choice, NoMemory, TxnId};
+
+/// Whether each column of the mask is reached by the writer or by the reader, or reaches one of them. Nearly all reads are so, and no
+/// row is made for them.
+fn are_decided(graph: &Graph, mask: &[u64], placed: Placed) -> bool
+    requires { IsAtColumns graph.now.nodes placed }
+    ensures { result ≡ true → (j : ℕ) (other : TxnId) → HasBit mask.now j → IsAt graph.now.nodes j other → ¬ IsUndecided graph.now.arcs (choice_of placed.read other) }
+{
+    is_covered(
+        mask,
+        graph.row_at(placed.writer_at),
+        graph.row_of_sources_at(placed.reader_at),
+        graph.row_of_sources_at(placed.writer_at),
+        graph.row_at(placed.reader_at),
+    )
+}
 
 /// Clears the bits of four rows.
 fn clear_four(row: &mut [u64], a: &[u64], b: &[u64], c: &[u64], d: &[u64])
@@ -116,10 +131,11 @@ fn push_open_of_read(
     ensures { OnOk result ((front : List Choice) → AreFound graph.now.arcs front found.old.items
         → AreFound graph.now.arcs (front ++ choices_in parts.now table.now.ids.items placed.read) found.new.items) }
 {
-    let row = open_columns(alloc, graph, table.writers.mask(placed.read.key), placed)?;
-    if is_clear(&row) {
+    let mask = table.writers.mask(placed.read.key);
+    if are_decided(graph, mask, placed) {
         return Ok(());
     }
+    let row = open_columns(alloc, graph, mask, placed)?;
     let ids = table.ids.as_slice();
     push_open_columns(
         found,

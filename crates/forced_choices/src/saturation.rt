@@ -15,13 +15,13 @@ ghost use Rattle.forced_choices.specs.Tables.{IsLookup, IsPlaced, choices_at};
 ghost use Rattle.forced_choices.specs.Touching.{AreNoted, AreSpansOf, MayBeJoined};
 ghost use Rattle.forced_choices.specs.WriterPlaces.{those_at};
 
-use crate::columns::columns_left;
+use crate::columns::{are_settled, columns_left};
 use crate::listing::is_third;
 use crate::reads::{Placed, Read};
 use crate::rules::{Rule, is_left};
 use crate::table::Table;
 use crate::touched::{Spans, Touched, is_touched, note, spans_of, untouched};
-use known_graph::{Graph, has_bit, is_clear};
+use known_graph::{Graph, has_bit};
 use order_check::Parts;
 use std::alloc::Global;
 use txn::{Arc, Choice, ForceStep, NoMemory, Sequence, Side, TxnId};
@@ -213,10 +213,10 @@ fn look_at_read(
     ensures mark { last_mark graph.new ≡ last_mark graph.old }
 {
     let mask = table.writers.mask(placed.read.key);
-    let row = columns_left(alloc, graph, mask, placed)?;
-    if is_clear(&row) {
+    if are_settled(graph, mask, placed) {
         return Ok(());
     }
+    let row = columns_left(alloc, graph, mask, placed)?;
     look_at_columns(
         alloc,
         parts,

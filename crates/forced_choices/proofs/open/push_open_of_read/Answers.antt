@@ -1,6 +1,5 @@
 use Rattle.std.proofs.Common.{ℕ, ◌<◌, ◌∙◌, ◌++◌, List, length, ap, sym, subst}
 use Rattle.std.specs.Prelude.{All}
-use Rattle.known_graph.specs.Bits.{HasBit}
 use Rattle.txn.specs.declared.transactions.TxnId.{TxnId}
 use Rattle.forced_choices.specs.Masks.{AreTold, choices_in}
 use Rattle.forced_choices.specs.Undecided.{AreFound}
@@ -9,16 +8,14 @@ use Rattle.forced_choices.specs.WriterPlaces.{those_at}
 use Rattle.forced_choices.proofs.PlacesOfWriters.{choices_at_places}
 use Rattle.forced_choices.proofs.open.push_open_of_read.Goals as goal
 
-pub returns-then-is_clear : goal.returns-then-is_clear
-returns-then-is_clear c = λ front so.
+pub returns-then-are_decided : goal.returns-then-are_decided
+returns-then-are_decided c = λ front so.
     let parts = c.args.parts.now in
     let arcs = c.args.graph.now.arcs in
     let table = c.args.table.now in
     let read = c.args.placed.read in
-    let row = c.in_ok-row.row.items in
-    let told = told_by_writers parts c.args.graph.now.nodes arcs table.ids.items table.writers c.mask.result.now row read c.requires.table.writers c.mask.ensures c.in_ok-row.ensures in
-    let bare = λ (j : ℕ). subst (λ (row : List ℕ). ¬ HasBit row j) c.deref.ensures.value (c.is_clear.ensures.0 c.if-is_clear.true j) in
-    found_skip arcs front c.args.found.now.items (choices_in parts table.ids.items read) so (decided_all parts arcs table.ids.items table.writers.columns.items row read bare told)
+    let decided = decided_all parts c.args.graph.now.nodes arcs table.ids.items table.writers c.mask-mask.result.now read c.requires.table.writers c.mask-mask.ensures (c.are_decided.ensures c.if-are_decided.true) in
+    found_skip arcs front c.args.found.now.items (choices_in parts table.ids.items read) so decided
 
 pub push_open_columns-requires-clause-told : goal.push_open_columns-requires-clause-told
 push_open_columns-requires-clause-told c =
@@ -26,7 +23,7 @@ push_open_columns-requires-clause-told c =
     let arcs = c.args.graph.now.arcs in
     let table = c.args.table.now in
     let read = c.args.placed.read in
-    let told = told_by_writers parts c.args.graph.now.nodes arcs table.ids.items table.writers c.mask.result.now c.in_ok-row.row.items read c.requires.table.writers c.mask.ensures c.in_ok-row.ensures in
+    let told = told_by_writers parts c.args.graph.now.nodes arcs table.ids.items table.writers c.mask-mask.result.now c.in_ok-row.row.items read c.requires.table.writers c.mask-mask.ensures c.in_ok-row.ensures in
     let by_row = subst (λ (row : List ℕ). AreTold parts arcs table.ids.items table.writers.columns.items row read) (sym c.as_slice.ensures.value) told in
     subst (λ (ids : List TxnId). AreTold parts arcs ids table.writers.columns.items c.as_slice.result.now read) (sym c.as_slice-ids.ensures.value) by_row
 

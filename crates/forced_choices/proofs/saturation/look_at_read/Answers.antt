@@ -1,6 +1,5 @@
 use Rattle.std.proofs.Common.{ℕ, ◌<◌, ◌∙◌, List, length, ap, sym, subst}
 use Rattle.std.specs.Prelude.{All, OnOk}
-use Rattle.known_graph.specs.Bits.{HasBit}
 use Rattle.forced_choices.specs.Forcing.{stage_of, HasLooked}
 use Rattle.forced_choices.specs.Masks.{AreSettledBut, choices_in}
 use Rattle.forced_choices.proofs.SettledReads.{settled_by_mask, settled_all, looked_all_there, third_is_choice}
@@ -8,16 +7,15 @@ use Rattle.forced_choices.specs.WriterPlaces.{those_at}
 use Rattle.forced_choices.proofs.PlacesOfWriters.{choices_at_places}
 use Rattle.forced_choices.proofs.saturation.look_at_read.Goals as goal
 
-pub returns-then-is_clear-clause-looked : goal.returns-then-is_clear-clause-looked
-returns-then-is_clear-clause-looked c =
+pub returns-then-are_settled-clause-looked : goal.returns-then-are_settled-clause-looked
+returns-then-are_settled-clause-looked c =
     let parts = c.args.parts.now in
+    let nodes = c.args.graph.now.nodes in
     let arcs = c.args.graph.now.arcs in
     let table = c.args.table.now in
     let read = c.args.placed.read in
-    let row = c.in_ok-row.row.items in
-    let but = settled_by_mask parts c.args.graph.now.nodes arcs table.ids.items table.writers c.mask-mask.result.now row read c.requires.table.writers c.mask-mask.ensures c.in_ok-row.ensures in
-    let bare = λ (j : ℕ). subst (λ (row : List ℕ). ¬ HasBit row j) c.deref.ensures.value (c.is_clear.ensures.0 c.if-is_clear.true j) in
-    looked_all_there parts c.args.graph.now.nodes (stage_of c.args.graph.now c.args.log.now.items c.args.touched.now) (choices_in parts table.ids.items read) (settled_all parts arcs table.ids.items table.writers.columns.items row read bare but)
+    let there = settled_all parts nodes arcs table.ids.items table.writers c.mask-mask.result.now read c.requires.table.writers c.mask-mask.ensures (c.are_settled.ensures c.if-are_settled.true) in
+    looked_all_there parts nodes (stage_of c.args.graph.now c.args.log.now.items c.args.touched.now) (choices_in parts table.ids.items read) there
 
 pub look_at_columns-requires-clause-choices : goal.look_at_columns-requires-clause-choices
 look_at_columns-requires-clause-choices c = λ other is. third_is_choice c.args.parts.now c.args.placed.read other c.requires.placed.reads c.requires.placed.written is
