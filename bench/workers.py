@@ -10,6 +10,9 @@ one of their readers. Before them in the list of open choices stand N choices th
 round splits it into 64 cubes of one size. Told is the time from the round's line to its report, over pipes, the best of so many
 runs, and the processor time of the program from its start to its end. Another program, as an auditor with the solver of one
 thread, is timed beside. With other work on the machine's cores times say little: the head line tells its load.
+
+What the machine has to give is told by the rows "apart": so many programs at once, each with one worker and a round of its own. They share
+nothing, so that so many workers can hardly do better; two processors of a machine may be two threads of one core.
 """
 import argparse
 import json
@@ -47,33 +50,41 @@ def history(free):
     return [json.dumps(line, separators=(",", ":")) for line in lines]
 
 
-def run(program, lines, workers):
-    """The report, the seconds of the round, and the processor seconds of the whole."""
-    before = os.times()
+def begun(program, lines):
+    """The program, with all lines taken in."""
     process = subprocess.Popen([program], stdin=subprocess.PIPE, stdout=subprocess.PIPE)
     for line in lines:
         process.stdin.write(line.encode() + b"\n")
         process.stdin.flush()
         assert process.stdout.readline() == b'["ok"]\n', line
+    return process
+
+
+def run(program, lines, workers, copies):
+    """The report, the seconds of the round, or of as many rounds in as many programs at once, and the processor seconds of the whole."""
+    before = os.times()
+    processes = [begun(program, lines) for _ in range(copies)]
     begin = time.perf_counter()
-    process.stdin.write(b'["round",4294967296,6,%d]\n' % workers)
-    process.stdin.flush()
-    report = process.stdout.readline()
+    for process in processes:
+        process.stdin.write(b'["round",4294967296,6,%d]\n' % workers)
+        process.stdin.flush()
+    reports = {process.stdout.readline() for process in processes}
     seconds = time.perf_counter() - begin
-    process.stdin.close()
-    process.wait()
+    for process in processes:
+        process.stdin.close()
+        process.wait()
     after = os.times()
     busy = after.children_user - before.children_user + after.children_system - before.children_system
-    return report, seconds, busy
+    return reports, seconds, busy
 
 
 def measured(lines, rows, times):
     """Of each row the report, and the least seconds and processor seconds of so many runs; the rows take turns."""
     runs = [[] for _ in rows]
     for _ in range(times):
-        for told, (_, program, workers) in zip(runs, rows):
-            told.append(run(program, lines, workers))
-    return [(told[0][0], min(seconds for _, seconds, _ in told), min(busy for _, _, busy in told)) for told in runs]
+        for told, (_, program, workers, copies) in zip(runs, rows):
+            told.append(run(program, lines, workers, copies))
+    return [(set.union(*(reports for reports, _, _ in told)), min(seconds for _, seconds, _ in told), min(busy for _, _, busy in told)) for told in runs]
 
 
 def main():
@@ -83,15 +94,16 @@ def main():
     words.add_argument("--single", metavar="PROGRAM", help="an auditor with the solver of one thread")
     words.add_argument("program", nargs="?", default="crates/cobra_audit/out/cobra_audit")
     asked = words.parse_args()
-    rows = [("single", asked.single, 1)] if asked.single else []
-    rows += [("shared", asked.program, workers) for workers in (1, 2, 4)]
+    rows = [("single", asked.single, 1, 1)] if asked.single else []
+    rows += [("shared", asked.program, workers, 1) for workers in (1, 2, 4)]
+    rows += [("apart", asked.program, 1, copies) for copies in (2, 4)]
     told = measured(history(asked.free), rows, asked.times)
     print(f"{os.cpu_count()} processors, load {os.getloadavg()[0]:.1f}, the best of {asked.times} runs each")
-    print("solver  workers  round s  times faster  processor s")
-    for (name, _, workers), (_, seconds, busy) in zip(rows, told):
-        print(f"{name:7} {workers:7} {seconds:8.3f} {told[0][1] / seconds:13.2f} {busy:12.2f}")
-    reports = {report for report, _, _ in told}
-    print("each report is", json.loads(told[0][0])[2], "and byte for byte the same" if len(reports) == 1 else "BUT THEY DIFFER")
+    print("solver  programs  workers  rounds s  times faster  processor s")
+    for (name, _, workers, copies), (_, seconds, busy) in zip(rows, told):
+        print(f"{name:7} {copies:8} {workers:8} {seconds:9.3f} {copies * told[0][1] / seconds:13.2f} {busy:12.2f}")
+    reports = set.union(*(reports for reports, _, _ in told))
+    print("each report is", json.loads(min(reports))[2], "and byte for byte the same" if len(reports) == 1 else "BUT THEY DIFFER")
 
 
 if __name__ == "__main__":
