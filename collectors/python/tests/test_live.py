@@ -228,6 +228,17 @@ class MeetingsApart(Meetings):
         with self.assertRaises(Ended):
             auditor.round()
 
+    def test_a_key_that_can_not_be_handed_over_ends_the_audit_and_no_client(self):
+        class Key(str):
+            pass
+
+        live, store = self.live(1), MemoryStore()
+        a = live.session(store.connect())
+        a.run(add_one(Key("x")))
+        self.assertEqual(a.run(lambda transaction: transaction.get("x")), 1)
+        self.wait_for(lambda: live.is_over)
+        self.assertIsInstance(live.failure, ValueError)
+
     def test_a_program_that_is_not_there(self):
         with self.assertRaisesRegex(Ended, "nowhere can't be started"):
             AuditorApart(1, program="/nowhere")

@@ -1,5 +1,6 @@
 """An auditor in a process of its own. The threads of a Python program run one at a time, so that whatever is done there with a log on its
-way to cobra_audit is taken from the clients; here they hand over what was logged, and the rest is done beside them."""
+way to cobra_audit is taken from the clients; here they hand over what was logged, as bytes, and the rest is done beside them."""
+import gc
 import marshal
 import os
 import pickle
@@ -44,10 +45,19 @@ class AuditorApart:
             raise Full(f"there is no room for transaction {number} of session {session}")
 
     def offer_all(self, fragments):
-        plain = [(session, first, [*map(tuple, txns)]) for session, first, txns in fragments]
-        refused = {*self.call("offer_all", marshal.dumps(plain))}  # takes a third of pickle's time, and knows plain tuples and lists alone
+        """Their transactions may be packed."""
+        plain = [(session, first, [one if type(one) is bytes else as_bytes(one) for one in txns]) for session, first, txns in fragments]
+        refused = {*self.call("offer_all", plain)}
         self.remaining += sum(len(txns) for session, _, txns in fragments if session not in refused)
         return [fragment for fragment in fragments if fragment[0] in refused]
+
+    @staticmethod
+    def packed(logged):
+        """As bytes, which leave nothing to the clients' garbage collector. What can't be made such is left as it is, for offer_all to tell."""
+        try:
+            return as_bytes(logged)
+        except ValueError:
+            return logged
 
     def close(self, session):
         self.call("close", session)
@@ -66,7 +76,7 @@ class AuditorApart:
 
     @property
     def history(self):
-        return self.call("get", "history")
+        return [[*map(unpacked, txns)] for txns in self.call("get", "history")]
 
     @property
     def marks(self):
@@ -97,6 +107,21 @@ class AuditorApart:
         self.end()
 
 
+def as_bytes(logged):
+    return marshal.dumps(tuple(logged))  # takes a third of pickle's time, and knows plain values alone
+
+
+def unpacked(packed):
+    return Logged(*marshal.loads(packed))
+
+
+class OfPacked(Auditor):
+    """An Auditor of transactions that are packed, and that stay so in its history."""
+
+    def txn(self, packed):
+        return super().txn(unpacked(packed))
+
+
 class Served:
     """The other process's end of the calls."""
 
@@ -104,13 +129,11 @@ class Served:
         self.auditor = None
 
     def open(self, sessions, limit, program):
-        self.auditor = Auditor(sessions, limit, program)
+        self.auditor = OfPacked(sessions, limit, program)
 
     def offer_all(self, fragments):
         """The sessions whose transactions there was no room for."""
-        plain = marshal.loads(fragments)
-        refused = self.auditor.offer_all([(session, first, [*map(Logged._make, txns)]) for session, first, txns in plain])
-        return [session for session, _, _ in refused]
+        return [session for session, _, _ in self.auditor.offer_all(fragments)]
 
     def get(self, name):
         return getattr(self.auditor, name)
@@ -128,6 +151,7 @@ class Served:
 def serve():
     """Answers calls until there are no more."""
     signal.signal(signal.SIGINT, signal.SIG_IGN)  # it ends when the clients' process does
+    gc.freeze()  # what is there by now stays
     calls, answers, served = sys.stdin.buffer, sys.stdout.buffer, Served()
     while True:
         try:

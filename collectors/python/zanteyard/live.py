@@ -29,14 +29,17 @@ class LiveAuditor:
     def __init__(self, auditor, run_name="", every=EVERY, seconds=2.0, idle=30.0, patience=1.0, most=2048, tell=print):
         self.auditor, self.run_name, self.every, self.seconds, self.idle = auditor, run_name, every, seconds, idle
         self.patience, self.most, self.tell = patience, most, tell
+        self.packed = getattr(auditor, "packed", lambda logged: logged)  # as it waits to be taken in
         self.sessions = []
         self.left = deque((number, 0) for number in range(auditor.sessions))  # no client has these: the number, and how many fences were run in it
-        self.unseen, self.lock = set(), threading.Lock()  # keys written by transactions that hadn't read them, and not read since
+        self.lock = threading.Lock()
+        self.unseen = set()  # keys written by transactions that hadn't read them, and not read since: changed while the session's turn is held
         self.waiting = queue.SimpleQueue()
         self.gate = threading.Lock()  # held while a meeting waits for sessions
         self.handed_in_of, self.met_at, self.met, self.why_not = [0] * auditor.sessions, 0, time.monotonic(), None
         self.fenced = None  # the session in which the last of a meeting's first fences was run
         self.taken_in, self.rounds, self.cuts = 0, 0, 0
+        self.emptied_at = time.monotonic()  # when nothing that waits now was there yet
         self.lag = self.behind = 0.0  # for how many seconds a transaction waited to be taken in, at most: ever, and since the last round
         self.told_at, self.told_of = time.monotonic(), 0
         self.report, self.failure, self.is_stopping, self.is_meeting = None, None, False, False
@@ -80,12 +83,11 @@ class LiveAuditor:
     def offer(self, session, number, logged):
         self.handed_in_of[session] += 1  # one thread at a time has the session's turn
         if logged.writes:
-            read = {key for key, _ in logged.reads}
-            blind = [key for key in logged.writes if key not in read]
-            if blind:
-                with self.lock:
-                    self.unseen.update(blind)
-        self.waiting.put((time.monotonic(), session, number, logged))
+            read = dict(logged.reads)
+            for key in logged.writes:
+                if key not in read:
+                    self.unseen.add(key)
+        self.waiting.put((session, number, self.packed(logged)))
         if self.waiting.qsize() > self.most and threading.current_thread() is not self.thread:
             self.wait_for_room()
 
@@ -98,7 +100,7 @@ class LiveAuditor:
         return self.is_meeting or self.is_over
 
     def close(self, session):
-        self.waiting.put((time.monotonic(), session))
+        self.waiting.put((session,))
 
     def stop(self):
         """Takes in all that was handed in, and gives the report on it."""
@@ -111,9 +113,13 @@ class LiveAuditor:
     def serve(self):
         try:
             while not (self.is_stopping and self.waiting.empty()) and not self.is_violated:
-                self.take_in(self.next_waiting())
+                self.pause()
+                self.take_in()
                 if not self.is_stopping and self.is_due():
                     self.meet()
+                    self.take_in_all()
+                    if not self.is_violated:  # it may be by a round that was to make room
+                        self.audit()
             if not self.is_violated and self.taken_in > self.told_of:
                 self.audit()
         except (Ended, Refused) as error:
@@ -121,32 +127,33 @@ class LiveAuditor:
         except Exception as error:  # told by who asks: a thread's own error would be lost
             self.failure = error
 
-    def next_waiting(self):
-        """What waits, up to a session's end or a round. Nobody is woken for it: that would cost a client more than its whole log."""
+    def pause(self):
+        """Nobody is woken for what waits: that would cost a client more than its whole log."""
         if self.waiting.qsize() < LONGEST and not self.is_stopping:
             time.sleep(PAUSE)
-        found = []
-        try:
-            while len(found) < LONGEST and (not found or is_transaction(found[-1])):
-                found.append(self.waiting.get_nowait())
-        except queue.Empty:
-            pass
-        return found
 
     def is_due(self):
         new = self.handed_in - self.met_at
         return new >= (self.soon if self.why_not else self.every) or (new > 0 and time.monotonic() - self.met >= self.seconds)
 
-    def take_in(self, found):
-        if not found:
-            return
-        self.offer_all(fragments(one[1:] for one in found if is_transaction(one)))
-        self.behind = max(self.behind, time.monotonic() - found[0][0])
-        last = found[-1]
-        if len(last) == 1:
-            self.audit()
-        elif len(last) == 2:
-            self.auditor.close(last[1])
+    def take_in_all(self):
+        """Of what waits now."""
+        left = self.waiting.qsize()
+        while left > 0 and not self.is_violated:
+            left -= self.take_in()
+
+    def take_in(self):
+        """What waits, up to so many; gives how many these were."""
+        came, count = time.monotonic(), self.waiting.qsize()
+        found = [self.waiting.get() for _ in range(min(count, LONGEST))]  # nobody else takes any
+        if found:
+            self.offer_all(fragments(one for one in found if len(one) > 1))
+            self.behind = max(self.behind, time.monotonic() - self.emptied_at)
+            for session in (one[0] for one in found if len(one) == 1):  # behind all that it did
+                self.auditor.close(session)
+        if count <= LONGEST:
+            self.emptied_at = came
+        return len(found)
 
     def offer_all(self, found):
         refused = self.auditor.offer_all(found)
@@ -188,7 +195,6 @@ class LiveAuditor:
     # meetings
 
     def meet(self):
-        """Then a round, once what was handed in before it is taken in."""
         held, self.is_meeting = deque(), True
         try:
             with self.gate:
@@ -202,7 +208,6 @@ class LiveAuditor:
             for session in held:
                 session.turn.release()
         self.met_at, self.met = self.handed_in, time.monotonic()
-        self.waiting.put((time.monotonic(),))
 
     def first_fences(self, held):
         """Holds all sessions, and runs the fence of one while others come to the end of their transactions; or says why it can't."""
@@ -257,25 +262,21 @@ class LiveAuditor:
                     self.left.append((number, one.begun))
 
     def read_unseen(self, session):
-        with self.lock:
-            keys, self.unseen = sorted(self.unseen - {FENCE}), set()
+        keys, self.unseen = sorted(self.unseen - {FENCE}), set()
         try:
             for start in range(0, len(keys), READS):
                 session.run_held(lambda transaction: transaction.get_all(keys[start : start + READS]))
         except BaseException:  # they are to be read at the next meeting
-            with self.lock:
-                self.unseen.update(keys)
+            self.unseen.update(keys)
             raise
-
-
-def is_transaction(one):
-    """Of what waits: behind the moment at which it was handed in a round has nothing, a session's end the session, and a transaction three things."""
-    return len(one) == 4
 
 
 def fragments(offers):
     """Of each session that is among them, (session, number of the first, transactions)."""
     found = {}
     for session, number, logged in offers:
-        found.setdefault(session, (session, number, []))[2].append(logged)
+        fragment = found.get(session)
+        if fragment is None:
+            fragment = found[session] = (session, number, [])
+        fragment[2].append(logged)
     return [*found.values()]
