@@ -12,17 +12,17 @@ use Rattle.order_check.specs.Based.{Remains}
 use Rattle.known_graph.specs.Graphs.{GraphState, HasNode}
 use Rattle.forced_choices.specs.declared.kept.KeptTable.{KeptTable}
 use Rattle.forced_choices.specs.declared.kept.Loose.{Loose}
-use Rattle.forced_choices.specs.declared.reads.Placed.{Placed}
 use Rattle.forced_choices.specs.declared.table.Table.{Table}
+use Rattle.forced_choices.specs.ByKeys.{AreIndexed}
 use Rattle.forced_choices.specs.FreshArcs.{new_arcs}
 use Rattle.forced_choices.specs.Growth.{AreFresh, Brings, GoesOn, IsNext, IsOf, LooksBack, NodesStay, ids_of_fragment}
 use Rattle.forced_choices.specs.Kept.{IsKept}
-use Rattle.forced_choices.specs.KeptTables.{AreReadsOf, AreWritersOf, IsKeptTable}
+use Rattle.forced_choices.specs.KeptTables.{AreWritersOf, IsKeptTable}
 use Rattle.forced_choices.proofs.CatchingUp.{brings_of, is_new, is_old, more_of}
 use Rattle.forced_choices.proofs.FreshArcs.{back_of, fresh_of, none_first}
 use Rattle.forced_choices.proofs.Growing.{remains_more}
 use Rattle.forced_choices.proofs.Grown.{kept_more_nodes, key_stays}
-use Rattle.forced_choices.proofs.KeptTables.{kept_grown_table, writers_grow}
+use Rattle.forced_choices.proofs.KeptTables.{PutsReads, kept_grown_table, writers_grow}
 use Rattle.forced_choices.proofs.Members.{In, in_either, in_left, in_right}
 
 -- the fragment's transactions are put to the table, and the arcs that they bring are listed
@@ -33,21 +33,23 @@ pub record Catches (parts more : Parts) (fragment : Fragment) (old_nodes nodes :
   pub writers : AreWritersOf more nodes old.table → AreWritersOf more nodes table
   pub longer : table.ids.items ≡ old.table.ids.items ++ ids_of_fragment fragment
   pub same_reads : table.reads ≡ old.table.reads
+  pub indexed : AreIndexed old.table.reads.items old.table.by_key → AreIndexed table.reads.items table.by_key
   pub listed : fresh ≡ new_arcs more table.ids.items (ids_of_fragment fragment) old.loose.items
   pub looks : All (λ arc. IsOf fragment (start_of arc) → IsOf fragment (end_of arc)) fresh
 
 -- the same, of lists that hold what these do
 pub catches_by : (parts more : Parts) (fragment : Fragment) (old_nodes nodes : List (Option TxnId)) (old : KeptTable) (table : Table) (fresh : List Arc) (ids written listed : List TxnId) (loose : List Loose) (looked : List Arc) →
     ids ≡ ids_of_fragment fragment → written ≡ ids → listed ≡ ids → loose ≡ old.loose.items → looked ≡ fresh →
-    IsNext parts more fragment → IsKeptTable parts old_nodes old → NodesStay old_nodes nodes → (AreWritersOf more nodes old.table → AreWritersOf more nodes table) → table.ids.items ≡ old.table.ids.items ++ written → table.reads ≡ old.table.reads →
+    IsNext parts more fragment → IsKeptTable parts old_nodes old → NodesStay old_nodes nodes → (AreWritersOf more nodes old.table → AreWritersOf more nodes table) → table.ids.items ≡ old.table.ids.items ++ written → table.reads ≡ old.table.reads → (AreIndexed old.table.reads.items old.table.by_key → AreIndexed table.reads.items table.by_key) →
     fresh ≡ new_arcs more table.ids.items listed loose → All (λ arc. IsOf fragment (start_of arc) → IsOf fragment (end_of arc)) looked → Catches parts more fragment old_nodes nodes old table fresh
-catches_by parts more fragment old_nodes nodes old table fresh ids written listed loose looked are w l o k next kept stay writers longer same_reads brought looks = record {
+catches_by parts more fragment old_nodes nodes old table fresh ids written listed loose looked are w l o k next kept stay writers longer same_reads indexed brought looks = record {
   next = next;
   kept = kept;
   stay = stay;
   writers = writers;
   longer = longer ∙ ap (λ (xs : List TxnId). old.table.ids.items ++ xs) (w ∙ are);
   same_reads = same_reads;
+  indexed = indexed;
   listed = brought ∙ ap (λ (xs : List TxnId). new_arcs more table.ids.items xs loose) (l ∙ are) ∙ ap (λ (xs : List Loose). new_arcs more table.ids.items (ids_of_fragment fragment) xs) o;
   looks = subst (λ (arcs : List Arc). All (λ arc. IsOf fragment (start_of arc) → IsOf fragment (end_of arc)) arcs) k looks;
 }
@@ -97,11 +99,10 @@ goes_on_then parts more fragment old new log kept table fresh is same c = record
 }
 
 -- the table of all that remains then
-pub table_then : (parts more : Parts) (fragment : Fragment) (old_nodes nodes : List (Option TxnId)) (old : KeptTable) (table : Table) (fresh : List Arc) (reads : Vec Placed Global) (loose : Vec Loose Global) (new : List TxnId) → new ≡ ids_of_fragment fragment → Catches parts more fragment old_nodes nodes old table fresh →
-    ((ids : List TxnId) → AreReadsOf more nodes ids table.reads.items old.loose.items → AreReadsOf more nodes (ids ++ new) reads.items loose.items) →
-    IsKeptTable more nodes (record { table = record { ids = table.ids; writers = table.writers; places = table.places; reads = reads }; loose = loose })
-table_then parts more fragment old_nodes nodes old table fresh reads loose new are c put =
+pub table_then : (parts more : Parts) (fragment : Fragment) (old_nodes nodes : List (Option TxnId)) (old : KeptTable) (table last : Table) (fresh : List Arc) (loose : Vec Loose Global) (new : List TxnId) → new ≡ ids_of_fragment fragment → Catches parts more fragment old_nodes nodes old table fresh →
+    PutsReads more nodes table last old.loose.items loose.items new → IsKeptTable more nodes (record { table = last; loose = loose })
+table_then parts more fragment old_nodes nodes old table last fresh loose new are c put =
     let brought = fresh_then parts more fragment old_nodes nodes old table fresh c in
     let back = back_then parts more fragment old_nodes nodes old table fresh c in
     let ids = ids_of_fragment fragment in
-    kept_grown_table parts more old_nodes nodes old table reads loose ids ids new refl are (brings_of parts more fragment c.next) c.stay (none_first parts more fresh brought back) c.kept c.writers c.longer c.same_reads put
+    kept_grown_table parts more old_nodes nodes old table last loose ids ids new refl are (brings_of parts more fragment c.next) c.stay (none_first parts more fresh brought back) c.kept c.writers c.longer c.same_reads c.indexed put

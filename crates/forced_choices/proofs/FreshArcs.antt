@@ -87,7 +87,7 @@ not_fresh : (parts : Parts) (arc : Arc) → is_fresh parts arc ≡ true → Rema
 not_fresh parts arc fresh start end = false≢true (sym (ap not (and_both (is_some (remaining_at parts (start_of arc))) (is_some (remaining_at parts (end_of arc))) start end)) ∙ fresh)
 
 -- what holds of all of a list holds of what is in it
-of_all : {X : Type 0} (P : X → Type 0) (xs : List X) (x : X) → All P xs → In xs x → P x
+pub of_all : {X : Type 0} (P : X → Type 0) (xs : List X) (x : X) → All P xs → In xs x → P x
 of_all {X} P xs x all h = by_place (contains_from_in xs x h)
   where
     by_place : Contains xs x → P x

@@ -1,5 +1,5 @@
 -- The reads of some readers, as one more reader's are put at the end.
-use Rattle.std.proofs.Common.{◌≡◌, ℕ, ◌⊎◌, List, [], ◌∷◌, ◌++◌, Option, refl, sym, ap, ◌∙◌, inl, inr, subst, arith}
+use Rattle.std.proofs.Common.{◌≡◌, ℕ, ◌⊎◌, List, [], ◌∷◌, ◌++◌, Option, refl, sym, ap, ◌∙◌, inl, inr, subst, arith, append_assoc}
 use Rattle.std.specs.Prelude.{All}
 use Rattle.std.proofs.lemmas.List.Elements.{All-push}
 use Rattle.txn.specs.declared.transactions.TxnId.{TxnId}
@@ -123,3 +123,7 @@ loose_more parts nodes ids reader some reads old new read is none pushed are = r
     by_reader one (inl h) = are.of_these one h
     by_reader one (inr (inl same)) = subst (λ (x : Loose). In (ids ++ reader ∷ []) x.reader) same (in_right ids (reader ∷ []) reader (inl refl))
     by_reader one (inr (inr never)) = absurd never
+
+-- what is put behind what was put behind
+pub behind_more : (old mid new : List Placed) → (more : List Placed) × (mid ≡ old ++ more) → (more : List Placed) × (new ≡ mid ++ more) → (more : List Placed) × (new ≡ old ++ more)
+behind_more old mid new (first, one) (second, two) = (first ++ second, two ∙ ap (λ xs. xs ++ second) one ∙ append_assoc old first second)

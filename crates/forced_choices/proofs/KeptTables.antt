@@ -1,5 +1,5 @@
 -- A table that is kept, as transactions arrive, and what a saturation looks up in it.
-use Rattle.std.proofs.Common.{◌≡◌, ◌⊎◌, ℕ, Bool, cond, List, [], ◌∷◌, ◌++◌, length, get_or, take, Option, refl, sym, ap, ◌∙◌, inl, inr, subst, not, arith}
+use Rattle.std.proofs.Common.{◌≡◌, ◌⊎◌, ℕ, Bool, cond, List, [], ◌∷◌, ◌++◌, length, get_or, take, Option, refl, sym, ap, ◌∙◌, inl, inr, subst, subst₂, not, arith}
 use Rattle.std.specs.Prelude.{Vec, filter}
 use Rattle.std.specs.declared.alloc.Global.{Global}
 use Rattle.txn.specs.declared.transactions.TxnId.{TxnId}
@@ -11,16 +11,22 @@ use Rattle.txn.specs.Transactions.{same_id}
 use Rattle.order_check.specs.declared.remainder.Parts.{Parts}
 use Rattle.order_check.specs.Based.{Remains}
 use Rattle.order_check.specs.Known.{IsChoice, ReadsKey, WritesKey}
+use Rattle.known_graph.specs.Bits.{HasBit}
 use Rattle.forced_choices.specs.declared.kept.KeptTable.{KeptTable}
 use Rattle.forced_choices.specs.declared.kept.Loose.{Loose}
+use Rattle.forced_choices.specs.declared.places.Places.{Places}
 use Rattle.forced_choices.specs.declared.reads.Placed.{Placed}
 use Rattle.forced_choices.specs.declared.reads.Read.{Read}
 use Rattle.forced_choices.specs.declared.table.Table.{Table}
+use Rattle.forced_choices.specs.declared.writers.Writers.{Writers}
+use Rattle.forced_choices.specs.ByKeys.{AreIndexed, AreRows}
 use Rattle.forced_choices.specs.Growth.{AreMore, Brings, NodesStay}
 use Rattle.forced_choices.specs.KeptTables.{AreReadsOf, AreWritersOf, IsAmong, IsKeptTable, IsLoose}
 use Rattle.forced_choices.specs.Listing.{is_other, writes_here}
-use Rattle.forced_choices.specs.Masks.{choice_of, choices_in, is_third}
+use Rattle.forced_choices.specs.Masks.{AreWriters, choice_of, choices_in, is_third, mask_of}
 use Rattle.forced_choices.specs.Tables.{IsLookup, IsPlaced, choices_at}
+use Rattle.forced_choices.specs.WriterPlaces.{ArePlaces}
+use Rattle.forced_choices.proofs.ByKeys.{rows_kept}
 use Rattle.forced_choices.proofs.Distinct.{take_whole}
 use Rattle.forced_choices.proofs.Growing.{reads_less, reads_more, remains_more, writes_less, writes_more}
 use Rattle.forced_choices.proofs.ListedChoices.{and_both, apart_test, reader_remains, writer_remains}
@@ -43,10 +49,40 @@ writers_grow parts more old_nodes nodes table remain are stay writers = record {
     below = writers.places.below;
     listed = λ key. writers.places.listed key ∙ filter_same (writes_here parts key) (writes_here more key) (take (length ids) ids) (λ id h. ap (λ found. writes_key found key) (sym (are.same id (remain id (subst (λ (xs : List TxnId). In xs id) (take_whole ids (length ids) (omega arith)) h)))));
   };
+  rows = rows_grow writers.rows;
 }
   where
     ids : List TxnId
     ids = table.ids.items
+
+    rows_grow : AreRows parts old_nodes ids table.by_key → AreRows more nodes ids table.by_key
+    rows_grow (columns, rows) = (
+      columns,
+      record {
+        counted = rows.counted;
+        placed = λ k d below. stay (get_or columns k 0) (get_or ids k d) (rows.placed k d below);
+        masked = λ k d key below writes. rows.masked k d key below (writes_less parts more (get_or ids k d) key are (remain (get_or ids k d) (in_place ids k d below)) writes);
+      },
+    )
+
+-- what putting the reads of some readers to a table tells
+abbrev pub PutsReads : Parts → List (Option TxnId) → Table → Table → List Loose → List Loose → List TxnId → Type 0
+PutsReads parts nodes old new old_loose loose readers = record {
+  kept : (ids : List TxnId) → AreReadsOf parts nodes ids old.reads.items old_loose → AreReadsOf parts nodes (ids ++ readers) new.reads.items loose;
+  indexed : AreIndexed old.reads.items old.by_key → AreIndexed new.reads.items new.by_key;
+  rows : (key j : ℕ) → HasBit (mask_of old.by_key.rows key) j → HasBit (mask_of new.by_key.rows key) j;
+  ids : new.ids ≡ old.ids;
+  writers : new.writers ≡ old.writers;
+  places : new.places ≡ old.places;
+}
+
+-- its writers stay
+pub writers_stay : (parts : Parts) (nodes : List (Option TxnId)) (old new : Table) (old_loose loose : List Loose) (readers : List TxnId) → PutsReads parts nodes old new old_loose loose readers → AreWritersOf parts nodes old → AreWritersOf parts nodes new
+writers_stay parts nodes old new old_loose loose readers put are = record {
+  writers = subst₂ (λ (ids : Vec TxnId Global) (writers : Writers). AreWriters parts nodes ids.items writers) (sym put.ids) (sym put.writers) are.writers;
+  places = subst₂ (λ (ids : Vec TxnId Global) (places : Places). ArePlaces parts ids.items places) (sym put.ids) (sym put.places) are.places;
+  rows = rows_kept parts nodes new.ids.items old.by_key new.by_key put.rows (subst (λ (ids : Vec TxnId Global). AreRows parts nodes ids.items old.by_key) (sym put.ids) are.rows);
+}
 
 -- and so are their reads, where none of them names a new writer of its key
 pub reads_grow : (parts more : Parts) (old_nodes nodes : List (Option TxnId)) (ids : List TxnId) (reads : List Placed) (loose : List Loose) → ((id : TxnId) → In ids id → Remains parts id) → AreMore parts more → NodesStay old_nodes nodes →
@@ -96,6 +132,8 @@ kept_lookup parts nodes kept is = record {
   places = is.writers.places;
   placed = is.reads.placed;
   all = λ choice one. by_kept choice one (is.reads.each choice.reader choice.key (By choice.writer) ((is.listed choice.reader).1 (reader_remains parts choice.reader choice.key (By choice.writer) one.reads)) one.reads);
+  rows = is.writers.rows;
+  indexed = is.indexed;
 }
   where
     by_kept : (choice : Choice) → IsChoice parts choice → IsAmong kept.table.reads.items choice.reader choice.key (By choice.writer) ⊎ In kept.loose.items (record { reader = choice.reader; key = choice.key; source = By choice.writer }) → In (choices_at parts kept.table.ids.items kept.table.reads.items) choice
@@ -110,25 +148,26 @@ kept_lookup parts nodes kept is = record {
         (subst (λ (r : Read). In (choices_in parts kept.table.ids.items r) choice) same (of_choice parts kept.table.ids.items choice one other))
 
 -- the kept table, with the writers and the reads of new transactions: the two lists are theirs
-pub kept_grown_table : (parts more : Parts) (old_nodes nodes : List (Option TxnId)) (old : KeptTable) (table : Table) (reads : Vec Placed Global) (loose : Vec Loose Global) (new writing reading : List TxnId) → writing ≡ new → reading ≡ new →
+pub kept_grown_table : (parts more : Parts) (old_nodes nodes : List (Option TxnId)) (old : KeptTable) (table last : Table) (loose : Vec Loose Global) (new writing reading : List TxnId) → writing ≡ new → reading ≡ new →
     Brings parts more new → NodesStay old_nodes nodes → ((reader writer : TxnId) (key : ℕ) → Remains parts reader → ReadsKey more reader key (By writer) → WritesKey more writer key → Remains parts writer) → IsKeptTable parts old_nodes old →
     (AreWritersOf more nodes old.table → AreWritersOf more nodes table) → table.ids.items ≡ old.table.ids.items ++ writing → table.reads ≡ old.table.reads →
-    ((ids : List TxnId) → AreReadsOf more nodes ids table.reads.items old.loose.items → AreReadsOf more nodes (ids ++ reading) reads.items loose.items) →
-    IsKeptTable more nodes (record { table = record { ids = table.ids; writers = table.writers; places = table.places; reads = reads }; loose = loose })
-kept_grown_table parts more old_nodes nodes old table reads loose new writing reading wrote read brings stay none_new is add_writers longer same_reads add_reads = record {
+    (AreIndexed old.table.reads.items old.table.by_key → AreIndexed table.reads.items table.by_key) → PutsReads more nodes table last old.loose.items loose.items reading →
+    IsKeptTable more nodes (record { table = last; loose = loose })
+kept_grown_table parts more old_nodes nodes old table last loose new writing reading wrote read brings stay none_new is add_writers longer same_reads add_rows put = record {
   listed = λ id. (
     λ h. by_part id (in_either ids new id (subst (λ (xs : List TxnId). In xs id) all h)),
     λ remains. subst (λ (xs : List TxnId). In xs id) (sym all) (by_old id (brings.all id remains)),
   );
-  writers = let grown = add_writers (writers_grow parts more old_nodes nodes old.table remain brings.are stay is.writers) in record { writers = grown.writers; places = grown.places };
-  reads = subst (λ (xs : List TxnId). AreReadsOf more nodes xs reads.items loose.items) (ap (λ xs. ids ++ xs) read ∙ sym all) (add_reads ids old_reads);
+  writers = writers_stay more nodes table last old.loose.items loose.items reading put (add_writers (writers_grow parts more old_nodes nodes old.table remain brings.are stay is.writers));
+  reads = subst (λ (xs : List TxnId). AreReadsOf more nodes xs last.reads.items loose.items) (ap (λ xs. ids ++ xs) read ∙ sym all) (put.kept ids old_reads);
+  indexed = put.indexed (add_rows is.indexed);
 }
   where
     ids : List TxnId
     ids = old.table.ids.items
 
-    all : table.ids.items ≡ ids ++ new
-    all = longer ∙ ap (λ xs. ids ++ xs) wrote
+    all : last.ids.items ≡ ids ++ new
+    all = ap (λ (ids : Vec TxnId Global). ids.items) put.ids ∙ longer ∙ ap (λ xs. ids ++ xs) wrote
 
     remain : (id : TxnId) → In ids id → Remains parts id
     remain id h = (is.listed id).0 h

@@ -34,4 +34,6 @@ pub mod KeptWriters
 pub mod KeptReads
 pub mod KeptTables
 pub mod CutBack
+pub mod ByKeys
+pub mod KeysLooked
 pub mod CaughtUp

@@ -15,4 +15,6 @@ lookup_of parts nodes table is = record {
   places = is.places;
   placed = is.reads.placed;
   all = λ choice h. subst (λ (xs : List Choice). In xs choice) (sym (is.reads.listed ∙ ap (λ ids. choices_of parts ids ids) is.ids)) (choice_listed parts choice h);
+  rows = is.rows;
+  indexed = is.indexed;
 }

@@ -1,5 +1,8 @@
 -- Reads with their columns, one after another, and their choices.
 use Rattle.std.proofs.Common.{◌≡◌, ◌≢◌, ℕ, ◌+◌, ◌<◌, List, [], ◌∷◌, ◌++◌, length, get_or, take, drop, Option, refl, sym, ap, ◌∙◌, subst, append-nil, true, inl, inr, ◌⊎◌, arith}
+use Rattle.std.specs.Prelude.{Vec}
+use Rattle.std.specs.declared.alloc.Global.{Global}
+use Rattle.std.specs.BTreeMap.{BTreeMap}
 use Rattle.std.proofs.lemmas.Grind.{flat_map-append}
 use Rattle.std.proofs.lemmas.List.{take_more, take-append-drop}
 use Rattle.std.proofs.lemmas.List.Elements.{All-push}
@@ -18,7 +21,7 @@ use Rattle.forced_choices.specs.declared.touched.Touched.{Touched}
 use Rattle.forced_choices.specs.declared.writers.Writers.{Writers}
 use Rattle.forced_choices.specs.Forcing.{AreAllSettledUnless, IsThere}
 use Rattle.forced_choices.specs.Touching.{MayBeJoined}
-use Rattle.forced_choices.specs.Masks.{AreThere, AreWriters, choice_of, choices_in, mask_of}
+use Rattle.forced_choices.specs.Masks.{AreColumns, AreThere, AreWriters, choice_of, choices_in, mask_of}
 use Rattle.forced_choices.specs.Tables.{IsPlaced, IsAtColumns, AreReads, choices_at}
 use Rattle.forced_choices.specs.Undecided.{IsUndecided, AreAllDecided, AreFound, IsFirstFound}
 use Rattle.forced_choices.proofs.Members.{In, Ascends, in_right, in_either}
@@ -51,15 +54,18 @@ of_read parts ids read choice reads written h = each_choice parts read (λ c. Is
     (subst (λ (x : Choice). IsChoice parts x) (sym facts.0) is, ap (λ (x : Choice). x.writer) facts.0, ap (λ (x : Choice). x.reader) facts.0)) choice h
 
 -- those of a read of which nothing was joined are settled
-pub untouched_there : (parts : Parts) (nodes : List (Option TxnId)) (arcs : List Arc) (ids : List TxnId) (writers : Writers) (some : Touched) (placed : Placed) → IsPlaced parts nodes placed → AreWriters parts nodes ids writers → AreAllSettledUnless parts nodes arcs some → (¬ MayBeJoined some placed.writer_at placed.reader_at) → ((k : ℕ) → HasBit (mask_of writers.masks placed.read.key) k → ¬ MayBeJoined some placed.writer_at k) → ((k : ℕ) → HasBit (mask_of writers.masks placed.read.key) k → ¬ MayBeJoined some k placed.reader_at) → AreThere arcs (choices_in parts ids placed.read)
-untouched_there parts nodes arcs ids writers some placed is are settled no_read no_after no_before choice side h =
+pub untouched_by : (parts : Parts) (nodes : List (Option TxnId)) (arcs : List Arc) (ids : List TxnId) (masks : BTreeMap ℕ (Vec ℕ Global)) (columns : List ℕ) (some : Touched) (placed : Placed) → IsPlaced parts nodes placed → AreColumns parts nodes ids masks columns (length ids) → AreAllSettledUnless parts nodes arcs some → (¬ MayBeJoined some placed.writer_at placed.reader_at) → ((k : ℕ) → HasBit (mask_of masks placed.read.key) k → ¬ MayBeJoined some placed.writer_at k) → ((k : ℕ) → HasBit (mask_of masks placed.read.key) k → ¬ MayBeJoined some k placed.reader_at) → AreThere arcs (choices_in parts ids placed.read)
+untouched_by parts nodes arcs ids masks columns some placed is are settled no_read no_after no_before choice side h =
     each_choice parts placed.read (λ c. IsThere arcs (record { choice = c; side = side })) ids (λ k d within c here.
     let other = get_or ids k d in
     let facts = third_parts parts placed.read other c here in
     let of = third_is_choice parts placed.read other is.reads is.written facts.1 in
-    let column = get_or writers.columns.items k 0 in
+    let column = get_or columns k 0 in
     let bit = are.masked k d placed.read.key within (third_writes parts placed.read other facts.1) in
     subst (λ (x : Choice). IsThere arcs (record { choice = x; side = side })) (sym facts.0) (settled (choice_of placed.read other) of placed.writer_at placed.reader_at column is.columns.writer is.columns.reader (are.placed k d within) no_read (no_after column bit) (no_before column bit) side)) choice h
+
+pub untouched_there : (parts : Parts) (nodes : List (Option TxnId)) (arcs : List Arc) (ids : List TxnId) (writers : Writers) (some : Touched) (placed : Placed) → IsPlaced parts nodes placed → AreWriters parts nodes ids writers → AreAllSettledUnless parts nodes arcs some → (¬ MayBeJoined some placed.writer_at placed.reader_at) → ((k : ℕ) → HasBit (mask_of writers.masks placed.read.key) k → ¬ MayBeJoined some placed.writer_at k) → ((k : ℕ) → HasBit (mask_of writers.masks placed.read.key) k → ¬ MayBeJoined some k placed.reader_at) → AreThere arcs (choices_in parts ids placed.read)
+untouched_there parts nodes arcs ids writers some placed is are = untouched_by parts nodes arcs ids writers.masks writers.columns.items some placed is are
 
 -- reads that are put at the end
 pub reads_none : (parts : Parts) (nodes : List (Option TxnId)) (ids : List TxnId) → AreReads parts nodes ids [] []

@@ -11,6 +11,7 @@ use Rattle.forced_choices.specs.declared.kept.KeptTable.{KeptTable}
 use Rattle.forced_choices.specs.declared.reads.Placed.{Placed}
 use Rattle.forced_choices.specs.declared.table.Table.{Table}
 use Rattle.forced_choices.specs.Ascending.{In}
+use Rattle.forced_choices.specs.ByKeys.{AreIndexed, AreRows}
 use Rattle.forced_choices.specs.Masks.{AreWriters}
 use Rattle.forced_choices.specs.Tables.{IsPlaced}
 use Rattle.forced_choices.specs.WriterPlaces.{ArePlaces}
@@ -19,6 +20,7 @@ use Rattle.forced_choices.specs.WriterPlaces.{ArePlaces}
 pub record AreWritersOf (parts : Parts) (nodes : List (Option TxnId)) (table : Table) : Type 0 where
   pub writers : AreWriters parts nodes table.ids.items table.writers
   pub places : ArePlaces parts table.ids.items table.places
+  pub rows : AreRows parts nodes table.ids.items table.by_key
 
 -- the read is among these
 pub record IsAmong (reads : List Placed) (reader : TxnId) (key : ℕ) (source : Source) : Type 0 where
@@ -53,3 +55,4 @@ pub record IsKeptTable (parts : Parts) (nodes : List (Option TxnId)) (kept : Kep
   pub listed : (id : TxnId) → In kept.table.ids.items id ↔ Remains parts id
   pub writers : AreWritersOf parts nodes kept.table
   pub reads : AreReadsOf parts nodes kept.table.ids.items kept.table.reads.items kept.loose.items
+  pub indexed : AreIndexed kept.table.reads.items kept.table.by_key

@@ -1,5 +1,6 @@
 pub mod Ascending
 pub mod Between
+pub mod ByKeys
 pub mod BranchState
 pub mod Forcing
 pub mod Growth

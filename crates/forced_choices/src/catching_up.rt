@@ -118,7 +118,7 @@ pub fn catch_up(
         *log = Sequence::new(steps);
         return Ok(None);
     }
-    add_reads(&mut table.reads, &mut loose, more, graph, &new)?;
+    add_reads(alloc, &mut table, &mut loose, more, graph, &new)?;
     go_on(alloc, more, &table, graph, log, &fresh)?;
     Ok(Some(KeptTable { table, loose }))
 }

@@ -7,9 +7,13 @@ ghost use Rattle.order_check.specs.declared.remainder.Parts.{Parts};
 ghost use Rattle.order_check.specs.Based.{Remains};
 ghost use Rattle.order_check.specs.Good.{IsGood};
 ghost use Rattle.order_check.specs.Known.{ReadsKey, WritesKey};
+ghost use Rattle.known_graph.specs.Bits.{HasBit};
 ghost use Rattle.known_graph.specs.Graphs.{HasNode};
+ghost use Rattle.forced_choices.specs.ByKeys.{AreIndexed};
 ghost use Rattle.forced_choices.specs.KeptTables.{AreReadsAnd, AreReadsOf, AreWritersOf, IsKeptTable};
+ghost use Rattle.forced_choices.specs.Masks.{mask_of};
 
+use crate::by_key::{ByKey, add_reads_from};
 use crate::listing::{reads_of, remaining_ids_of, writes};
 use crate::places::{Places, add_to_each, written_by};
 use crate::reads::{Placed, Read};
@@ -63,8 +67,9 @@ fn push_read(
 ) -> Result<(), NoMemory>
     requires reads { ReadsKey parts.now reader read.0 read.1 }
     requires nodes { (id : TxnId) → Remains parts.now id → HasNode graph.now id }
-    ensures { OnOk result ((ids : List TxnId) (some : List (ℕ × Source)) → AreReadsAnd parts.now graph.now.nodes ids reader some reads.old.items loose.old.items
+    ensures kept { OnOk result ((ids : List TxnId) (some : List (ℕ × Source)) → AreReadsAnd parts.now graph.now.nodes ids reader some reads.old.items loose.old.items
         → AreReadsAnd parts.now graph.now.nodes ids reader (some ++ read ∷ []) reads.new.items loose.new.items) }
+    ensures behind { OnOk result ((more : List Placed) × (reads.new.items ≡ reads.old.items ++ more)) }
 {
     let (key, source) = read;
     match writer_of(parts, key, source) {
@@ -97,8 +102,9 @@ fn push_reads_of(
     reader: TxnId,
 ) -> Result<(), NoMemory>
     requires { (id : TxnId) → Remains parts.now id → HasNode graph.now id }
-    ensures { OnOk result ((ids : List TxnId) → AreReadsOf parts.now graph.now.nodes ids reads.old.items loose.old.items
+    ensures kept { OnOk result ((ids : List TxnId) → AreReadsOf parts.now graph.now.nodes ids reads.old.items loose.old.items
         → AreReadsOf parts.now graph.now.nodes (ids ++ reader ∷ []) reads.new.items loose.new.items) }
+    ensures behind { OnOk result ((more : List Placed) × (reads.new.items ≡ reads.old.items ++ more)) }
 {
     for read in reads_of(parts, reader) {
         push_read(reads, loose, parts, graph, reader, *read)?;
@@ -107,7 +113,7 @@ fn push_reads_of(
 }
 
 /// Puts the reads of these transactions at the ends.
-pub fn add_reads(
+fn push_reads(
     reads: &mut Vec<Placed>,
     loose: &mut Vec<Loose>,
     parts: &Parts,
@@ -115,13 +121,37 @@ pub fn add_reads(
     new: &[TxnId],
 ) -> Result<(), NoMemory>
     requires nodes { (id : TxnId) → Remains parts.now id → HasNode graph.now id }
-    ensures { OnOk result ((ids : List TxnId) → AreReadsOf parts.now graph.now.nodes ids reads.old.items loose.old.items
+    ensures kept { OnOk result ((ids : List TxnId) → AreReadsOf parts.now graph.now.nodes ids reads.old.items loose.old.items
         → AreReadsOf parts.now graph.now.nodes (ids ++ new.now) reads.new.items loose.new.items) }
+    ensures behind { OnOk result ((more : List Placed) × (reads.new.items ≡ reads.old.items ++ more)) }
 {
     for id in new {
         push_reads_of(reads, loose, parts, graph, *id)?;
     }
     Ok(())
+}
+
+/// Puts the reads of these transactions at the ends, and to those of their keys.
+pub fn add_reads(
+    alloc: Global,
+    table: &mut Table,
+    loose: &mut Vec<Loose>,
+    parts: &Parts,
+    graph: &Graph,
+    new: &[TxnId],
+) -> Result<(), NoMemory>
+    requires nodes { (id : TxnId) → Remains parts.now id → HasNode graph.now id }
+    ensures kept { OnOk result ((ids : List TxnId) → AreReadsOf parts.now graph.now.nodes ids table.old.reads.items loose.old.items
+        → AreReadsOf parts.now graph.now.nodes (ids ++ new.now) table.new.reads.items loose.new.items) }
+    ensures indexed { OnOk result (AreIndexed table.old.reads.items table.old.by_key → AreIndexed table.new.reads.items table.new.by_key) }
+    ensures rows { OnOk result ((key j : ℕ) → HasBit (mask_of table.old.by_key.rows key) j → HasBit (mask_of table.new.by_key.rows key) j) }
+    ensures ids { table.new.ids ≡ table.old.ids }
+    ensures writers { table.new.writers ≡ table.old.writers }
+    ensures places { table.new.places ≡ table.old.places }
+{
+    let from = table.reads.len();
+    push_reads(&mut table.reads, loose, parts, graph, new)?;
+    add_reads_from(alloc, &mut table.by_key, table.reads.as_slice(), from)
 }
 
 /// Puts a transaction at the end of the ids, and its place and column to the keys that it writes.
@@ -137,15 +167,13 @@ fn add_writer(
     ensures writers { OnOk result (AreWritersOf parts.now graph.now.nodes table.old → AreWritersOf parts.now graph.now.nodes table.new) }
     ensures ids { OnOk result (table.new.ids.items ≡ table.old.ids.items ++ id ∷ []) }
     ensures reads { OnOk result (table.new.reads ≡ table.old.reads) }
+    ensures indexed { OnOk result (AreIndexed table.old.reads.items table.old.by_key → AreIndexed table.new.reads.items table.new.by_key) }
 {
     let place = table.ids.len();
     let column = column_of(graph, id);
-    add_writes(
-        alloc,
-        &mut table.writers.masks,
-        writes_of(parts, id),
-        column,
-    )?;
+    let writes = writes_of(parts, id);
+    add_writes(alloc, &mut table.writers.masks, writes, column)?;
+    add_writes(alloc, &mut table.by_key.rows, writes, column)?;
     table.writers.columns.push(column)?;
     add_to_each(alloc, &mut table.places.lists, written_by(parts, id), place)?;
     table.ids.push(id)?;
@@ -165,6 +193,7 @@ pub fn add_writers(
     ensures writers { OnOk result (AreWritersOf parts.now graph.now.nodes table.old → AreWritersOf parts.now graph.now.nodes table.new) }
     ensures ids { OnOk result (table.new.ids.items ≡ table.old.ids.items ++ new.now) }
     ensures reads { OnOk result (table.new.reads ≡ table.old.reads) }
+    ensures indexed { OnOk result (AreIndexed table.old.reads.items table.old.by_key → AreIndexed table.new.reads.items table.new.by_key) }
 {
     for id in new {
         add_writer(alloc, table, parts, graph, *id)?;
@@ -177,6 +206,7 @@ fn empty_table(alloc: Global) -> Table
     ensures ids { result.ids.items ≡ [] }
     ensures reads { result.reads.items ≡ [] }
     ensures writers { (parts : Parts) (nodes : List (Option TxnId)) → AreWritersOf parts nodes result }
+    ensures indexed { AreIndexed [] result.by_key }
 {
     Table {
         ids: Vec::new(alloc),
@@ -188,6 +218,12 @@ fn empty_table(alloc: Global) -> Table
             lists: BTreeMap::new(alloc),
         },
         reads: Vec::new(alloc),
+        by_key: ByKey {
+            rows: BTreeMap::new(alloc),
+            reads: Places {
+                lists: BTreeMap::new(alloc),
+            },
+        },
     }
 }
 
@@ -201,6 +237,6 @@ pub fn kept_table_of(alloc: Global, parts: &Parts, graph: &Graph) -> Result<Kept
     let mut table = empty_table(alloc);
     let mut loose = Vec::new(alloc);
     add_writers(alloc, &mut table, parts, graph, &ids)?;
-    add_reads(&mut table.reads, &mut loose, parts, graph, &ids)?;
+    add_reads(alloc, &mut table, &mut loose, parts, graph, &ids)?;
     Ok(KeptTable { table, loose })
 }

@@ -4,12 +4,14 @@
 mod among;
 mod branch;
 mod building;
+mod by_key;
 mod catching_up;
 mod columns;
 mod fresh;
 mod growth;
 mod kept;
 mod listing;
+mod looking;
 mod open;
 mod places;
 mod ranks;

@@ -54,7 +54,7 @@ fn put_places(
 }
 
 /// Puts a place at the end of those of a key.
-fn add_place(
+pub fn add_place(
     alloc: Global,
     lists: &mut BTreeMap<u64, Vec<usize>>,
     key: u64,

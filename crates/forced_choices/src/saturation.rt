@@ -1,233 +1,164 @@
-ghost use Rattle.std.specs.Prelude.{◌≡◌, ◌<◌, ℕ, [], ◌∷◌, ◌++◌, List, All, length, true, false, IfOk, OnOk};
+// Which reads are looked at, until no side is left.
+ghost use Rattle.std.specs.Prelude.{◌≡◌, ◌<◌, ◌++◌, List, true, false, OnOk};
 ghost use Rattle.txn.specs.declared.transactions.TxnId.{TxnId};
 ghost use Rattle.txn.specs.declared.choices.Choice.{Choice};
-ghost use Rattle.txn.specs.declared.choices.Side.{Side};
 ghost use Rattle.txn.specs.declared.choices.ForceStep.{ForceStep};
 ghost use Rattle.order_check.specs.declared.remainder.Parts.{Parts};
 ghost use Rattle.order_check.specs.Based.{Remains};
-ghost use Rattle.order_check.specs.Known.{IsChoice};
-ghost use Rattle.known_graph.specs.Bits.{HasBit};
 ghost use Rattle.known_graph.specs.Graphs.{HasNode, last_mark};
-ghost use Rattle.forced_choices.specs.Forcing.{Stage, stage_of, AreAllSettledUnless, IsLeft, IsOn, IsStepOf, Forces, HasLookedAt, HasLooked, IsClosed, taken_arc};
-ghost use Rattle.forced_choices.specs.Masks.{AreThere, AreSettledBut, is_third, choice_of, choices_in};
-ghost use Rattle.forced_choices.specs.Rules.{premise, conclusion};
+ghost use Rattle.forced_choices.specs.Forcing.{Stage, stage_of, AreAllSettledUnless, Forces, HasLooked, IsClosed};
+ghost use Rattle.forced_choices.specs.ByKeys.{reads_at};
+ghost use Rattle.forced_choices.specs.Masks.{choices_in, mask_of};
 ghost use Rattle.forced_choices.specs.Tables.{IsLookup, IsPlaced, choices_at};
-ghost use Rattle.forced_choices.specs.Touching.{AreNoted, AreSpansOf, MayBeJoined};
-ghost use Rattle.forced_choices.specs.WriterPlaces.{those_at};
+ghost use Rattle.forced_choices.specs.Touching.{AreSpansOf};
+ghost use Rattle.forced_choices.specs.WriterPlaces.{places_at};
 
-use crate::columns::{are_settled, columns_left};
-use crate::listing::is_third;
-use crate::reads::{Placed, Read};
-use crate::rules::{Rule, is_left};
+use crate::looking::look_at_read;
+use crate::reads::Placed;
 use crate::table::Table;
-use crate::touched::{Spans, Touched, is_touched, note, spans_of, untouched};
-use known_graph::{Graph, has_bit};
+use crate::touched::{Spans, Touched, is_touched, meets, spans_of, untouched};
+use known_graph::Graph;
 use order_check::Parts;
 use std::alloc::Global;
-use txn::{Arc, Choice, ForceStep, NoMemory, Sequence, Side, TxnId};
+use txn::{ForceStep, NoMemory};
 
-/// The step that takes the rule's side: the other side's arc and the path close a cycle.
-fn step_of(alloc: Global, rule: Rule, path: &[Arc]) -> Result<ForceStep, NoMemory>
-    ensures choice { IfOk result (λ step. step.choice ≡ rule.choice) }
-    ensures side { IfOk result (λ step. step.side ≡ rule.side) }
-    ensures cycle { IfOk result (λ step. step.cycle ≡ Arc.Taken (premise rule).1 (premise rule).0 ∷ path.now) }
-{
-    let (from, to) = rule.premise();
-    let mut cycle = Vec::with_capacity(alloc, 1)?;
-    cycle.push(Arc::Taken { from: to, to: from })?;
-    cycle.extend_from_slice(path)?;
-    Ok(ForceStep {
-        choice: rule.choice,
-        side: rule.side,
-        cycle: Sequence::new(cycle),
-    })
-}
-
-/// Takes a side that is left.
-fn fire(
-    alloc: Global,
-    graph: &mut Graph,
-    log: &mut Vec<ForceStep>,
-    touched: &mut Touched,
-    rule: Rule,
-) -> Result<(), NoMemory>
-    requires left { IsLeft graph.old.arcs rule }
-    requires on { IsOn graph.old rule }
-    ensures fires { OnOk result ((step : ForceStep) × IsStepOf graph.old.arcs rule step
-        × (graph.new.arcs ≡ graph.old.arcs ++ taken_arc rule ∷ []) × (log.new.items ≡ log.old.items ++ step ∷ [])) }
-    ensures noted { OnOk result (AreNoted graph.old.nodes graph.old.arcs touched.old graph.new.arcs touched.new) }
-    ensures nodes { OnOk result (graph.new.nodes ≡ graph.old.nodes) }
-    ensures mark { last_mark graph.new ≡ last_mark graph.old }
-{
-    let (from, to) = rule.conclusion();
-    let (start, end) = rule.premise();
-    let Some(path) = graph.path(alloc, start, end)? else {
-        unreachable!()
-    };
-    log.push(step_of(alloc, rule, path.as_slice())?)?;
-    note(alloc, graph, touched, from, to)?;
-    graph.add_arc(alloc, Arc::Taken { from, to })?;
-    Ok(())
-}
-
-/// Takes the side if it is left.
-fn look_at_side(
-    alloc: Global,
-    graph: &mut Graph,
-    log: &mut Vec<ForceStep>,
-    touched: &mut Touched,
-    rule: Rule,
-) -> Result<(), NoMemory>
-    requires { IsOn graph.old rule }
-    ensures looked { OnOk result ((parts : Parts) → IsChoice parts rule.choice
-        → HasLookedAt parts graph.old.nodes (stage_of graph.old log.old.items touched.old) (stage_of graph.new log.new.items touched.new) rule) }
-    ensures nodes { OnOk result (graph.new.nodes ≡ graph.old.nodes) }
-    ensures mark { last_mark graph.new ≡ last_mark graph.old }
-{
-    if is_left(graph, rule) {
-        fire(alloc, graph, log, touched, rule)?;
-    }
-    Ok(())
-}
-
-/// Takes each side of the choice that is left.
-fn look_at_choice(
-    alloc: Global,
-    graph: &mut Graph,
-    log: &mut Vec<ForceStep>,
-    touched: &mut Touched,
-    choice: Choice,
-) -> Result<(), NoMemory>
-    requires { (side : Side) → IsOn graph.old (record { choice = choice; side = side }) }
-    ensures looked { OnOk result ((parts : Parts) → IsChoice parts choice
-        → HasLooked parts graph.old.nodes (stage_of graph.old log.old.items touched.old) (stage_of graph.new log.new.items touched.new) (choice ∷ [])) }
-    ensures nodes { OnOk result (graph.new.nodes ≡ graph.old.nodes) }
-    ensures mark { last_mark graph.new ≡ last_mark graph.old }
-{
-    let second = Rule {
-        choice,
-        side: Side::Second,
-    };
-    look_at_side(alloc, graph, log, touched, second)?;
-    let first = Rule {
-        choice,
-        side: Side::First,
-    };
-    look_at_side(alloc, graph, log, touched, first)?;
-    Ok(())
-}
-
-/// Takes each side that is left of the choice of a read with one other writer, if its column is in the row.
-fn look_at_other(
-    alloc: Global,
-    parts: &Parts,
-    graph: &mut Graph,
-    log: &mut Vec<ForceStep>,
-    touched: &mut Touched,
-    row: &[u64],
-    column: usize,
-    read: Read,
-    other: TxnId,
-) -> Result<(), NoMemory>
-    requires choice { is_third parts.now read other ≡ true → IsChoice parts.now (choice_of read other) }
-    requires nodes { (id : TxnId) → Remains parts.now id → HasNode graph.old id }
-    ensures looked { OnOk result ((start : Stage) (before : List Choice)
-        → HasLooked parts.now graph.old.nodes start (stage_of graph.old log.old.items touched.old) before
-        → ((¬ HasBit row.now column) → AreThere start.arcs (choices_in parts.now (other ∷ []) read))
-        → HasLooked parts.now graph.old.nodes start (stage_of graph.new log.new.items touched.new) (before ++ choices_in parts.now (other ∷ []) read)) }
-    ensures nodes { OnOk result (graph.new.nodes ≡ graph.old.nodes) }
-    ensures mark { last_mark graph.new ≡ last_mark graph.old }
-{
-    if !has_bit(row, column) {
-        return Ok(());
-    }
-    if !is_third(parts, read, other) {
-        return Ok(());
-    }
-    let choice = Choice {
-        reader: read.reader,
-        key: read.key,
-        writer: read.writer,
-        other,
-    };
-    look_at_choice(alloc, graph, log, touched, choice)?;
-    Ok(())
-}
-
-/// Takes each side that is left of the choices of a read with those at the places, of which only those with a column in the row
-/// may have one.
-fn look_at_columns(
+/// Takes each side that is left, read by read.
+fn look_at_all(
     alloc: Global,
     parts: &Parts,
     table: &Table,
-    places: &[usize],
     graph: &mut Graph,
     log: &mut Vec<ForceStep>,
     touched: &mut Touched,
-    row: &[u64],
-    read: Read,
 ) -> Result<(), NoMemory>
-    requires places { All (λ place. place < length table.now.ids.items) places.now }
-    requires choices { (other : TxnId) → is_third parts.now read other ≡ true → IsChoice parts.now (choice_of read other) }
     requires nodes { (id : TxnId) → Remains parts.now id → HasNode graph.old id }
-    requires settled { AreSettledBut parts.now graph.old.arcs table.now.ids.items table.now.writers.columns.items row.now read }
+    requires table { IsLookup parts.now graph.old.nodes table.now }
     ensures looked { OnOk result (HasLooked parts.now graph.old.nodes (stage_of graph.old log.old.items touched.old) (stage_of graph.new log.new.items touched.new)
-        (choices_in parts.now (those_at table.now.ids.items places.now) read)) }
+        (choices_at parts.now table.now.ids.items table.now.reads.items)) }
     ensures nodes { OnOk result (graph.new.nodes ≡ graph.old.nodes) }
     ensures mark { last_mark graph.new ≡ last_mark graph.old }
 {
-    let ids = table.ids.as_slice();
-    for place in places {
-        let column = table.writers.column(*place);
-        look_at_other(
-            alloc,
-            parts,
-            graph,
-            log,
-            touched,
-            row,
-            column,
-            read,
-            ids[*place],
-        )?;
+    let reads = table.reads.as_slice();
+    for placed in reads {
+        look_at_read(alloc, parts, table, graph, log, touched, *placed)?;
     }
     Ok(())
 }
 
-/// Takes each side that is left of the choices of a read.
-fn look_at_read(
+/// Takes each side that is left of the choices of a read, if it was touched. The mask is that of the writers of its key.
+fn look_if_touched(
     alloc: Global,
     parts: &Parts,
     table: &Table,
     graph: &mut Graph,
     log: &mut Vec<ForceStep>,
     touched: &mut Touched,
+    since: &Touched,
+    spans: Spans,
+    mask: &[u64],
     placed: Placed,
 ) -> Result<(), NoMemory>
     requires placed { IsPlaced parts.now graph.old.nodes placed }
     requires nodes { (id : TxnId) → Remains parts.now id → HasNode graph.old id }
     requires table { IsLookup parts.now graph.old.nodes table.now }
-    ensures looked { OnOk result (HasLooked parts.now graph.old.nodes (stage_of graph.old log.old.items touched.old) (stage_of graph.new log.new.items touched.new)
-        (choices_in parts.now table.now.ids.items placed.read)) }
+    requires spans { AreSpansOf since.now spans }
+    requires mask { mask.now ≡ mask_of table.now.writers.masks placed.read.key }
+    ensures looked { OnOk result ((start : Stage) (before : List Choice)
+        → HasLooked parts.now graph.old.nodes start (stage_of graph.old log.old.items touched.old) before
+        → AreAllSettledUnless parts.now graph.old.nodes start.arcs since.now
+        → HasLooked parts.now graph.old.nodes start (stage_of graph.new log.new.items touched.new) (before ++ choices_in parts.now table.now.ids.items placed.read)) }
     ensures nodes { OnOk result (graph.new.nodes ≡ graph.old.nodes) }
     ensures mark { last_mark graph.new ≡ last_mark graph.old }
 {
-    let mask = table.writers.mask(placed.read.key);
-    if are_settled(graph, mask, placed) {
+    if !is_touched(since, spans, mask, placed) {
         return Ok(());
     }
-    let row = columns_left(alloc, graph, mask, placed)?;
-    look_at_columns(
-        alloc,
-        parts,
-        table,
-        table.places.of_key(placed.read.key),
-        graph,
-        log,
-        touched,
-        row.as_slice(),
-        placed.read,
-    )
+    look_at_read(alloc, parts, table, graph, log, touched, placed)?;
+    Ok(())
+}
+
+/// Takes each side that is left of the choices of those reads of a key that were touched. The row is that of its writers and readers:
+/// where none of them is reached by more, none of its reads was touched.
+fn look_at_key(
+    alloc: Global,
+    parts: &Parts,
+    table: &Table,
+    graph: &mut Graph,
+    log: &mut Vec<ForceStep>,
+    touched: &mut Touched,
+    since: &Touched,
+    spans: Spans,
+    key: u64,
+    row: &[u64],
+) -> Result<(), NoMemory>
+    requires nodes { (id : TxnId) → Remains parts.now id → HasNode graph.old id }
+    requires table { IsLookup parts.now graph.old.nodes table.now }
+    requires spans { AreSpansOf since.now spans }
+    requires row { row.now ≡ mask_of table.now.by_key.rows key }
+    ensures looked { OnOk result ((start : Stage) (before : List Choice)
+        → HasLooked parts.now graph.old.nodes start (stage_of graph.old log.old.items touched.old) before
+        → AreAllSettledUnless parts.now graph.old.nodes start.arcs since.now
+        → HasLooked parts.now graph.old.nodes start (stage_of graph.new log.new.items touched.new)
+        (before ++ choices_at parts.now table.now.ids.items (reads_at table.now.reads.items (places_at table.now.by_key.reads.lists key)))) }
+    ensures nodes { OnOk result (graph.new.nodes ≡ graph.old.nodes) }
+    ensures mark { last_mark graph.new ≡ last_mark graph.old }
+{
+    if !meets(row, &since.targets, spans.targets) {
+        return Ok(());
+    }
+    let mask = table.writers.mask(key);
+    let reads = table.reads.as_slice();
+    for place in table.by_key.reads.of_key(key) {
+        look_if_touched(
+            alloc,
+            parts,
+            table,
+            graph,
+            log,
+            touched,
+            since,
+            spans,
+            mask,
+            reads[*place],
+        )?;
+    }
+    Ok(())
+}
+
+/// Takes each side that is left of the choices of those reads that were touched, key by key.
+fn look_at_touched(
+    alloc: Global,
+    parts: &Parts,
+    table: &Table,
+    graph: &mut Graph,
+    log: &mut Vec<ForceStep>,
+    touched: &mut Touched,
+    since: &Touched,
+) -> Result<(), NoMemory>
+    requires nodes { (id : TxnId) → Remains parts.now id → HasNode graph.old id }
+    requires table { IsLookup parts.now graph.old.nodes table.now }
+    requires settled { AreAllSettledUnless parts.now graph.old.nodes graph.old.arcs since.now }
+    ensures looked { OnOk result (HasLooked parts.now graph.old.nodes (stage_of graph.old log.old.items touched.old) (stage_of graph.new log.new.items touched.new)
+        (choices_at parts.now table.now.ids.items table.now.reads.items)) }
+    ensures nodes { OnOk result (graph.new.nodes ≡ graph.old.nodes) }
+    ensures mark { last_mark graph.new ≡ last_mark graph.old }
+{
+    let spans = spans_of(since);
+    for (key, row) in &table.by_key.rows {
+        look_at_key(
+            alloc,
+            parts,
+            table,
+            graph,
+            log,
+            touched,
+            since,
+            spans,
+            *key,
+            row.as_slice(),
+        )?;
+    }
+    Ok(())
 }
 
 /// Which reads are looked at: all, or those that were touched since.
@@ -237,49 +168,8 @@ pub struct Due {
     pub since: Touched,
 }
 
-/// Whether the read is looked at, the mask being that of the writers of its key.
-fn is_due(due: &Due, spans: Spans, mask: &[u64], placed: Placed) -> bool
-    requires { AreSpansOf due.now.since spans }
-    ensures all { result ≡ false → due.now.all ≡ false }
-    ensures read { result ≡ false → ¬ MayBeJoined due.now.since placed.writer_at placed.reader_at }
-    ensures after { result ≡ false → (k : ℕ) → HasBit mask.now k → ¬ MayBeJoined due.now.since placed.writer_at k }
-    ensures before { result ≡ false → (k : ℕ) → HasBit mask.now k → ¬ MayBeJoined due.now.since k placed.reader_at }
-{
-    due.all || is_touched(&due.since, spans, mask, placed)
-}
-
-/// Takes each side that is left of the choices of a read, if it is looked at.
-fn look_if_due(
-    alloc: Global,
-    parts: &Parts,
-    table: &Table,
-    graph: &mut Graph,
-    log: &mut Vec<ForceStep>,
-    touched: &mut Touched,
-    due: &Due,
-    spans: Spans,
-    placed: Placed,
-) -> Result<(), NoMemory>
-    requires placed { IsPlaced parts.now graph.old.nodes placed }
-    requires nodes { (id : TxnId) → Remains parts.now id → HasNode graph.old id }
-    requires table { IsLookup parts.now graph.old.nodes table.now }
-    requires spans { AreSpansOf due.now.since spans }
-    ensures looked { OnOk result ((start : Stage) (before : List Choice)
-        → HasLooked parts.now graph.old.nodes start (stage_of graph.old log.old.items touched.old) before
-        → (due.now.all ≡ false → AreAllSettledUnless parts.now graph.old.nodes start.arcs due.now.since)
-        → HasLooked parts.now graph.old.nodes start (stage_of graph.new log.new.items touched.new) (before ++ choices_in parts.now table.now.ids.items placed.read)) }
-    ensures nodes { OnOk result (graph.new.nodes ≡ graph.old.nodes) }
-    ensures mark { last_mark graph.new ≡ last_mark graph.old }
-{
-    if !is_due(due, spans, table.writers.mask(placed.read.key), placed) {
-        return Ok(());
-    }
-    look_at_read(alloc, parts, table, graph, log, touched, placed)?;
-    Ok(())
-}
-
-/// Takes each side that is left, read by read.
-fn look_at_all(
+/// Takes each side that is left of the choices of the reads that are due.
+fn look_at_due(
     alloc: Global,
     parts: &Parts,
     table: &Table,
@@ -296,14 +186,11 @@ fn look_at_all(
     ensures nodes { OnOk result (graph.new.nodes ≡ graph.old.nodes) }
     ensures mark { last_mark graph.new ≡ last_mark graph.old }
 {
-    let spans = spans_of(&due.since);
-    let reads = table.reads.as_slice();
-    for placed in reads {
-        look_if_due(
-            alloc, parts, table, graph, log, touched, due, spans, *placed,
-        )?;
+    if due.all {
+        look_at_all(alloc, parts, table, graph, log, touched)
+    } else {
+        look_at_touched(alloc, parts, table, graph, log, touched, &due.since)
     }
-    Ok(())
 }
 
 /// Takes sides that are forced until none is left. The reads that are due at first are looked at, and then those that are touched.
@@ -328,7 +215,7 @@ pub fn saturate(
     while goes_on {
         let before = log.len();
         let mut touched = untouched(alloc);
-        look_at_all(alloc, parts, table, graph, log, &mut touched, &due)?;
+        look_at_due(alloc, parts, table, graph, log, &mut touched, &due)?;
         due = Due {
             all: false,
             since: touched,

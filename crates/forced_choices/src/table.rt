@@ -12,6 +12,7 @@ ghost use Rattle.forced_choices.specs.declared.reads.Placed.{Placed};
 ghost use Rattle.forced_choices.specs.Listing.{choices_of, choices_of_read, reads_of};
 ghost use Rattle.forced_choices.specs.Tables.{AreReads, IsAtColumns, IsTable};
 
+use crate::by_key::{ByKey, by_key_of};
 use crate::listing::{reads_of, remaining_ids_of, writes};
 use crate::places::{Places, places_among};
 use crate::reads::{Placed, Read};
@@ -21,7 +22,7 @@ use order_check::Parts;
 use std::alloc::Global;
 use txn::{NoMemory, Source, TxnId};
 
-/// All that remains, the writers of each key, where they stand, and the reads from what remains, each with its columns.
+/// All that remains, the writers of each key, where they stand, the reads from what remains, each with its columns, and these by key.
 #[derive(Drop, Debug)]
 pub struct Table {
     /// In order of id.
@@ -30,6 +31,7 @@ pub struct Table {
     pub places: Places,
     /// In order of reader.
     pub reads: Vec<Placed>,
+    pub by_key: ByKey,
 }
 
 /// Puts a read at the end, with its columns.
@@ -125,10 +127,12 @@ pub fn table_of(alloc: Global, parts: &Parts, graph: &Graph) -> Result<Table, No
     let writers = writers_of(alloc, parts, graph, ids.as_slice())?;
     let places = places_among(alloc, parts, ids.as_slice())?;
     let reads = reads_among(alloc, parts, graph, ids.as_slice())?;
+    let by_key = by_key_of(alloc, parts, graph, ids.as_slice(), reads.as_slice())?;
     Ok(Table {
         ids,
         writers,
         places,
         reads,
+        by_key,
     })
 }

@@ -107,7 +107,7 @@ pub fn spans_of(touched: &Touched) -> Spans
 }
 
 /// Whether the two rows have a bit in common, of which the second has none outside of the span.
-fn meets(row: &[u64], other: &[u64], span: Span) -> bool
+pub fn meets(row: &[u64], other: &[u64], span: Span) -> bool
     requires { IsSpanOf other.now span }
     ensures { result ≡ false → (j : ℕ) → HasBit row.now j → ¬ HasBit other.now j }
 {

@@ -94,8 +94,8 @@ fn put_mask(masks: &mut BTreeMap<u64, Vec<u64>>, key: u64, mask: Vec<u64>) -> Re
     Ok(())
 }
 
-/// Adds a writer to the row of a key.
-fn add_writer(
+/// Adds a column to the row of a key.
+pub fn add_column(
     alloc: Global,
     masks: &mut BTreeMap<u64, Vec<u64>>,
     key: u64,
@@ -120,7 +120,7 @@ pub fn add_writes(
     ensures added { OnOk result ((k : ℕ) → k < length keys.now → HasBit (mask_of masks.new (slice_index keys.now k)) column) }
 {
     for key in keys {
-        add_writer(alloc, masks, *key, column)?;
+        add_column(alloc, masks, *key, column)?;
     }
     Ok(())
 }

@@ -1,9 +1,10 @@
-use Rattle.std.proofs.Common.{◌∙◌, List, Option, get_or, sym, subst}
+use Rattle.std.proofs.Common.{◌≡◌, ◌∙◌, List, Option, Result, Ok, Err, get_or, sym, subst}
+use Rattle.std.specs.Prelude.{OnErr}
 use Rattle.txn.specs.declared.transactions.TxnId.{TxnId}
 use Rattle.txn.specs.declared.choices.Arc.{Arc}
 use Rattle.txn.specs.declared.choices.ForceStep.{ForceStep}
 use Rattle.forced_choices.specs.declared.kept.KeptTable.{KeptTable}
-use Rattle.forced_choices.specs.Growth.{GoesOn}
+use Rattle.forced_choices.specs.Growth.{GoesOn, NodesStay}
 use Rattle.forced_choices.specs.Kept.{IsKept}
 use Rattle.forced_choices.specs.KeptTables.{IsKeptTable}
 use Rattle.forced_choices.proofs.CatchingUp.{low_numbers}
@@ -50,8 +51,8 @@ go_on-requires-clause-table c =
     let fragment = c.args.fragment.now in
     let graph = c.args.graph.now in
     let new = c.add_nodes.new.graph in
-    let catches = catches_by parts more fragment graph.nodes new.nodes c.args.kept c.add_writers.new.table c.in_ok-fresh.fresh.items c.in_ok-new.new.items c.deref-2.result.now c.deref-4.result.now c.deref-3.result.now c.deref-5.result.now c.in_ok-new.ensures c.deref-2.ensures.value c.deref-4.ensures.value c.deref-3.ensures.value c.deref-5.ensures.value next table c.in_ok-add_nodes.ensures.stay c.in_ok-add_writers.ensures.writers c.in_ok-add_writers.ensures.ids c.in_ok-add_writers.ensures.reads c.in_ok-fresh.ensures (c.all_look_back.ensures c.if-not-all_look_back.false) in
-    let grown = table_then parts more fragment graph.nodes new.nodes c.args.kept c.add_writers.new.table c.in_ok-fresh.fresh.items c.add_reads.new.reads c.add_reads.new.loose c.deref-6.result.now (c.deref-6.ensures.value ∙ c.in_ok-new.ensures) catches c.in_ok-add_reads.ensures in
+    let catches = catches_by parts more fragment graph.nodes new.nodes c.args.kept c.add_writers.new.table c.in_ok-fresh.fresh.items c.in_ok-new.new.items c.deref-2.result.now c.deref-4.result.now c.deref-3.result.now c.deref-5.result.now c.in_ok-new.ensures c.deref-2.ensures.value c.deref-4.ensures.value c.deref-3.ensures.value c.deref-5.ensures.value next table c.in_ok-add_nodes.ensures.stay c.in_ok-add_writers.ensures.writers c.in_ok-add_writers.ensures.ids c.in_ok-add_writers.ensures.reads c.in_ok-add_writers.ensures.indexed c.in_ok-fresh.ensures (c.all_look_back.ensures c.if-not-all_look_back.false) in
+    let grown = table_then parts more fragment graph.nodes new.nodes c.args.kept c.add_writers.new.table c.add_reads.new.table c.in_ok-fresh.fresh.items c.add_reads.new.loose c.deref-6.result.now (c.deref-6.ensures.value ∙ c.in_ok-new.ensures) catches c.in_ok-add_reads.ensures in
     kept_lookup more new.nodes _ grown
 
 pub go_on-requires-clause-goes_on : goal.go_on-requires-clause-goes_on
@@ -61,8 +62,20 @@ go_on-requires-clause-goes_on c =
     let fragment = c.args.fragment.now in
     let graph = c.args.graph.now in
     let new = c.add_nodes.new.graph in
-    let catches = catches_by parts more fragment graph.nodes new.nodes c.args.kept c.add_writers.new.table c.in_ok-fresh.fresh.items c.in_ok-new.new.items c.deref-2.result.now c.deref-4.result.now c.deref-3.result.now c.deref-5.result.now c.in_ok-new.ensures c.deref-2.ensures.value c.deref-4.ensures.value c.deref-3.ensures.value c.deref-5.ensures.value next table c.in_ok-add_nodes.ensures.stay c.in_ok-add_writers.ensures.writers c.in_ok-add_writers.ensures.ids c.in_ok-add_writers.ensures.reads c.in_ok-fresh.ensures (c.all_look_back.ensures c.if-not-all_look_back.false) in
+    let catches = catches_by parts more fragment graph.nodes new.nodes c.args.kept c.add_writers.new.table c.in_ok-fresh.fresh.items c.in_ok-new.new.items c.deref-2.result.now c.deref-4.result.now c.deref-3.result.now c.deref-5.result.now c.in_ok-new.ensures c.deref-2.ensures.value c.deref-4.ensures.value c.deref-3.ensures.value c.deref-5.ensures.value next table c.in_ok-add_nodes.ensures.stay c.in_ok-add_writers.ensures.writers c.in_ok-add_writers.ensures.ids c.in_ok-add_writers.ensures.reads c.in_ok-add_writers.ensures.indexed c.in_ok-fresh.ensures (c.all_look_back.ensures c.if-not-all_look_back.false) in
     (parts, subst (λ (fresh : List Arc). GoesOn parts more new c.args.log.now fresh) (sym c.deref-7.ensures.value) (goes_on_then parts more fragment graph new c.args.log.now c.args.kept c.add_writers.new.table c.in_ok-fresh.fresh.items kept c.in_ok-add_nodes.ensures.arcs catches))
+
+-- what holds either way holds where there is an error
+either_way : {T E P : Type 0} (result : Result T E) → P → OnErr result P
+either_way (Ok value) holds = tt
+either_way (Err error) holds = holds
+
+pub returns-in_err-go_on-clause-err : goal.returns-in_err-go_on-clause-err
+returns-in_err-go_on-clause-err c =
+    let log : c.go_on.new.log ≡ c.args.log.now = c.in_err-go_on.ensures.err.0 in
+    let arcs : c.go_on.new.graph.arcs ≡ c.args.graph.now.arcs = c.in_err-go_on.ensures.err.1 ∙ c.in_ok-add_nodes.ensures.arcs in
+    let nodes : NodesStay c.args.graph.now.nodes c.go_on.new.graph.nodes = subst (λ (nodes : List (Option TxnId)). NodesStay c.args.graph.now.nodes nodes) (sym c.in_err-go_on.ensures.nodes) c.in_ok-add_nodes.ensures.stay in
+    either_way c.from_residual-in_err-go_on.result (log, arcs, nodes)
 
 pub returns-clause-table : goal.returns-clause-table
 returns-clause-table c =
@@ -71,7 +84,7 @@ returns-clause-table c =
     let fragment = c.args.fragment.now in
     let graph = c.args.graph.now in
     let new = c.add_nodes.new.graph in
-    let catches = catches_by parts more fragment graph.nodes new.nodes c.args.kept c.add_writers.new.table c.in_ok-fresh.fresh.items c.in_ok-new.new.items c.deref-2.result.now c.deref-4.result.now c.deref-3.result.now c.deref-5.result.now c.in_ok-new.ensures c.deref-2.ensures.value c.deref-4.ensures.value c.deref-3.ensures.value c.deref-5.ensures.value next table c.in_ok-add_nodes.ensures.stay c.in_ok-add_writers.ensures.writers c.in_ok-add_writers.ensures.ids c.in_ok-add_writers.ensures.reads c.in_ok-fresh.ensures (c.all_look_back.ensures c.if-not-all_look_back.false) in
-    let grown = table_then parts more fragment graph.nodes new.nodes c.args.kept c.add_writers.new.table c.in_ok-fresh.fresh.items c.add_reads.new.reads c.add_reads.new.loose c.deref-6.result.now (c.deref-6.ensures.value ∙ c.in_ok-new.ensures) catches c.in_ok-add_reads.ensures in
-    let then : KeptTable = record { table = record c.add_writers.new.table { reads = c.add_reads.new.reads }; loose = c.add_reads.new.loose } in
+    let catches = catches_by parts more fragment graph.nodes new.nodes c.args.kept c.add_writers.new.table c.in_ok-fresh.fresh.items c.in_ok-new.new.items c.deref-2.result.now c.deref-4.result.now c.deref-3.result.now c.deref-5.result.now c.in_ok-new.ensures c.deref-2.ensures.value c.deref-4.ensures.value c.deref-3.ensures.value c.deref-5.ensures.value next table c.in_ok-add_nodes.ensures.stay c.in_ok-add_writers.ensures.writers c.in_ok-add_writers.ensures.ids c.in_ok-add_writers.ensures.reads c.in_ok-add_writers.ensures.indexed c.in_ok-fresh.ensures (c.all_look_back.ensures c.if-not-all_look_back.false) in
+    let grown = table_then parts more fragment graph.nodes new.nodes c.args.kept c.add_writers.new.table c.add_reads.new.table c.in_ok-fresh.fresh.items c.add_reads.new.loose c.deref-6.result.now (c.deref-6.ensures.value ∙ c.in_ok-new.ensures) catches c.in_ok-add_reads.ensures in
+    let then : KeptTable = record { table = c.add_reads.new.table; loose = c.add_reads.new.loose } in
     subst (λ (nodes : List (Option TxnId)). IsKeptTable more nodes then) (sym c.in_ok-go_on.ensures.nodes) grown

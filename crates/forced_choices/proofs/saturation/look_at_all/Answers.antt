@@ -1,32 +1,31 @@
-use Rattle.std.proofs.Common.{◌<◌, ◌≡◌, ◌++◌, false, List, Option, length, get_or, take, refl, sym, subst, ◌∙◌}
+use Rattle.std.proofs.Common.{◌<◌, List, Option, length, get_or, take, refl, sym, subst, ◌∙◌}
 use Rattle.txn.specs.declared.transactions.TxnId.{TxnId}
-use Rattle.txn.specs.declared.choices.Choice.{Choice}
 use Rattle.known_graph.specs.Graphs.{HasKey}
 use Rattle.forced_choices.specs.declared.reads.Placed.{Placed}
-use Rattle.forced_choices.specs.Forcing.{Stage, stage_of, HasLooked, AreAllSettledUnless}
+use Rattle.forced_choices.specs.Forcing.{stage_of, HasLooked}
 use Rattle.forced_choices.specs.Masks.{choices_in}
 use Rattle.forced_choices.specs.Tables.{IsLookup, IsPlaced, choices_at}
 use Rattle.forced_choices.proofs.Distinct.{take_whole}
-use Rattle.forced_choices.proofs.Forced.{looked_none}
+use Rattle.forced_choices.proofs.Forced.{looked_both, looked_none}
 use Rattle.forced_choices.proofs.TableReads.{no_read, at_more}
 use Rattle.forced_choices.proofs.saturation.look_at_all.Goals as goal
 
 pub loop-placed-init : goal.loop-placed-init
 loop-placed-init c = record { looked = looked_none c.args.parts.now c.args.graph.now.nodes (stage_of c.args.graph.now c.args.log.now.items c.args.touched.now); nodes = refl; mark = refl }
 
-pub look_if_due-requires-clause-placed : goal.look_if_due-requires-clause-placed
-look_if_due-requires-clause-placed c =
+pub look_at_read-requires-clause-placed : goal.look_at_read-requires-clause-placed
+look_at_read-requires-clause-placed c =
     let reads = c.as_slice-reads.result.now in
     let k = c.loop-placed.placed-index in
     let within : k < length c.args.table.now.reads.items = subst (λ (xs : List Placed). k < length xs) c.as_slice-reads.ensures.value c.loop-placed-test.true in
     let here = subst (λ (xs : List Placed). IsPlaced c.args.parts.now c.args.graph.now.nodes (get_or xs k no_read)) (sym c.as_slice-reads.ensures.value) (c.requires.table.placed k no_read within) in
     subst (λ (nodes : List (Option TxnId)). IsPlaced c.args.parts.now nodes (get_or reads k no_read)) (sym c.loop-placed.invariant.nodes) here
 
-pub look_if_due-requires-clause-nodes : goal.look_if_due-requires-clause-nodes
-look_if_due-requires-clause-nodes c = λ id remains. subst (λ nodes. HasKey nodes id) (sym c.loop-placed.invariant.nodes) (c.requires.nodes id remains)
+pub look_at_read-requires-clause-nodes : goal.look_at_read-requires-clause-nodes
+look_at_read-requires-clause-nodes c = λ id remains. subst (λ nodes. HasKey nodes id) (sym c.loop-placed.invariant.nodes) (c.requires.nodes id remains)
 
-pub look_if_due-requires-clause-table : goal.look_if_due-requires-clause-table
-look_if_due-requires-clause-table c = subst (λ (nodes : List (Option TxnId)). IsLookup c.args.parts.now nodes c.args.table.now) (sym c.loop-placed.invariant.nodes) c.requires.table
+pub look_at_read-requires-clause-table : goal.look_at_read-requires-clause-table
+look_at_read-requires-clause-table c = subst (λ (nodes : List (Option TxnId)). IsLookup c.args.parts.now nodes c.args.table.now) (sym c.loop-placed.invariant.nodes) c.requires.table
 
 pub loop-placed-preserved : goal.loop-placed-preserved
 loop-placed-preserved c =
@@ -35,18 +34,17 @@ loop-placed-preserved c =
     let nodes = c.args.graph.now.nodes in
     let reads = c.as_slice-reads.result.now in
     let k = c.loop-placed.placed-index in
-    let due = c.args.due.now in
     let start = stage_of c.args.graph.now c.args.log.now.items c.args.touched.now in
     let middle = stage_of c.loop-placed.graph c.loop-placed.log.items c.loop-placed.touched in
-    let new = c.look_if_due.new in
+    let new = c.look_at_read.new in
     let then = stage_of new.graph new.log.items new.touched in
     let own = choices_in parts ids (get_or reads k no_read).read in
-    let here = subst (λ (nodes : List (Option TxnId)). (start : Stage) (before : List Choice) → HasLooked parts nodes start middle before → (due.all ≡ false → AreAllSettledUnless parts nodes start.arcs due.since) → HasLooked parts nodes start then (before ++ own)) c.loop-placed.invariant.nodes c.in_ok-look_if_due.ensures.looked in
-    let both = here start (choices_at parts ids (take k reads)) c.loop-placed.invariant.looked c.requires.due in
+    let here = subst (λ (nodes : List (Option TxnId)). HasLooked parts nodes middle then own) c.loop-placed.invariant.nodes c.in_ok-look_at_read.ensures.looked in
+    let both = looked_both parts nodes start middle then (choices_at parts ids (take k reads)) own c.loop-placed.invariant.looked here in
     record {
       looked = subst (λ xs. HasLooked parts nodes start then xs) (sym (at_more parts ids reads k no_read c.loop-placed-test.true)) both;
-      nodes = c.in_ok-look_if_due.ensures.nodes ∙ c.loop-placed.invariant.nodes;
-      mark = c.look_if_due.ensures.mark ∙ c.loop-placed.invariant.mark;
+      nodes = c.in_ok-look_at_read.ensures.nodes ∙ c.loop-placed.invariant.nodes;
+      mark = c.look_at_read.ensures.mark ∙ c.loop-placed.invariant.mark;
     }
 
 pub returns-clause-looked : goal.returns-clause-looked

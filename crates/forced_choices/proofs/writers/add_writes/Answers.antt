@@ -7,8 +7,8 @@ pub loop-key-preserved : goal.loop-key-preserved
 loop-key-preserved c =
     let keys = c.args.keys.now in
     let i = c.loop-key.key-index in
-    let new = c.add_writer.new.masks in
-    let tells = c.in_ok-add_writer.ensures in
+    let new = c.add_column.new.masks in
+    let tells = c.in_ok-add_column.ensures in
     record {
       kept = λ other j has. (tells other j).1 (inl (c.loop-key.invariant.kept other j has));
       added = below_more (λ k. HasBit (mask_of new (get_or keys k 0)) c.args.column) i (λ k within. (tells (get_or keys k 0) c.args.column).1 (inl (c.loop-key.invariant.added k within))) ((tells (get_or keys i 0) c.args.column).1 (inr (refl, refl)));

@@ -5,7 +5,7 @@ use Rattle.forced_choices.specs.Masks.{choice_of, choices_in}
 use Rattle.forced_choices.proofs.Forced.{looked_both}
 use Rattle.forced_choices.proofs.Keeping.{on_side}
 use Rattle.forced_choices.proofs.SettledReads.{choices_yes, choices_no, looked_and_there, none_there}
-use Rattle.forced_choices.proofs.saturation.look_at_other.Goals as goal
+use Rattle.forced_choices.proofs.looking.look_at_other.Goals as goal
 
 pub returns-then-not-has_bit-clause-looked : goal.returns-then-not-has_bit-clause-looked
 returns-then-not-has_bit-clause-looked c = λ start before looked there.

@@ -2,7 +2,7 @@ use Rattle.std.proofs.Common.{sym, subst, subst₂}
 use Rattle.forced_choices.specs.Forcing.{stage_of, HasLookedAt}
 use Rattle.forced_choices.specs.Touching.{AreNoted}
 use Rattle.forced_choices.proofs.Forced.{looked_forced, looked_there}
-use Rattle.forced_choices.proofs.saturation.look_at_side.Goals as goal
+use Rattle.forced_choices.proofs.looking.look_at_side.Goals as goal
 
 pub returns-in_ok-fire-clause-looked : goal.returns-in_ok-fire-clause-looked
 returns-in_ok-fire-clause-looked c = λ parts is.

@@ -5,7 +5,7 @@ use Rattle.forced_choices.specs.Masks.{AreSettledBut, choices_in}
 use Rattle.forced_choices.proofs.SettledReads.{settled_by_mask, settled_all, looked_all_there, third_is_choice}
 use Rattle.forced_choices.specs.WriterPlaces.{those_at}
 use Rattle.forced_choices.proofs.PlacesOfWriters.{choices_at_places}
-use Rattle.forced_choices.proofs.saturation.look_at_read.Goals as goal
+use Rattle.forced_choices.proofs.looking.look_at_read.Goals as goal
 
 pub returns-then-are_settled-clause-looked : goal.returns-then-are_settled-clause-looked
 returns-then-are_settled-clause-looked c =

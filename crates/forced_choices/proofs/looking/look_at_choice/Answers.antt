@@ -3,7 +3,7 @@ use Rattle.txn.specs.declared.transactions.TxnId.{TxnId}
 use Rattle.txn.specs.declared.choices.Side.TheVariants.{First}
 use Rattle.forced_choices.specs.Forcing.{stage_of, HasLookedAt}
 use Rattle.forced_choices.proofs.Forced.{looked_sides, on_kept}
-use Rattle.forced_choices.proofs.saturation.look_at_choice.Goals as goal
+use Rattle.forced_choices.proofs.looking.look_at_choice.Goals as goal
 
 pub look_at_side-requires-2 : goal.look_at_side-requires-2
 look_at_side-requires-2 c = on_kept c.args.graph.now c.look_at_side.new.graph (record { choice = c.args.choice; side = First }) c.in_ok-look_at_side.ensures.nodes (c.requires First)

@@ -5,17 +5,17 @@ use Rattle.forced_choices.specs.Masks.{choices_in}
 use Rattle.forced_choices.proofs.Forced.{looked_both}
 use Rattle.forced_choices.proofs.TableReads.{untouched_there}
 use Rattle.forced_choices.proofs.SettledReads.{looked_and_there}
-use Rattle.forced_choices.proofs.saturation.look_if_due.Goals as goal
+use Rattle.forced_choices.proofs.saturation.look_if_touched.Goals as goal
 
-pub returns-then-not-is_due-clause-looked : goal.returns-then-not-is_due-clause-looked
-returns-then-not-is_due-clause-looked c = λ start before looked settled.
+pub returns-then-not-is_touched-clause-looked : goal.returns-then-not-is_touched-clause-looked
+returns-then-not-is_touched-clause-looked c = λ start before looked settled.
     let parts = c.args.parts.now in
     let nodes = c.args.graph.now.nodes in
     let ids = c.args.table.now.ids.items in
-    let no = c.if-not-is_due.true in
+    let no = c.if-not-is_touched.true in
     looked_and_there parts nodes start (stage_of c.args.graph.now c.args.log.now.items c.args.touched.now) before (choices_in parts ids c.args.placed.read) looked
-    (untouched_there parts nodes start.arcs ids c.args.table.now.writers c.args.due.now.since c.args.placed c.requires.placed c.requires.table.writers (settled (c.is_due.ensures.all no)) (c.is_due.ensures.read no)
-    (λ k has. c.is_due.ensures.after no k (subst (λ (mask : List ℕ). HasBit mask k) (sym c.mask.ensures) has)) (λ k has. c.is_due.ensures.before no k (subst (λ (mask : List ℕ). HasBit mask k) (sym c.mask.ensures) has)))
+    (untouched_there parts nodes start.arcs ids c.args.table.now.writers c.args.since.now c.args.placed c.requires.placed c.requires.table.writers settled (c.is_touched.ensures.read no)
+    (λ k has. c.is_touched.ensures.after no k (subst (λ (mask : List ℕ). HasBit mask k) (sym c.requires.mask) has)) (λ k has. c.is_touched.ensures.before no k (subst (λ (mask : List ℕ). HasBit mask k) (sym c.requires.mask) has)))
 
 pub returns-clause-looked : goal.returns-clause-looked
 returns-clause-looked c = λ start before looked settled.

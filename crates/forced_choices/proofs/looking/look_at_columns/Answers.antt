@@ -9,7 +9,7 @@ use Rattle.forced_choices.proofs.Distinct.{take_whole}
 use Rattle.forced_choices.proofs.Forced.{looked_none}
 use Rattle.forced_choices.specs.WriterPlaces.{those_at}
 use Rattle.forced_choices.proofs.PlacesOfWriters.{choices_places_more}
-use Rattle.forced_choices.proofs.saturation.look_at_columns.Goals as goal
+use Rattle.forced_choices.proofs.looking.look_at_columns.Goals as goal
 
 abbrev none : TxnId
 none = record { session = 0; number = 0 }

@@ -1,7 +1,0 @@
-use Rattle.std.proofs.Common.{List, ◌++◌, take}
-use Rattle.txn.specs.declared.transactions.TxnId.{TxnId}
-use Rattle.forced_choices.specs.KeptTables.{AreReadsOf}
-use Rattle.forced_choices.proofs.kept.add_reads.Given as goal
-
-abbrev pub invariant-loop-id : goal.invariant-loop-id
-invariant-loop-id l = (ids : List TxnId) → AreReadsOf l.parts l.graph.nodes ids l.initial.reads.items l.initial.loose.items → AreReadsOf l.parts l.graph.nodes (ids ++ take l.id-index l.new) l.reads.items l.loose.items

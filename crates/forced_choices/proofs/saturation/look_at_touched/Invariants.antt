@@ -1,0 +1,19 @@
+use Rattle.std.proofs.Common.{◌≡◌, ◌<◌, ◌⊎◌, ℕ, List, length, get_or}
+use Rattle.std.specs.Map.{keys_of}
+use Rattle.txn.specs.declared.choices.Choice.{Choice}
+use Rattle.known_graph.specs.Graphs.{last_mark}
+use Rattle.forced_choices.specs.Ascending.{In}
+use Rattle.forced_choices.specs.Forcing.{stage_of, HasLooked}
+use Rattle.forced_choices.specs.Masks.{choices_in}
+use Rattle.forced_choices.proofs.TableReads.{no_read}
+use Rattle.forced_choices.proofs.saturation.look_at_touched.Given as goal
+
+-- each read was looked at, or its key is left
+abbrev pub invariant-loop-key : goal.invariant-loop-key
+invariant-loop-key l = record {
+  done : List Choice;
+  looked : HasLooked l.parts l.initial.graph.nodes (stage_of l.initial.graph l.initial.log.items l.initial.touched) (stage_of l.graph l.log.items l.touched) done;
+  each : (k : ℕ) → k < length l.table.reads.items → ((choice : Choice) → In (choices_in l.parts l.table.ids.items (get_or l.table.reads.items k no_read).read) choice → In done choice) ⊎ In (keys_of l.key-iterator) (get_or l.table.reads.items k no_read).read.key;
+  nodes : l.graph.nodes ≡ l.initial.graph.nodes;
+  mark : last_mark l.graph ≡ last_mark l.initial.graph;
+}
