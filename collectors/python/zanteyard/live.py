@@ -39,7 +39,6 @@ class LiveAuditor:
         self.handed_in_of, self.met_at, self.met, self.why_not = [0] * auditor.sessions, 0, time.monotonic(), None
         self.fenced = None  # the session in which the last of a meeting's first fences was run
         self.taken_in, self.rounds, self.cuts = 0, 0, 0
-        self.emptied_at = time.monotonic()  # when nothing that waits now was there yet
         self.lag = self.behind = 0.0  # for how many seconds a transaction waited to be taken in, at most: ever, and since the last round
         self.told_at, self.told_of = time.monotonic(), 0
         self.report, self.failure, self.is_stopping, self.is_meeting = None, None, False, False
@@ -87,7 +86,7 @@ class LiveAuditor:
             for key in logged.writes:
                 if key not in read:
                     self.unseen.add(key)
-        self.waiting.put((session, number, self.packed(logged)))
+        self.waiting.put((time.monotonic(), session, number, self.packed(logged)))
         if self.waiting.qsize() > self.most and threading.current_thread() is not self.thread:
             self.wait_for_room()
 
@@ -100,7 +99,7 @@ class LiveAuditor:
         return self.is_meeting or self.is_over
 
     def close(self, session):
-        self.waiting.put((session,))
+        self.waiting.put((time.monotonic(), session))
 
     def stop(self):
         """Takes in all that was handed in, and gives the report on it."""
@@ -144,15 +143,12 @@ class LiveAuditor:
 
     def take_in(self):
         """What waits, up to so many; gives how many these were."""
-        came, count = time.monotonic(), self.waiting.qsize()
-        found = [self.waiting.get() for _ in range(min(count, LONGEST))]  # nobody else takes any
+        found = [self.waiting.get() for _ in range(min(self.waiting.qsize(), LONGEST))]  # nobody else takes any
         if found:
-            self.offer_all(fragments(one for one in found if len(one) > 1))
-            self.behind = max(self.behind, time.monotonic() - self.emptied_at)
-            for session in (one[0] for one in found if len(one) == 1):  # behind all that it did
+            self.offer_all(fragments(one[1:] for one in found if len(one) > 2))
+            self.behind = max(self.behind, time.monotonic() - found[0][0])
+            for session in (one[1] for one in found if len(one) == 2):  # behind all that it did
                 self.auditor.close(session)
-        if count <= LONGEST:
-            self.emptied_at = came
         return len(found)
 
     def offer_all(self, found):

@@ -218,10 +218,13 @@ class Transaction:
 
     def log(self, reads, writes, outcome, is_last=False):
         session, self.is_over = self.session, True
-        deeds = {*reads, *((key,) for key in writes)}
-        statements = tuple(it for it in self.statements.items() if it[0] in deeds)
+        statements = tuple(self.statements.items())
+        if outcome != "committed":
+            deeds = {*reads, *((key,) for key in writes)}
+            statements = tuple(it for it in statements if it[0] in deeds)
+        reads = sorted(reads, key=repr) if len(reads) > 1 else [*reads]
         try:
-            session.auditor.offer(session.number, self.number, Logged(sorted(reads, key=repr), sorted(writes), outcome, statements))
+            session.auditor.offer(session.number, self.number, Logged(reads, sorted(writes), outcome, statements))
             if is_last:
                 session.close()
         finally:
