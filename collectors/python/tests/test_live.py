@@ -148,6 +148,59 @@ class Meetings(WithProgram):
         self.assertEqual((b.number, b.is_open), (2, True))
         self.assertEqual(self.ended(live).kind, "serial")
 
+    def with_write(self, live, store, write):
+        """A session whose store calls this before each write."""
+        session = live.session(store.connect())
+        plain = session.store.write
+
+        def both(key, value, name):
+            write(name[1])
+            plain(key, value, name)
+
+        session.store.write = both
+        return session
+
+    def test_no_session_is_lost_where_a_fence_of_one_that_is_left_fails(self):
+        failures = [RuntimeError("not now")]
+
+        def fail_once(session):
+            if session == 1 and failures:
+                raise failures.pop()
+
+        live, store = self.live(3, every=1), MemoryStore()
+        a = self.with_write(live, store, fail_once)
+        a.run(add_one("x"))
+        self.wait_for(lambda: any("no cut: the meeting failed (not now)" in line for line in self.told))
+
+        def is_cut():  # at the second meeting after that: the number of the fence that failed stands behind the next one
+            a.run(add_one("x"))
+            return live.cuts > 0
+
+        self.wait_for(is_cut)
+        self.assertEqual(sorted(live.session(store.connect()).number for _ in range(2)), [1, 2])
+        self.assertEqual(self.ended(live).kind, "serial")
+
+    def test_a_client_that_comes_in_a_meeting_waits_for_its_session(self):
+        is_there, may_go_on, came = threading.Event(), threading.Event(), []
+
+        def wait_once(session):
+            if session == 1:
+                is_there.set()
+                may_go_on.wait(60)
+
+        live, store = self.live(2, every=1), MemoryStore()
+        a = self.with_write(live, store, wait_once)
+        a.run(add_one("x"))
+        self.assertTrue(is_there.wait(60))
+        comes = threading.Thread(target=lambda: came.append(live.session(store.connect())))
+        comes.start()
+        comes.join(0.1)
+        self.assertEqual(came, [])
+        may_go_on.set()
+        comes.join()
+        came[0].run(add_one("x"))
+        self.assertEqual((came[0].number, self.ended(live).kind), (1, "serial"))
+
     def test_as_many_are_taken_in_as_there_is_room_for(self):
         live, store = self.live(2, limit=7, every=1000), MemoryStore()
         a, b = (live.session(store.connect()) for _ in range(2))

@@ -32,7 +32,7 @@ class LiveAuditor:
         self.packed = getattr(auditor, "packed", lambda logged: logged)  # as it waits to be taken in
         self.sessions = []
         self.left = deque((number, 0) for number in range(auditor.sessions))  # no client has these: the number, and how many fences were run in it
-        self.lock = threading.Lock()
+        self.lock = threading.Lock()  # held by who takes some of those
         self.unseen = set()  # keys written by transactions that hadn't read them, and not read since: changed while the session's turn is held
         self.waiting = queue.SimpleQueue()
         self.gate = threading.Lock()  # held while a meeting waits for sessions
@@ -246,16 +246,16 @@ class LiveAuditor:
 
     def fence_left(self, lender):
         """The sessions that no client has are open too: each needs its fence, which is run over another's connection."""
-        with self.lock:
-            left, self.left = self.left, deque()
-        for number, begun in left:
-            one = Session(self, number, lender.store, self.run_name)
-            one.begun = begun
-            try:
-                one.fence()
-            finally:
-                with self.lock:
-                    self.left.append((number, one.begun))
+        with self.lock:  # who wants one of them waits
+            for _ in range(len(self.left)):
+                number, begun = self.left.popleft()
+                one = Session(self, number, lender.store, self.run_name)
+                one.begun = begun
+                try:
+                    one.fence()
+                finally:
+                    if one.is_open:
+                        self.left.append((number, one.begun))
 
     def read_unseen(self, session):
         keys, self.unseen = sorted(self.unseen - {FENCE}), set()
