@@ -12,9 +12,6 @@ WRITE = """INSERT INTO zanteyard VALUES (%s, %s, %s, %s, %s) ON CONFLICT (key) D
     SET value = excluded.value, run = excluded.run, session = excluded.session, number = excluded.number"""
 EXCHANGE = f"""WITH old AS ({READ}) {WRITE} RETURNING (SELECT value FROM old), (SELECT run FROM old), (SELECT session FROM old),
     (SELECT number FROM old), pg_current_xact_id()::text"""  # a statement sees what was there before it
-# The same, which is planned once a connection: planning it takes as long as running it.
-PREPARE = "PREPARE zanteyard_exchange (text, text, text, text, int, bigint) AS " + EXCHANGE.replace("%s", "${}").format(*range(1, 7))
-EXECUTE = "EXECUTE zanteyard_exchange (%s, %s, %s, %s, %s, %s)"
 CONFLICTS = (errors.SerializationFailure, errors.DeadlockDetected)
 
 
@@ -32,10 +29,9 @@ class PostgresStore:
     def __init__(self, dsn, level="serializable"):
         self.dsn, self.level, self.connection, self.transaction_id = dsn, level, None, None
         self.statement = None  # what was run last, as the server got it
-        self.is_prepared = False
 
     def connect(self):
-        self.connection, self.is_prepared = psycopg2.connect(self.dsn), False
+        self.connection = psycopg2.connect(self.dsn)
         self.connection.set_session(isolation_level=self.level)
 
     def ask(self, *statement):
@@ -63,13 +59,7 @@ class PostgresStore:
         self.ask(WRITE, (key, value, *name))
 
     def exchange(self, key, value, name):
-        if not self.is_prepared:
-            self.ask(PREPARE)
-            self.is_prepared = True  # also where the transaction aborts
-        given = (key, key, value, *name)
-        cursor = self.ask(EXECUTE, given)
-        self.statement = cursor.mogrify(EXCHANGE, given).decode(errors="replace")
-        *row, self.transaction_id = cursor.fetchone()
+        *row, self.transaction_id = self.ask(EXCHANGE, (key, key, value, *name)).fetchone()
         return None if row[1] is None else (row[0], tuple(row[1:]))
 
     def commit(self):
