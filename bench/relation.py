@@ -10,21 +10,26 @@ builds it there (many minutes, where the libraries below it aren't proved yet), 
 made of the whole, its open choices, a branch of it; the same relation made transaction by transaction and in fragments of 64, in the order in
 which the store fills these; and what a cut of its first half leaves of it, where all sessions make two fences in the middle. Each time is the
 least of three. How fast the machine copies memory stands beside. With a program's path it is that which runs.
+
+With --refused nothing is timed: small histories are added transaction by transaction with each allocation of the program refused in turn. What is
+refused is added once more; at the end all pairs that are known and the number of open choices have to be the same, or the program has ended for
+want of memory elsewhere.
 """
+import argparse
 import pathlib
 import shutil
 import subprocess
-import sys
 import tempfile
 import time
 
 import histories
+import refused_memory
 
 LOW = ["txn", "order_check", "known_graph", "forced_choices", "fence_chain", "refutation", "polygraph", "settle", "truncate"]
 SIZES = [500, 1000, 2048, 4096]
 LARGE = [2048, 4096]
 # What the program is to time.
-WHOLE, ONE_BY_ONE, FRAGMENTS, CUT = range(4)
+WHOLE, ONE_BY_ONE, FRAGMENTS, CUT, AGAIN = range(5)
 SESSIONS, KEYS, FRAGMENT = 8, 400, 64
 
 
@@ -53,7 +58,7 @@ def line_of(session, reads, writes):
     return " ".join(words)
 
 
-def store_of(kind, transactions, meet):
+def store_of(kind, transactions, meet, keys=KEYS):
     """A store with a history, and who made which transaction: as many of each session, and where they meet, two fences of each in the middle."""
     store = histories.Store(SESSIONS, 1, 0)
     drawn = [number % SESSIONS for number in range(transactions - 2 * SESSIONS * meet)]
@@ -61,11 +66,11 @@ def store_of(kind, transactions, meet):
     fences = [*range(SESSIONS), *range(SESSIONS)] * meet
     half = len(drawn) // 2
     for session in drawn[:half]:
-        store.execute(session, *histories.KINDS[kind](store.random, KEYS))
+        store.execute(session, *histories.KINDS[kind](store.random, keys))
     for session in fences:
         store.execute(session, [0], [0])
     for session in drawn[half:]:
-        store.execute(session, *histories.KINDS[kind](store.random, KEYS))
+        store.execute(session, *histories.KINDS[kind](store.random, keys))
     return store, drawn[:half] + fences + drawn[half:]
 
 
@@ -80,9 +85,9 @@ def in_fragments(sessions):
     return order + [session for session in range(SESSIONS) for _ in range(waiting[session])]
 
 
-def history(kind, transactions, timed):
+def history(kind, transactions, timed, keys=KEYS):
     """The program's input: what is timed, and then the transactions."""
-    store, sessions = store_of(kind, transactions, timed == CUT)
+    store, sessions = store_of(kind, transactions, timed == CUT, keys)
     logs = [iter(log) for log in store.logs]
     order = in_fragments(sessions) if timed == FRAGMENTS else sessions
     return "\n".join([str(timed), *(line_of(session, *next(logs[session])) for session in order)]) + "\n"
@@ -133,18 +138,60 @@ def table(program):
             print(f"| {kind} | {count:,} | {one['add'] / 1e6:.2f} | {together['add'] / 1e6:.2f} | {one['forced']:,} | {cut_in} | {cut['gone']:,} |", flush=True)
 
 
+def refused(program):
+    """Of each kind: how often what was refused was added once more, and how often the program ended instead. Any other end is told."""
+    with tempfile.TemporaryDirectory() as folder:
+        trial = refused_memory.Trial(program, folder)
+        print("| Kind | Allocations | Added once more | Ended | Not seen | WRONG |\n|---|---|---|---|---|---|")
+        for kind in histories.KINDS:
+            given = history(kind, 40, AGAIN, 6).encode("ascii")
+            wanted, status, allocations = told_with(trial, given, 0)
+            assert status == 0 and len(relation_in(wanted)) > 100, wanted
+            ends = [end_of(told_with(trial, given, number), wanted) for number in range(1, allocations + 1)]
+            counts = [ends.count(end) for end in ("again", "ended", "not seen", "wrong")]
+            print(f"| {kind} | {allocations:,} | " + " | ".join(f"{count:,}" for count in counts) + " |", flush=True)
+
+
+def told_with(trial, given, number):
+    """What the program tells where its allocation of this number is refused, its status, and how many allocations it made."""
+    settings = {"LD_PRELOAD": trial.shim, "REFUSED": str(number), "COUNTED": trial.counted}
+    ran = subprocess.run([trial.program], input=given, env=settings, capture_output=True, check=False)
+    return ran.stdout.splitlines(), ran.returncode, int.from_bytes(pathlib.Path(trial.counted).read_bytes()[:8], "little")
+
+
+def relation_in(lines):
+    """Without the steps: which sides are logged, and not reached by others, depends on the order in which reads were looked at."""
+    return [line for line in lines if not line.startswith((b"again ", b"step "))]
+
+
+def end_of(told, wanted):
+    lines, status, _ = told
+    if status == 0 and relation_in(lines) == relation_in(wanted):
+        return "not seen" if lines[0] == wanted[0] else "again"
+    return "ended" if status == 1 and lines == wanted[: len(lines)] else "wrong"
+
+
+def built(top, folder):
+    """The program, or what its check prints."""
+    crate = lay_out(top, folder)
+    run = subprocess.run(["rt", "run"], cwd=crate, stdin=subprocess.DEVNULL, capture_output=True, text=True, check=False)
+    program = crate / "out" / "relation"
+    if not program.is_file():
+        raise SystemExit(run.stdout + run.stderr)
+    return program
+
+
 def main():
-    if len(sys.argv) > 1:
-        table(sys.argv[1])
+    asked = argparse.ArgumentParser(description=__doc__, formatter_class=argparse.RawDescriptionHelpFormatter)
+    asked.add_argument("--refused", action="store_true")
+    asked.add_argument("program", nargs="?")
+    asked = asked.parse_args()
+    task = refused if asked.refused else table
+    if asked.program:
+        task(asked.program)
         return
     with tempfile.TemporaryDirectory() as name:
-        crate = lay_out(pathlib.Path.cwd(), pathlib.Path(name))
-        built = subprocess.run(["rt", "run"], cwd=crate, stdin=subprocess.DEVNULL, capture_output=True, text=True, check=False)
-        program = crate / "out" / "relation"
-        if program.is_file():
-            table(program)
-        else:
-            print(built.stdout + built.stderr)
+        task(built(pathlib.Path.cwd(), pathlib.Path(name)))
 
 
 if __name__ == "__main__":
