@@ -71,7 +71,7 @@ third_parts parts read other choice h = by_test (is_third parts read other) refl
     by_test true e (inl same) = (sym same, e)
     by_test true e (inr h) = absurd h
 
-there_of : (arcs : List Arc) (read : Read) (other : TxnId) → IsSettled arcs read other → (side : Side) → IsThere arcs (record { choice = choice_of read other; side = side })
+pub there_of : (arcs : List Arc) (read : Read) (other : TxnId) → IsSettled arcs read other → (side : Side) → IsThere arcs (record { choice = choice_of read other; side = side })
 there_of arcs read other settled Second = settled.after
 there_of arcs read other settled First = settled.before
 
@@ -121,6 +121,13 @@ pub third_writes : (parts : Parts) (read : Read) (other : TxnId) → is_third pa
 third_writes parts read other is =
     let first = and_parts (not_same other read.writer) (is_other parts read.reader read.key other) is in
     (and_parts (not_same other read.reader) (writes_here parts read.key other) first.1).1
+
+-- and is neither the reader nor the writer
+pub third_apart : (parts : Parts) (read : Read) (other : TxnId) → is_third parts read other ≡ true → (other ≢ read.reader) × (other ≢ read.writer)
+third_apart parts read other is =
+    let first = and_parts (not_same other read.writer) (is_other parts read.reader read.key other) is in
+    let second = and_parts (not_same other read.reader) (writes_here parts read.key other) first.1 in
+    (apart_from_test other read.reader second.0, apart_from_test other read.writer first.0)
 
 -- one more read
 pub reads_more : (parts : Parts) (ids : List TxnId) (reader : TxnId) (reads : List (ℕ × Source)) (k : ℕ) (d : ℕ × Source) → k < length reads → flat_map (choices_of_read parts ids reader) (take (k + 1) reads) ≡ flat_map (choices_of_read parts ids reader) (take k reads) ++ choices_of_read parts ids reader (get_or reads k d)

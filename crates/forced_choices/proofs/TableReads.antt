@@ -19,13 +19,14 @@ use Rattle.forced_choices.specs.declared.reads.Read.{Read}
 use Rattle.forced_choices.specs.declared.reads.Placed.{Placed}
 use Rattle.forced_choices.specs.declared.touched.Touched.{Touched}
 use Rattle.forced_choices.specs.declared.writers.Writers.{Writers}
-use Rattle.forced_choices.specs.Forcing.{AreAllSettledUnless, IsThere}
-use Rattle.forced_choices.specs.Touching.{MayBeJoined}
-use Rattle.forced_choices.specs.Masks.{AreColumns, AreThere, AreWriters, choice_of, choices_in, mask_of}
+use Rattle.forced_choices.specs.Forcing.{AreAllSettledUnless, HasLooked, IsSettledUnless, IsThere, Stage}
+use Rattle.forced_choices.specs.Touching.{IsUntouchedAt, MayBeJoined}
+use Rattle.forced_choices.specs.Masks.{AreColumns, AreThere, AreWriters, IsSettled, choice_of, choices_in, mask_of}
 use Rattle.forced_choices.specs.Tables.{IsPlaced, IsAtColumns, AreReads, choices_at}
 use Rattle.forced_choices.specs.Undecided.{IsUndecided, AreAllDecided, AreFound, IsFirstFound}
+use Rattle.forced_choices.proofs.Forced.{all_there_still, continues_none}
 use Rattle.forced_choices.proofs.Members.{In, Ascends, in_right, in_either}
-use Rattle.forced_choices.proofs.SettledReads.{each_choice, third_parts, third_is_choice, third_writes}
+use Rattle.forced_choices.proofs.SettledReads.{each_choice, there_of, third_apart, third_parts, third_is_choice, third_writes}
 use Rattle.forced_choices.proofs.OpenReads.{ascends_back}
 
 abbrev no_id : TxnId
@@ -64,8 +65,37 @@ untouched_by parts nodes arcs ids masks columns some placed is are settled no_re
     let bit = are.masked k d placed.read.key within (third_writes parts placed.read other facts.1) in
     subst (λ (x : Choice). IsThere arcs (record { choice = x; side = side })) (sym facts.0) (settled (choice_of placed.read other) of placed.writer_at placed.reader_at column is.columns.writer is.columns.reader (are.placed k d within) no_read (no_after column bit) (no_before column bit) side)) choice h
 
-pub untouched_there : (parts : Parts) (nodes : List (Option TxnId)) (arcs : List Arc) (ids : List TxnId) (writers : Writers) (some : Touched) (placed : Placed) → IsPlaced parts nodes placed → AreWriters parts nodes ids writers → AreAllSettledUnless parts nodes arcs some → (¬ MayBeJoined some placed.writer_at placed.reader_at) → ((k : ℕ) → HasBit (mask_of writers.masks placed.read.key) k → ¬ MayBeJoined some placed.writer_at k) → ((k : ℕ) → HasBit (mask_of writers.masks placed.read.key) k → ¬ MayBeJoined some k placed.reader_at) → AreThere arcs (choices_in parts ids placed.read)
-untouched_there parts nodes arcs ids writers some placed is are = untouched_by parts nodes arcs ids writers.masks writers.columns.items some placed is are
+-- and where a column may have been joined, but is settled by now
+pub looked_since : (parts : Parts) (nodes : List (Option TxnId)) (start then : Stage) (ids : List TxnId) (writers : Writers) (mask : List ℕ) (some : Touched) (placed : Placed) (before : List Choice) → IsPlaced parts nodes placed → AreWriters parts nodes ids writers → mask ≡ mask_of writers.masks placed.read.key →
+    HasLooked parts nodes start then before → AreAllSettledUnless parts nodes start.arcs some → (¬ MayBeJoined some placed.writer_at placed.reader_at) →
+    ((j : ℕ) (other : TxnId) → HasBit mask j → IsAt nodes j other → other ≢ placed.read.reader → other ≢ placed.read.writer → IsUntouchedAt some placed j ⊎ IsSettled then.arcs placed.read other) →
+    HasLooked parts nodes start then (before ++ choices_in parts ids placed.read)
+looked_since parts nodes start then ids writers mask some placed before is are same looked settled no_read others = record {
+  continues = looked.continues;
+  settled = λ choice h. by_part choice (in_either before (choices_in parts ids read) choice h);
+}
+  where
+    read : Read
+    read = placed.read
+
+    by_column : (other : TxnId) (column : ℕ) → IsChoice parts (choice_of read other) → IsAt nodes column other → IsUntouchedAt some placed column ⊎ IsSettled then.arcs read other → IsSettledUnless nodes then.arcs then.touched (choice_of read other)
+    by_column other column of at (inl bare) = all_there_still parts nodes start then (choice_of read other) looked.continues (settled (choice_of read other) of placed.writer_at placed.reader_at column is.columns.writer is.columns.reader at no_read bare.0 bare.1)
+    by_column other column of at (inr now) = all_there_still parts nodes then then (choice_of read other) (continues_none parts nodes then) (there_of then.arcs read other now)
+
+    own : (choice : Choice) → In (choices_in parts ids read) choice → IsSettledUnless nodes then.arcs then.touched choice
+    own choice h = each_choice parts read (λ c. IsSettledUnless nodes then.arcs then.touched c) ids (λ k d within c here.
+        let other = get_or ids k d in
+        let facts = third_parts parts read other c here in
+        let of = third_is_choice parts read other is.reads is.written facts.1 in
+        let column = get_or writers.columns.items k 0 in
+        let bit = subst (λ (row : List ℕ). HasBit row column) (sym same) (are.masked k d read.key within (third_writes parts read other facts.1)) in
+        let at = are.placed k d within in
+        let settled_here = by_column other column of at (others column other bit at (third_apart parts read other facts.1).0 (third_apart parts read other facts.1).1) in
+        subst (λ (x : Choice). IsSettledUnless nodes then.arcs then.touched x) (sym facts.0) settled_here) choice h
+
+    by_part : (choice : Choice) → In before choice ⊎ In (choices_in parts ids read) choice → IsSettledUnless nodes then.arcs then.touched choice
+    by_part choice (inl h) = looked.settled choice h
+    by_part choice (inr h) = own choice h
 
 -- reads that are put at the end
 pub reads_none : (parts : Parts) (nodes : List (Option TxnId)) (ids : List TxnId) → AreReads parts nodes ids [] []

@@ -6,6 +6,7 @@ use Rattle.known_graph.specs.Bits.{HasBit}
 use Rattle.known_graph.specs.Graphs.{IsAt}
 use Rattle.known_graph.specs.Reach.{Reaches}
 use Rattle.known_graph.specs.Spans.{IsSpanOf}
+use Rattle.forced_choices.specs.declared.reads.Placed.{Placed}
 use Rattle.forced_choices.specs.declared.touched.Touched.{Touched}
 use Rattle.forced_choices.specs.declared.touched.Spans.{Spans}
 
@@ -23,6 +24,10 @@ pub record AreNoted (nodes : List (Option TxnId)) (arcs : List Arc) (old : Touch
 -- the one at the first column may have come to reach the one at the second
 abbrev pub MayBeJoined : Touched → ℕ → ℕ → Type 0
 MayBeJoined touched i j = HasBit touched.sources.items i × HasBit touched.targets.items j
+
+-- the read's writer can't have come to reach the one at the column, nor that one the reader
+abbrev pub IsUntouchedAt : Touched → Placed → ℕ → Type 0
+IsUntouchedAt touched placed j = (¬ MayBeJoined touched placed.writer_at j) × (¬ MayBeJoined touched j placed.reader_at)
 
 -- where its two rows have bits
 pub record AreSpansOf (touched : Touched) (spans : Spans) : Type 0 where

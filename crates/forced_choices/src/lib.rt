@@ -19,6 +19,7 @@ mod reads;
 mod rules;
 mod saturated;
 mod saturation;
+mod since;
 mod table;
 mod touched;
 mod whole;

@@ -15,8 +15,9 @@ ghost use Rattle.forced_choices.specs.WriterPlaces.{places_at};
 
 use crate::looking::look_at_read;
 use crate::reads::Placed;
+use crate::since::are_settled_since;
 use crate::table::Table;
-use crate::touched::{Spans, Touched, is_touched, meets, spans_of, untouched};
+use crate::touched::{Spans, Touched, meets, spans_of, untouched};
 use known_graph::Graph;
 use order_check::Parts;
 use std::alloc::Global;
@@ -70,7 +71,7 @@ fn look_if_touched(
     ensures nodes { OnOk result (graph.new.nodes ≡ graph.old.nodes) }
     ensures mark { last_mark graph.new ≡ last_mark graph.old }
 {
-    if !is_touched(since, spans, mask, placed) {
+    if are_settled_since(graph, since, spans, mask, placed) {
         return Ok(());
     }
     look_at_read(alloc, parts, table, graph, log, touched, placed)?;

@@ -6,11 +6,10 @@ ghost use Rattle.known_graph.specs.Bits.{HasBit};
 ghost use Rattle.known_graph.specs.Graphs.{HasNode, IsAt};
 ghost use Rattle.known_graph.specs.Reach.{Reaches};
 ghost use Rattle.known_graph.specs.Spans.{IsSpanOf};
-ghost use Rattle.forced_choices.specs.Touching.{AreNoted, AreSpansOf, MayBeJoined};
+ghost use Rattle.forced_choices.specs.Touching.{AreNoted, AreSpansOf};
 
-use crate::reads::Placed;
 use crate::writers::{column_of, widen, with_bit};
-use known_graph::{Graph, Span, clear_bits, has_bit, or_into, span_of};
+use known_graph::{Graph, Span, clear_bits, or_into, span_of};
 use std::alloc::Global;
 use txn::{NoMemory, TxnId};
 
@@ -118,33 +117,4 @@ pub fn meets(row: &[u64], other: &[u64], span: Span) -> bool
         }
     }
     false
-}
-
-/// Whether the read's writer may have come to reach its reader or a column of the mask.
-fn may_lead_on(touched: &Touched, spans: Spans, mask: &[u64], placed: Placed) -> bool
-    requires { AreSpansOf touched.now spans }
-    ensures read { result ≡ false → ¬ MayBeJoined touched.now placed.writer_at placed.reader_at }
-    ensures after { result ≡ false → (k : ℕ) → HasBit mask.now k → ¬ MayBeJoined touched.now placed.writer_at k }
-{
-    has_bit(&touched.sources, placed.writer_at)
-        && (has_bit(&touched.targets, placed.reader_at)
-            || meets(mask, &touched.targets, spans.targets))
-}
-
-/// Whether a column of the mask may have come to reach the read's reader.
-fn may_lead_back(touched: &Touched, spans: Spans, mask: &[u64], placed: Placed) -> bool
-    requires { AreSpansOf touched.now spans }
-    ensures { result ≡ false → (k : ℕ) → HasBit mask.now k → ¬ MayBeJoined touched.now k placed.reader_at }
-{
-    has_bit(&touched.targets, placed.reader_at) && meets(mask, &touched.sources, spans.sources)
-}
-
-/// Whether a choice of the read may be forced since, the mask being that of the writers of its key.
-pub fn is_touched(touched: &Touched, spans: Spans, mask: &[u64], placed: Placed) -> bool
-    requires { AreSpansOf touched.now spans }
-    ensures read { result ≡ false → ¬ MayBeJoined touched.now placed.writer_at placed.reader_at }
-    ensures after { result ≡ false → (k : ℕ) → HasBit mask.now k → ¬ MayBeJoined touched.now placed.writer_at k }
-    ensures before { result ≡ false → (k : ℕ) → HasBit mask.now k → ¬ MayBeJoined touched.now k placed.reader_at }
-{
-    may_lead_on(touched, spans, mask, placed) || may_lead_back(touched, spans, mask, placed)
 }

@@ -1,10 +1,12 @@
 -- Columns outside of rows, found a word at a time.
-use Rattle.std.proofs.Common.{◌≡◌, ◌≢◌, ◌⊎◌, ◌↔◌, ℕ, ◌+◌, ◌-◌, ◌*◌, ◌/◌, ◌%◌, ◌^◌, ◌<◌, List, get_or, sym, ap, ◌∙◌, inl, inr, arith, w64}
+use Rattle.std.proofs.Common.{◌≡◌, ◌≢◌, ◌⊎◌, ◌↔◌, ℕ, ◌+◌, ◌-◌, ◌*◌, ◌/◌, ◌%◌, ◌^◌, ◌<◌, ◌≤◌, List, get_or, sym, ap, ◌∙◌, inl, inr, arith, w64}
 use Rattle.std.specs.Prelude.{bit_and}
 use Rattle.std.specs.Int.{bit_at, trailing_zeros}
-use Rattle.std.proofs.lemmas.Bool.{cases_eq}
-use Rattle.std.proofs.lemmas.Nat.Bits.{bit_at_clear_same, bit_at_clear_other, bit_at-trailing_zeros}
+use Rattle.std.proofs.lemmas.Bool.{cases_eq, cases_lt}
+use Rattle.std.proofs.lemmas.Nat.Bits.{bit_at_clear_same, bit_at_clear_other, bit_at-trailing_zeros, bit_at-zero}
 use Rattle.known_graph.specs.Bits.{HasBit}
+use Rattle.known_graph.specs.Spans.{IsSpanOf}
+use Rattle.known_graph.specs.declared.spans.Span.{Span}
 use Rattle.known_graph.proofs.Words.{bit_and_not, bit_and-both}
 
 -- a word less a column's bit
@@ -33,6 +35,10 @@ module _ (row : List ℕ) (word place j : ℕ) (is : word ≡ get_or row place 0
         λ has. let was = less.0 has in (was.0, λ there. was.1 (same_bit ∙ there)),
         λ was. less.1 (was.0, λ there. was.1 (sym same_bit ∙ there)),
       )
+
+-- a word without bits
+no_bit : (row : List ℕ) (j : ℕ) → get_or row (j / 64) 0 ≡ 0 → ¬ HasBit row j
+no_bit row j is has = omega (arith, ap (λ w. bit_at w (j % 64)) is, has, bit_at-zero (j % 64))
 
 -- none of the columns of the first words is one of these
 abbrev pub AreNoneBelow : (ℕ → Type 0) → ℕ → Type 0
@@ -64,6 +70,56 @@ outside_word row other within but place first second third word j is_first is_se
       λ has. let left = tells.0 has in let was = less.0 left.0 in let met = both.0 was.0 in (one.0 met.0, two.0 met.1, was.1, left.1),
       λ was. tells.1 (less.1 (both.1 (one.1 was.0, two.1 was.1), was.2), was.3),
     )
+
+-- those of them that are among a few, and a word that has no bit of the row's there
+abbrev pub IsOutsideAmong : List ℕ → List ℕ → List ℕ → List ℕ → ℕ → ℕ → Type 0
+IsOutsideAmong few row other within but j = HasBit few j × HasBit row j × HasBit other j × (¬ HasBit within j) × (j ≢ but)
+
+module _ (few row other within : List ℕ) (but place first second j : ℕ) (is_first : first ≡ get_or few place 0) (is_second : second ≡ get_or row place 0) (here : j / 64 ≡ place) where
+  pub among_word : (outside : ℕ) → ((bit_at outside (j % 64) ≡ 1) ↔ IsOutside row other within but j) → (bit_at (bit_and (bit_and first second) outside) (j % 64) ≡ 1) ↔ IsOutsideAmong few row other within but j
+  among_word outside tells =
+      let all = bit_and-both (bit_and first second) outside (j % 64) in
+      let both = bit_and-both first second (j % 64) in
+      let one = bits_at few first place j is_first here in
+      let two = bits_at row second place j is_second here in (
+        λ has. let met = all.0 has in let is = tells.0 met.1 in (one.0 (both.0 met.0).0, is.0, is.1, is.2, is.3),
+        λ was. all.1 (both.1 (one.1 was.0, two.1 was.1), tells.1 (was.1, was.2, was.3, was.4)),
+      )
+
+  pub among_none : bit_and first second ≡ 0 → (bit_at 0 (j % 64) ≡ 1) ↔ IsOutsideAmong few row other within but j
+  among_none none =
+      let both = bit_and-both first second (j % 64) in
+      let one = bits_at few first place j is_first here in
+      let two = bits_at row second place j is_second here in (
+        λ has. absurd (omega (arith, has, bit_at-zero (j % 64))),
+        λ was. let has = both.1 (one.1 was.0, two.1 was.1) in absurd (omega (arith, ap (λ w. bit_at w (j % 64)) none, has, bit_at-zero (j % 64))),
+      )
+
+-- none is past the words that the few have
+pub among_span : (few row other within : List ℕ) (but : ℕ) (span : Span) (k : ℕ) → IsSpanOf few span → span.behind ≤ k → AreNoneBelow (IsOutsideAmong few row other within but) k → (j : ℕ) → ¬ IsOutsideAmong few row other within but j
+among_span few row other within but span k is past none j outside = elim (cases_lt (j / 64) k) [
+  | inl below ↦ none j below outside
+  | inr up ↦ no_bit few j (is.after (j / 64) (omega (arith, past, up))) outside.0
+]
+
+pub among_front : (few row other within : List ℕ) (but : ℕ) (span : Span) → IsSpanOf few span → AreNoneBelow (IsOutsideAmong few row other within but) span.front
+among_front few row other within but span is j below outside = no_bit few j (is.before (j / 64) below) outside.0
+
+pub among_all : (few row other within : List ℕ) (but : ℕ) → ((j : ℕ) → HasBit few j → HasBit row j → HasBit other j → HasBit within j ⊎ (j ≡ but)) → (j : ℕ) → ¬ IsOutsideAmong few row other within but j
+among_all few row other within but all j is = elim (all j is.0 is.1 is.2) [
+  | inl has ↦ is.3 has
+  | inr same ↦ is.4 same
+]
+
+-- and what has none of them lies within
+pub all_within : (few row other within : List ℕ) (but : ℕ) → ((j : ℕ) → ¬ IsOutsideAmong few row other within but j) → (j : ℕ) → HasBit few j → HasBit row j → HasBit other j → HasBit within j ⊎ (j ≡ but)
+all_within few row other within but none j has in_row in_other = elim (cases_eq (bit_at (get_or within (j / 64) 0) (j % 64)) 1) [
+  | inl here ↦ inl here
+  | inr not_here ↦ elim (cases_eq j but) [
+    | inl same ↦ inr same
+    | inr apart ↦ absurd (none j (has, in_row, in_other, not_here, apart))
+  ]
+]
 
 -- what lies within has none of them
 pub within_none : (row other within : List ℕ) (but : ℕ) → ((j : ℕ) → HasBit row j → HasBit other j → HasBit within j ⊎ (j ≡ but)) → (j : ℕ) → ¬ IsOutside row other within but j
