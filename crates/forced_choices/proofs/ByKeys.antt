@@ -28,15 +28,6 @@ rows_kept parts nodes ids old new kept (columns, are) = (
   },
 )
 
--- no read, where no key has a place
-pub indexed_none : (by_key : ByKey) → ((key : ℕ) → places_at by_key.reads.lists key ≡ []) → AreIndexed [] by_key
-indexed_none by_key none = record {
-  within = λ key. subst (λ (xs : List ℕ). All (λ place. place < 0) xs) (sym (none key)) (λ k d within. absurd (omega arith));
-  keyed = λ key k d h. absurd (subst (λ (xs : List ℕ). In xs k) (none key) h);
-  listed = λ k d within. absurd (omega arith);
-  readers = λ k d within. absurd (omega arith);
-}
-
 -- more bits in the rows
 pub indexed_wider : (reads : List Placed) (old new : ByKey) → new.reads ≡ old.reads → ((key j : ℕ) → HasBit (mask_of old.rows key) j → HasBit (mask_of new.rows key) j) → AreIndexed reads old → AreIndexed reads new
 indexed_wider reads old new same kept are = record {

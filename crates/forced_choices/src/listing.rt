@@ -163,8 +163,11 @@ pub fn push_arcs_of_read(
     ensures { OnOk result (arcs.new.items ≡ arcs.old.items ++ arcs_of_read parts.now ids.now reader read) }
 {
     push_arc_from_writer(arcs, parts, reader, read)?;
+    let others = places.of_key(read.0);
+    if others.is_empty() {
+        return Ok(());
+    }
     if is_base_source(parts, read.0, read.1) {
-        let others = places.of_key(read.0);
         push_base_arcs(arcs, parts, ids, others, reader, read.0)?;
     }
     Ok(())
