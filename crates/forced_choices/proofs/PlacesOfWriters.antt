@@ -119,6 +119,15 @@ base_at_places parts ids lists reader key are =
     ap (λ xs. base_arcs parts xs reader key) (writers_at parts ids lists key are)
     ∙ ap (map (Base key reader)) (filter_both (writes_here parts key) (is_other parts reader key) (λ other is. (and_parts (not (same_id other reader)) (writes_here parts key other) is).1) ids)
 
+-- no arc of the base leads to a writer, where the key has none
+pub no_length : (places : List ℕ) → length places ≡ 0 → places ≡ []
+no_length [] e = refl
+no_length (place ∷ places) e = absurd (omega (arith, e))
+
+pub no_base_arcs : (parts : Parts) (ids : List TxnId) (lists : BTreeMap ℕ (Vec ℕ Global)) (reader : TxnId) (key : ℕ) → AreWriterPlaces parts ids lists (length ids) → length (places_at lists key) ≡ 0 → (t : Bool) → cond t (base_arcs parts ids reader key) [] ≡ []
+no_base_arcs parts ids lists reader key are e true = sym (base_at_places parts ids lists reader key are) ∙ ap (λ xs. base_arcs parts (those_at ids xs) reader key) (no_length (places_at lists key) e)
+no_base_arcs parts ids lists reader key are e false = refl
+
 -- the choices with one more
 pub choices_places_more : (parts : Parts) (ids : List TxnId) (places : List ℕ) (read : Read) (k d : ℕ) → k < length places → choices_in parts (those_at ids (take (k + 1) places)) read ≡ choices_in parts (those_at ids (take k places)) read ++ choices_in parts (get_or ids (get_or places k d) no_id ∷ []) read
 choices_places_more parts ids places read k d within =

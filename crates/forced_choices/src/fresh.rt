@@ -1,8 +1,10 @@
 // The arcs that new transactions bring.
-ghost use Rattle.std.specs.Prelude.{◌≡◌, ◌++◌, OnOk, IfOk};
+ghost use Rattle.std.specs.Prelude.{◌≡◌, [], ◌++◌, List, true, OnOk, IfOk};
+ghost use Rattle.txn.specs.declared.transactions.TxnId.{TxnId};
+ghost use Rattle.order_check.specs.declared.remainder.Parts.{Parts};
 ghost use Rattle.order_check.specs.Good.{IsGood};
 ghost use Rattle.forced_choices.specs.FreshArcs.{arcs_of_loose, new_arcs};
-ghost use Rattle.forced_choices.specs.Listing.{arcs_of_reads};
+ghost use Rattle.forced_choices.specs.Listing.{arcs_of_read, arcs_of_reads};
 ghost use Rattle.forced_choices.specs.WriterPlaces.{ArePlaces};
 
 use crate::kept::Loose;
@@ -11,7 +13,7 @@ use crate::places::{Places, places_among};
 use crate::table::Table;
 use order_check::Parts;
 use std::alloc::Global;
-use txn::{Arc, NoMemory, TxnId};
+use txn::{Arc, NoMemory, Source, TxnId};
 
 /// Puts the arcs of the readers' reads at the end.
 fn push_arcs_of_readers(
@@ -30,6 +32,16 @@ fn push_arcs_of_readers(
     Ok(())
 }
 
+/// Whether the read is one of the initial state, of a key that none writes of those whose places these are. Most loose reads are.
+fn is_passed(places: &Places, one: &Loose) -> bool
+    ensures { result ≡ true → (parts : Parts) (ids : List TxnId) → ArePlaces parts ids places.now → arcs_of_read parts ids one.now.reader (one.now.key, one.now.source) ≡ [] }
+{
+    match one.source {
+        Source::Init => places.of_key(one.key).is_empty(),
+        Source::By(_) => false,
+    }
+}
+
 /// Puts the arcs between loose reads and the new transactions at the end.
 fn push_arcs_of_loose(
     arcs: &mut Vec<Arc>,
@@ -42,7 +54,9 @@ fn push_arcs_of_loose(
     ensures { OnOk result (arcs.new.items ≡ arcs.old.items ++ arcs_of_loose parts.now new.now loose.now) }
 {
     for one in loose {
-        push_arcs_of_read(arcs, parts, new, places, one.reader, (one.key, one.source))?;
+        if !is_passed(places, one) {
+            push_arcs_of_read(arcs, parts, new, places, one.reader, (one.key, one.source))?;
+        }
     }
     Ok(())
 }

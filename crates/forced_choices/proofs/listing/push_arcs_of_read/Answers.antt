@@ -1,35 +1,23 @@
-use Rattle.std.proofs.Common.{◌≡◌, ◌<◌, ◌∙◌, ◌++◌, [], ◌∷◌, ℕ, Bool, true, false, cond, List, length, ap, sym, refl, subst, arith, append-nil, append_assoc}
+use Rattle.std.proofs.Common.{◌≡◌, ◌<◌, ◌∙◌, ◌++◌, [], ℕ, true, cond, List, length, ap, sym, subst, append-nil, append_assoc}
 use Rattle.std.specs.Prelude.{All}
 use Rattle.std.proofs.lemmas.Bool.{eqb-true}
-use Rattle.txn.specs.declared.choices.Arc.{Arc}
 use Rattle.forced_choices.specs.Listing.{arcs_from_writer, base_arcs, is_base_source}
 use Rattle.forced_choices.specs.WriterPlaces.{those_at}
-use Rattle.forced_choices.proofs.PlacesOfWriters.{base_at_places}
+use Rattle.forced_choices.proofs.PlacesOfWriters.{base_at_places, no_base_arcs}
 use Rattle.forced_choices.proofs.listing.push_arcs_of_read.Goals as goal
 
 pub push_base_arcs-requires : goal.push_base_arcs-requires
 push_base_arcs-requires c = subst (λ (xs : List ℕ). All (λ place. place < length c.args.ids.now) xs) (sym c.of_key-others.ensures) (c.requires.below c.args.read.0)
 
-no_length : (places : List ℕ) → length places ≡ 0 → places ≡ []
-no_length [] e = refl
-no_length (place ∷ places) e = absurd (omega (arith, e))
-
-none_either : (t : Bool) (arcs : List Arc) → arcs ≡ [] → cond t arcs [] ≡ []
-none_either true arcs e = e
-none_either false arcs e = refl
-
 pub returns-then-is_empty : goal.returns-then-is_empty
 returns-then-is_empty c =
     let parts = c.args.parts.now in
-    let ids = c.args.ids.now in
-    let reader = c.args.reader in
     let read = c.args.read in
     let old = c.args.arcs.now.items in
-    let first = arcs_from_writer parts reader read in
-    let base = base_arcs parts ids reader read.0 in
-    let no_place : c.of_key-others.result.now ≡ [] = no_length c.of_key-others.result.now (eqb-true (length c.of_key-others.result.now) 0 (sym c.is_empty.ensures ∙ c.if-is_empty.true)) in
-    let none : base ≡ [] = sym (base_at_places parts ids c.args.places.now.lists reader read.0 c.requires) ∙ ap (λ xs. base_arcs parts (those_at ids xs) reader read.0) (sym c.of_key-others.ensures ∙ no_place) in
-    c.in_ok-push_arc_from_writer.ensures ∙ ap (λ xs. old ++ xs) (sym (append-nil first) ∙ ap (λ xs. first ++ xs) (sym (none_either (is_base_source parts read.0 read.1) base none)))
+    let first = arcs_from_writer parts c.args.reader read in
+    let no_place = sym (ap length c.of_key-others.ensures) ∙ eqb-true (length c.of_key-others.result.now) 0 (sym c.is_empty.ensures ∙ c.if-is_empty.true) in
+    let none = no_base_arcs parts c.args.ids.now c.args.places.now.lists c.args.reader read.0 c.requires no_place (is_base_source parts read.0 read.1) in
+    c.in_ok-push_arc_from_writer.ensures ∙ ap (λ xs. old ++ xs) (sym (append-nil first) ∙ ap (λ xs. first ++ xs) (sym none))
 
 pub returns-in_ok-push_base_arcs : goal.returns-in_ok-push_base_arcs
 returns-in_ok-push_base_arcs c =
