@@ -1,11 +1,12 @@
 -- The places of the writers of a key: as one more is put in, and that they stand for all ids where only writers count.
-use Rattle.std.proofs.Common.{◌≡◌, ◌≢◌, ℕ, ◌+◌, ◌<◌, ◌||◌, Bool, true, false, cond, List, [], ◌∷◌, ◌++◌, length, get_or, take, drop, refl, sym, ap, ◌∙◌, inl, inr, subst, arith, nat_eq, nat_lt, append-nil, Some, ◌-◌, not}
+use Rattle.std.proofs.Common.{◌≡◌, ◌≢◌, ◌⊎◌, ℕ, ◌+◌, ◌<◌, ◌||◌, ◌&&◌, Bool, true, false, cond, List, [], ◌∷◌, ◌++◌, length, get_or, take, drop, refl, sym, ap, ◌∙◌, inl, inr, subst, arith, nat_eq, nat_lt, append-nil, Some, ◌-◌, not}
 use Rattle.std.specs.Prelude.{Vec, map, filter, All}
 use Rattle.std.specs.List.{list_any}
 use Rattle.std.specs.declared.alloc.Global.{Global}
 use Rattle.std.specs.BTreeMap.{BTreeMap}
 use Rattle.std.proofs.lemmas.Bool.{eqb-true, eqb-false, ltb-true, lt-ltb, false≢true}
-use Rattle.std.proofs.lemmas.List.{take-append-drop, map-append, map_more}
+use Rattle.std.proofs.lemmas.List.{take-append-drop, take_more, map-append, map_more}
+use Rattle.std.proofs.lemmas.List.Folds.{list_any-append}
 use Rattle.std.proofs.lemmas.List.Elements.{filter_more, filter-append, All-push}
 use Rattle.txn.specs.declared.transactions.TxnId.{TxnId}
 use Rattle.txn.specs.declared.transactions.Txn.{Txn}
@@ -15,10 +16,11 @@ use Rattle.order_check.specs.declared.remainder.Parts.{Parts}
 use Rattle.order_check.specs.Based.{mark_of, remaining_at}
 use Rattle.order_check.specs.Good.{IsGood}
 use Rattle.forced_choices.specs.declared.reads.Read.{Read}
+use Rattle.forced_choices.specs.FreshArcs.{AreAllWritten}
 use Rattle.forced_choices.specs.Listing.{writes_here, is_other, base_arcs}
 use Rattle.forced_choices.specs.Masks.{is_third, choice_of, choices_in}
 use Rattle.forced_choices.specs.WriterPlaces.{places_at, those_at, AreWriterPlaces}
-use Rattle.forced_choices.proofs.Members.{In, Ascends, ascends_of}
+use Rattle.forced_choices.proofs.Members.{In, Ascends, ascends_of, in_either}
 use Rattle.forced_choices.proofs.ListedChoices.{and_parts}
 use Rattle.forced_choices.proofs.ChoicesAscend.{looked_up}
 use Rattle.forced_choices.proofs.SettledReads.{third_writes}
@@ -127,6 +129,45 @@ no_length (place ∷ places) e = absurd (omega (arith, e))
 pub no_base_arcs : (parts : Parts) (ids : List TxnId) (lists : BTreeMap ℕ (Vec ℕ Global)) (reader : TxnId) (key : ℕ) → AreWriterPlaces parts ids lists (length ids) → length (places_at lists key) ≡ 0 → (t : Bool) → cond t (base_arcs parts ids reader key) [] ≡ []
 no_base_arcs parts ids lists reader key are e true = sym (base_at_places parts ids lists reader key are) ∙ ap (λ xs. base_arcs parts (those_at ids xs) reader key) (no_length (places_at lists key) e)
 no_base_arcs parts ids lists reader key are e false = refl
+
+same_either : (a b : ℕ) (s t : Bool) → nat_eq a b ≡ s → nat_eq b a ≡ t → s ≡ t
+same_either a b true true first second = refl
+same_either a b false false first second = refl
+same_either a b true false first second = absurd (eqb-false b a second (sym (eqb-true a b first)))
+same_either a b false true first second = absurd (eqb-false a b first (sym (eqb-true b a second)))
+
+-- a key is among others whichever side it is asked on
+pub any_either : (keys : List ℕ) (key : ℕ) → list_any (nat_eq key) keys ≡ list_any (λ y. nat_eq y key) keys
+any_either [] key = refl
+any_either (y ∷ keys) key = ap (λ t. t || list_any (nat_eq key) keys) (same_either key y (nat_eq key y) (nat_eq y key) refl refl) ∙ ap (λ t. nat_eq y key || t) (any_either keys key)
+
+-- those that are written, with what one more writes
+pub written_more : (parts : Parts) (ids : List TxnId) (keys more : List ℕ) (k : ℕ) (d : TxnId) → k < length ids → AreAllWritten parts (take k ids) keys → ((key : ℕ) → list_any (nat_eq key) more ≡ writes_here parts key (get_or ids k d)) → AreAllWritten parts (take (k + 1) ids) (keys ++ more)
+written_more parts ids keys more k d within are exact key none id h = by_part (in_either (take k ids) (get_or ids k d ∷ []) id (subst (λ xs. In xs id) (take_more ids k d within) h))
+  where
+    parted : (list_any (nat_eq key) keys || list_any (nat_eq key) more) ≡ false
+    parted = sym (list_any-append (nat_eq key) keys more) ∙ none
+
+    neither : (s t : Bool) → (s || t) ≡ false → (s ≡ false) × (t ≡ false)
+    neither true t e = absurd (false≢true (sym e))
+    neither false t e = (refl, e)
+
+    by_part : In (take k ids) id ⊎ In (get_or ids k d ∷ []) id → writes_here parts key id ≡ false
+    by_part (inl before) = are key (neither (list_any (nat_eq key) keys) (list_any (nat_eq key) more) parted).0 id before
+    by_part (inr (inl same)) = subst (λ id. writes_here parts key id ≡ false) same (sym (exact key) ∙ (neither (list_any (nat_eq key) keys) (list_any (nat_eq key) more) parted).1)
+    by_part (inr (inr none)) = absurd none
+
+none_kept : {X : Type 0} (p : X → Bool) (xs : List X) → ((x : X) → In xs x → p x ≡ false) → filter p xs ≡ []
+none_kept p [] none = refl
+none_kept p (x ∷ xs) none = ap (λ t. cond t (x ∷ filter p xs) (filter p xs)) (none x (inl refl)) ∙ none_kept p xs (λ y h. none y (inr h))
+
+pub unwritten_arcs : (parts : Parts) (ids : List TxnId) (reader : TxnId) (key : ℕ) → ((id : TxnId) → In ids id → writes_here parts key id ≡ false) → (t : Bool) → cond t (base_arcs parts ids reader key) [] ≡ []
+unwritten_arcs parts ids reader key none true = ap (map (Base key reader)) (none_kept (is_other parts reader key) ids (λ id h. by_test id (not (same_id id reader)) (none id h)))
+  where
+    by_test : (id : TxnId) (t : Bool) → writes_here parts key id ≡ false → (t && writes_here parts key id) ≡ false
+    by_test id true e = e
+    by_test id false e = refl
+unwritten_arcs parts ids reader key none false = refl
 
 -- the choices with one more
 pub choices_places_more : (parts : Parts) (ids : List TxnId) (places : List ℕ) (read : Read) (k d : ℕ) → k < length places → choices_in parts (those_at ids (take (k + 1) places)) read ≡ choices_in parts (those_at ids (take k places)) read ++ choices_in parts (get_or ids (get_or places k d) no_id ∷ []) read
