@@ -32,8 +32,8 @@ def counter(transaction, client):
 
 def skew(transaction, client):
     pair = random.randrange(PAIRS)
-    left = number_at(transaction, f"left {pair}") + number_at(transaction, f"right {pair}")
-    transaction.put(random.choice((f"left {pair}", f"right {pair}")), str(left + 1))
+    both = number_at(transaction, f"left {pair}") + number_at(transaction, f"right {pair}")
+    transaction.put(random.choice((f"left {pair}", f"right {pair}")), str((both + 1) % 1000))  # else it would double and double
 
 
 def mixed(transaction, client):
