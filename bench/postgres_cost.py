@@ -1,9 +1,10 @@
-"""What an audit costs the clients of a PostgreSQL: transactions a second with and without the auditor, in turns, and medians.
+"""What an audit costs the clients of a PostgreSQL: transactions a second with and without the auditor, in turns.
 
     python3 bench/postgres_cost.py [--seconds N] [--times N] [--clients N] [--every N] [--workload NAME ..]
 
-Beside them: processor time for each transaction begun, of this process (the clients, and what hands their log over) and of those that audit it; how much of
-their time clients waited for meetings, and how far the auditor was behind at most.
+Rates are means, and how much less stands with its standard error: runs differ by a fifth and more where processors are idle now and then, so that
+many short runs tell more than few long ones. Beside them, as medians: processor time for each transaction begun, of this process (the clients, and
+what hands their log over) and of those that audit it; how much of their time clients waited for meetings, and how far the auditor was behind at most.
 """
 import argparse
 import os
@@ -62,13 +63,13 @@ class Run:
 
 def main():
     asked = argparse.ArgumentParser(description=__doc__.splitlines()[0])
-    asked.add_argument("--seconds", type=float, default=20.0)
-    asked.add_argument("--times", type=int, default=5)
+    asked.add_argument("--seconds", type=float, default=3.0)
+    asked.add_argument("--times", type=int, default=12)
     asked.add_argument("--clients", type=int, default=8)
     asked.add_argument("--every", type=int, default=LiveAuditor.EVERY)
     asked.add_argument("--workload", nargs="+", choices=WORKLOADS, default=[*WORKLOADS])
     asked = asked.parse_args()
-    print("workload, without and with a second, less, us each without and with, beside, waited, behind at most, verdicts, cuts of rounds", flush=True)
+    print("workload, without and with a second, less and its error, us each without and with, beside, waited, behind at most, verdicts, cuts of rounds", flush=True)
     with Cluster() as cluster:
         prepare(cluster.dsn)
         for workload in asked.workload:
@@ -79,13 +80,19 @@ def main():
             tell(workload, runs[False], runs[True])
 
 
+def mean_with_error(rates):
+    """The mean, and its standard error."""
+    return statistics.mean(rates), statistics.stdev(rates) / len(rates) ** 0.5 if len(rates) > 1 else 0.0
+
+
 def tell(workload, alone, audited):
     median = lambda runs, name: statistics.median(getattr(run, name) for run in runs)
-    rates = [median(runs, "rate") for runs in (alone, audited)]
+    (rate_alone, error_alone), (rate, error) = (mean_with_error([run.rate for run in runs]) for runs in (alone, audited))
+    less, less_error = 1 - rate / rate_alone, (error**2 + (rate / rate_alone * error_alone) ** 2) ** 0.5 / rate_alone
     each = [median(runs, "each") for runs in (alone, audited)]
     kinds = ", ".join(sorted({run.kind for run in audited}))
     print(
-        f"{workload:8} {rates[0]:6.0f} {rates[1]:6.0f} {100 * (1 - rates[1] / rates[0]):5.1f}%  {each[0]:5.0f} {each[1]:5.0f} {median(audited, 'beside'):5.0f}"
+        f"{workload:8} {rate_alone:6.0f} {rate:6.0f} {100 * less:5.1f}% +- {100 * less_error:3.1f}  {each[0]:5.0f} {each[1]:5.0f} {median(audited, 'beside'):5.0f}"
         f"  {median(audited, 'waited'):4.1f}%  {max(run.lag for run in audited):5.2f} s  {kinds}  {sum(run.cuts for run in audited)} of {sum(run.rounds for run in audited)}",
         flush=True,
     )
