@@ -22,7 +22,6 @@ pub mod SessionOrder
 pub mod KnownRemain
 pub mod FirstOpen
 pub mod Counting
-pub mod RankedNodes
 pub mod RankedIds
 pub mod Growing
 pub mod LookingBack

@@ -14,10 +14,9 @@ use Rattle.forced_choices.specs.BranchState.{Level, assumed}
 use Rattle.forced_choices.specs.Listing.{all_ids}
 use Rattle.forced_choices.specs.Ranks.{Counts, ids_of, AreRanked}
 use Rattle.forced_choices.specs.Stacks.{IsRelationAt}
-use Rattle.forced_choices.proofs.Counting.{counts_same}
+use Rattle.forced_choices.proofs.Counting.{AreCounted, counts_same}
 use Rattle.forced_choices.proofs.ListedIds.{listed_remains, remaining_listed, listed_ascend}
 use Rattle.forced_choices.proofs.Members.{in_place, in_from_contains, contains_from_in, rises_of}
-use Rattle.forced_choices.proofs.RankedNodes.{AreCounted}
 use Rattle.forced_choices.proofs.Stacked.{at_exact, at_nodes}
 
 -- the graph has all that remain

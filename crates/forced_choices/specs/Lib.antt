@@ -17,7 +17,6 @@ pub mod Touching
 pub mod Undecided
 pub mod WriterPlaces
 pub mod Ranks
-pub mod Nodes
 pub mod OrderedAmong
 pub mod Picked
 pub mod FreshArcs

@@ -1,12 +1,14 @@
-use Rattle.std.proofs.Common.{◌≡◌, ◌∙◌, ap}
-use Rattle.forced_choices.specs.Nodes.{ids_at}
-use Rattle.forced_choices.proofs.RankedNodes.{ids_push, counted_push}
+use Rattle.known_graph.specs.Reach.{Reaches}
+use Rattle.forced_choices.proofs.Counting.{ids_push, counted_push, counts_sized}
 use Rattle.forced_choices.proofs.ranks.ranks_in.Goals as goal
 
-pub loop-node-preserved : goal.loop-node-preserved
-loop-node-preserved c =
-    let listed : ids_at c.deref.result.now ≡ c.args.ids.now = ap ids_at c.deref.ensures.value ∙ c.in_ok-nodes.ensures.ids in
+pub loop-id-preserved : goal.loop-id-preserved
+loop-id-preserved c =
+    let arcs = c.args.graph.now.arcs in
+    let ids = c.args.ids.now in
+    let pushed = c.in_ok-push.ensures.items in
     record {
-      ids = ids_push c.loop-node.ranks.items c.push.new.self.items c.deref-node-items.result.now c.loop-node.node-index c.count_sources-count.result _ c.loop-node-test.true c.in_ok-push.ensures.items c.loop-node.invariant.ids;
-      counts = counted_push c.args.graph.now.arcs c.args.ids.now (ids_at c.deref.result.now) c.loop-node.ranks.items c.push.new.self.items _ listed c.in_ok-push.ensures.items c.loop-node.invariant.counts c.count_sources-count.ensures;
+      ids = ids_push c.loop-id.ranks.items c.push.new.self.items ids c.loop-id.id-index c.count_sources-count.result _ c.loop-id-test.true pushed c.loop-id.invariant.ids;
+      counts = counted_push arcs ids c.loop-id.ranks.items c.push.new.self.items _ pushed c.loop-id.invariant.counts
+          (counts_sized (λ id. Reaches arcs id _) ids c.count_sources-count.result c.requires.distinct c.count_sources-count.ensures (λ a reaches. c.requires.sources a _ reaches));
     }

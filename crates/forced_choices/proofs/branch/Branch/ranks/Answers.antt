@@ -6,20 +6,30 @@ use Rattle.order_check.specs.Based.{Remains}
 use Rattle.order_check.specs.Explains.{KeepsSessions}
 use Rattle.order_check.specs.Known.{Known}
 use Rattle.known_graph.specs.Graphs.{HasNode}
+use Rattle.forced_choices.specs.Between.{AreDistinct}
 use Rattle.forced_choices.specs.BranchState.{BranchState, assumed}
 use Rattle.forced_choices.specs.Ranks.{ids_of}
 use Rattle.forced_choices.specs.Stacks.{IsRelationAt, levels_onto}
+use Rattle.forced_choices.proofs.Keeping.{ids_distinct}
 use Rattle.forced_choices.proofs.KnownRemain.{known_listed}
 use Rattle.forced_choices.proofs.RankedIds.{ids_have_nodes, ids_rise, ids_remain, ranked}
 use Rattle.forced_choices.proofs.SessionOrder.{ids_keep_sessions}
+use Rattle.forced_choices.proofs.Stacked.{at_exact}
 use Rattle.forced_choices.proofs.branch.Branch.ranks.Goals as goal
 
 pub ranks_in-requires : goal.ranks_in-requires
 ranks_in-requires c =
+    let parts = c.self.inside.parts in
+    let log = c.self.inside.log in
+    let levels = levels_onto [] c.self.inside.tops.items in
     let graph = c.last.result.now in
+    let same = sym (c.as_slice.ensures.value ∙ c.in_ok-ids.ensures) in
     let here = subst (λ (b : BranchState). IsRelationAt b.parts b.log b.levels graph) (sym c.self.view_is) c.last.ensures in
-    let all = ids_have_nodes c.self.inside.parts c.self.inside.log (levels_onto [] c.self.inside.tops.items) graph here in
-    subst (λ (ids : List TxnId). All (HasNode graph) ids) (sym (c.as_slice.ensures.value ∙ c.in_ok-ids.ensures)) all
+    record {
+      nodes = subst (λ (ids : List TxnId). All (HasNode graph) ids) same (ids_have_nodes parts log levels graph here);
+      distinct = subst (λ (ids : List TxnId). AreDistinct ids) same (ids_distinct parts);
+      sources = λ a b reaches. subst (λ (ids : List TxnId). Contains ids a) same (known_listed parts log levels c.self.inside.graph a b c.self.invariant.stacked ((at_exact parts log levels graph a b here).0 reaches)).0;
+    }
 
 pub returns-clause-sessions : goal.returns-clause-sessions
 returns-clause-sessions c =

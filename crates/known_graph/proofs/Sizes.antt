@@ -1,0 +1,123 @@
+-- How many transactions have a property that is told by the bits of a row.
+use Rattle.std.proofs.Common.{◌≡◌, ◌≢◌, ◌⊎◌, ◌↔◌, ℕ, zero, suc, ◌*◌, ◌<◌, Vec, Global, List, [], ◌∷◌, length, get_or, Option, refl, sym, ap, subst, inl, inr, arith, Contains}
+use Rattle.std.specs.Bool.{⊤}
+use Rattle.std.specs.List.{AllPairs}
+use Rattle.std.proofs.lemmas.Bool.{cases_lt}
+use Rattle.txn.specs.declared.transactions.TxnId.{TxnId}
+use Rattle.txn.specs.declared.choices.Arc.{Arc}
+use Rattle.known_graph.specs.Bits.{HasBit}
+use Rattle.known_graph.specs.Graphs.{IsAt}
+use Rattle.known_graph.specs.Kept.{IsKept}
+use Rattle.known_graph.specs.Reach.{Reaches}
+use Rattle.known_graph.specs.Rows.{row_at}
+use Rattle.known_graph.specs.Sizes.{HasSize}
+use Rattle.known_graph.specs.Tallies.{Tally, none, one_more, not_this}
+use Rattle.known_graph.proofs.KeyRows.{HasOneKey, same_id_at}
+use Rattle.known_graph.proofs.Stored.{Reaches-there}
+use Rattle.known_graph.proofs.Words.{bit_within}
+
+-- the list has it, and the list has each once, by cases on the list
+abbrev In : {X : Type 0} → List X → X → Type 0
+In [] y = ⊥
+In (x ∷ xs) y = (x ≡ y) ⊎ In xs y
+
+abbrev AreOnce : {X : Type 0} → List X → Type 0
+AreOnce [] = ⊤
+AreOnce (x ∷ xs) = (¬ In xs x) × AreOnce xs
+
+in_contains : {X : Type 0} (xs : List X) (y : X) → Contains xs y → In xs y
+in_contains [] y (k, within, is) = absurd (omega arith)
+in_contains (x ∷ xs) y (zero, within, is) = inl is
+in_contains (x ∷ xs) y (suc k, within, is) = inr (in_contains xs y (k, omega arith, is))
+
+contains_in : {X : Type 0} (xs : List X) (y : X) → In xs y → Contains xs y
+contains_in [] y h = absurd h
+contains_in (x ∷ xs) y (inl e) = (0, omega arith, e)
+contains_in (x ∷ xs) y (inr h) = let found = contains_in xs y h in (suc found.0, omega (arith, found.1), found.2)
+
+in_place : {X : Type 0} (xs : List X) (k : ℕ) (d : X) → k < length xs → In xs (get_or xs k d)
+in_place [] k d h = absurd (omega arith)
+in_place (x ∷ xs) zero d h = inl refl
+in_place (x ∷ xs) (suc k) d h = inr (in_place xs k d (omega arith))
+
+distinct_once : {X : Type 0} (xs : List X) → AreOnce xs → AllPairs (λ x y. x ≢ y) xs
+distinct_once [] once i j d below within = absurd (omega arith)
+distinct_once (x ∷ xs) once zero zero d below within = absurd (omega arith)
+distinct_once (x ∷ xs) once zero (suc j) d below within = λ same. once.0 (subst (λ y. In xs y) (sym same) (in_place xs j d (omega arith)))
+distinct_once (x ∷ xs) once (suc i) zero d below within = absurd (omega arith)
+distinct_once (x ∷ xs) once (suc i) (suc j) d below within = distinct_once xs once.1 i j d (omega arith) (omega arith)
+
+-- the numbers are keys of nodes, and those that have the bit are the keys of those with the property
+module _ (nodes : List (Option TxnId)) (one : HasOneKey nodes) (P : TxnId → Type 0) (has : ℕ → Type 0) (exact : (j : ℕ) → has j ↔ ((a : TxnId) × IsAt nodes j a × P a)) where
+  -- a list of those whose keys are below the bound
+  record IsListed (xs : List TxnId) (bound : ℕ) : Type 0 where
+    once : AreOnce xs
+    each : (a : TxnId) → In xs a → (j : ℕ) × (j < bound) × IsAt nodes j a × P a
+    all : (j : ℕ) (a : TxnId) → j < bound → IsAt nodes j a → P a → In xs a
+
+  listed : (bound count : ℕ) → Tally has bound count → (xs : List TxnId) × IsListed xs bound × (length xs ≡ count)
+  listed zero count none = ([], record { once = tt; each = λ a h. absurd h; all = λ j a below at_j is. absurd (omega arith) }, refl)
+  listed (suc bound) (suc count) (one_more h tally) =
+      let rest = listed bound count tally in
+      let here = (exact bound).0 h in
+      let a = here.0 in (
+        a ∷ rest.0,
+        record {
+          once = (λ h. let found = rest.1.each a h in absurd (omega (arith, found.1, one found.0 bound a found.2 here.1)), rest.1.once);
+          each = λ b h. elim h [
+            | inl same ↦ (bound, omega arith, subst (λ x. IsAt nodes bound x) same here.1, subst P same here.2)
+            | inr h ↦ let found = rest.1.each b h in (found.0, omega (arith, found.1), found.2, found.3)
+          ];
+          all = λ j b below at_j is. elim (cases_lt j bound) [
+            | inl before ↦ inr (rest.1.all j b before at_j is)
+            | inr past ↦
+                let same : j ≡ bound = omega arith in
+                inl (same_id_at nodes bound a b here.1 (subst (λ k. IsAt nodes k b) same at_j))
+          ];
+        },
+        ap suc rest.2,
+      )
+  listed (suc bound) count (not_this h tally) =
+      let rest = listed bound count tally in (
+        rest.0,
+        record {
+          once = rest.1.once;
+          each = λ b h. let found = rest.1.each b h in (found.0, omega (arith, found.1), found.2, found.3);
+          all = λ j b below at_j is. elim (cases_lt j bound) [
+            | inl before ↦ rest.1.all j b before at_j is
+            | inr past ↦
+                let same : j ≡ bound = omega arith in
+                absurd (h ((exact bound).1 (b, subst (λ k. IsAt nodes k b) same at_j, is)))
+          ];
+        },
+        rest.2,
+      )
+
+  -- where all of those keys are below the bound
+  pub HasSize-tally : (bound count : ℕ) → ((a : TxnId) → P a → (j : ℕ) × (j < bound) × IsAt nodes j a) → Tally has bound count → HasSize P count
+  HasSize-tally bound count there tally =
+      let list = listed bound count tally in (
+        list.0,
+        distinct_once list.0 list.1.once,
+        λ a. (
+          λ h. let found = list.1.each a (in_contains list.0 a h) in found.3,
+          λ is. let at_key = there a is in contains_in list.0 a (list.1.all at_key.0 a at_key.1 at_key.2 is),
+        ),
+        list.2,
+      )
+
+-- the bits of what reaches one
+pub HasSize-sources : (nodes : List (Option TxnId)) (arcs : List Arc) (onto from : List (Vec ℕ Global)) (key : ℕ) (id : TxnId) (count : ℕ) → IsKept nodes arcs onto from → IsAt nodes key id → Tally (HasBit (row_at from key)) (64 * length (row_at from key)) count → HasSize (λ a. Reaches arcs a id) count
+HasSize-sources nodes arcs onto from key id count kept at_key tally =
+    HasSize-tally nodes kept.one (λ a. Reaches arcs a id) (HasBit (row_at from key)) exact (64 * length (row_at from key)) count there tally
+  where
+    exact : (j : ℕ) → HasBit (row_at from key) j ↔ ((a : TxnId) × IsAt nodes j a × Reaches arcs a id)
+    exact j = (
+      λ has. let told = kept.backwards.told key j has in (told.1, told.3, subst (λ x. Reaches arcs told.1 x) (same_id_at nodes key told.0 id told.2 at_key) told.4),
+      λ is. kept.backwards.all key j id is.0 at_key is.1 is.2,
+    )
+
+    there : (a : TxnId) → Reaches arcs a id → (j : ℕ) × (j < 64 * length (row_at from key)) × IsAt nodes j a
+    there a reaches =
+        let at_j = (Reaches-there nodes arcs onto from kept reaches).0 in
+        (at_j.0, bit_within (row_at from key) at_j.0 (kept.backwards.all key at_j.0 id a at_key at_j.1 reaches), at_j.1)
