@@ -27,8 +27,6 @@ pub fn add_arcs(alloc: Global, graph: &mut Graph, arcs: &[Arc]) -> Result<(), No
     ensures arcs { OnOk result (graph.new.arcs ≡ graph.old.arcs ++ arcs.now) }
     ensures nodes { OnOk result (graph.new.nodes ≡ graph.old.nodes) }
 {
-    for arc in arcs {
-        graph.add_arc(alloc, *arc)?;
-    }
+    graph.add_arcs(alloc, arcs)?;
     Ok(())
 }

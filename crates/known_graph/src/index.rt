@@ -1,5 +1,6 @@
 // Where to look first: the key of each id, and the arcs that end at each key. Nothing is promised of what it says. Each
 // answer is looked up in the graph before it is believed, and where it leads nowhere, all is gone through.
+use crate::closing::KeyArc;
 use std::alloc::Global;
 use std::collections::BTreeMap;
 use txn::{Arc, NoMemory, TxnId};
@@ -99,6 +100,15 @@ impl Index {
         if self.links.push(Link { start, end, before }).is_ok() && end < self.last.len() {
             self.last[end] = place;
         }
+    }
+
+    /// Notes arcs, and makes room for them.
+    pub fn add_arcs(&mut self, arcs: &[KeyArc]) -> Result<(), NoMemory> {
+        self.links.reserve(arcs.len())?;
+        for arc in arcs {
+            self.add_arc(arc.start, arc.end);
+        }
+        Ok(())
     }
 
     /// Forgets the arcs behind the first so many, the last first. It takes no memory.

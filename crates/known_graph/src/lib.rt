@@ -2,6 +2,7 @@
 #![tactic(auto)]
 
 mod bits;
+mod closing;
 mod digraph;
 mod drops;
 mod inclusion;
