@@ -9,9 +9,10 @@ TABLE = """CREATE TABLE IF NOT EXISTS zanteyard (
 READ = "SELECT value, run, session, number FROM zanteyard WHERE key = %s"
 READ_ALL = "SELECT key, value, run, session, number FROM zanteyard WHERE key = ANY(%s)"
 WRITE = """INSERT INTO zanteyard VALUES (%s, %s, %s, %s, %s) ON CONFLICT (key) DO UPDATE
-    SET value = excluded.value, run = excluded.run, session = excluded.session, number = excluded.number"""
-EXCHANGE = f"""WITH old AS ({READ}) {WRITE} RETURNING (SELECT value FROM old), (SELECT run FROM old), (SELECT session FROM old),
-    (SELECT number FROM old), pg_current_xact_id()::text"""  # a statement sees what was there before it
+    SET value = excluded.value, run = excluded.run, session = excluded.session, number = excluded.number
+    RETURNING pg_current_xact_id()::text"""  # told by each write, so that no commit has to ask for it
+EXCHANGE = f"""WITH old AS ({READ}) {WRITE}, (SELECT value FROM old), (SELECT run FROM old), (SELECT session FROM old),
+    (SELECT number FROM old)"""  # a statement sees what was there before it
 CONFLICTS = (errors.SerializationFailure, errors.DeadlockDetected)
 
 
@@ -56,15 +57,13 @@ class PostgresStore:
         return {row[0]: (row[1], row[2:]) for row in self.ask(READ_ALL, (keys,))}
 
     def write(self, key, value, name):
-        self.ask(WRITE, (key, value, *name))
+        (self.transaction_id,) = self.ask(WRITE, (key, value, *name)).fetchone()
 
     def exchange(self, key, value, name):
-        *row, self.transaction_id = self.ask(EXCHANGE, (key, key, value, *name)).fetchone()
+        self.transaction_id, *row = self.ask(EXCHANGE, (key, key, value, *name)).fetchone()
         return None if row[1] is None else (row[0], tuple(row[1:]))
 
     def commit(self):
-        if self.transaction_id is None:
-            self.transaction_id = self.ask("SELECT pg_current_xact_id_if_assigned()::text").fetchone()[0]
         try:
             self.send_commit()
         except CONFLICTS as error:
