@@ -339,7 +339,7 @@ def deeds(logged, name):
     return [f"read {key} {version(key, source, name)}" for key, source in logged.reads] + [f"wrote {key}" for key in logged.writes]
 
 
-LONGEST = 240  # of what is told of a statement, in characters
+TOLD = 240  # characters of a statement, at most
 
 
 def statements_of(logged):
@@ -349,7 +349,7 @@ def statements_of(logged):
         if deed in left:
             told.setdefault(" ".join(left[deed].split()), []).append(("wrote" if len(deed) == 1 else "read") + f" {deed[0]}")
     for statement, its in told.items():
-        yield f"{', '.join(its)}: {statement if len(statement) <= LONGEST else statement[:LONGEST] + ' ..'}"
+        yield f"{', '.join(its)}: {statement if len(statement) <= TOLD else statement[:TOLD] + ' ..'}"
 
 
 def words(history, name=name):
