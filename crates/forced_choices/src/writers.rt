@@ -10,6 +10,7 @@ use known_graph::{Graph, set_bit};
 use order_check::Parts;
 use std::alloc::Global;
 use std::collections::BTreeMap;
+use std::mem;
 use txn::{NoMemory, TxnId};
 
 /// The columns of transactions, which are their keys in a graph, and the writers of each key.
@@ -74,13 +75,13 @@ pub fn with_bit(mut row: Vec<u64>, column: usize) -> Result<Vec<u64>, NoMemory>
     Ok(row)
 }
 
-/// Takes out the row of a key.
+/// Takes out the row of a key. Its place is kept, with an empty row: to remove it and to insert it anew would move other keys twice.
 fn take_mask(alloc: Global, masks: &mut BTreeMap<u64, Vec<u64>>, key: u64) -> Vec<u64>
     ensures taken { result.items ≡ mask_of masks.old key }
     ensures others { (other : ℕ) → other ≢ key → mask_of masks.new other ≡ mask_of masks.old other }
 {
-    match masks.remove(&key) {
-        Some(mask) => mask,
+    match masks.get_mut(&key) {
+        Some(mask) => mem::replace(mask, Vec::new(alloc)),
         None => Vec::new(alloc),
     }
 }
