@@ -1,10 +1,11 @@
 """What an audit costs the clients of a PostgreSQL: transactions a second with and without the auditor, in turns.
 
-    python3 bench/postgres_cost.py [--seconds N] [--times N] [--clients N] [--every N] [--workload NAME ..]
+    python3 bench/postgres_cost.py [--seconds N] [--times N] [--clients N] [--every N] [--workload NAME ..] [--processes]
 
 Rates are means, and how much less stands with its standard error: runs differ by a fifth and more where processors are idle now and then, so that
-many short runs tell more than few long ones. Beside them, as medians: processor time for each transaction begun, of this process (the clients, and
-what hands their log over) and of those that audit it; how much of their time clients waited for meetings, and how far the auditor was behind at most.
+many short runs tell more than few long ones. Beside them, as medians: processor time for each transaction begun, of the clients and what hands
+their log over, and of what audits it; how much of their time clients waited for meetings, and how far the auditor was behind at most. The clients are threads of
+one process, or processes of their own; the same sessions run over the same store without the auditor, but nobody takes their log.
 """
 import argparse
 import os
@@ -12,12 +13,13 @@ import random
 import resource
 import statistics
 import sys
+import tempfile
 import time
 
 TOP = os.path.join(os.path.dirname(os.path.abspath(__file__)), "..")
 sys.path[:0] = [os.path.join(TOP, "examples"), os.path.join(TOP, "collectors/python")]
-from postgres_live import LEVELS, WORKLOADS, Clients, Nothing
-from zanteyard import AuditorApart, LiveAuditor, Session
+from postgres_live import LEVELS, WORKLOADS, ClientProcesses, Clients, Nothing
+from zanteyard import Auditor, AuditorApart, AuditServer, LiveAuditor, Session
 from zanteyard.cluster import Cluster
 from zanteyard.postgres_store import PostgresStore, prepare
 
@@ -30,31 +32,40 @@ def of_children():
 
 class Run:
     def __init__(self, cluster, asked, workload, name, is_audited):
-        stores = [PostgresStore(cluster.dsn, LEVELS["serializable"]) for _ in range(asked.clients)]
-        run = self.audited if is_audited else self.alone
-        before = of_children()
-        clients = run(asked, stores, WORKLOADS[workload], name)
-        self.rate, self.waited = clients.rate(), 100 * clients.waited
+        self.cluster, self.asked, self.workload, self.name = cluster, asked, workload, name
+        children, own = of_children(), time.process_time()
+        clients = self.audited() if is_audited else self.clients(None)
+        children, own = of_children() - children, time.process_time() - own
+        used, beside = (clients.used, own + children - clients.whole) if asked.processes else (own, children)
         begun = clients.committed + clients.aborted
-        self.each, self.beside = 1e6 * self.took / begun, 1e6 * (of_children() - before) / begun
+        self.rate, self.waited, self.each, self.beside = clients.rate(), 100 * clients.waited, 1e6 * used / begun, 1e6 * beside / begun
+
+    def clients(self, live):
+        """They run beside that audit; None for none."""
+        asked, dsn = self.asked, self.cluster.dsn
+        if asked.processes:
+            return self.processes(live)
+        stores = [PostgresStore(dsn, LEVELS["serializable"]) for _ in range(asked.clients)]
+        sessions = [live.session(store) if live else Session(Nothing(), number, store, self.name) for number, store in enumerate(stores)]
+        clients = Clients(sessions, WORKLOADS[self.workload], asked.seconds, lambda: live is not None and live.is_over)
         for store in stores:
             store.connection.close()
-
-    def alone(self, asked, stores, workload, name):
-        sessions = [Session(Nothing(), number, store, name) for number, store in enumerate(stores)]
-        began = time.process_time()
-        clients = Clients(sessions, workload, asked.seconds, lambda: False)
-        self.took = time.process_time() - began
         return clients
 
-    def audited(self, asked, stores, workload, name):
-        with AuditorApart(asked.clients) as auditor:
-            live = LiveAuditor(auditor, name, asked.every, tell=lambda line: None)
-            sessions = [live.session(store) for store in stores]
-            began = time.process_time()
-            clients = Clients(sessions, workload, asked.seconds, lambda: live.is_over)
+    def processes(self, live):
+        with tempfile.TemporaryDirectory(prefix="zanteyard-") as folder:
+            server = live and AuditServer(live, f"{folder}/audit")
+            asked = self.asked
+            clients = ClientProcesses(server and server.path, self.cluster.dsn, "serializable", asked.clients, self.workload, asked.seconds)
+            if server:
+                server.close()
+            return clients
+
+    def audited(self):
+        with (Auditor if self.asked.processes else AuditorApart)(self.asked.clients) as auditor:
+            live = LiveAuditor(auditor, self.name, self.asked.every, tell=lambda line: None)
+            clients = self.clients(live)
             live.stop()
-            self.took = time.process_time() - began
             if live.failure:
                 raise live.failure
             self.kind, self.lag, self.rounds, self.cuts = live.report.kind, live.lag, live.rounds, live.cuts
@@ -68,6 +79,7 @@ def main():
     asked.add_argument("--clients", type=int, default=8)
     asked.add_argument("--every", type=int, default=LiveAuditor.EVERY)
     asked.add_argument("--workload", nargs="+", choices=WORKLOADS, default=[*WORKLOADS])
+    asked.add_argument("--processes", action="store_true")
     asked = asked.parse_args()
     print("workload, without and with a second, less and its error, us each without and with, beside, waited, behind at most, verdicts, cuts of rounds", flush=True)
     with Cluster() as cluster:
@@ -90,9 +102,10 @@ def tell(workload, alone, audited):
     (rate_alone, error_alone), (rate, error) = (mean_with_error([run.rate for run in runs]) for runs in (alone, audited))
     less, less_error = 1 - rate / rate_alone, (error**2 + (rate / rate_alone * error_alone) ** 2) ** 0.5 / rate_alone
     each = [median(runs, "each") for runs in (alone, audited)]
+    beside = median(audited, "beside") - median(alone, "beside")
     kinds = ", ".join(sorted({run.kind for run in audited}))
     print(
-        f"{workload:8} {rate_alone:6.0f} {rate:6.0f} {100 * less:5.1f}% +- {100 * less_error:3.1f}  {each[0]:5.0f} {each[1]:5.0f} {median(audited, 'beside'):5.0f}"
+        f"{workload:8} {rate_alone:6.0f} {rate:6.0f} {100 * less:5.1f}% +- {100 * less_error:3.1f}  {each[0]:5.0f} {each[1]:5.0f} {beside:5.0f}"
         f"  {median(audited, 'waited'):4.1f}%  {max(run.lag for run in audited):5.2f} s  {kinds}  {sum(run.cuts for run in audited)} of {sum(run.rounds for run in audited)}",
         flush=True,
     )

@@ -2,19 +2,22 @@
 as a script for cobra_audit, and as a picture.
 
     python3 examples/postgres_live.py [--level serializable|repeatable|committed] [--workload counter|skew|mixed|blind] [--seconds N]
-        [--clients N] [--rate N] [--every N] [--unaudited N]
+        [--clients N] [--rate N] [--every N] [--unaudited N] [--processes]
 
 It first runs the clients without the auditor, to tell what that costs. The status is 0 where all that was audited is serial.
 """
 import argparse
+import multiprocessing
 import os
 import random
 import sys
+import tempfile
 import threading
 import time
 
 sys.path.insert(0, os.path.join(os.path.dirname(os.path.abspath(__file__)), "../collectors/python"))
-from zanteyard import Aborted, AuditorApart, Ended, Full, LiveAuditor, Session, audited, draw, from_start, reasons, smaller, words
+from zanteyard import Aborted, AuditClient, Auditor, AuditorApart, AuditServer, Ended, Full, LiveAuditor, Session
+from zanteyard import audited, draw, from_start, reasons, smaller, words
 from zanteyard.cluster import Cluster, program
 
 LEVELS = {"serializable": "serializable", "repeatable": "repeatable read", "committed": "read committed"}
@@ -62,15 +65,15 @@ class Nothing:
 
 
 class Clients:
-    """Each in a thread, over a session of its own, until the time is up or `is_over()`."""
+    """Each in a thread, over a session of its own, until the time is up or `is_over()`; the first has this number."""
 
-    def __init__(self, sessions, workload, seconds, is_over, rate=None):
+    def __init__(self, sessions, workload, seconds, is_over, rate=None, first=0):
         self.workload, self.is_over, self.committed, self.aborted, self.failures = workload, is_over, 0, 0, []
         self.count = len(sessions)
         self.pause = self.count / rate if rate else 0.0  # of each client, from the begin of a transaction to that of the next
         self.began = time.monotonic()
         self.until = self.began + seconds
-        threads = [threading.Thread(target=self.client, args=it) for it in enumerate(sessions)]
+        threads = [threading.Thread(target=self.client, args=it) for it in enumerate(sessions, first)]
         for thread in threads:
             thread.start()
         for thread in threads:
@@ -80,7 +83,7 @@ class Clients:
 
     def client(self, number, session):
         committed = aborted = 0
-        due = self.began + number * self.pause / self.count  # in turn, and not all at once
+        due = self.began + random.random() * self.pause  # not all at once
         try:
             while time.monotonic() < self.until and not self.is_over():
                 due = self.wait(due)
@@ -106,6 +109,55 @@ class Clients:
         return self.committed / self.took
 
 
+class ClientProcesses(Clients):
+    """The same, each in a process of its own, which is let into the audit at this path; None for no audit."""
+
+    def __init__(self, path, dsn, level, count, workload, seconds, rate=None):
+        self.committed = self.aborted = self.used = self.whole = 0  # processor time while transactions ran, and of the processes
+        self.failures, waited, took = [], [], []
+        spawned = multiprocessing.get_context("spawn")  # a fork would have half of the auditor's threads
+        told, ready = spawned.SimpleQueue(), spawned.Barrier(count)
+        asked = (path, dsn, level, workload, seconds, rate and rate / count)
+        processes = [spawned.Process(target=client_process, args=(told, ready, number, *asked)) for number in range(count)]
+        for process in processes:
+            process.start()
+        for process in processes:
+            process.join()
+        for _ in processes:
+            if told.empty():
+                self.failures.append(RuntimeError("a client's process ended without a word"))
+                break
+            failure, *counts = told.get()
+            if failure is not None:
+                self.failures.append(RuntimeError(failure))
+            else:
+                committed, aborted, used, whole, its_time, its_waited = counts
+                self.committed, self.aborted, self.used, self.whole = self.committed + committed, self.aborted + aborted, self.used + used, self.whole + whole
+                took.append(its_time), waited.append(its_waited)
+        self.took, self.waited = max(took, default=1.0), sum(waited) / max(1, len(waited))
+
+
+def client_process(told, ready, number, path, dsn, level, workload, seconds, rate):
+    """One client, beside whose transactions its process does nothing else. Tells what failed, or what it did."""
+    from zanteyard.postgres_store import PostgresStore
+
+    try:
+        store = PostgresStore(dsn, LEVELS[level])
+        store.connect()
+        audit = AuditClient(path) if path else None
+        session = audit.session(store) if audit else Session(Nothing(), number, store, "unaudited")
+        ready.wait(60)
+        began = time.process_time()
+        clients = Clients([session], WORKLOADS[workload], seconds, lambda: audit is not None and audit.is_over, rate, number)
+        if audit:
+            audit.leave()
+        failures, used = [str(failure) or type(failure).__name__ for failure in clients.failures], time.process_time()
+        told.put((failures[0] if failures else None, clients.committed, clients.aborted, used - began, used, clients.took, clients.waited))
+    except Exception as error:
+        told.put((f"client {number}: {str(error) or type(error).__name__}",))
+        ready.abort()  # nobody waits for it
+
+
 def tell(auditor, name):
     """What is left of the history without what it is violated without."""
     history, called = from_start(auditor)
@@ -121,11 +173,33 @@ def tell(auditor, name):
     print(f"(cobra_audit < {name}.jsonl says so again; drawn: {', '.join(draw(small, name, called))})")
 
 
-def audited_run(asked, stores):
+def unaudited_run(asked, cluster):
+    if asked.processes:
+        return ClientProcesses(None, cluster.dsn, asked.level, asked.clients, asked.workload, asked.unaudited, asked.rate)
+    sessions = [Session(Nothing(), number, store, "unaudited") for number, store in enumerate(stores(asked, cluster))]
+    return Clients(sessions, WORKLOADS[asked.workload], asked.unaudited, lambda: False, asked.rate)
+
+
+def stores(asked, cluster):
+    from zanteyard.postgres_store import PostgresStore
+
+    return [PostgresStore(cluster.dsn, LEVELS[asked.level]) for _ in range(asked.clients)]
+
+
+def beside(asked, cluster, live):
+    """The clients of a live audit."""
+    if not asked.processes:
+        sessions = [live.session(store) for store in stores(asked, cluster)]
+        return Clients(sessions, WORKLOADS[asked.workload], asked.seconds, lambda: live.is_over, asked.rate)
+    with tempfile.TemporaryDirectory(prefix="zanteyard-") as folder, AuditServer(live, f"{folder}/audit") as server:
+        return ClientProcesses(server.path, cluster.dsn, asked.level, asked.clients, asked.workload, asked.seconds, asked.rate)
+
+
+def audited_run(asked, cluster):
     """The clients beside the auditor, which then tells of all that it took in."""
-    with AuditorApart(asked.clients) as auditor:
+    with (Auditor if asked.processes else AuditorApart)(asked.clients) as auditor:
         live = LiveAuditor(auditor, "live", asked.every)
-        clients = Clients([live.session(store) for store in stores], WORKLOADS[asked.workload], asked.seconds, lambda: live.is_over, asked.rate)
+        clients = beside(asked, cluster, live)
         live.stop()
         if isinstance(live.failure, Full):
             print(f"stopped: {auditor.limit} transactions remain, and this is all that the auditor holds")
@@ -146,21 +220,18 @@ def main():
     asked.add_argument("--clients", type=int, default=8, help="2 to 64")
     asked.add_argument("--rate", type=float, help="transactions a second that all clients together begin at most; else as many as they can")
     asked.add_argument("--every", type=int, default=LiveAuditor.EVERY, help="transactions from one meeting to the next")
+    asked.add_argument("--processes", action="store_true", help="each client in a process of its own, in place of a thread")
     asked = asked.parse_args()
     try:
-        from zanteyard.postgres_store import PostgresStore, prepare
+        from zanteyard.postgres_store import prepare
     except ImportError:
         sys.exit("psycopg2 is wanted: apt-get install python3-psycopg2, and run this by the Python that it is for (/usr/bin/python3)")
     if not program("initdb"):
         sys.exit("PostgreSQL is wanted: apt-get install postgresql")
     with Cluster() as cluster:
-        stores = [PostgresStore(cluster.dsn, LEVELS[asked.level]) for _ in range(asked.clients)]
         prepare(cluster.dsn)
-        alone = None
-        if asked.unaudited:
-            sessions = [Session(Nothing(), number, store, "unaudited") for number, store in enumerate(stores)]
-            alone = Clients(sessions, WORKLOADS[asked.workload], asked.unaudited, lambda: False, asked.rate)
-        live, clients = audited_run(asked, stores)
+        alone = unaudited_run(asked, cluster) if asked.unaudited else None
+        live, clients = audited_run(asked, cluster)
     print(f"{asked.workload} at {LEVELS[asked.level]}: {live.report.kind}; {live.cuts} cuts in {live.rounds} rounds")
     compared = f", {alone.rate():.0f} without the auditor" if alone else ""
     print(f"{clients.rate():.0f} transactions a second were committed by {asked.clients} clients{compared}; {clients.aborted} aborted")

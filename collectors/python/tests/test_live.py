@@ -8,7 +8,7 @@ import time
 import unittest
 
 from zanteyard import FENCE, Aborted, Auditor, AuditorApart, Ended, Full, LiveAuditor, Logged, NoCut, NoMemory, Refused, audited, dot_text, draw, from_start, reasons, smaller, words
-from zanteyard.auditor import PROGRAM
+from zanteyard.auditor import MARK, PROGRAM
 from zanteyard.live import fragments
 from zanteyard.memory_store import MemoryStore
 
@@ -88,7 +88,7 @@ class Meetings(WithProgram):
         self.assertEqual(self.ended(live).kind, "serial")
         self.assertEqual([line for line in self.told if "took longer" in line], [])
 
-    def test_each_session_has_two_fences_and_the_unseen_is_read_between(self):
+    def test_each_session_has_a_fence_and_comes_behind_the_last(self):
         live, store = self.live(3, every=2), MemoryStore()
         self.auditor.can_cut = False  # so that all remains to be looked at
         a, b = (live.session(store.connect()) for _ in range(2))
@@ -96,27 +96,42 @@ class Meetings(WithProgram):
         b.run(set_to("x", 2))
         self.wait_for(lambda: live.rounds)
         self.ended(live)
-        fence = lambda *before: ([(FENCE, *before)], [FENCE])
+        fence, read = (lambda *before: ([(FENCE, *before)], [FENCE])), (lambda key, source: ([(key, source)], []))
         done = [[(one.reads, one.writes) for one in txns] for txns in self.auditor.history]
-        self.assertEqual(done[0], [([], ["x"]), fence("init"), fence((2, 0))])
-        self.assertEqual(done[1], [([], ["x"]), fence((0, 1)), ([("x", (1, 0))], []), fence((0, 2))])
+        self.assertEqual(done[0], [([], ["x"]), fence("init"), read(MARK, (1, 3))])
+        self.assertEqual(done[1], [([], ["x"]), fence((0, 1)), read("x", (1, 0)), ([(MARK, "init")], [MARK])])
         self.assertEqual(done[2], [fence((1, 1))])  # it has no client
         self.assertEqual(live.report.kind, "serial")
 
-    def test_no_client_goes_on_before_all_second_fences_are_run(self):
-        live, store = self.live(2, every=2), MemoryStore()
-        a, b = (live.session(store.connect()) for _ in range(2))
-        fence, could_go_on = b.fence, []
+    def test_no_client_goes_on_before_all_are_behind(self):
+        live, store = self.live(3, every=3), MemoryStore()
+        a, b, c = (live.session(store.connect()) for _ in range(3))
+        could_go_on = []
 
-        def later():
-            could_go_on.append(a.turn.acquire(blocking=False))
-            fence()
+        def later(deed):
+            def looks_first():
+                could_go_on.append(a.turn.acquire(blocking=False))
+                return deed()
 
-        b.fence = later
-        a.run(add_one("x")), b.run(add_one("x"))
+            return looks_first
+
+        b.fence, b.read_mark, c.write_mark = later(b.fence), later(b.read_mark), later(c.write_mark)
+        for session in (a, b, c):
+            session.run(add_one("x"))
         self.wait_for(lambda: live.cuts)
         self.assertEqual(self.ended(live).kind, "serial")
-        self.assertEqual(could_go_on, [False, False])
+        self.assertEqual(could_go_on, [False, False, False])
+
+    def test_an_idle_session_has_its_fence_at_each_meeting(self):
+        live, store = self.live(2, every=4), MemoryStore()
+        a, b = (live.session(store.connect()) for _ in range(2))
+        b.run(add_one("x"))
+        for turn in range(4):
+            for _ in range(6):
+                a.run(add_one("x"))
+            self.wait_for(lambda: live.rounds > turn)
+        self.assertEqual(self.ended(live).kind, "serial")
+        self.assertEqual(live.cuts, live.rounds)
 
     def wait_for(self, condition):
         until = time.monotonic() + 60  # where other programs have the processors

@@ -18,6 +18,7 @@ LONGEST = 256  # transactions of one line
 EFFORTS = ((4096, 0, 1), (65536, 4, max(1, min(16, os.cpu_count() or 1))))
 WAITS = (0.1, 0.5)  # seconds after which a line that was answered NoMemory is given again
 FENCE = "zanteyard fence"  # the key on which sessions run fences; its number is 0
+MARK = "zanteyard mark"  # the key that a meeting writes behind its last fence, for every session to read
 # What one transaction did: reads are pairs of a key's name and a source, which is "init" or (session, number); writes are names of keys.
 # Statements are for who is told of a violation: pairs of a deed, which is a read or (key,) for a write, and what was run for it.
 Logged = namedtuple("Logged", "reads writes outcome statements", defaults=("committed", ()))

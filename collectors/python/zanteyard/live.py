@@ -1,16 +1,16 @@
 """An auditor that goes along with clients as they run: fences, rounds and cuts, in a thread of its own.
 
 Clients hand in what they did and go on. Now and then there is a meeting: as each session comes to the end of its transaction it is held
-there, and a fence is run in it; behind the last of these what was written unseen is read once; then a second fence is run in each, and all
-go on. So every transaction of before comes before the last of the first fences, every one of later
-after it, and of each key it is known who wrote it last: the auditor can forget what stands in front of that fence.
+there, and a fence is run in it; in the session of the last of these what was written unseen is read once, and then a mark is written, which all
+others read before they go on. So every transaction of before comes before the last fence, every one of later after it, and of each key it
+is known who wrote it last: the auditor can forget what stands in front of that fence.
 """
 import queue
 import threading
 import time
 from collections import deque
 
-from .auditor import FENCE, LONGEST, Ended, NoCut, Refused
+from .auditor import FENCE, LONGEST, NoCut
 from .sessions import Session
 
 READS = 200  # of one transaction; the auditor takes 256
@@ -37,11 +37,13 @@ class LiveAuditor:
         self.waiting = queue.SimpleQueue()
         self.gate = threading.Lock()  # held while a meeting waits for sessions
         self.handed_in_of, self.met_at, self.met, self.why_not = [0] * auditor.sessions, 0, time.monotonic(), None
-        self.fenced = None  # the session in which the last of a meeting's first fences was run
+        self.fenced = None  # the session in which the last of a meeting's fences was run
         self.taken_in, self.rounds, self.cuts = 0, 0, 0
         self.lag = self.behind = 0.0  # for how many seconds a transaction waited to be taken in, at most: ever, and since the last round
         self.told_at, self.told_of = time.monotonic(), 0
         self.report, self.failure, self.is_stopping, self.is_meeting = None, None, False, False
+        self.lost = None  # why no more is audited, though nothing else failed
+        self.at_end = []  # called once nothing more is audited
         self.thread = threading.Thread(target=self.serve, daemon=True)
         self.thread.start()
 
@@ -80,15 +82,15 @@ class LiveAuditor:
     # what sessions call
 
     def offer(self, session, number, logged):
-        self.handed_in_of[session] += 1  # one thread at a time has the session's turn
-        if logged.writes:
-            read = dict(logged.reads)
-            for key in logged.writes:
-                if key not in read:
-                    self.unseen.add(key)
-        self.waiting.put((time.monotonic(), session, number, self.packed(logged)))
+        self.hand_in(time.monotonic(), session, number, unseen(logged), self.packed(logged))
         if self.waiting.qsize() > self.most and threading.current_thread() is not self.thread:
             self.wait_for_room()
+
+    def hand_in(self, came, session, number, unseen, packed):
+        self.handed_in_of[session] += 1  # one thread at a time has the session's turn
+        if unseen:
+            self.unseen.update(unseen)
+        self.waiting.put((came, session, number, packed))
 
     def wait_for_room(self):
         while self.waiting.qsize() > self.most and not self.goes_on():
@@ -101,6 +103,10 @@ class LiveAuditor:
     def close(self, session):
         self.waiting.put((time.monotonic(), session))
 
+    def lose(self, error):
+        """Nothing more is audited but what was handed in by now, since what else was done isn't known."""
+        self.lost = self.lost or error
+
     def stop(self):
         """Takes in all that was handed in, and gives the report on it."""
         self.is_stopping = True
@@ -111,20 +117,23 @@ class LiveAuditor:
 
     def serve(self):
         try:
-            while not (self.is_stopping and self.waiting.empty()) and not self.is_violated:
+            while not (self.is_stopping and self.waiting.empty()) and not self.is_violated and not self.lost:
                 self.pause()
                 self.take_in()
                 if not self.is_stopping and self.is_due():
-                    self.meet()
-                    self.take_in_all()
+                    self.take_in_all(self.meet())
                     if not self.is_violated:  # it may be by a round that was to make room
                         self.audit()
+            self.take_in_all(self.waiting.qsize())
             if not self.is_violated and self.taken_in > self.told_of:
                 self.audit()
-        except (Ended, Refused) as error:
-            self.failure = error
+            if not self.is_violated:
+                self.failure = self.lost
         except Exception as error:  # told by who asks: a thread's own error would be lost
             self.failure = error
+        finally:
+            for told in self.at_end:
+                told()
 
     def pause(self):
         """Nobody is woken for what waits: that would cost a client more than its whole log."""
@@ -135,15 +144,14 @@ class LiveAuditor:
         new = self.handed_in - self.met_at
         return new >= (self.soon if self.why_not else self.every) or (new > 0 and time.monotonic() - self.met >= self.seconds)
 
-    def take_in_all(self):
-        """Of what waits now."""
-        left = self.waiting.qsize()
+    def take_in_all(self, left):
+        """So many of what waits."""
         while left > 0 and not self.is_violated:
-            left -= self.take_in()
+            left -= self.take_in(left)
 
-    def take_in(self):
+    def take_in(self, most=LONGEST):
         """What waits, up to so many; gives how many these were."""
-        found = [self.waiting.get() for _ in range(min(self.waiting.qsize(), LONGEST))]  # nobody else takes any
+        found = [self.waiting.get() for _ in range(min(self.waiting.qsize(), LONGEST, most))]  # nobody else takes any
         if found:
             self.offer_all(fragments(one[1:] for one in found if len(one) > 2))
             self.behind = max(self.behind, time.monotonic() - found[0][0])
@@ -191,30 +199,33 @@ class LiveAuditor:
     # meetings
 
     def meet(self):
+        """Gives how many waited to be taken in as clients went on: no read of these has a source that isn't among them, or was taken in before."""
         held, self.is_meeting = deque(), True
         try:
             with self.gate:
-                self.why_not = self.first_fences(held) or self.between(held)
-                if not self.why_not:
-                    self.second_fences(held)
+                self.why_not = self.run_fences(held) or self.go_behind(held)
         except Exception as error:  # the store's: a client will meet it too
             self.why_not = f"the meeting failed ({str(error).strip() or type(error).__name__})"
         finally:
-            self.is_meeting = False
+            self.is_meeting, came = False, self.waiting.qsize()
             for session in held:
-                session.turn.release()
+                session.let_go()
         self.met_at, self.met = self.handed_in, time.monotonic()
+        return came
 
-    def first_fences(self, held):
+    def run_fences(self, held):
         """Holds all sessions, and runs the fence of one while others come to the end of their transactions; or says why it can't."""
         patience = self.patience if self.has_room() else PATIENT * self.patience
         until, self.fenced = time.monotonic() + patience, None
         for session in list(self.sessions):
-            if not session.turn.acquire(timeout=max(0, until - time.monotonic())):
+            is_held, is_fenced, failure = session.enter(until - time.monotonic())
+            if is_held:
+                held.append(session)
+            elif not session.has_left:
                 return f"a transaction of session {session.number} took longer than {patience} s"
-            held.append(session)
-            if session.is_open and session.since_fence:
-                session.fence()
+            if failure:
+                raise failure
+            if is_fenced:
                 self.fenced = session
         return None
 
@@ -222,8 +233,9 @@ class LiveAuditor:
         """For as many transactions more as come before the next meeting, if this one fails."""
         return self.auditor.remaining + self.waiting.qsize() + self.soon < self.auditor.limit
 
-    def between(self, held):
-        """What is done while all are held; or says why it isn't."""
+    def go_behind(self, held):
+        """While all are held, has each come behind the last of these fences; or says why it can't. The store aborts none, since nothing else is run:
+        the number of an attempt that aborts would stand behind its session's fence, and not behind the last one of all, which then isn't settled."""
         for session in held:
             if session.is_open and self.left and time.monotonic() - session.used_at > self.idle:
                 session.close()  # its client takes another, once it comes back
@@ -232,39 +244,41 @@ class LiveAuditor:
             return "no client has a session"
         reader = still_open[-1]
         if reader is not self.fenced:
-            reader.fence()  # else it wouldn't read behind the last of the first fences
+            reader.fence()  # else it wouldn't stand behind the last of these fences
         self.read_unseen(reader)
+        reader.write_mark()
+        for wait in [session.read_mark() for session in still_open if session is not reader]:
+            wait()
         self.fence_left(reader)
         return None
-
-    def second_fences(self, held):
-        """While all are held, so that the store aborts none: the number of an attempt that aborts stands behind its session's first fence, and
-        not behind the last one of all, which then isn't settled."""
-        for session in held:
-            if session.is_open:
-                session.fence()
 
     def fence_left(self, lender):
         """The sessions that no client has are open too: each needs its fence, which is run over another's connection."""
         with self.lock:  # who wants one of them waits
             for _ in range(len(self.left)):
                 number, begun = self.left.popleft()
-                one = Session(self, number, lender.store, self.run_name)
-                one.begun = begun
-                try:
-                    one.fence()
-                finally:
-                    if one.is_open:
-                        self.left.append((number, one.begun))
+                begun, failure = lender.lend(number, begun)
+                if begun is not None:
+                    self.left.append((number, begun))
+                if failure:
+                    raise failure
 
     def read_unseen(self, session):
         keys, self.unseen = sorted(self.unseen - {FENCE}), set()
         try:
             for start in range(0, len(keys), READS):
-                session.run_held(lambda transaction: transaction.get_all(keys[start : start + READS]))
+                session.read_all(keys[start : start + READS])
         except BaseException:  # they are to be read at the next meeting
             self.unseen.update(keys)
             raise
+
+
+def unseen(logged):
+    """The keys that were written by who hadn't read them."""
+    if not logged.writes:
+        return ()
+    read = dict(logged.reads)
+    return [key for key in logged.writes if key not in read]
 
 
 def fragments(offers):

@@ -11,7 +11,7 @@ import threading
 import time
 from contextlib import contextmanager
 
-from .auditor import FENCE, Logged
+from .auditor import FENCE, MARK, Logged
 
 
 class Aborted(Exception):
@@ -80,18 +80,58 @@ class Session:
         """Calls body(transaction) and commits, again where the store aborts; each attempt has a number of its own."""
         return attempted(self.begin, body, attempts)
 
-    def run_held(self, body, attempts=10):
-        """The same for who holds the session's turn."""
-        return attempted(lambda: self.start(holds=False), body, attempts)
-
-    def fence(self):
-        """For who holds the session's turn."""
-        self.run_held(lambda transaction: transaction.exchange(FENCE, ""))
-        self.since_fence = 0
-
     def close(self):
         self.is_open = False
         self.auditor.close(self.number)
+
+    # what meetings call: all but the first for who holds the session's turn
+
+    has_left = False  # it can't be held any more
+
+    def enter(self, seconds):
+        """Takes the turn as the transaction that has it ends, if that is within so many seconds, and runs a fence where anything was done since the
+        last one. Gives whether it was taken, whether the fence was run, and what failed."""
+        if not self.turn.acquire(timeout=max(0, seconds)):
+            return False, False, None
+        try:
+            is_due = self.is_open and self.since_fence > 0
+            if is_due:
+                self.fence()
+            return True, is_due, None
+        except Exception as error:
+            return True, False, error
+
+    def let_go(self):
+        self.turn.release()
+
+    def run_held(self, body, attempts=10):
+        return attempted(lambda: self.start(holds=False), body, attempts)
+
+    def fence(self):
+        self.run_held(lambda transaction: transaction.exchange(FENCE, ""))
+        self.since_fence = 0
+
+    def read_all(self, keys):
+        self.run_held(lambda transaction: transaction.get_all(keys))
+
+    def write_mark(self):
+        self.run_held(lambda transaction: transaction.exchange(MARK, ""))
+
+    def read_mark(self):
+        """Gives what waits until it is read, and is called once."""
+        self.run_held(lambda transaction: transaction.get(MARK))
+        return lambda: None
+
+    def lend(self, number, begun):
+        """Runs the fence of a session that no client has over this one's connection. Gives how many transactions that one has had then, None
+        where it has ended; and what failed."""
+        one, failure = Session(self.auditor, number, self.store, self.run_name), None
+        one.begun = begun
+        try:
+            one.fence()
+        except Exception as error:
+            failure = error
+        return (one.begun if one.is_open else None), failure
 
 
 @contextmanager

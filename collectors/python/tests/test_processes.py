@@ -1,0 +1,150 @@
+"""A live audit whose clients are behind a socket, in this process or in others."""
+import os
+import socket
+import subprocess
+import sys
+import tempfile
+
+from zanteyard import AuditClient, AuditServer, Ended, processes
+from zanteyard.memory_store import MemoryStore
+
+from . import test_live
+from .test_live import add_one
+
+PLACE = os.path.join(os.path.dirname(os.path.abspath(__file__)), "..")
+
+
+class Elsewhere(test_live.Meetings):
+    """All that meetings do over sessions of this process, over sessions that are behind a socket."""
+
+    def live(self, sessions, *arguments, **more):
+        live = super().live(sessions, *arguments, **more)
+        folder = tempfile.TemporaryDirectory()
+        self.addCleanup(folder.cleanup)
+        self.path = os.path.join(folder.name, "audit")
+        self.server = AuditServer(live, self.path)
+        self.addCleanup(self.server.close)
+        self.client = self.another()
+        live.session, stop = self.client.session, live.stop
+
+        def leave_and_stop():
+            self.client.leave()
+            self.server.close()
+            return stop()
+
+        live.stop = leave_and_stop
+        return live
+
+    def another(self):
+        client = AuditClient(self.path)
+        self.addCleanup(client.leave)
+        return client
+
+    def cut_off(self, client):
+        """As where its process is killed."""
+        with socket.socket(fileno=os.dup(client.connection.fileno())) as same:
+            same.shutdown(socket.SHUT_RDWR)
+
+    def test_two_processes_meet(self):
+        live, store, other = self.live(4), MemoryStore(), self.another()
+        a, b, c, d = (each.session(store.connect()) for each in (self.client, self.client, other, other))
+        for turn in range(4):
+            for _ in range(5):
+                for session in (a, b, c, d):
+                    session.run(add_one("x"))
+            self.wait_for(lambda: live.cuts > turn)
+        other.leave()
+        self.assertEqual(self.ended(live).kind, "serial")
+        self.assertEqual(live.taken_in, sum(session.begun for session in (a, b, c, d)))
+
+    def test_who_leaves_leaves_its_sessions_to_others(self):
+        live, store, other = self.live(2, every=4), MemoryStore(), self.another()
+        a, b = self.client.session(store.connect()), other.session(store.connect())
+        for session in (a, b):
+            session.run(add_one("x"))
+        with self.assertRaisesRegex(ValueError, "no session is left"):
+            self.client.session(store.connect())
+        other.leave()
+        self.wait_for(lambda: live.left)
+        again = self.client.session(store.connect())
+        self.assertEqual((again.number, again.begun), (b.number, b.begun))
+        for session in (a, again, a, again):
+            session.run(add_one("x"))
+        self.wait_for(lambda: live.cuts)
+        self.assertEqual(self.ended(live).kind, "serial")
+
+    def test_a_process_that_is_lost_ends_the_audit_of_all_that_came(self):
+        live, store, other = self.live(2, every=1000), MemoryStore(), self.another()
+        a, b = self.client.session(store.connect()), other.session(store.connect())
+        for session in (a, b):
+            session.run(add_one("x"))
+        self.wait_for(lambda: live.taken_in == 2)
+        self.cut_off(other)
+        self.wait_for(lambda: live.is_over and self.client.is_over and other.is_over)
+        self.assertIsInstance(live.failure, Ended)
+        self.assertIn(f"the process of the sessions {b.number} is lost", str(live.failure))
+        self.assertEqual((live.report.kind, live.taken_in), ("serial", 2))
+        with self.assertRaisesRegex(Ended, "nothing more is audited"):
+            self.client.session(store.connect())
+        a.run(add_one("x"))  # the client goes on
+
+    def test_a_process_without_sessions_may_go(self):
+        live, store, other = self.live(1), MemoryStore(), self.another()
+        self.cut_off(other)
+        a = self.client.session(store.connect())
+        a.run(add_one("x"))
+        self.assertEqual((self.ended(live).kind, live.failure), ("serial", None))
+
+    def test_clients_are_told_of_a_violation(self):
+        live, store, other = self.live(2, every=10), MemoryStore("stale-read"), self.another()
+        sessions = [each.session(store.connect()) for each in (self.client, other)]
+
+        def is_told():
+            for session in sessions:
+                session.run(add_one("x"))
+            return self.client.is_over and other.is_over
+
+        self.wait_for(is_told)
+        other.leave()
+        self.assertEqual(self.ended(live).kind, "violated")
+
+    def test_a_process_that_does_not_answer_prevents_the_meeting(self):
+        self.addCleanup(setattr, processes, "PATIENCE", processes.PATIENCE)
+        processes.PATIENCE = 0.1
+        live, store, other = self.live(2, every=1, patience=0.05), MemoryStore(), self.another()
+        a, b = self.client.session(store.connect()), other.session(store.connect())
+        (stuck,) = [it for it in self.server.processes if b.number in [session.number for session in it.sessions.values()]]
+        plain, stuck.tell = stuck.tell, lambda *_: True  # calls don't get there
+        a.run(add_one("x"))
+        self.wait_for(lambda: any(f"no cut: a transaction of session {b.number} took longer" in line for line in self.told))
+        processes.PATIENCE, live.patience, stuck.tell = 60.0, 60.0, plain  # where other programs have the processors
+        self.wait_for(lambda: self.is_cut(live, a))
+        other.leave()
+        self.assertEqual(self.ended(live).kind, "serial")
+
+    def is_cut(self, live, session):
+        session.run(add_one("x"))
+        return live.cuts > 0
+
+    def test_a_key_that_can_not_be_handed_over_ends_the_audit_and_no_client(self):
+        class Key(str):
+            pass
+
+        live, store = self.live(1), MemoryStore()
+        a = live.session(store.connect())
+        a.run(add_one(Key("x")))
+        self.assertEqual(a.run(lambda transaction: transaction.get("x")), 1)
+        self.wait_for(lambda: live.is_over)
+        self.assertIn("transaction 0 of session 0 can't be handed over", str(live.failure))
+
+    def test_another_program_is_let_in(self):
+        live = self.live(1)
+        program = (
+            "import sys; sys.path.insert(0, sys.argv[1]); from zanteyard import AuditClient; from zanteyard.memory_store import MemoryStore\n"
+            "with AuditClient(sys.argv[2]) as client:\n"
+            "    session = client.session(MemoryStore().connect())\n"
+            "    for _ in range(50): session.run(lambda t: t.put('x', (t.get('x') or 0) + 1))\n"
+        )
+        subprocess.run([sys.executable, "-I", "-c", program, PLACE, self.path], check=True, timeout=120)
+        self.assertEqual(self.ended(live).kind, "serial")
+        self.assertGreaterEqual(live.taken_in, 50)
