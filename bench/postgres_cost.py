@@ -5,7 +5,8 @@
 Rates are means, and how much less stands with its standard error: runs differ by a fifth and more where processors are idle now and then, so that
 many short runs tell more than few long ones. Beside them, as medians: processor time for each transaction begun, of the clients and what hands
 their log over, and of what audits it; how much of their time clients waited for meetings, and how far the auditor was behind at most. The clients are threads of
-one process, or processes of their own; the same sessions run over the same store without the auditor, but nobody takes their log.
+one process, or processes of their own; the same sessions run over the same store without the auditor, but nobody takes their log. TMPDIR=/dev/shm
+has the server's folder in memory, where a disk would be what is measured.
 """
 import argparse
 import os
@@ -16,12 +17,22 @@ import sys
 import tempfile
 import time
 
+import psycopg2
+
 TOP = os.path.join(os.path.dirname(os.path.abspath(__file__)), "..")
 sys.path[:0] = [os.path.join(TOP, "examples"), os.path.join(TOP, "collectors/python")]
 from postgres_live import LEVELS, WORKLOADS, ClientProcesses, Clients, Nothing
-from zanteyard import Auditor, AuditorApart, AuditServer, LiveAuditor, Session
+from zanteyard import AuditorApart, AuditServer, LiveAuditor, Session
 from zanteyard.cluster import Cluster
 from zanteyard.postgres_store import PostgresStore, prepare
+
+
+def empty(dsn):
+    """The table; else old versions of few rows pile up, and each run is slower than the one before."""
+    connection = psycopg2.connect(dsn)
+    with connection:
+        connection.cursor().execute("TRUNCATE zanteyard")
+    connection.close()
 
 
 def of_children():
@@ -33,6 +44,7 @@ def of_children():
 class Run:
     def __init__(self, cluster, asked, workload, name, is_audited):
         self.cluster, self.asked, self.workload, self.name = cluster, asked, workload, name
+        empty(cluster.dsn)
         children, own = of_children(), time.process_time()
         clients = self.audited() if is_audited else self.clients(None)
         children, own = of_children() - children, time.process_time() - own
@@ -62,7 +74,7 @@ class Run:
             return clients
 
     def audited(self):
-        with (Auditor if self.asked.processes else AuditorApart)(self.asked.clients) as auditor:
+        with AuditorApart(self.asked.clients) as auditor:
             live = LiveAuditor(auditor, self.name, self.asked.every, tell=lambda line: None)
             clients = self.clients(live)
             live.stop()

@@ -16,7 +16,7 @@ import threading
 import time
 
 sys.path.insert(0, os.path.join(os.path.dirname(os.path.abspath(__file__)), "../collectors/python"))
-from zanteyard import Aborted, AuditClient, Auditor, AuditorApart, AuditServer, Ended, Full, LiveAuditor, Session
+from zanteyard import Aborted, AuditClient, AuditorApart, AuditServer, Ended, Full, LiveAuditor, Session
 from zanteyard import audited, draw, from_start, reasons, smaller, words
 from zanteyard.cluster import Cluster, program
 
@@ -197,7 +197,7 @@ def beside(asked, cluster, live):
 
 def audited_run(asked, cluster):
     """The clients beside the auditor, which then tells of all that it took in."""
-    with (Auditor if asked.processes else AuditorApart)(asked.clients) as auditor:
+    with AuditorApart(asked.clients) as auditor:
         live = LiveAuditor(auditor, "live", asked.every)
         clients = beside(asked, cluster, live)
         live.stop()

@@ -52,6 +52,8 @@ wanted() { # what is told at the end, and then how to run it
 for workload in counter skew mixed blind; do
     wanted "serial; [1-9][0-9]* cuts in" --level serializable --workload $workload
 done
+wanted "serial; [1-9][0-9]* cuts in" --level serializable --workload blind --processes
 wanted "violated;" --level repeatable --workload skew --every 256
+wanted "violated;" --level repeatable --workload skew --every 256 --processes
 wanted "violated;" --level committed --workload counter --every 256
 echo "the collectors' tests passed"

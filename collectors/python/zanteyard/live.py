@@ -29,7 +29,7 @@ class LiveAuditor:
     def __init__(self, auditor, run_name="", every=EVERY, seconds=2.0, idle=30.0, patience=1.0, most=2048, tell=print):
         self.auditor, self.run_name, self.every, self.seconds, self.idle = auditor, run_name, every, seconds, idle
         self.patience, self.most, self.tell = patience, most, tell
-        self.packed = getattr(auditor, "packed", lambda logged: logged)  # as it waits to be taken in
+        self.packed = getattr(auditor, "packed", None)  # has it as bytes while it waits to be taken in; None where the auditor takes no bytes
         self.sessions = []
         self.left = deque((number, 0) for number in range(auditor.sessions))  # no client has these: the number, and how many fences were run in it
         self.lock = threading.Lock()  # held by who takes some of those
@@ -82,7 +82,7 @@ class LiveAuditor:
     # what sessions call
 
     def offer(self, session, number, logged):
-        self.hand_in(time.monotonic(), session, number, unseen(logged), self.packed(logged))
+        self.hand_in(time.monotonic(), session, number, unseen(logged), self.packed(logged) if self.packed else logged)
         if self.waiting.qsize() > self.most and threading.current_thread() is not self.thread:
             self.wait_for_room()
 
@@ -92,9 +92,9 @@ class LiveAuditor:
             self.unseen.update(unseen)
         self.waiting.put((came, session, number, packed))
 
-    def wait_for_room(self):
+    def wait_for_room(self, pause=0.001):
         while self.waiting.qsize() > self.most and not self.goes_on():
-            time.sleep(0.001)
+            time.sleep(pause)
 
     def goes_on(self):
         """Clients don't wait for who is behind: its session's turn is wanted by the meeting, or nothing more is taken in."""

@@ -124,8 +124,8 @@ class ClientProcess(Messages):
                 self.live.close(what[1])
             else:
                 came, session, number, keys, packed = what
-                self.live.hand_in(came, session, number, keys, self.live.packed(unpacked(packed)))
-        self.live.wait_for_room()
+                self.live.hand_in(came, session, number, keys, packed if self.live.packed else unpacked(packed))
+        self.live.wait_for_room(PAUSE / 4)
         self.tell("taken", len(logged))
 
     def take_join(self, key):
@@ -330,7 +330,7 @@ class AuditClient(Messages):
         if self.waiting.qsize() > most // 2:
             self.hand_over_all()
         while self.waiting.qsize() + self.sent - self.taken > most and not (self.is_over or self.gate.locked()):
-            time.sleep(0.001)  # but for a meeting, which wants the session's turn, and in which nothing is told of what was taken in
+            time.sleep(PAUSE / 8)  # but for a meeting, which wants the session's turn, and in which nothing is told of what was taken in
 
     def close(self, session):
         self.waiting.put((time.monotonic(), session))
