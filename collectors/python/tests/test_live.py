@@ -109,9 +109,9 @@ class Meetings(WithProgram):
         could_go_on = []
 
         def later(deed):
-            def looks_first():
+            def looks_first(**more):
                 could_go_on.append(a.turn.acquire(blocking=False))
-                return deed()
+                return deed(**more)
 
             return looks_first
 
@@ -174,6 +174,35 @@ class Meetings(WithProgram):
 
         session.store.write = both
         return session
+
+    def test_a_fence_that_the_store_aborts_is_run_once_all_are_held(self):
+        aborts = []
+
+        def abort(session):
+            if aborts:
+                raise Aborted(aborts.pop())
+
+        live, store = self.live(2, every=2), MemoryStore()
+        a, b = self.with_write(live, store, abort), live.session(store.connect())
+        a.run(add_one("x"))
+        aborts += ["for what another did", "once more"]  # as often as it is tried before
+        b.run(add_one("x"))
+        self.wait_for(lambda: live.cuts)
+        self.assertEqual((live.fenced.number, aborts), (a.number, []))
+        self.assertEqual(self.ended(live).kind, "serial")
+
+    def test_clients_leave_room_for_the_next_meeting(self):
+        live, store = self.live(1, limit=40, every=1000, most=30), MemoryStore()
+        a = live.session(store.connect())
+        rooms = []
+        for _ in range(24):
+            a.run(add_one("x"))
+            self.wait_for(lambda: live.taken_in == a.begun)
+            rooms.append(live.room)
+        reserve = live.reserve
+        self.assertEqual(self.ended(live).kind, "serial")
+        self.assertLessEqual(rooms[0], min(30, 40 - reserve))
+        self.assertLess(rooms[-1], rooms[0])
 
     def test_no_session_is_lost_where_a_fence_of_one_that_is_left_fails(self):
         failures = [RuntimeError("not now")]

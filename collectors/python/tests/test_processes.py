@@ -4,6 +4,7 @@ import socket
 import subprocess
 import sys
 import tempfile
+import time
 
 from zanteyard import AuditClient, AuditServer, Ended, processes
 from zanteyard.memory_store import MemoryStore
@@ -87,6 +88,81 @@ class Elsewhere(test_live.Meetings):
         with self.assertRaisesRegex(Ended, "nothing more is audited"):
             self.client.session(store.connect())
         a.run(add_one("x"))  # the client goes on
+
+    def test_clients_go_on_where_the_audit_is_gone(self):
+        live, store, other = self.live(3, every=1, idle=600.0), MemoryStore(), self.another()
+        a, b = self.client.session(store.connect()), other.session(store.connect())
+        b.run(add_one("x"))
+        b.used_at -= 700
+        self.wait_for(lambda: self.is_cut(live, a) and not b.is_open)
+        self.cut_off(other)
+        self.wait_for(lambda: other.is_gone)
+        b.run(add_one("x"))
+        self.wait_for(lambda: live.is_over)
+        self.assertIn("is lost", str(live.failure))
+
+    def test_no_more_idle_sessions_are_closed_than_others_are_left(self):
+        live, store = self.live(4, every=1, idle=600.0), MemoryStore()
+        a, b, c = (live.session(store.connect()) for _ in range(3))
+        for session in (b, c):
+            session.run(add_one("x"))
+            session.used_at -= 700
+        self.wait_for(lambda: self.is_cut(live, a) and not (b.is_open and c.is_open))
+        for session in (b, c):
+            session.run(add_one("x"))
+        self.assertEqual(self.ended(live).kind, "serial")
+
+    def test_who_comes_after_the_end_is_told(self):
+        live, store = self.live(2, every=1), MemoryStore()
+        self.kill()
+        self.client.session(store.connect()).run(add_one("x"))
+        self.wait_for(lambda: live.is_over)
+        other = self.another()
+        self.wait_for(lambda: other.is_over)
+        session = other.session(store.connect())
+        for _ in range(50):
+            session.run(add_one("x"))
+        other.leave()
+        self.wait_for(lambda: live.waiting.qsize() < 10)
+
+    def test_a_fence_of_a_session_that_is_left_comes_late(self):
+        self.addCleanup(setattr, processes, "PATIENCE", processes.PATIENCE)
+        live, store = self.live(2, every=1), MemoryStore()
+        a, lend, late = self.client.session(store.connect()), self.client.call_lend, []
+
+        def later(*arguments):
+            if not late:
+                late.append(time.sleep(1.0))
+            return lend(*arguments)
+
+        self.client.call_lend, processes.PATIENCE = later, 0.2
+        a.run(add_one("x"))
+        self.wait_for(lambda: any("hasn't answered" in line for line in self.told))
+        processes.PATIENCE = 60.0
+        self.wait_for(lambda: self.is_cut(live, a))
+        self.assertEqual(self.client.session(store.connect()).number, 1)
+        self.assertEqual(self.ended(live).kind, "serial")
+
+    def test_a_socket_that_is_left_of_a_killed_server_is_in_nobodys_way(self):
+        with tempfile.TemporaryDirectory() as folder:
+            path = os.path.join(folder, "audit")
+            with socket.socket(socket.AF_UNIX) as killed:
+                killed.bind(path)
+            live = self.live(1)
+            with AuditServer(live, path), AuditClient(path) as client:
+                client.session(MemoryStore().connect()).run(add_one("x"))
+            self.assertEqual((self.ended(live).kind, live.taken_in), ("serial", 1))
+
+    def test_a_session_in_a_transaction_can_not_be_left(self):
+        live, store, other = self.live(2), MemoryStore(), self.another()
+        self.client.session(store.connect()).run(add_one("x"))
+        begun = other.session(store.connect())
+        begun.begin()
+        self.addCleanup(setattr, processes, "LEAVING", processes.LEAVING)
+        processes.LEAVING = 0.05
+        other.leave()
+        self.wait_for(lambda: live.is_over)
+        self.assertIn("in a transaction", str(live.failure))
 
     def test_a_process_without_sessions_may_go(self):
         live, store, other = self.live(1), MemoryStore(), self.another()

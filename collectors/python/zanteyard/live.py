@@ -43,7 +43,9 @@ class LiveAuditor:
         self.told_at, self.told_of = time.monotonic(), 0
         self.report, self.failure, self.is_stopping, self.is_meeting = None, None, False, False
         self.lost = None  # why no more is audited, though nothing else failed
-        self.at_end = []  # called once nothing more is audited
+        self.reserve = 4 * auditor.sessions  # for how many transactions there has to be room beside those that wait: a meeting's own, and others on their way
+        self.room = most  # how many may wait, by now
+        self.at_end, self.has_ended = [], False  # those are called once nothing more is audited
         self.thread = threading.Thread(target=self.serve, daemon=True)
         self.thread.start()
 
@@ -83,17 +85,18 @@ class LiveAuditor:
 
     def offer(self, session, number, logged):
         self.hand_in(time.monotonic(), session, number, unseen(logged), self.packed(logged) if self.packed else logged)
-        if self.waiting.qsize() > self.most and threading.current_thread() is not self.thread:
+        if self.waiting.qsize() > self.room and threading.current_thread() is not self.thread:
             self.wait_for_room()
 
     def hand_in(self, came, session, number, unseen, packed):
         self.handed_in_of[session] += 1  # one thread at a time has the session's turn
         if unseen:
             self.unseen.update(unseen)
-        self.waiting.put((came, session, number, packed))
+        if not self.has_ended:
+            self.waiting.put((came, session, number, packed))
 
     def wait_for_room(self, pause=0.001):
-        while self.waiting.qsize() > self.most and not self.goes_on():
+        while self.waiting.qsize() > self.room and not self.goes_on():
             time.sleep(pause)
 
     def goes_on(self):
@@ -132,6 +135,7 @@ class LiveAuditor:
         except Exception as error:  # told by who asks: a thread's own error would be lost
             self.failure = error
         finally:
+            self.has_ended = True
             for told in self.at_end:
                 told()
 
@@ -151,6 +155,7 @@ class LiveAuditor:
 
     def take_in(self, most=LONGEST):
         """What waits, up to so many; gives how many these were."""
+        self.room = max(0, min(self.most, self.auditor.limit - self.auditor.remaining - self.reserve))
         found = [self.waiting.get() for _ in range(min(self.waiting.qsize(), LONGEST, most))]  # nobody else takes any
         if found:
             self.offer_all(fragments(one[1:] for one in found if len(one) > 2))
@@ -227,6 +232,10 @@ class LiveAuditor:
                 raise failure
             if is_fenced:
                 self.fenced = session
+        for session in held:
+            if session.is_open and session.since_fence:  # its fence was aborted, for what others did: nobody does anything now
+                session.fence()
+                self.fenced = session
         return None
 
     def has_room(self):
@@ -236,9 +245,11 @@ class LiveAuditor:
     def go_behind(self, held):
         """While all are held, has each come behind the last of these fences; or says why it can't. The store aborts none, since nothing else is run:
         the number of an attempt that aborts would stand behind its session's fence, and not behind the last one of all, which then isn't settled."""
+        spare = len(self.left)
         for session in held:
-            if session.is_open and self.left and time.monotonic() - session.used_at > self.idle:
+            if session.is_open and spare and time.monotonic() - session.used_at > self.idle:
                 session.close()  # its client takes another, once it comes back
+                spare -= 1
         still_open = [session for session in held if session.is_open]
         if not still_open:
             return "no client has a session"

@@ -18,6 +18,7 @@ from .live import PAUSE, unseen
 from .sessions import Session
 
 PATIENCE = 5.0  # seconds for an answer, beside those that the call may take
+LEAVING = 30.0  # seconds for sessions to end their transactions
 
 
 class Messages:
@@ -39,6 +40,12 @@ class AuditServer:
 
     def __init__(self, live, path):
         self.live, self.path, self.processes, self.is_closing = live, path, [], False
+        try:
+            Client(path, "AF_UNIX").close()
+        except ConnectionRefusedError:
+            os.unlink(path)  # it is left of a server that was killed
+        except FileNotFoundError:
+            pass
         self.listener = Listener(path, "AF_UNIX", backlog=64)
         os.chmod(path, 0o600)
         live.at_end.append(self.tell_end)
@@ -55,7 +62,8 @@ class AuditServer:
             if self.is_closing:
                 connection.close()
                 return
-            self.processes.append(ClientProcess(self.live, connection))
+            self.processes = [*(it for it in self.processes if it.thread.is_alive()), ClientProcess(self.live, connection)]
+            self.processes[-1].thread.start()
 
     def tell_end(self):
         """Nothing more is audited: clients see it by `is_over`."""
@@ -70,7 +78,7 @@ class AuditServer:
         self.is_closing = True
         try:
             Client(self.path, "AF_UNIX").close()  # who is waited for
-            self.thread.join()
+            self.thread.join(patience)
             self.listener.close()
         except OSError:
             pass  # the socket's file is gone, so that nobody comes
@@ -95,19 +103,22 @@ class ClientProcess(Messages):
         super().__init__(connection)
         self.live, self.sessions, self.has_left = live, {}, False
         self.most = max(1, live.most // (2 * live.auditor.sessions))  # a session's transactions on their way: of all half of what may wait here
-        self.answers, self.asked = queue.SimpleQueue(), 0
+        self.answers, self.asked, self.lent = queue.SimpleQueue(), 0, {}
+        self.coming = threading.Lock()  # held while a session joins, and as none can any more
         self.thread = threading.Thread(target=self.listen, daemon=True)
-        self.thread.start()
 
     def listen(self):
         try:
             self.send("welcome", self.live.run_name, self.most)
+            if self.live.has_ended:
+                self.send("over")
             while not self.has_left:
                 kind, *rest = self.receive()
                 getattr(self, f"take_{kind}")(*rest)
         except Exception as error:  # it ended without leaving, or sent what isn't known
-            self.lose(str(error) or "it ended without leaving")
-        self.has_left = True
+            with self.coming:
+                self.lose(str(error) or "it ended without leaving")
+                self.has_left = True
         self.answers.put(None)
         self.connection.close()
 
@@ -136,12 +147,19 @@ class ClientProcess(Messages):
         if key is None:
             left = self.live.next_left()
         else:
-            with self.live.gate:  # a meeting has all sessions that there are as it begins
+            with self.live.gate, self.coming:  # a meeting has all sessions that there are as it begins
+                if self.has_left:
+                    return
                 left = self.live.next_left()
                 if left is not None:
                     self.sessions[key] = ElsewhereSession(self, key, left[0])
                     self.live.sessions.append(self.sessions[key])
+                    with self.live.lock:
+                        self.live.reserve += self.most
         self.tell("left", left)
+
+    def take_lose(self, why):
+        raise ValueError(why)
 
     def take_answer(self, *answer):
         self.answers.put(answer)
@@ -152,6 +170,7 @@ class ClientProcess(Messages):
         with self.live.lock:
             for session in self.sessions.values():
                 self.live.sessions.remove(session)
+                self.live.reserve -= self.most
             self.live.left.extend(still_open)
 
     # calls of sessions' methods, by a meeting
@@ -167,6 +186,8 @@ class ClientProcess(Messages):
         """What the method gives, there, and how the session stands then. Answers come in the order of the calls."""
         until, answer = time.monotonic() + seconds + PATIENCE, ()
         while answer is not None and answer[:1] != (asked,):  # else it is one that came late, to a call for which nobody waits any more
+            if answer and answer[0] in self.lent:
+                self.give_back(self.lent.pop(answer[0]), answer[1])
             try:
                 answer = self.answers.get(timeout=max(0.0, until - time.monotonic()))
             except queue.Empty:
@@ -176,11 +197,16 @@ class ClientProcess(Messages):
             raise Ended("it has left")
         return answer[1:]
 
+    def give_back(self, number, found):
+        """A session that was left, and whose fence was run here."""
+        if found and found[0] is not None:
+            self.live.left.append((number, found[0]))
+
     def tell(self, *message):
         """Whether it could be sent."""
         try:
             self.send(*message)
-        except OSError:
+        except (OSError, TypeError):  # the latter where it is closed meanwhile
             return False  # who listens will find out why
         return True
 
@@ -243,7 +269,11 @@ class ElsewhereSession:
         return self.begin_call("read_mark")
 
     def lend(self, number, begun):
-        begun, failure = self.call("lend", number, begun)
+        """Where no answer comes in time, the session is left again once it has come."""
+        wait = self.begin_call("lend", number, begun)
+        self.process.lent[self.process.asked] = number
+        begun, failure = wait()
+        del self.process.lent[self.process.asked]
         return begun, failed(failure)
 
     def close(self):
@@ -269,14 +299,15 @@ class AuditClient(Messages):
         self.gate = threading.Lock()  # held from the first session of this process that a meeting holds to the last
         self.waiting, self.handing, self.sent, self.taken = queue.SimpleQueue(), threading.Lock(), 0, 0
         self.answers, self.asking = queue.SimpleQueue(), threading.Lock()
-        self.is_over = self.is_leaving = False
-        self.threads = [threading.Thread(target=target, daemon=True) for target in (self.listen, self.hand_over)]
+        self.calls = queue.SimpleQueue()  # of meetings; the thread that listens runs none, since a session may wait for what it hears
+        self.is_over = self.is_gone = self.is_leaving = False
+        self.threads = [threading.Thread(target=target, daemon=True) for target in (self.listen, self.run_calls, self.hand_over)]
         for thread in self.threads:
             thread.start()
 
     def session(self, store, **more):
         """The session of a new client."""
-        made = Session(self, None, store, self.run_name, renew=self.next_left, **more)
+        made = Session(self, None, store, self.run_name, renew=lambda: self.renewed(made), **more)
         made.gate = self.gate
         with made.turn:  # no meeting holds it before it has its number
             self.sessions.append(made)
@@ -287,9 +318,14 @@ class AuditClient(Messages):
             made.number, made.begun = left
         return made
 
+    def renewed(self, session):
+        """A number for a session that has ended: its own, where nobody audits it any more."""
+        left = self.next_left()
+        return (session.number, session.begun) if left is None and self.is_gone else left
+
     def next_left(self, key=None):
         with self.asking:
-            if self.is_over:
+            if self.is_gone:
                 return None
             try:
                 self.send("join", key)
@@ -298,17 +334,24 @@ class AuditClient(Messages):
             return self.answers.get()
 
     def leave(self):
-        """Hands over what is left, and gives its sessions back. Waits for a meeting that holds them."""
+        """Hands over what is left, and gives its sessions back. Waits for a meeting that holds them. Where one is still in a transaction after half a minute,
+        the process is as lost as if it had ended."""
         if self.is_leaving:
             return
-        self.is_leaving = True
-        for session in self.sessions:
-            session.turn.acquire()
+        self.is_leaving, ends = True, time.monotonic() + LEAVING
+        taken = [session for session in self.sessions if session.turn.acquire(timeout=max(0.0, ends - time.monotonic()))]
         try:
             self.hand_over_all()
-            self.send("leave", [(session.number, session.begun) for session in self.sessions if session.is_open])
+            if len(taken) == len(self.sessions):
+                self.send("leave", [(session.number, session.begun) for session in self.sessions if session.is_open])
+            else:
+                self.send("lose", "a session was in a transaction as it left")
         except OSError:
             pass  # the auditor's process is gone
+        for session in self.sessions:
+            session.is_open, session.renew = False, None
+        for session in taken:
+            session.turn.release()
         for thread in self.threads:
             thread.join()
         self.connection.close()
@@ -338,7 +381,7 @@ class AuditClient(Messages):
     # the threads
 
     def hand_over(self):
-        while not (self.is_leaving or self.is_over):
+        while not (self.is_leaving or self.is_gone):
             time.sleep(PAUSE)
             self.hand_over_all()
 
@@ -360,10 +403,18 @@ class AuditClient(Messages):
         except (EOFError, OSError):
             pass  # the auditor's process has closed it, or is gone
         finally:
-            self.is_over = True
+            self.is_over = self.is_gone = True
             self.answers.put(None)
-            for session in list(self.held):
-                self.call_let_go(session)
+            self.calls.put(None)
+
+    def run_calls(self):
+        for call in iter(self.calls.get, None):
+            try:
+                self.run_call(*call)
+            except OSError:
+                pass  # the auditor's process is gone
+        for session in list(self.held):
+            self.call_let_go(session)
 
     def take_taken(self, count):
         self.taken += count
@@ -374,12 +425,17 @@ class AuditClient(Messages):
     def take_over(self):
         self.is_over = True
 
-    def take_call(self, asked, key, name, arguments):
+    def take_call(self, *call):
+        self.calls.put(call)
+
+    def run_call(self, asked, key, name, arguments):
         session, result, failure = self.sessions[key], None, None
         try:
             result = getattr(self, f"call_{name}")(session, *arguments)
         except Exception as error:
             failure = told(error)
+        if self.is_leaving and name == "enter" and not self.held:
+            return  # it leaves at once, which answers the call
         if asked:
             self.hand_over_all()
             self.send("answer", asked, result, failure, (session.number, session.is_open, session.since_fence, session.used_at))
@@ -387,7 +443,7 @@ class AuditClient(Messages):
     def call_enter(self, session, seconds):
         if not self.held:
             self.gate.acquire()
-        is_held, is_fenced, failure = (False, False, None) if self.is_leaving else session.enter(seconds)
+        is_held, is_fenced, failure = session.enter(seconds)
         if is_held:
             self.held.add(session)
         elif not self.held:

@@ -90,14 +90,16 @@ class Session:
 
     def enter(self, seconds):
         """Takes the turn as the transaction that has it ends, if that is within so many seconds, and runs a fence where anything was done since the
-        last one. Gives whether it was taken, whether the fence was run, and what failed."""
+        last one. Gives whether it was taken, whether the fence was run, and what failed. Where the store aborts it, it is run once nothing else is."""
         if not self.turn.acquire(timeout=max(0, seconds)):
             return False, False, None
         try:
             is_due = self.is_open and self.since_fence > 0
             if is_due:
-                self.fence()
+                self.fence(attempts=2)
             return True, is_due, None
+        except Aborted:
+            return True, False, None
         except Exception as error:
             return True, False, error
 
@@ -107,8 +109,8 @@ class Session:
     def run_held(self, body, attempts=10):
         return attempted(lambda: self.start(holds=False), body, attempts)
 
-    def fence(self):
-        self.run_held(lambda transaction: transaction.exchange(FENCE, ""))
+    def fence(self, attempts=10):
+        self.run_held(lambda transaction: transaction.exchange(FENCE, ""), attempts)
         self.since_fence = 0
 
     def read_all(self, keys):
