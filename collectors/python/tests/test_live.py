@@ -77,9 +77,9 @@ class Meetings(WithProgram):
         for turn in range(8):
             for _ in range(5):
                 a.run(add_one("x")), b.run(add_one("x"))
-            self.wait_for(lambda: live.rounds > turn)
-        self.assertEqual(self.ended(live).kind, "serial")
+            self.wait_for(lambda: live.cuts > turn)
         self.assertEqual(live.cuts, 8)
+        self.assertEqual(self.ended(live).kind, "serial")
         self.assertEqual(sum(self.auditor.marks) + sum(map(len, self.auditor.history)), live.taken_in)
 
     def test_clients_that_wait_for_the_auditor_come_to_meetings(self):
@@ -95,9 +95,10 @@ class Meetings(WithProgram):
         a.run(set_to("x", 1))
         b.run(set_to("x", 2))
         self.wait_for(lambda: live.rounds)
+        history = [[*txns] for txns in self.auditor.history]
         self.ended(live)
         fence, read = (lambda *before: ([(FENCE, *before)], [FENCE])), (lambda key, source: ([(key, source)], []))
-        done = [[(one.reads, one.writes) for one in txns] for txns in self.auditor.history]
+        done = [[(one.reads, one.writes) for one in txns] for txns in history]
         self.assertEqual(done[0], [([], ["x"]), fence("init"), read(MARK, (1, 3))])
         self.assertEqual(done[1], [([], ["x"]), fence((0, 1)), read("x", (1, 0)), ([(MARK, "init")], [MARK])])
         self.assertEqual(done[2], [fence((1, 1))])  # it has no client
@@ -119,8 +120,8 @@ class Meetings(WithProgram):
         for session in (a, b, c):
             session.run(add_one("x"))
         self.wait_for(lambda: live.cuts)
-        self.assertEqual(self.ended(live).kind, "serial")
         self.assertEqual(could_go_on, [False, False, False])
+        self.assertEqual(self.ended(live).kind, "serial")
 
     def test_an_idle_session_has_its_fence_at_each_meeting(self):
         live, store = self.live(2, every=4), MemoryStore()

@@ -151,7 +151,7 @@ class Elsewhere(test_live.Meetings):
             live = self.live(1)
             with AuditServer(live, path), AuditClient(path) as client:
                 client.session(MemoryStore().connect()).run(add_one("x"))
-            self.assertEqual((self.ended(live).kind, live.taken_in), ("serial", 1))
+            self.assertEqual((self.ended(live).kind, live.taken_in), ("serial", 2))  # it leaves with a fence
 
     def test_a_session_in_a_transaction_can_not_be_left(self):
         live, store, other = self.live(2), MemoryStore(), self.another()

@@ -340,6 +340,12 @@ class AuditClient(Messages):
             return
         self.is_leaving, ends = True, time.monotonic() + LEAVING
         taken = [session for session in self.sessions if session.turn.acquire(timeout=max(0.0, ends - time.monotonic()))]
+        for session in taken:
+            if session.is_open and session.since_fence:
+                try:
+                    session.fence()  # else what it did stands in front of no meeting's fence but the next one's but one
+                except Exception:
+                    pass  # the store's: it is as if it had left without
         try:
             self.hand_over_all()
             if len(taken) == len(self.sessions):
