@@ -205,9 +205,11 @@ class LiveAuditor:
 
     def meet(self):
         """Gives how many waited to be taken in as clients went on: no read of these has a source that isn't among them, or was taken in before."""
-        held, self.is_meeting = deque(), True
+        held, summoned, self.is_meeting = deque(), [*self.sessions], True
         try:
             with self.gate:
+                for session in summoned:
+                    session.summon()
                 self.why_not = self.run_fences(held) or self.go_behind(held)
         except Exception as error:  # the store's: a client will meet it too
             self.why_not = f"the meeting failed ({str(error).strip() or type(error).__name__})"
@@ -215,6 +217,8 @@ class LiveAuditor:
             self.is_meeting, came = False, self.waiting.qsize()
             for session in held:
                 session.let_go()
+            for session in summoned:
+                session.dismiss()
         self.met_at, self.met = self.handed_in, time.monotonic()
         return came
 

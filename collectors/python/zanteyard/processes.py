@@ -256,6 +256,12 @@ class ElsewhereSession:
     def let_go(self):
         self.process.tell("call", 0, self.key, "let_go", ())
 
+    def summon(self):
+        self.process.tell("call", 0, self.key, "summon", ())
+
+    def dismiss(self):
+        self.process.tell("call", 0, self.key, "dismiss", ())
+
     def fence(self):
         self.call("fence")
 
@@ -296,7 +302,7 @@ class AuditClient(Messages):
         super().__init__(Client(path, "AF_UNIX"))
         _, self.run_name, self.most = self.receive()
         self.sessions, self.held = [], set()
-        self.gate = threading.Lock()  # held from the first session of this process that a meeting holds to the last
+        self.gate, self.is_meeting = threading.Lock(), False  # it is held while a meeting goes on
         self.waiting, self.handing, self.sent, self.taken = queue.SimpleQueue(), threading.Lock(), 0, 0
         self.answers, self.asking = queue.SimpleQueue(), threading.Lock()
         self.calls = queue.SimpleQueue()  # of meetings; the thread that listens runs none, since a session may wait for what it hears
@@ -421,6 +427,7 @@ class AuditClient(Messages):
                 pass  # the auditor's process is gone
         for session in list(self.held):
             self.call_let_go(session)
+        self.call_dismiss(None)
 
     def take_taken(self, count):
         self.taken += count
@@ -447,21 +454,25 @@ class AuditClient(Messages):
             self.send("answer", asked, result, failure, (session.number, session.is_open, session.since_fence, session.used_at))
 
     def call_enter(self, session, seconds):
-        if not self.held:
-            self.gate.acquire()
         is_held, is_fenced, failure = session.enter(seconds)
         if is_held:
             self.held.add(session)
-        elif not self.held:
-            self.gate.release()
         return is_held, is_fenced, told(failure)
 
     def call_let_go(self, session):
         if session in self.held:
             self.held.remove(session)
-            if not self.held:
-                self.gate.release()
             session.let_go()
+
+    def call_summon(self, session):
+        if not self.is_meeting:
+            self.gate.acquire()
+            self.is_meeting = True
+
+    def call_dismiss(self, session):
+        if self.is_meeting:
+            self.is_meeting = False
+            self.gate.release()
 
     def call_fence(self, session):
         session.fence()

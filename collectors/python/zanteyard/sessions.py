@@ -88,6 +88,12 @@ class Session:
 
     has_left = False  # it can't be held any more
 
+    def summon(self):
+        """As a meeting begins, which holds the gate: here no transaction begins any more."""
+
+    def dismiss(self):
+        """As it has ended."""
+
     def enter(self, seconds):
         """Takes the turn as the transaction that has it ends, if that is within so many seconds, and runs a fence where anything was done since the
         last one. Gives whether it was taken, whether the fence was run, and what failed. Where the store aborts it, it is run once nothing else is."""
