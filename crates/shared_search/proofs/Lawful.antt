@@ -7,13 +7,14 @@ use Rattle.std.proofs.lemmas.Nat.{pow-add, pow_pos}
 use Rattle.std.proofs.Math.Nat.{add-mul, lt-div-mul-add, mul-le-mul_right}
 use Rattle.std.proofs.lemmas.Option.{slice_get-get_or}
 use Rattle.txn.specs.declared.transactions.TxnId.{TxnId}
+use Rattle.order_check.specs.declared.remainder.Parts.{Parts}
 use Rattle.order_check.specs.Known.{IsChoice, IsOpen, AreOpenChoices}
 use Rattle.order_check.specs.Search.{Outcome, has_order, no_order, used_up}
 use Rattle.order_check.specs.SearchLaws.{ScansFindOne}
 use Rattle.refutation.specs.declared.trees.Tree.{Tree}
 use Rattle.refutation.specs.Joining.{cube_sides, IsJoin}
 use Rattle.refutation.specs.Laws.{JoinedTreesRefute, JoinedDepth}
-use Rattle.refutation.specs.Refutes.{depth_of}
+use Rattle.refutation.specs.Refutes.{depth_of, IsRefutation}
 use Rattle.polygraph.specs.ProblemState.{ProblemState}
 use Rattle.polygraph.specs.declared.solving.Cube.{Cube}
 use Rattle.polygraph.specs.declared.solving.Cube.TheVariants.{Yes, No, Spent}
@@ -187,3 +188,8 @@ both_laws law refute deep problem budget depth count answer low open_choices is 
     let q = subst (λ (n : ℕ). Picked (MayGive problem depth (budget / n)) (split_choices problem depth) n answer) is p in
     let h = picked_of law problem budget depth refute deep answer low open_choices q in
     (lawful_of law problem budget depth answer open_choices q h, h)
+
+-- where a search may come to a no, it may come to one by another tree
+pub other_tree : (parts : Parts) (budget depth : ℕ) (tree other : Tree) → IsRefutation parts other → MayComeTo parts budget depth (answers.No tree) → MayComeTo parts budget depth (answers.No other)
+other_tree parts budget depth tree other refutes (problem, is, about, inl picked) = (problem, is, about, inl (subst (λ (p : Parts). IsRefutation p other) (sym about) refutes, picked.1))
+other_tree parts budget depth tree other refutes (problem, is, about, inr (decided, spent)) = (problem, is, about, inr (tt, spent))
