@@ -1,7 +1,9 @@
 -- Right replies are legal: they are so by the engine alone, and what they say is true of whole histories that it stands for.
-use Rattle.std.proofs.Common.{◌≡◌, ℕ, ◌+◌, Option, Some, None, refl, sym, ap, ◌∙◌, subst}
-use Rattle.std.specs.Prelude.{IsSomeAnd}
+use Rattle.std.proofs.Common.{◌≡◌, ℕ, ◌+◌, ◌⊎◌, ⊎_elim, Option, Some, None, refl, sym, ap, ◌∙◌, subst}
+use Rattle.std.specs.Prelude.{IfSome, IsSomeAnd}
 use Rattle.txn.specs.History.{History}
+use Rattle.txn.specs.declared.refusals.Refusal.{Refusal}
+use Rattle.txn.specs.declared.refusals.Refusal.TheVariants as refusals
 use Rattle.order_check.specs.declared.remainder.Parts.{Parts}
 use Rattle.order_check.specs.declared.remainder.Kind.{Kind}
 use Rattle.order_check.specs.declared.remainder.Kind.TheVariants as kinds
@@ -21,8 +23,8 @@ use Rattle.round_state.specs.EngineState.{EngineState}
 use Rattle.round_state.specs.Kept.{IsFitting}
 use Rattle.round_state.specs.Legal.{State, Legal, IsTrueOf, TellsOf, IsTrueReply, whole_after, asked_after}
 use Rattle.round_state.specs.Runs.{Holds, StepsLegally}
-use Rattle.round_state.specs.Solving.{IsRight, IsReportOn}
-use Rattle.round_state.specs.Steps.{IsFinished, IsHeldAfter, IsKindOf, Shows, IsRightReport, StepsTo}
+use Rattle.round_state.specs.Solving.{IsRight, IsWrong, IsReportOn}
+use Rattle.round_state.specs.Steps.{IsFinishRefusal, IsSolvedRefusal, IsFinished, IsHeldAfter, IsKindOf, Shows, IsRightReport, StepsTo}
 use Rattle.round_state.specs.declared.reports.Certificate.{Certificate}
 use Rattle.round_state.specs.declared.reports.Certificate.TheVariants.{Order, Refuted, Nothing}
 use Rattle.round_state.specs.declared.reports.Report.{Report}
@@ -48,16 +50,44 @@ earned parts budget depth answers.Spent kind Nothing law good lawful right =
     subst (λ (k : Kind). IsKindOf parts k × Shows parts budget depth k Nothing) (sym right) (tt, lawful)
 earned parts budget depth answer kind certificate law good lawful right = absurd right
 
-right_report : (old new : EngineState) (asked : Option Parts) (parts : Parts) (budget depth : ℕ) (answer : Answer) (report : Report) → RefutedHasNoOrder → IsGood parts → asked ≡ Some parts → IsLawful parts budget depth answer → IsSomeAnd asked (λ p. IsReportOn p (old.rounds + 1) answer report × IsHeldAfter p report.kind old.held new.held) → IsSomeAnd asked (λ p. IsRightReport old p budget depth report × IsHeldAfter p report.kind old.held new.held)
-right_report old new None parts budget depth answer report law good e lawful said = absurd said
-right_report old new (Some snapshot) parts budget depth answer report law good e lawful said =
-    let same : parts ≡ snapshot = cc in
-    let earns = earned snapshot budget depth answer report.kind report.certificate law (subst IsGood same good) (subst (λ (p : Parts). IsLawful p budget depth answer) same lawful) said.0.right in
+-- what an engine knows of the snapshot of its open round
+abbrev pub HasGoodSnapshot : Option Parts → Type 0
+HasGoodSnapshot asked = (parts : Parts) → asked ≡ Some parts → IsGood parts
+
+right_report : (old new : EngineState) (asked : Option Parts) (budget depth : ℕ) (answer : Answer) (report : Report) → RefutedHasNoOrder → HasGoodSnapshot asked → IfSome asked (λ p. IsLawful p budget depth answer) → IsSomeAnd asked (λ p. IsReportOn p (old.rounds + 1) answer report × IsHeldAfter p report.kind old.held new.held) → IsSomeAnd asked (λ p. IsRightReport old p budget depth report × IsHeldAfter p report.kind old.held new.held)
+right_report old new None budget depth answer report law good lawful said = absurd said
+right_report old new (Some snapshot) budget depth answer report law good lawful said =
+    let earns = earned snapshot budget depth answer report.kind report.certificate law (good snapshot refl) lawful said.0.right in
     (record { number = said.0.number; counts = said.0.counts; kind = earns.0; shown = earns.1 }, said.1)
 
-pub finish_reported : (old new : EngineState) (parts : Parts) (budget depth workers : ℕ) (answer : Answer) (report : Report) → RefutedHasNoOrder → ((parts : Parts) → old.asked ≡ Some parts → IsGood parts) → old.asked ≡ Some parts → IsLawful parts budget depth answer → IsSomeAnd old.asked (λ p. IsReportOn p (old.rounds + 1) answer report × IsHeldAfter p report.kind old.held new.held) → IsFinished old new → StepsTo old (Finish budget depth workers) (reply.Report report) new
-finish_reported old new parts budget depth workers answer report law good open_round lawful said done =
-    (right_report old new old.asked parts budget depth answer report law (good parts open_round) open_round lawful said, done)
+pub finish_reported : (old new : EngineState) (budget depth workers : ℕ) (answer : Answer) (report : Report) → RefutedHasNoOrder → HasGoodSnapshot old.asked → IfSome old.asked (λ p. IsLawful p budget depth answer) → IsSomeAnd old.asked (λ p. IsReportOn p (old.rounds + 1) answer report × IsHeldAfter p report.kind old.held new.held) → IsFinished old new → StepsTo old (Finish budget depth workers) (reply.Report report) new
+finish_reported old new budget depth workers answer report law good lawful said done =
+    (right_report old new old.asked budget depth answer report law good lawful said, done)
+
+-- an answer that is lawful for the parts of the open round
+pub asked_lawful : (asked : Option Parts) (parts : Parts) (budget depth : ℕ) (answer : Answer) → asked ≡ Some parts → IsLawful parts budget depth answer → IfSome asked (λ p. IsLawful p budget depth answer)
+asked_lawful asked parts budget depth answer is lawful = subst (λ (a : Option Parts). IfSome a (λ p. IsLawful p budget depth answer)) (sym is) lawful
+
+wrong_or_lawful : (parts : Parts) (budget depth : ℕ) (answer : Answer) → IsLawful parts budget depth answer → IsWrong parts answer → ⊥
+wrong_or_lawful parts budget depth (answers.Yes order) lawful wrong = wrong lawful
+wrong_or_lawful parts budget depth (answers.No tree) lawful wrong = wrong lawful
+wrong_or_lawful parts budget depth answer lawful wrong = wrong
+
+none_wrong : (asked : Option Parts) (budget depth : ℕ) (answer : Answer) → IfSome asked (λ p. IsLawful p budget depth answer) → IsSomeAnd asked (λ p. IsWrong p answer) → ⊥
+none_wrong None budget depth answer lawful wrong = wrong
+none_wrong (Some parts) budget depth answer lawful wrong = wrong_or_lawful parts budget depth answer lawful wrong
+
+-- a lawful answer is never refused as wrong
+pub finish_refused : (old : EngineState) (budget depth : ℕ) (answer : Answer) (refusal : Refusal) → IfSome old.asked (λ p. IsLawful p budget depth answer) → IsFinishRefusal old answer refusal → IsSolvedRefusal old refusal
+finish_refused old budget depth answer refusals.NoRound lawful said = said
+finish_refused old budget depth answer refusals.NoMemory lawful said = said
+finish_refused old budget depth answer refusals.BadCertificate lawful said = absurd (none_wrong old.asked budget depth answer lawful said)
+finish_refused old budget depth answer refusal lawful said = absurd said
+
+-- a finish is replied to by a report or a refusal
+pub other_than_told : (old new : EngineState) (budget depth workers : ℕ) (said : StepReply) → StepsTo old (Finish budget depth workers) said new → (said ≡ reply.Done) ⊎ ((cut : Cut) × (said ≡ reply.Cut cut)) → ⊥
+other_than_told old new budget depth workers said right is =
+    ⊎_elim (λ (e : said ≡ reply.Done). subst (λ (s : StepReply). StepsTo old (Finish budget depth workers) s new) e right) (λ (some : (cut : Cut) × (said ≡ reply.Cut cut)). subst (λ (s : StepReply). StepsTo old (Finish budget depth workers) s new) some.1 right) is
 
 -- Whole histories.
 

@@ -1,5 +1,6 @@
-ghost use Rattle.std.specs.Prelude.{◌≡◌, ◌<◌, ◌≤◌, [], ◌∷◌, ◌++◌, All, IfOk, OnErr, vec_len, vec_capacity};
+ghost use Rattle.std.specs.Prelude.{◌≡◌, ℕ, ◌<◌, ◌≤◌, [], ◌∷◌, ◌++◌, All, IfOk, IfSome, OnErr, vec_len, vec_capacity};
 ghost use Rattle.order_check.specs.Effort.{IsEffort};
+ghost use Rattle.polygraph.specs.Solving.{IsLawful};
 ghost use Rattle.round_state.specs.EngineState.{EngineState, parts_asked};
 ghost use Rattle.round_state.specs.Runs.{HasLimits, StepsLegally, RunsLegally};
 ghost use Rattle.round_state.specs.Steps.{StepsTo, RunsTo};
@@ -7,7 +8,7 @@ ghost use Rattle.round_state.specs.Steps.{StepsTo, RunsTo};
 use crate::reports::Report;
 use crate::state::Engine;
 use order_check::{close_keeps_stands_for, offer_keeps_stands_for, verdict_as_stood_for};
-use polygraph::{Problem, Solver};
+use polygraph::{Answer, Problem, Solver};
 use refutation::refuted_has_no_order;
 use settle::Cut;
 use std::alloc::Global;
@@ -105,14 +106,27 @@ impl Engine {
         let Some(problem) = kept.as_ref() else {
             return StepReply::Refused(Refusal::NoRound);
         };
-        refuted_has_no_order();
-        self.has_good_snapshot();
         let answer = solver.solve(alloc, problem, budget, depth, workers);
-        match self.finish(alloc, answer) {
-            Ok(report) => {
+        match self.finish_lawfully(alloc, answer) {
+            StepReply::Report(report) => {
                 *kept = None;
                 StepReply::Report(report)
             }
+            StepReply::Refused(refusal) => StepReply::Refused(refusal),
+            StepReply::Done | StepReply::Cut(_) => unreachable!(),
+        }
+    }
+
+    /// Finishes the open round by an answer, which is checked here. Where it is what a search of this budget and depth may answer for the
+    /// round's snapshot, the reply is right for a finish by such a search, whatever workers share it; it is then refused only for want of
+    /// memory, or because no round is open.
+    pub fn finish_lawfully(&mut self, alloc: Global, answer: Answer) -> StepReply
+        ensures { (budget depth workers : ℕ) → IfSome self.old.asked (λ parts. IsLawful parts budget depth answer) → StepsTo self.old (Step.Finish budget depth workers) result self.new }
+    {
+        refuted_has_no_order();
+        self.has_good_snapshot();
+        match self.finish(alloc, answer) {
+            Ok(report) => StepReply::Report(report),
             Err(refusal) => StepReply::Refused(refusal),
         }
     }
@@ -151,8 +165,9 @@ impl Engine {
         }
     }
 
-    /// What is right by the engine alone is legal for all whole histories that it stands for.
-    fn right_is_legal(&self)
+    /// What is right by the engine alone is legal for all whole histories that it stands for. It does nothing: a caller of single calls, each
+    /// of which says what is right, learns by it that the call was legal.
+    pub fn right_is_legal(&self)
         ensures { (step : Step) (reply : StepReply) (new : EngineState) → StepsTo self.now step reply new → StepsLegally self.now step reply new }
     {
         offer_keeps_stands_for();
