@@ -20,7 +20,7 @@ use Rattle.polygraph.specs.declared.solving.Cube.{Cube}
 use Rattle.polygraph.specs.declared.solving.Cube.TheVariants.{Yes, No, Spent}
 use Rattle.polygraph.specs.Noted.{IsAt}
 use Rattle.polygraph.specs.Outcomes.{IsCube, split_choices}
-use Rattle.polygraph.specs.Shown.{outcome_of, IsAbove}
+use Rattle.polygraph.specs.Shown.{outcome_of, OrderKeeps, IsAbove}
 use Rattle.polygraph.proofs.Scanned.{assumed_length}
 
 -- what is known from the start stays known where sides are taken
@@ -130,9 +130,10 @@ split_are_choices parts choices depth are k d within = (All-take (IsOpen parts [
 pub told_of_cube : (problem : ProblemState) (depth cube share : ℕ) (branch : BranchState) (steps : List ForceStep) (found : Cube) →
     IsAt problem.known.parts (cube_sides (split_choices problem depth) cube []) branch steps →
     (left : ℕ) × Scans branch.parts (assumed branch.levels) share (outcome_of found) left →
+    OrderKeeps (assumed branch.levels) found →
     IsAbove branch.parts (assumed branch.levels) (2 * length branch.levels) 4095 found →
     IsCube problem depth share cube found
-told_of_cube problem depth cube share branch steps found at (left, scans) above = by_kind found (left, here scans) (moved above)
+told_of_cube problem depth cube share branch steps found at (left, scans) keeps above = by_kind found (left, here scans) (subst (λ s. OrderKeeps s found) at.sides_of keeps) (moved above)
   where
     sides : Sides
     sides = cube_sides (split_choices problem depth) cube []
@@ -146,10 +147,10 @@ told_of_cube problem depth cube share branch steps found at (left, scans) above 
     moved : IsAbove branch.parts (assumed branch.levels) (2 * length branch.levels) 4095 found → IsAbove problem.known.parts sides (2 * length (split_choices problem depth)) 4095 found
     moved h = subst (λ n. IsAbove problem.known.parts sides (2 * n) 4095 found) levels (subst (λ s. IsAbove problem.known.parts s (2 * length branch.levels) 4095 found) at.sides_of (subst (λ p. IsAbove p (assumed branch.levels) (2 * length branch.levels) 4095 found) at.parts_of h))
 
-    by_kind : (f : Cube) → (left : ℕ) × Scans problem.known.parts sides share (outcome_of f) left → IsAbove problem.known.parts sides (2 * length (split_choices problem depth)) 4095 f → IsCube problem depth share cube f
-    by_kind (Yes order) finds h = (finds, h)
-    by_kind (No tree) finds h = (finds, record { right = h.0; shallow = h.1 })
-    by_kind Spent finds h = finds
+    by_kind : (f : Cube) → (left : ℕ) × Scans problem.known.parts sides share (outcome_of f) left → OrderKeeps sides f → IsAbove problem.known.parts sides (2 * length (split_choices problem depth)) 4095 f → IsCube problem depth share cube f
+    by_kind (Yes order) finds keeps h = (finds, h, keeps)
+    by_kind (No tree) finds keeps h = (finds, record { right = h.0; shallow = h.1 })
+    by_kind Spent finds keeps h = finds
 
 pub spent_of_cube : (law : ScansAreBounded) (problem : ProblemState) (depth cube share : ℕ) (found : Cube) → depth ≤ 6 → share < 2 ^ 64 → AreOpenChoices problem.known.parts [] problem.choices → IsCube problem depth share cube found → found ≡ Spent → share + 1 < 2 ^ (length problem.choices - length (split_choices problem depth) + 1)
 spent_of_cube law problem depth cube share found low fits are told is =

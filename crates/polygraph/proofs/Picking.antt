@@ -18,7 +18,7 @@ use Rattle.polygraph.specs.ProblemState.{ProblemState}
 use Rattle.polygraph.specs.declared.solving.Answer.{Answer}
 use Rattle.polygraph.specs.declared.solving.Answer.TheVariants.{Yes, No, Spent, NoMemory}
 use Rattle.polygraph.specs.Outcomes.{split_choices, cube_count, share_of, Finds, IsLeastYes, RefutesCube, IsPicked}
-use Rattle.polygraph.specs.Solving.{IsLawful}
+use Rattle.polygraph.specs.Solving.{MayComeTo, IsLawful}
 use Rattle.polygraph.specs.SoFar.{AreRefuted, IsTooSmall, IsSoFar, IsPickedOf}
 use Rattle.polygraph.proofs.CubeBounds.{split_are_choices}
 
@@ -105,13 +105,17 @@ budget_bound budget e c share low is small =
     let moved : budget < share * 2 ^ e + 2 ^ e = subst (λ n. budget < n * 2 ^ e + 2 ^ e) (sym is) parts in
     omega (arith, whole, more, split, moved)
 
+-- what the cubes come to is what a search may come to
+may_come : (problem : ProblemState) (budget depth : ℕ) (answer : Answer) → AreOpenChoices problem.known.parts [] problem.choices → IsPicked problem budget depth answer → MayComeTo problem.known.parts budget depth answer
+may_come problem budget depth answer open_choices picked = (problem, record { open_choices = open_choices }, refl, inl picked)
+
 pub lawful_of : (problem : ProblemState) (budget depth : ℕ) (answer : Answer) → AreOpenChoices problem.known.parts [] problem.choices → IsPickedOf problem depth (share_of problem budget depth) answer → IsLawful problem.known.parts budget depth answer
-lawful_of problem budget depth (Yes order) open_choices h = h.0
-lawful_of problem budget depth (No tree) open_choices h = h.0
+lawful_of problem budget depth (Yes order) open_choices h = (h.0, may_come problem budget depth (Yes order) open_choices h)
+lawful_of problem budget depth (No tree) open_choices h = (h.0, may_come problem budget depth (No tree) open_choices h)
 lawful_of problem budget depth Spent open_choices h =
     let few = length-take depth problem.choices in
     let bound = budget_bound budget (length (split_choices problem depth)) (length problem.choices) (share_of problem budget depth) (omega (arith, few)) refl h.1 in
-    (problem.choices, open_choices, subst (λ n. budget + 2 ^ n < 2 ^ (length problem.choices + 1)) few bound)
+    ((problem.choices, open_choices, subst (λ n. budget + 2 ^ n < 2 ^ (length problem.choices + 1)) few bound), may_come problem budget depth Spent open_choices h.0)
 lawful_of problem budget depth NoMemory open_choices h = h
 
 pub trees_joined : (refute : JoinedTreesRefute) (deep : JoinedDepth) (problem : ProblemState) (depth share cube : ℕ) (trees : List Tree) (tree : Tree) → depth ≤ 6 → AreOpenChoices problem.known.parts [] problem.choices → AreRefuted problem depth share cube trees → IsJoin (split_choices problem depth) trees tree → IsRefutation problem.known.parts tree

@@ -5,8 +5,10 @@ use Rattle.txn.specs.declared.choices.Choice.{Choice}
 use Rattle.txn.specs.declared.choices.Side.{Side}
 use Rattle.order_check.specs.declared.remainder.Parts.{Parts}
 use Rattle.order_check.specs.BadReads.{IsNoWrite, IsGoneRead}
+use Rattle.order_check.specs.Cycles.{Sides}
 use Rattle.order_check.specs.Explains.{Explains}
 use Rattle.order_check.specs.Search.{Outcome, has_order, no_order, used_up, IsHopeless}
+use Rattle.order_check.specs.TakenSides.{KeepsSides}
 use Rattle.refutation.specs.declared.trees.Leaf.{Leaf}
 use Rattle.refutation.specs.declared.trees.Leaf.TheVariants as leaves
 use Rattle.refutation.specs.Refutes.{IsClosed, Refutes, depth_of}
@@ -36,6 +38,12 @@ abbrev pub outcome_of : Cube → Outcome
 outcome_of (cubes.Yes order) = has_order
 outcome_of (cubes.No tree) = no_order
 outcome_of cubes.Spent = used_up
+
+-- where an order was found, it keeps these sides
+abbrev pub OrderKeeps : Sides → Cube → Type 0
+OrderKeeps sides (cubes.Yes order) = KeepsSides order sides
+OrderKeeps sides (cubes.No tree) = ⊤
+OrderKeeps sides cubes.Spent = ⊤
 
 -- what is found at the node of the branch is shown: a tree stands below all that is forced there
 abbrev pub IsShown : BranchState → Cube → Type 0

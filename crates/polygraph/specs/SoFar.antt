@@ -2,12 +2,13 @@
 use Rattle.std.specs.Prelude.{◌≡◌, ℕ, ◌+◌, ◌-◌, ◌<◌, ◌^◌, ⊤, Bool, true, false, List, length, slice_get, Some}
 use Rattle.order_check.specs.Explains.{Explains}
 use Rattle.order_check.specs.Search.{has_order, no_order, used_up}
+use Rattle.order_check.specs.TakenSides.{KeepsSides}
 use Rattle.refutation.specs.declared.trees.Tree.{Tree}
 use Rattle.refutation.specs.Refutes.{IsRefutation}
 use Rattle.polygraph.specs.ProblemState.{ProblemState}
 use Rattle.polygraph.specs.declared.solving.Answer.{Answer}
 use Rattle.polygraph.specs.declared.solving.Answer.TheVariants as answers
-use Rattle.polygraph.specs.Outcomes.{split_choices, Finds, ComesTo, IsLeastYes, RefutesCube}
+use Rattle.polygraph.specs.Outcomes.{split_choices, sides_of_cube, Finds, ComesTo, IsLeastYes, RefutesCube}
 
 -- each cube below this number is refuted, by the tree at its place
 pub record AreRefuted (problem : ProblemState) (depth share cube : ℕ) (trees : List Tree) : Type 0 where
@@ -34,7 +35,7 @@ pub record IsSoFar (problem : ProblemState) (depth share cube : ℕ) (trees : Li
 
 -- the cubes with this share come to the answer
 abbrev pub IsPickedOf : ProblemState → ℕ → ℕ → Answer → Type 0
-IsPickedOf problem depth share (answers.Yes order) = Explains problem.known.parts order × ((cube : ℕ) × IsLeastYes problem depth share cube)
+IsPickedOf problem depth share (answers.Yes order) = Explains problem.known.parts order × ((cube : ℕ) × IsLeastYes problem depth share cube × KeepsSides order (sides_of_cube problem depth cube))
 IsPickedOf problem depth share (answers.No tree) = IsRefutation problem.known.parts tree × ComesTo problem depth share no_order
 IsPickedOf problem depth share answers.Spent = ComesTo problem depth share used_up × IsTooSmall problem depth share
 IsPickedOf problem depth share answers.NoMemory = ⊤

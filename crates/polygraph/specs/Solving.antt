@@ -1,10 +1,13 @@
 -- What a solver may answer.
-use Rattle.std.specs.Prelude.{ℕ, ◌+◌, ◌<◌, ◌^◌, ⊤, List, [], length, min}
+use Rattle.std.specs.Prelude.{◌≡◌, ℕ, ◌+◌, ◌<◌, ◌^◌, ◌⊎◌, ⊤, List, [], length, min}
 use Rattle.txn.specs.declared.choices.Choice.{Choice}
 use Rattle.order_check.specs.declared.remainder.Parts.{Parts}
 use Rattle.order_check.specs.Explains.{Explains}
 use Rattle.order_check.specs.Known.{AreOpenChoices}
+use Rattle.order_check.specs.Search.{used_up}
 use Rattle.refutation.specs.Refutes.{IsRefutation}
+use Rattle.polygraph.specs.Outcomes.{ComesTo, IsPicked, share_of}
+use Rattle.polygraph.specs.ProblemState.{ProblemState, IsProblem}
 use Rattle.polygraph.specs.declared.solving.Answer.{Answer}
 use Rattle.polygraph.specs.declared.solving.Answer.TheVariants as answers
 
@@ -13,10 +16,23 @@ use Rattle.polygraph.specs.declared.solving.Answer.TheVariants as answers
 abbrev pub MayBeSpent : Parts → ℕ → ℕ → Type 0
 MayBeSpent parts budget depth = (choices : List Choice) × AreOpenChoices parts [] choices × (budget + 2 ^ min depth (length choices) < 2 ^ (length choices + 1))
 
--- What a solver may answer for parts: an order that explains them, a tree that refutes them, or that the search is spent.
--- Want of memory may always be answered.
+-- a yes or a no
+abbrev pub IsDecided : Answer → Type 0
+IsDecided (answers.Yes order) = ⊤
+IsDecided (answers.No tree) = ⊤
+IsDecided answer = ⊥
+
+-- A search of the parts within this budget, split to this depth, may come to this answer: it is what the cubes come to, over the choices that
+-- the parts leave open; or the cubes are used up, and a yes or a no was found otherwise.
+abbrev pub MayComeTo : Parts → ℕ → ℕ → Answer → Type 0
+MayComeTo parts budget depth answer =
+    (problem : ProblemState) × IsProblem problem × (problem.known.parts ≡ parts)
+    × (IsPicked problem budget depth answer ⊎ (IsDecided answer × ComesTo problem depth (share_of problem budget depth) used_up))
+
+-- What a solver may answer for parts: an order that explains them, a tree that refutes them, or that the search is spent, which it may be;
+-- and each only where a search within this budget, split to this depth, may come to it. Want of memory may always be answered.
 abbrev pub IsLawful : Parts → ℕ → ℕ → Answer → Type 0
-IsLawful parts budget depth (answers.Yes order) = Explains parts order
-IsLawful parts budget depth (answers.No tree) = IsRefutation parts tree
-IsLawful parts budget depth answers.Spent = MayBeSpent parts budget depth
+IsLawful parts budget depth (answers.Yes order) = Explains parts order × MayComeTo parts budget depth (answers.Yes order)
+IsLawful parts budget depth (answers.No tree) = IsRefutation parts tree × MayComeTo parts budget depth (answers.No tree)
+IsLawful parts budget depth answers.Spent = MayBeSpent parts budget depth × MayComeTo parts budget depth answers.Spent
 IsLawful parts budget depth answers.NoMemory = ⊤

@@ -8,8 +8,9 @@ ghost use Rattle.order_check.specs.Explains.{Explains};
 ghost use Rattle.order_check.specs.Known.{IsChoice, IsOpen};
 ghost use Rattle.order_check.specs.Search.{Scans, IsHopeless, IsFirstOpen};
 ghost use Rattle.refutation.specs.Refutes.{Refutes, depth_of};
+ghost use Rattle.order_check.specs.TakenSides.{KeepsSides};
 ghost use Rattle.forced_choices.specs.BranchState.{arc_of, assumed};
-ghost use Rattle.polygraph.specs.Shown.{IsBadRead, IsClosedBy, outcome_of, IsShown, IsShownBeyond, IsAbove};
+ghost use Rattle.polygraph.specs.Shown.{IsBadRead, IsClosedBy, outcome_of, OrderKeeps, IsShown, IsShownBeyond, IsAbove};
 
 use crate::bad_reads::{BadRead, leaf_of};
 use crate::ordering::order_of;
@@ -27,10 +28,12 @@ const GREATEST_DEPTH: usize = 2047;
 fn explaining_order(alloc: Global, branch: &Branch) -> Result<Sequence<TxnId>, NoMemory>
     requires hopeful { ¬ IsHopeless branch.now.parts (assumed branch.now.levels) }
     requires none_open { (choice : Choice) → ¬ IsOpen branch.now.parts (assumed branch.now.levels) choice }
-    ensures { IfOk result (Explains branch.now.parts) }
+    ensures explains { IfOk result (Explains branch.now.parts) }
+    ensures sides { IfOk result (λ order. KeepsSides order (assumed branch.now.levels)) }
 {
     keeping_explains();
-    order_of(alloc, branch)
+    let order = order_of(alloc, branch)?;
+    Ok(order)
 }
 
 /// What closes the node that the branch stands at.
@@ -98,6 +101,7 @@ fn copy_of_steps(alloc: Global, steps: &[ForceStep]) -> Result<Sequence<ForceSte
 /// What was found, a tree below a node of these steps.
 pub fn above_steps(alloc: Global, steps: &[ForceStep], found: Cube) -> Result<Cube, NoMemory>
     ensures kind { IfOk result (λ whole. outcome_of whole ≡ outcome_of found) }
+    ensures sides { IfOk result (λ whole. (sides : List (TxnId × TxnId)) → OrderKeeps sides found → OrderKeeps sides whole) }
     ensures above { IfOk result (λ whole. (parts : PartsState.Parts) (taken : List (TxnId × TxnId)) (more most : ℕ) → AreForced parts taken steps.now → IsAbove parts (sides_after taken steps.now) more most found → IsAbove parts taken more (most + 1) whole) }
 {
     match found {
@@ -121,6 +125,7 @@ fn scan_side(
     ensures kept { OnOk result (branch.new ≡ branch.old) }
     ensures fewer { OnOk result (nodes.new ≤ nodes.old) }
     ensures scans { IfOk result (λ found. Scans branch.old.parts (arc_of choice side ∷ assumed branch.old.levels) nodes.old (outcome_of found) nodes.new) }
+    ensures sides { IfOk result (OrderKeeps (assumed branch.old.levels)) }
     ensures shown { IfOk result (IsShownBeyond branch.old choice side) }
 {
     branch.assume(alloc, choice, side)?;
@@ -146,6 +151,7 @@ fn split(
     ensures kept { OnOk result (branch.new ≡ branch.old) }
     ensures fewer { OnOk result (nodes.new ≤ nodes.old) }
     ensures scans { IfOk result (λ found. Scans branch.old.parts (assumed branch.old.levels) (suc nodes.old) (outcome_of found) nodes.new) }
+    ensures sides { IfOk result (OrderKeeps (assumed branch.old.levels)) }
     ensures shown { IfOk result (IsShown branch.old) }
 {
     let first = match scan_side(alloc, branch, bad, choice, Side::First, nodes)? {
@@ -177,6 +183,7 @@ pub fn scan(
     ensures kept { OnOk result (branch.new ≡ branch.old) }
     ensures fewer { OnOk result (nodes.new ≤ nodes.old) }
     ensures scans { IfOk result (λ found. Scans branch.old.parts (assumed branch.old.levels) nodes.old (outcome_of found) nodes.new) }
+    ensures sides { IfOk result (OrderKeeps (assumed branch.old.levels)) }
     ensures shown { IfOk result (IsShown branch.old) }
 {
     if *nodes == 0 {

@@ -1,8 +1,9 @@
 ghost use Rattle.std.specs.Prelude.{◌≡◌, ◌+◌, ◌<◌, ◌≤◌, ⊤, IfOk, MatchOption};
 ghost use Rattle.order_check.specs.Effort.{IsEffort};
 ghost use Rattle.order_check.specs.Explains.{Explains};
+ghost use Rattle.order_check.specs.TakenSides.{KeepsSides};
 ghost use Rattle.refutation.specs.Refutes.{IsRefutation};
-ghost use Rattle.polygraph.specs.Outcomes.{IsPicked, IsLeastYes, cube_count};
+ghost use Rattle.polygraph.specs.Outcomes.{IsPicked, IsLeastYes, cube_count, sides_of_cube};
 ghost use Rattle.polygraph.specs.SoFar.{AreRefuted, IsSoFar, IsPickedOf};
 ghost use Rattle.polygraph.specs.Solving.{IsLawful};
 
@@ -33,7 +34,7 @@ fn search_next(
     requires so_far { IsSoFar problem.now depth share cube trees.old.items spent.old }
     ensures { IfOk result (λ found. MatchOption found
         (IsSoFar problem.now depth share (cube + 1) trees.new.items spent.new)
-        (λ order. Explains problem.now.known.parts order × IsLeastYes problem.now depth share cube)) }
+        (λ order. Explains problem.now.known.parts order × IsLeastYes problem.now depth share cube × KeepsSides order (sides_of_cube problem.now depth cube))) }
 {
     scans_find_one();
     match solve_cube(alloc, problem, cube, depth, share)? {

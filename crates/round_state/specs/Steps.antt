@@ -14,8 +14,9 @@ use Rattle.order_check.specs.Settled.{IsCutOf}
 use Rattle.order_check.specs.StandsFor.{IsOpenSession, IsNextFragment, parts_with, parts_closed}
 use Rattle.order_check.specs.Verdict.{IsVerdict}
 use Rattle.refutation.specs.Refutes.{IsRefutation}
-use Rattle.polygraph.specs.Solving.{MayBeSpent}
+use Rattle.polygraph.specs.Solving.{MayBeSpent, MayComeTo}
 use Rattle.polygraph.specs.declared.solving.Answer.{Answer}
+use Rattle.polygraph.specs.declared.solving.Answer.TheVariants as answers
 use Rattle.settle.specs.Found.{IsFound}
 use Rattle.settle.specs.declared.cuts.Cut.{Cut}
 use Rattle.round_state.specs.EngineState.{EngineState, engine_over}
@@ -154,6 +155,12 @@ Shows parts budget depth kinds.Violated (Refuted tree) = IsRefutation parts tree
 Shows parts budget depth kinds.Spent Nothing = MayBeSpent parts budget depth
 Shows parts budget depth kind certificate = ⊥
 
+-- the answer of a search that a certificate tells
+abbrev pub answer_told : Certificate → Answer
+answer_told (Order order) = answers.Yes order
+answer_told (Refuted tree) = answers.No tree
+answer_told Nothing = answers.Spent
+
 -- The report of a round whose snapshot are these parts.
 pub record IsRightReport (old : EngineState) (parts : Parts) (budget depth : ℕ) (report : Report) : Type 0 where
   pub number : report.round ≡ old.rounds + 1
@@ -161,6 +168,8 @@ pub record IsRightReport (old : EngineState) (parts : Parts) (budget depth : ℕ
   pub counts : report.counts ≡ received_counts parts
   pub kind : IsKindOf parts report.kind
   pub shown : Shows parts budget depth report.kind report.certificate
+  -- a search within this budget, split to this depth, may come to what it tells
+  pub within : MayComeTo parts budget depth (answer_told report.certificate)
 
 -- From the old engine, this reply to the step is right, and leads to the new engine.
 abbrev pub StepsTo : EngineState → Step → StepReply → EngineState → Type 0

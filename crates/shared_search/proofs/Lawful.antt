@@ -7,20 +7,21 @@ use Rattle.std.proofs.lemmas.Nat.{pow-add, pow_pos}
 use Rattle.std.proofs.Math.Nat.{add-mul, lt-div-mul-add, mul-le-mul_right}
 use Rattle.std.proofs.lemmas.Option.{slice_get-get_or}
 use Rattle.txn.specs.declared.transactions.TxnId.{TxnId}
+use Rattle.order_check.specs.declared.remainder.Parts.{Parts}
 use Rattle.order_check.specs.Known.{IsChoice, IsOpen, AreOpenChoices}
 use Rattle.order_check.specs.Search.{Outcome, has_order, no_order, used_up}
 use Rattle.order_check.specs.SearchLaws.{ScansFindOne}
 use Rattle.refutation.specs.declared.trees.Tree.{Tree}
 use Rattle.refutation.specs.Joining.{cube_sides, IsJoin}
 use Rattle.refutation.specs.Laws.{JoinedTreesRefute, JoinedDepth}
-use Rattle.refutation.specs.Refutes.{depth_of}
+use Rattle.refutation.specs.Refutes.{depth_of, IsRefutation}
 use Rattle.polygraph.specs.ProblemState.{ProblemState}
 use Rattle.polygraph.specs.declared.solving.Cube.{Cube}
 use Rattle.polygraph.specs.declared.solving.Cube.TheVariants.{Yes, No, Spent}
 use Rattle.polygraph.specs.declared.solving.Answer.{Answer}
 use Rattle.polygraph.specs.declared.solving.Answer.TheVariants as answers
 use Rattle.polygraph.specs.Outcomes.{split_choices, cube_count, share_of, Finds, RefutesCube, IsCube, IsPicked}
-use Rattle.polygraph.specs.Solving.{IsLawful}
+use Rattle.polygraph.specs.Solving.{MayComeTo, IsLawful}
 use Rattle.shared_search.specs.Picks.{first_yes, has_spent, trees, AreOutcomes, Picked}
 use Rattle.shared_search.specs.Worked.{is_yes}
 use Rattle.shared_search.specs.Lent.{MayGive}
@@ -113,6 +114,7 @@ module _ (law : ScansFindOne) (problem : ProblemState) (budget depth : ℕ) wher
             found = at.0;
             least = λ lower below. let o = t.2 lower below in not_yes lower o.0 o.2 (are.allowed lower o.0 o.1).is_cube;
           },
+          at.2,
         ),
       )
 
@@ -167,13 +169,16 @@ module _ (law : ScansFindOne) (problem : ProblemState) (budget depth : ℕ) wher
   small_of (inl none) = absurd cc
   small_of (inr (outs, are, (none, some))) = (spent_of_outs outs are none some).1
 
+  may_come : (answer : Answer) → AreOpenChoices problem.known.parts [] problem.choices → IsPicked problem budget depth answer → MayComeTo problem.known.parts budget depth answer
+  may_come answer open_choices picked = (problem, record { open_choices = open_choices }, refl, inl picked)
+
   lawful_of : (answer : Answer) → AreOpenChoices problem.known.parts [] problem.choices → Picked (MayGive problem depth share) (split_choices problem depth) (cube_count problem depth) answer → IsPicked problem budget depth answer → IsLawful problem.known.parts budget depth answer
-  lawful_of (answers.Yes order) open_choices p h = h.0
-  lawful_of (answers.No tree) open_choices p h = h.0
+  lawful_of (answers.Yes order) open_choices p h = (h.0, may_come (answers.Yes order) open_choices h)
+  lawful_of (answers.No tree) open_choices p h = (h.0, may_come (answers.No tree) open_choices h)
   lawful_of answers.Spent open_choices p h =
       let few = length-take depth problem.choices in
       let bound = budget_bound budget (length (split_choices problem depth)) (length problem.choices) share (omega (arith, few)) refl (small_of p) in
-      (problem.choices, open_choices, subst (λ n. budget + 2 ^ n < 2 ^ (length problem.choices + 1)) few bound)
+      ((problem.choices, open_choices, subst (λ n. budget + 2 ^ n < 2 ^ (length problem.choices + 1)) few bound), may_come answers.Spent open_choices h)
   lawful_of answers.NoMemory open_choices p h = tt
 
 -- both, where the count and the share are known by equations
@@ -183,3 +188,8 @@ both_laws law refute deep problem budget depth count answer low open_choices is 
     let q = subst (λ (n : ℕ). Picked (MayGive problem depth (budget / n)) (split_choices problem depth) n answer) is p in
     let h = picked_of law problem budget depth refute deep answer low open_choices q in
     (lawful_of law problem budget depth answer open_choices q h, h)
+
+-- where a search may come to a no, it may come to one by another tree
+pub other_tree : (parts : Parts) (budget depth : ℕ) (tree other : Tree) → IsRefutation parts other → MayComeTo parts budget depth (answers.No tree) → MayComeTo parts budget depth (answers.No other)
+other_tree parts budget depth tree other refutes (problem, is, about, inl picked) = (problem, is, about, inl (subst (λ (p : Parts). IsRefutation p other) (sym about) refutes, picked.1))
+other_tree parts budget depth tree other refutes (problem, is, about, inr (decided, spent)) = (problem, is, about, inr (tt, spent))

@@ -1,8 +1,8 @@
-use Rattle.std.proofs.Common.{ap, ◌∙◌, arith, rules}
+use Rattle.std.proofs.Common.{ap, ◌∙◌, arith, rules, subst}
 use Rattle.order_check.specs.Search.{has_order, no_order, used_up}
-use Rattle.forced_choices.specs.BranchState.{BranchState, last_steps}
-use Rattle.polygraph.specs.Shown.{outcome_of}
-use Rattle.polygraph.proofs.Scanned.{nothing_left, deep_scan, closed_scan, decided_scan, first_scan, both_scan, shown_beyond}
+use Rattle.forced_choices.specs.BranchState.{BranchState, arc_of, assumed, last_steps}
+use Rattle.polygraph.specs.Shown.{outcome_of, OrderKeeps}
+use Rattle.polygraph.proofs.Scanned.{nothing_left, deep_scan, closed_scan, decided_scan, first_scan, both_scan, keeps_fewer, shown_beyond}
 use Rattle.polygraph.proofs.scanning.+scanning.Goals as goal
 
 pub scan-returns-in-Some-clause-scans : goal.scan-returns-in-Some-clause-scans
@@ -16,6 +16,13 @@ pub scan_side-scan-requires : goal.scan_side-scan-requires
 scan_side-scan-requires t c =
     let e = ap (λ (b : BranchState). b.parts) c.in_ok-assume.ensures.ok.2 in
     (search rules, rw e c.requires.bad)
+
+pub scan_side-returns-clause-sides : goal.scan_side-returns-clause-sides
+scan_side-returns-clause-sides t c =
+    let sides = assumed c.args.branch.now.levels in
+    let made = c.in_ok-assume.ensures.ok in
+    let found = subst (λ (b : BranchState). OrderKeeps (assumed b.levels) c.in_ok-found.found) made.2 c.in_ok-found.ensures.sides in
+    c.in_ok-found-2.ensures.sides sides (keeps_fewer (arc_of c.args.choice c.args.side) sides c.in_ok-found.found found)
 
 pub scan_side-returns-clause-shown : goal.scan_side-returns-clause-shown
 scan_side-returns-clause-shown t c =

@@ -10,7 +10,7 @@ returns-clause-told c =
     let problem = c.args.problem.now in
     let choices = c.first_choices-choices.ensures ∙ ap (λ (cs : List Choice). take c.args.depth cs) c.choices.ensures.value in
     let at = subst (λ (cs : List Choice). IsAt problem.known.parts (cube_sides cs c.args.cube []) c.in_ok-branch.branch c.in_ok-branch.steps.items) choices (subst (λ p. IsAt p (cube_sides c.first_choices-choices.result.now c.args.cube []) c.in_ok-branch.branch c.in_ok-branch.steps.items) (ap (λ known. known.parts) c.known.ensures) c.in_ok-branch.ensures) in
-    told_of_cube problem c.args.depth c.args.cube c.args.share c.in_ok-branch.branch c.in_ok-branch.steps.items c.in_ok-found.found at c.in_ok-found.ensures.scans c.in_ok-found.ensures.shown
+    told_of_cube problem c.args.depth c.args.cube c.args.share c.in_ok-branch.branch c.in_ok-branch.steps.items c.in_ok-found.found at c.in_ok-found.ensures.scans c.in_ok-found.ensures.sides c.in_ok-found.ensures.shown
 
 pub returns-clause-spent : goal.returns-clause-spent
 returns-clause-spent c =
