@@ -11,12 +11,19 @@ pub record RingId : Type 0 where
   pub names : ℕ × (ℕ × ℕ)
   pub heap : Global
 
--- of a sender, and of what is left of one: its ring, and what was sent, in order
+-- of a sender: its ring, how many places it knows to be free, and what was sent, in order
 pub record Sending : Type 0 where
+  pub ring : RingId
+  pub free : ℕ
+  pub sent : List Entry
+
+-- of what is left of a sender: its ring, and all that was sent, in order
+pub record Ended : Type 0 where
   pub ring : RingId
   pub sent : List Entry
 
--- of a reader: its ring, and what was received, in order
+-- of a reader: its ring, what was received, in order, and what it knows to wait, in order
 pub record Receiving : Type 0 where
   pub ring : RingId
   pub received : List Entry
+  pub waiting : List Entry
