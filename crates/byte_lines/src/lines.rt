@@ -185,7 +185,7 @@ impl LineReader {
         // Told what bytes were left, it hands out the first of their lines.
         ensures next { self.old.under_way ≡ Some [] → IfOk result (λ next. IsNextOf self.old.limit (lines_ahead self.old (S.remaining source.old)) next (lines_ahead self.new (S.remaining source.new))) }
 
-        // Told or not, what it read becomes a line.
+        // What it read becomes a line. Of a source that doesn't tell what is left it isn't known what that was.
         ensures line { IfOk result (λ next. (read : List ℕ) × Consumes (S.remaining source.old) (S.remaining source.new) read × ReadsLine self.old self.new (self.old.ahead ++ read) (S.remaining source.new) next) }
         ensures stopped { OnErr result ((read : List ℕ) × Consumes (S.remaining source.old) (S.remaining source.new) read × StopsInLine self.old self.new (self.old.ahead ++ read)) }
         ensures limit { self.new.limit ≡ self.old.limit }

@@ -42,6 +42,11 @@ abbrev pub IsSourceIn : List Executed → ℕ → Source → Type 0
 IsSourceIn log key Init = NoneWrote log key
 IsSourceIn log key (By id) = (older newer : List Executed) × (e : Executed) × (log ≡ older ++ e ∷ newer) × (e.id ≡ id) × (writes_key (Some e.txn) key ≡ true) × NoneWrote newer key
 
+-- the place of the last writer of the key, where there is one
+abbrev pub IsLastPlace : List Executed → ℕ → Option ℕ → Type 0
+IsLastPlace log key None = NoneWrote log key
+IsLastPlace log key (Some place) = (older newer : List Executed) × (e : Executed) × (log ≡ older ++ e ∷ newer) × (length older ≡ place) × (writes_key (Some e.txn) key ≡ true) × NoneWrote newer key
+
 -- the reads are of these keys, in order
 abbrev pub AreOfKeys : List ℕ → List (ℕ × Source) → Type 0
 AreOfKeys keys reads = map (λ read. read.0) reads ≡ keys
@@ -69,8 +74,3 @@ HasNextNumber before e = e.id.number ≡ length (of_session e.id.session before)
 
 abbrev pub IsAnswered : List Executed → Executed → Type 0
 IsAnswered before e = All (λ read. IsSourceIn before read.0 read.1) e.txn.reads
-
--- the place of the last writer of the key, where there is one
-abbrev pub IsLastPlace : List Executed → ℕ → Option ℕ → Type 0
-IsLastPlace log key None = NoneWrote log key
-IsLastPlace log key (Some place) = (older newer : List Executed) × (e : Executed) × (log ≡ older ++ e ∷ newer) × (length older ≡ place) × (writes_key (Some e.txn) key ≡ true) × NoneWrote newer key

@@ -1,5 +1,9 @@
-ghost use Rattle.std.specs.Prelude.{◌≡◌, IsNone};
-ghost use Rattle.demo_store.specs.declared.requests.Fault.TheVariants.{None};
+ghost use Rattle.std.specs.Prelude.{◌≡◌, ◌≢◌, ◌<◌, ◌↔◌, ℕ, length, take, Any, Contains, IsNone, IsTrue, MatchOption, Some};
+ghost use Rattle.txn.specs.declared.transactions.Source.{Source};
+ghost use Rattle.txn.specs.declared.transactions.Source.TheVariants.{Init};
+ghost use Rattle.demo_store.specs.declared.requests.Fault.TheVariants.{None, StaleRead, LostUpdate, SplitRead, SessionBack};
+ghost use Rattle.demo_store.specs.Faults.{HasWritten, IsFirstOf, IsLie, IsLost, IsSplit, IsStale};
+ghost use Rattle.demo_store.specs.Logs.{IsLastPlace, NoneWrote};
 
 use crate::lookups::{last_place, source_of, writes};
 use crate::requests::{Executed, Fault, Request};
@@ -14,7 +18,8 @@ pub struct Lie {
 
 /// The lie that the fault tells of this request, where it applies.
 pub fn lie_of(fault: Fault, log: &[Executed], request: &Request) -> Option<Lie>
-    ensures { fault ≡ None → IsNone result }
+    ensures exact { MatchOption result ((key : ℕ) (source : Source) → ¬ IsLie fault log.now request.now key source) (λ lie. IsLie fault log.now request.now lie.key lie.source) }
+    ensures honest { fault ≡ None → IsNone result }
 {
     match fault {
         Fault::None => None,
@@ -25,7 +30,9 @@ pub fn lie_of(fault: Fault, log: &[Executed], request: &Request) -> Option<Lie>
     }
 }
 
-fn stale_read(log: &[Executed], request: &Request) -> Option<Lie> {
+fn stale_read(log: &[Executed], request: &Request) -> Option<Lie>
+    ensures { MatchOption result ((key : ℕ) (source : Source) → ¬ IsLie StaleRead log.now request.now key source) (λ lie. IsLie StaleRead log.now request.now lie.key lie.source) }
+{
     for key in request.reads.as_slice() {
         if let Some(lie) = stale_key(log, *key) {
             return Some(lie);
@@ -35,7 +42,9 @@ fn stale_read(log: &[Executed], request: &Request) -> Option<Lie> {
 }
 
 /// The writer of the key before the last.
-fn stale_key(log: &[Executed], key: u64) -> Option<Lie> {
+fn stale_key(log: &[Executed], key: u64) -> Option<Lie>
+    ensures { MatchOption result (key ≢ EPOCH → (source : Source) → ¬ IsStale log.now key source) (λ lie. (lie.key ≡ key) × (key ≢ EPOCH) × IsStale log.now key lie.source) }
+{
     if key == EPOCH {
         return None;
     }
@@ -44,20 +53,25 @@ fn stale_key(log: &[Executed], key: u64) -> Option<Lie> {
     Some(Lie { key, source })
 }
 
-fn lost_update(log: &[Executed], request: &Request) -> Option<Lie> {
+fn lost_update(log: &[Executed], request: &Request) -> Option<Lie>
+    ensures { MatchOption result ((key : ℕ) (source : Source) → ¬ IsLie LostUpdate log.now request.now key source) (λ lie. IsLie LostUpdate log.now request.now lie.key lie.source) }
+{
+    let writes = request.writes.as_slice();
     for key in request.reads.as_slice() {
-        if request.writes.as_slice().contains(key)
-            && let Some(lie) = lost_key(log, *key)
-        {
+        if let Some(lie) = lost_key(log, writes, *key) {
             return Some(lie);
         }
     }
     None
 }
 
-/// Where the last writer of the key read it from.
-fn lost_key(log: &[Executed], key: u64) -> Option<Lie> {
-    if key == EPOCH {
+/// Where the last writer of the key read it from, if the key is among those that are written.
+fn lost_key(log: &[Executed], writes: &[u64], key: u64) -> Option<Lie>
+    ensures { MatchOption result
+        (key ≢ EPOCH → Contains writes.now key → (source : Source) → ¬ IsLost log.now key source)
+        (λ lie. (lie.key ≡ key) × (key ≢ EPOCH) × Contains writes.now key × IsLost log.now key lie.source) }
+{
+    if key == EPOCH || !writes.contains(&key) {
         return None;
     }
     let place = last_place(log, key)?;
@@ -65,7 +79,9 @@ fn lost_key(log: &[Executed], key: u64) -> Option<Lie> {
     Some(Lie { key, source })
 }
 
-fn source_read(txn: &Txn, key: u64) -> Option<Source> {
+fn source_read(txn: &Txn, key: u64) -> Option<Source>
+    ensures { MatchOption result ((source : Source) → ¬ Contains txn.now.reads (key, source)) (λ source. Contains txn.now.reads (key, source)) }
+{
     for read in txn.reads.as_slice() {
         if read.0 == key {
             return Some(read.1);
@@ -74,7 +90,9 @@ fn source_read(txn: &Txn, key: u64) -> Option<Source> {
     None
 }
 
-fn split_read(log: &[Executed], request: &Request) -> Option<Lie> {
+fn split_read(log: &[Executed], request: &Request) -> Option<Lie>
+    ensures { MatchOption result ((key : ℕ) (source : Source) → ¬ IsLie SplitRead log.now request.now key source) (λ lie. IsLie SplitRead log.now request.now lie.key lie.source) }
+{
     for key in request.reads.as_slice() {
         if let Some(lie) = split_after(log, request.reads.as_slice(), *key) {
             return Some(lie);
@@ -84,7 +102,9 @@ fn split_read(log: &[Executed], request: &Request) -> Option<Lie> {
 }
 
 /// The least of the keys above this one whose only writer is this one's last.
-fn split_after(log: &[Executed], keys: &[u64], lower: u64) -> Option<Lie> {
+fn split_after(log: &[Executed], keys: &[u64], lower: u64) -> Option<Lie>
+    ensures { MatchOption result (lower ≢ EPOCH → ¬ Any (IsSplit log.now lower) keys.now) (λ lie. (lower ≢ EPOCH) × IsFirstOf (IsSplit log.now lower) keys.now lie.key × (lie.source ≡ Init)) }
+{
     if lower == EPOCH {
         return None;
     }
@@ -100,14 +120,18 @@ fn split_after(log: &[Executed], keys: &[u64], lower: u64) -> Option<Lie> {
     None
 }
 
-fn is_only_writer(log: &[Executed], key: u64, writer: usize) -> bool {
+fn is_only_writer(log: &[Executed], key: u64, writer: usize) -> bool
+    ensures { IsTrue result ↔ (IsLastPlace log.now key (Some writer) × NoneWrote (take writer log.now) key) }
+{
     match last_place(log, key) {
         Some(place) => place == writer && last_place(&log[..place], key).is_none(),
         None => false,
     }
 }
 
-fn session_back(log: &[Executed], request: &Request) -> Option<Lie> {
+fn session_back(log: &[Executed], request: &Request) -> Option<Lie>
+    ensures { MatchOption result ((key : ℕ) (source : Source) → ¬ IsLie SessionBack log.now request.now key source) (λ lie. IsLie SessionBack log.now request.now lie.key lie.source) }
+{
     for key in request.reads.as_slice() {
         if *key != EPOCH && has_written(log, request.session, *key) {
             return Some(Lie {
@@ -119,7 +143,9 @@ fn session_back(log: &[Executed], request: &Request) -> Option<Lie> {
     None
 }
 
-fn has_written(log: &[Executed], session: u8, key: u64) -> bool {
+fn has_written(log: &[Executed], session: u8, key: u64) -> bool
+    ensures { IsTrue result ↔ HasWritten log.now session key }
+{
     for executed in log {
         if executed.id.session == session && writes(executed, key) {
             return true;

@@ -1,5 +1,8 @@
-ghost use Rattle.std.specs.Prelude.{◌≡◌, ◌<◌, ◌^◌, ◌||◌, [], length, All, IfOk, OnOk, OnErr, IsNone, IsSome, true, false};
+ghost use Rattle.std.specs.Prelude.{◌≡◌, ◌<◌, ◌^◌, ◌||◌, ℕ, [], length, All, IfOk, OnOk, OnErr, IsNone, IsSome, MatchOption, true, false};
+ghost use Rattle.std.specs.Option.{ForSome};
+ghost use Rattle.txn.specs.declared.transactions.Source.{Source};
 ghost use Rattle.demo_store.specs.declared.requests.Fault.TheVariants.{None};
+ghost use Rattle.demo_store.specs.Faults.{AnswersBut, IsLie, IsToldBut};
 ghost use Rattle.demo_store.specs.Logs.{of_session, Answers, IsSourceIn, AreOfKeys, IsExecuted, IsExplained};
 
 use crate::faults::{Lie, lie_of};
@@ -54,14 +57,17 @@ impl Store {
         count_of(self.log.as_slice(), session)
     }
 
-    /// Executes a request as its session's next transaction: each read is answered with the last writer of the key, or
-    /// as the fault has it. Where memory is refused nothing changed. It takes time of the log's length for each read.
+    /// Executes a request as its session's next transaction: each read is answered with the last writer of the key. At the
+    /// first request to which the fault applies, one key that isn't key 0 is answered as the fault has it. Where memory is refused nothing changed. It takes time of the log's length for each read.
     pub fn exec(&mut self, alloc: Global, request: Request) -> Result<Txn, NoMemory>
         requires session { request.session < 64 }
         requires room { length (of_session request.session self.old.log) < 2 ^ 48 }
         ensures done { IfOk result (λ txn. IsExecuted request self.old.log txn self.new.log) }
         ensures told { IfOk result (λ txn. self.new.acted ≡ self.old.acted → Answers self.old.log request.reads txn.reads) }
         ensures once { OnOk result (self.old.acted ≡ true → self.new.acted ≡ true) }
+        ensures lies { IfOk result (λ txn. self.old.acted ≡ false → self.new.acted ≡ true
+            → (key : ℕ) × (source : Source) × IsLie self.old.fault self.old.log request key source × AnswersBut self.old.log request.reads key source txn.reads) }
+        ensures acts { OnOk result ((key : ℕ) (source : Source) → IsLie self.old.fault self.old.log request key source → self.new.acted ≡ true) }
         ensures honest { OnOk result (self.old.fault ≡ None → (self.new.acted ≡ false) × IsExplained self.new.log) }
         ensures fault { self.new.fault ≡ self.old.fault }
         ensures err { OnErr result (self.new ≡ self.old) }
@@ -75,6 +81,9 @@ impl Store {
 
     /// What the fault tells of this request, unless it has acted.
     fn lie(&self, request: &Request) -> Option<Lie>
+        ensures exact { MatchOption result
+            (self.now.acted ≡ false → (key : ℕ) (source : Source) → ¬ IsLie self.now.fault self.now.log request.now key source)
+            (λ lie. IsLie self.now.fault self.now.log request.now lie.key lie.source) }
         ensures honest { self.now.fault ≡ None → IsNone result }
         ensures once { self.now.acted ≡ true → IsNone result }
     {
@@ -104,6 +113,7 @@ fn executed(
     ensures writes { IfOk result (λ r. r.1.writes ≡ request.writes) }
     ensures reads { IfOk result (λ r. AreOfKeys request.reads r.1.reads) }
     ensures sources { IfOk result (λ r. IsNone lie → All (λ read. IsSourceIn log.now read.0 read.1) r.1.reads) }
+    ensures lies { IfOk result (λ r. ForSome lie (λ l. All (IsToldBut log.now l.key l.source) r.1.reads)) }
 {
     let reads = told(alloc, log, request.reads.as_slice(), lie)?;
     let id = TxnId {
@@ -118,7 +128,8 @@ fn executed(
 
 /// What is told of the key: its last writer, or the lie if that is about it.
 fn told_source(log: &[Executed], key: u64, lie: Option<Lie>) -> Source
-    ensures { IsNone lie → IsSourceIn log.now key result }
+    ensures source { IsNone lie → IsSourceIn log.now key result }
+    ensures lies { ForSome lie (λ l. IsToldBut log.now l.key l.source (key, result)) }
 {
     match lie {
         Some(lie) if lie.key == key => lie.source,
@@ -135,6 +146,7 @@ fn told(
 ) -> Result<Sequence<(u64, Source)>, NoMemory>
     ensures keys { IfOk result (λ reads. AreOfKeys keys.now reads) }
     ensures sources { IfOk result (λ reads. IsNone lie → All (λ read. IsSourceIn log.now read.0 read.1) reads) }
+    ensures lies { IfOk result (λ reads. ForSome lie (λ l. All (IsToldBut log.now l.key l.source) reads)) }
 {
     let mut reads = Sequence::new(Vec::with_capacity(alloc, keys.len())?);
     for key in keys {

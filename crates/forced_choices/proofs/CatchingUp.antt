@@ -144,5 +144,4 @@ goes_on_marked parts more old marked log fresh is goes = record {
   are = goes.are;
   kept = kept_more_nodes parts old marked log goes.kept (ap (λ (g : GraphState). g.arcs) is) (λ key id at. subst (λ (g : GraphState). IsAt g.nodes key id) (sym is) at);
   arcs = goes.arcs;
-  back = goes.back;
 }

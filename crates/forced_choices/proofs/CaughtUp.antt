@@ -95,7 +95,6 @@ goes_on_then parts more fragment old new log kept table fresh is same c = record
   are = more_of parts more fragment c.next;
   kept = kept_more_nodes parts old new log is same c.stay;
   arcs = fresh_then parts more fragment old.nodes new.nodes kept table fresh c;
-  back = back_then parts more fragment old.nodes new.nodes kept table fresh c;
 }
 
 -- the table of all that remains then

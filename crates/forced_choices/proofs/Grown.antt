@@ -13,7 +13,7 @@ use Rattle.txn.specs.Arcs.{start_of, end_of}
 use Rattle.order_check.specs.declared.remainder.Parts.{Parts}
 use Rattle.order_check.specs.Based.{Remains}
 use Rattle.order_check.specs.Good.{IsGood}
-use Rattle.order_check.specs.Cycles.{Sides, IsArc, sides_after}
+use Rattle.order_check.specs.Cycles.{Sides, IsArc, AreNew, sides_after}
 use Rattle.order_check.specs.Known.{Known}
 use Rattle.known_graph.specs.Graphs.{GraphState, HasKey, HasNode, IsAt, IsPut}
 use Rattle.known_graph.specs.Reach.{Reaches, by_arc, through}
@@ -30,9 +30,9 @@ use Rattle.forced_choices.proofs.KnownRemain.{known_listed}
 use Rattle.forced_choices.proofs.Linked.{reaches_by, links_known}
 use Rattle.forced_choices.proofs.ListedArcs.{plain_arcs, plain_right, read_listed, arc_apart, arc_remains}
 use Rattle.forced_choices.proofs.ListedIds.{listed_remains}
-use Rattle.forced_choices.proofs.LookingBack.{ends_remain, all_back, plain_before, new_grow}
+use Rattle.forced_choices.proofs.LookingBack.{ends_remain, plain_before}
 use Rattle.forced_choices.proofs.Members.{In, in_from_contains, contains_from_in, in_place, in_left, in_right, in_either}
-use Rattle.forced_choices.proofs.SaturationLaws.{IsEnd, forces_so_far, full_log, exact}
+use Rattle.forced_choices.proofs.SaturationLaws.{IsEnd, forces_so_far, forces_new, full_log, exact, so_far_again}
 
 -- reachability over more arcs
 pub reaches_on : (arcs more : List Arc) (a b : TxnId) → Reaches arcs a b → Reaches (arcs ++ more) a b
@@ -87,7 +87,7 @@ so_far_grown parts more graph fresh log goes = record {
   sides = λ side h. known_grows parts more [] side.0 side.1 goes.are (so.sides side h);
   reached = λ side h. reaches_on arcs fresh side.0 side.1 (so.reached side h);
   steps = forced_grow parts more [] log goes.are so.steps;
-  new = new_grow parts more [] log goes.are (λ side h. absurd h) (all_back parts more fresh goes.arcs goes.back) so.steps so.new;
+  once = so.once;
 }
   where
     arcs : List Arc
@@ -153,7 +153,11 @@ kept_grown parts more old log fresh new steps good goes forces closed nodes =
     let then = log ++ steps in
     let so = forces_so_far more [] [] (old.arcs ++ fresh) log new.arcs then (forces_behind more (old.arcs ++ fresh) log new.arcs steps forces) (so_far_grown parts more old fresh log goes) in
     let end : IsEnd more [] [] new.arcs then = record { so_far = so; closed = closed } in
-    record { good = good; exact = λ a b. exact more [] [] new.arcs then a b end; full = full_log more new.arcs then end; relation = record { nodes = nodes; so_far = so; closed = closed } }
+    record { good = good; exact = λ a b. exact more [] [] new.arcs then a b end; full = full_log more [] [] new.arcs then end; relation = record { nodes = nodes; so_far = so; closed = closed } }
+
+-- and the steps are new
+pub new_grown : (parts more : Parts) (old : GraphState) (log : List ForceStep) (fresh : List Arc) (new : GraphState) (steps : List ForceStep) → GoesOn parts more old log fresh → Forces more (old.arcs ++ fresh) [] new.arcs steps → AreNew more (sides_after [] log) steps
+new_grown parts more old log fresh new steps goes forces = forces_new more [] (sides_after [] log) (old.arcs ++ fresh) new.arcs steps forces (so_far_again more [] [] (old.arcs ++ fresh) log (so_far_grown parts more old fresh log goes))
 
 -- who is there stays there
 pub key_stays : (old new : List (Option TxnId)) (id : TxnId) → NodesStay old new → HasKey old id → HasKey new id

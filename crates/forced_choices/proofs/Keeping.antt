@@ -10,6 +10,7 @@ use Rattle.txn.specs.Arcs.{start_of, end_of}
 use Rattle.txn.specs.Choices.{choice_below}
 use Rattle.order_check.specs.declared.remainder.Parts.{Parts}
 use Rattle.order_check.specs.Based.{Remains}
+use Rattle.order_check.specs.Cycles.{AreNew}
 use Rattle.order_check.specs.Good.{IsGood}
 use Rattle.order_check.specs.Known.{IsChoice, IsOpen, AreOpenChoices}
 use Rattle.known_graph.specs.Graphs.{GraphState, HasNode}
@@ -25,13 +26,17 @@ use Rattle.forced_choices.proofs.ListedChoices.{listed_is_choice, choice_listed,
 use Rattle.forced_choices.proofs.ChoicesAscend.{choices_ascend}
 use Rattle.forced_choices.proofs.ListedArcs.{plain_arcs, plain_right, arc_apart, arc_remains}
 use Rattle.forced_choices.proofs.Distinct.{distinct_from_ascends}
-use Rattle.forced_choices.proofs.SaturationLaws.{IsEnd, so_far_first, forces_so_far, full_log, exact}
+use Rattle.forced_choices.proofs.SaturationLaws.{IsEnd, so_far_first, forces_so_far, forces_new, full_log, exact}
 use Rattle.txn.specs.declared.transactions.Source.TheVariants.{By}
 
 pub kept_of : (parts : Parts) (graph : GraphState) (log : List ForceStep) → IsGood parts → IsSaturationOf parts graph log → IsKept parts graph log
 kept_of parts graph log good is =
     let end : IsEnd parts [] [] graph.arcs log = record { so_far = forces_so_far parts [] [] (plain_arcs parts) [] graph.arcs log is.forces (so_far_first parts); closed = is.closed } in
-    record { good = good; exact = λ a b. exact parts [] [] graph.arcs log a b end; full = full_log parts graph.arcs log end; relation = record { nodes = is.nodes; so_far = end.so_far; closed = is.closed } }
+    record { good = good; exact = λ a b. exact parts [] [] graph.arcs log a b end; full = full_log parts [] [] graph.arcs log end; relation = record { nodes = is.nodes; so_far = end.so_far; closed = is.closed } }
+
+-- the log of a saturation has new steps alone
+pub new_of : (parts : Parts) (graph : GraphState) (log : List ForceStep) → IsSaturationOf parts graph log → AreNew parts [] log
+new_of parts graph log is = forces_new parts [] [] (plain_arcs parts) graph.arcs log is.forces (so_far_first parts)
 
 pub ids_distinct : (parts : Parts) → AreDistinct (all_ids parts)
 ids_distinct parts = distinct_from_ascends (all_ids parts) (listed_ascend parts)

@@ -1,6 +1,6 @@
--- Where no arc leads from what is new to what was there, nothing new leads between what was there.
+-- Arcs between transactions that were there, where there are more: they were there.
 use Rattle.std.proofs.Common.{◌≡◌, ◌<◌, ◌⊎◌, ◌∷◌, [], ℕ, Bool, true, false, cond, List, is_some, nat_lt, ◌&&◌, not, refl, sym, inl, inr, subst, arith}
-use Rattle.std.specs.Prelude.{⊤, All, Contains, filter}
+use Rattle.std.specs.Prelude.{⊤, filter}
 use Rattle.std.specs.List.{flat_map}
 use Rattle.std.proofs.lemmas.Bool.{false≢true, ltb-true}
 use Rattle.txn.specs.declared.transactions.TxnId.{TxnId}
@@ -8,22 +8,16 @@ use Rattle.txn.specs.declared.transactions.Source.{Source}
 use Rattle.txn.specs.declared.transactions.Source.TheVariants.{Init, By}
 use Rattle.txn.specs.declared.choices.Arc.{Arc}
 use Rattle.txn.specs.declared.choices.Arc.TheVariants.{Session, Read, Base, Taken}
-use Rattle.txn.specs.declared.choices.Choice.{Choice}
-use Rattle.txn.specs.declared.choices.Side.{Side}
-use Rattle.txn.specs.declared.choices.Side.TheVariants.{First, Second}
-use Rattle.txn.specs.declared.choices.ForceStep.{ForceStep}
 use Rattle.txn.specs.Arcs.{start_of, end_of}
 use Rattle.order_check.specs.declared.remainder.Parts.{Parts}
 use Rattle.order_check.specs.Based.{remaining_at, Remains}
-use Rattle.order_check.specs.Cycles.{Sides, IsArc, IsPath, Links, side_taken, AreForced, AreNew}
-use Rattle.order_check.specs.Known.{IsChoice}
-use Rattle.forced_choices.specs.Growth.{AreFresh, AreMore, LooksBack, is_fresh}
+use Rattle.order_check.specs.Cycles.{IsArc}
+use Rattle.forced_choices.specs.Growth.{AreMore, is_fresh}
 use Rattle.forced_choices.specs.Listing.{all_ids, reads_of, writes_here, is_other, one_before, session_arc, session_arcs, base_arcs, is_base_source, writer_arcs, arcs_from_writer, arcs_of_read, arcs_of_reads}
 use Rattle.forced_choices.proofs.Growing.{reads_less, writes_less, reads_base_less}
-use Rattle.forced_choices.proofs.KnownRemain.{DoRemain}
-use Rattle.forced_choices.proofs.Members.{In, in_from_contains, contains_from_in, in_either, in_flat_map, in_map}
+use Rattle.forced_choices.proofs.Members.{In, in_either, in_flat_map, in_map}
 use Rattle.forced_choices.proofs.ListedArcs.{plain_arcs, plain_right, next_listed, read_listed, base_listed}
-use Rattle.forced_choices.proofs.ListedChoices.{and_parts, writer_remains, reader_remains}
+use Rattle.forced_choices.proofs.ListedChoices.{and_parts}
 
 -- both ends of an arc that isn't fresh remain
 pub ends_remain : (parts : Parts) (arc : Arc) → is_fresh parts arc ≡ false → Remains parts (start_of arc) × Remains parts (end_of arc)
@@ -32,20 +26,6 @@ ends_remain parts arc e = and_parts (is_some (remaining_at parts (start_of arc))
     from_not : (t : Bool) → not t ≡ false → t ≡ true
     from_not true e = refl
     from_not false e = absurd (false≢true (sym e))
-
--- where the fresh arcs look back, all do
-pub all_back : (parts more : Parts) (fresh : List Arc) → AreFresh parts more fresh → All (LooksBack parts) fresh → (arc : Arc) → In (plain_arcs more) arc → LooksBack parts arc
-all_back parts more fresh are back arc h = by_test (is_fresh parts arc) refl
-  where
-    in_fresh : (fresh : List Arc) → All (LooksBack parts) fresh → In fresh arc → LooksBack parts arc
-    in_fresh fresh back h = by_place (contains_from_in fresh arc h)
-      where
-        by_place : Contains fresh arc → LooksBack parts arc
-        by_place (k, within, is) = subst (λ a. LooksBack parts a) is (back k arc within)
-
-    by_test : (t : Bool) → is_fresh parts arc ≡ t → LooksBack parts arc
-    by_test true e = in_fresh fresh back (are.all arc h e)
-    by_test false e = λ end. (ends_remain parts arc e).0
 
 -- an arc of a session leads to the next
 abbrev pub LeadsToNext : Arc → Type 0
@@ -112,49 +92,3 @@ plain_before parts more arc are h start end = by_arc arc (plain_next more arc h)
     by_arc (Read key from to) next right start end = read_listed parts to from key (reads_less parts more to key (By from) are end right.0) (writes_less parts more from key are start right.1)
     by_arc (Base key from to) next right start end = base_listed parts from to key (reads_base_less parts more from key are start right.0) (writes_less parts more to key are end right.1) right.2
     by_arc (Taken from to) next (k, within, is) start end = absurd (omega arith)
-
--- a right arc to what was there was there
-arc_back : (parts more : Parts) (taken : Sides) (arc : Arc) → AreMore parts more → DoRemain parts taken → ((arc : Arc) → In (plain_arcs more) arc → LooksBack parts arc) → IsArc more taken arc → Remains parts (end_of arc) → Remains parts (start_of arc) × IsArc parts taken arc
-arc_back parts more taken (Session from to) are sides back right end =
-    let start = are.behind from to right.0 end right.2 right.3 in
-    (start, (start, end, right.2, right.3))
-arc_back parts more taken (Read key from to) are sides back right end =
-    let start = back (Read key from to) (read_listed more to from key right.0 right.1) end in
-    (start, (reads_less parts more to key (By from) are end right.0, writes_less parts more from key are start right.1))
-arc_back parts more taken (Base key from to) are sides back right end =
-    let start = back (Base key from to) (base_listed more from to key right.0 right.1 right.2) end in
-    (start, (reads_base_less parts more from key are start right.0, writes_less parts more to key are end right.1, right.2))
-arc_back parts more taken (Taken from to) are sides back right end = ((sides (from, to) (in_from_contains taken (from, to) right)).0, right)
-
-path_back : (parts more : Parts) (taken : Sides) (start : TxnId) (arcs : List Arc) (goal : TxnId) → AreMore parts more → DoRemain parts taken → ((arc : Arc) → In (plain_arcs more) arc → LooksBack parts arc) → IsPath more taken start arcs goal → Remains parts goal → Remains parts start × IsPath parts taken start arcs goal
-path_back parts more taken start [] goal are sides back h end = (subst (λ (id : TxnId). Remains parts id) (sym h) end, h)
-path_back parts more taken start (arc ∷ arcs) goal are sides back (begins, right, rest) end =
-    let behind = path_back parts more taken (end_of arc) arcs goal are sides back rest end in
-    let here = arc_back parts more taken arc are sides back right behind.0 in
-    (subst (λ (id : TxnId). Remains parts id) begins here.0, (begins, here.1, behind.1))
-
-links_back : (parts more : Parts) (taken : Sides) (a b : TxnId) → AreMore parts more → DoRemain parts taken → ((arc : Arc) → In (plain_arcs more) arc → LooksBack parts arc) → Links more taken a b → Remains parts b → Links parts taken a b
-links_back parts more taken a b are sides back (arc, arcs, begins, right, rest) end =
-    let behind = path_back parts more taken (end_of arc) arcs b are sides back rest end in
-    let here = arc_back parts more taken arc are sides back right behind.0 in
-    (arc, arcs, begins, here.1, behind.1)
-
--- the side of a step is between what remains
-taken_remains : (parts : Parts) (choice : Choice) (side : Side) (cycle : List Arc) → IsChoice parts choice → let step : ForceStep = record { choice = choice; side = side; cycle = cycle } in Remains parts (side_taken step).0 × Remains parts (side_taken step).1
-taken_remains parts choice First cycle is = (writer_remains parts choice.other choice.key is.other, writer_remains parts choice.writer choice.key is.written)
-taken_remains parts choice Second cycle is = (reader_remains parts choice.reader choice.key (By choice.writer) is.reads, writer_remains parts choice.other choice.key is.other)
-
--- steps that were new are
-pub new_grow : (parts more : Parts) (taken : Sides) (steps : List ForceStep) → AreMore parts more → DoRemain parts taken → ((arc : Arc) → In (plain_arcs more) arc → LooksBack parts arc) → AreForced parts taken steps → AreNew parts taken steps → AreNew more taken steps
-new_grow parts more taken [] are sides back forced h = tt
-new_grow parts more taken (step ∷ steps) are sides back (is, rest) (new, after) = (
-  λ links. new (links_back parts more taken (side_taken step).0 (side_taken step).1 are sides back links remains.1),
-  new_grow parts more (side_taken step ∷ taken) steps are by_side back rest after,
-)
-  where
-    remains : Remains parts (side_taken step).0 × Remains parts (side_taken step).1
-    remains = taken_remains parts step.choice step.side step.cycle is.0
-
-    by_side : DoRemain parts (side_taken step ∷ taken)
-    by_side side (inl e) = subst (λ (s : TxnId × TxnId). Remains parts s.0 × Remains parts s.1) e remains
-    by_side side (inr h) = sides side h

@@ -1,6 +1,7 @@
 -- What saturation leads to is the known relation, and its log is right.
-use Rattle.std.proofs.Common.{◌≡◌, ◌⊎◌, List, [], ◌∷◌, ◌++◌, get_or, refl, sym, ap, ◌∙◌, inl, inr, subst}
+use Rattle.std.proofs.Common.{◌≡◌, ◌≢◌, ◌⊎◌, List, [], ◌∷◌, ◌++◌, get_or, arith, refl, sym, ap, ◌∙◌, inl, inr, subst}
 use Rattle.std.specs.Prelude.{◌↔◌}
+use Rattle.std.proofs.lemmas.List.Quantifiers.{all_pairs_push}
 use Rattle.txn.specs.declared.transactions.TxnId.{TxnId}
 use Rattle.txn.specs.declared.choices.Choice.{Choice}
 use Rattle.txn.specs.declared.choices.Arc.{Arc}
@@ -11,7 +12,7 @@ use Rattle.txn.specs.declared.choices.ForceStep.{ForceStep}
 use Rattle.txn.specs.Arcs.{start_of, end_of}
 use Rattle.order_check.specs.declared.remainder.Parts.{Parts}
 use Rattle.order_check.specs.Known.{Known, IsChoice, by_session, by_read, by_base, by_taken, through, forces_after, forces_before}
-use Rattle.order_check.specs.Cycles.{Sides, IsArc, IsPath, IsCycle, side_taken, side_not_taken, IsForced, AreForced, AreNew, sides_after, Links, IsFullLog}
+use Rattle.order_check.specs.Cycles.{Sides, IsArc, IsPath, IsCycle, side_taken, side_not_taken, IsForced, AreForced, AreNew, sides_after, Links, IsFullLogFrom, TakeEachOnce}
 use Rattle.forced_choices.specs.declared.rules.Rule.{Rule}
 use Rattle.known_graph.specs.Reach.{Reaches, Leads}
 use Rattle.known_graph.specs.Reach as reach
@@ -29,6 +30,10 @@ plain_known parts (Read key from to) right = by_read key right.0 right.1
 plain_known parts (Base key from to) right = by_base key right.0 right.1 right.2
 plain_known parts (Taken from to) right = by_taken right
 
+-- no steps take no side twice
+none_twice : TakeEachOnce []
+none_twice i j d first within = absurd (omega arith)
+
 pub so_far_first : (parts : Parts) → IsSoFar parts [] [] (plain_arcs parts) []
 so_far_first parts = record {
   right = plain_right parts;
@@ -38,7 +43,7 @@ so_far_first parts = record {
   sides = λ side h. absurd h;
   reached = λ side h. absurd h;
   steps = tt;
-  new = tt;
+  once = none_twice;
 }
 
 -- what is reached is known
@@ -59,6 +64,9 @@ step_takes choice First cycle = refl
 step_rules_out : (choice : Choice) (side : Side) (cycle : List Arc) → side_not_taken (record { choice = choice; side = side; cycle = cycle }) ≡ ((premise_of choice side).1, (premise_of choice side).0)
 step_rules_out choice Second cycle = refl
 step_rules_out choice First cycle = refl
+
+takes_side : (arcs : List Arc) (rule : Rule) (step : ForceStep) → IsStepOf arcs rule step → side_taken step ≡ conclusion rule
+takes_side arcs rule step is = step_takes step.choice step.side step.cycle ∙ ap (λ c. arc_of_side c step.side) is.choice ∙ ap (λ s. arc_of_side rule.choice s) is.side
 
 pub sides_push : (taken : Sides) (log : List ForceStep) (step : ForceStep) → sides_after taken (log ++ step ∷ []) ≡ side_taken step ∷ sides_after taken log
 sides_push taken [] step = refl
@@ -104,7 +112,7 @@ fired parts assumed start arcs log rule step a_choice left is so = record {
   sides = λ side h. side_known side (subst (λ sides. In sides side) pushed h);
   reached = λ side h. side_reached side (subst (λ sides. In sides side) pushed h);
   steps = are_forced_push parts start log step so.steps (choice_right, cycle_right);
-  new = are_new_push parts start log step so.new (λ links. left.1 (subst (λ (s : TxnId × TxnId). Reaches arcs s.0 s.1) takes (links_reached parts taken arcs (side_taken step).0 (side_taken step).1 so.plain so.reached links)));
+  once = all_pairs_push (λ one other. side_taken one ≢ side_taken other) log step so.once (λ k d within same. left.1 (subst (λ (s : TxnId × TxnId). Reaches arcs s.0 s.1) (same ∙ takes) (so.reached (side_taken (get_or log k d)) (step_after start log (get_or log k d) (in_place log k d within)))));
 }
   where
     taken : Sides
@@ -114,7 +122,7 @@ fired parts assumed start arcs log rule step a_choice left is so = record {
     choice_right = subst (λ c. IsChoice parts c) (sym is.choice) a_choice
 
     takes : side_taken step ≡ conclusion rule
-    takes = step_takes step.choice step.side step.cycle ∙ ap (λ c. arc_of_side c step.side) is.choice ∙ ap (λ s. arc_of_side rule.choice s) is.side
+    takes = takes_side arcs rule step is
 
     rules_out : side_not_taken step ≡ ((premise rule).1, (premise rule).0)
     rules_out = step_rules_out step.choice step.side step.cycle ∙ ap (λ c. ((premise_of c step.side).1, (premise_of c step.side).0)) is.choice ∙ ap (λ s. ((premise_of rule.choice s).1, (premise_of rule.choice s).0)) is.side
@@ -167,6 +175,19 @@ pub forces_so_far : (parts : Parts) (assumed start : Sides) (arcs : List Arc) (l
 forces_so_far parts assumed start arcs log new then unforced so = so
 forces_so_far parts assumed start arcs log new then (forced {between = between} {some = some} rule step before is left step_is) so = fired parts assumed start between some rule step is left step_is (forces_so_far parts assumed start arcs log between some before so)
 
+-- what was forced before are sides taken at the start
+pub so_far_again : (parts : Parts) (assumed start : Sides) (arcs : List Arc) (log : List ForceStep) → IsSoFar parts assumed start arcs log → IsSoFar parts assumed (sides_after start log) arcs []
+so_far_again parts assumed start arcs log so = record { right = so.right; known = so.known; plain = so.plain; there = so.there; sides = so.sides; reached = so.reached; steps = tt; once = none_twice }
+
+-- sides that are forced, one after another, are each new
+pub forces_new : (parts : Parts) (assumed start : Sides) (arcs new : List Arc) (steps : List ForceStep) → Forces parts arcs [] new steps → IsSoFar parts assumed start arcs [] → AreNew parts start steps
+forces_new parts assumed start arcs new steps unforced so = tt
+forces_new parts assumed start arcs new steps (forced {between = between} {some = some} rule step before is left step_is) so =
+    let then = forces_so_far parts assumed start arcs [] between some before so in
+    let takes = takes_side between rule step step_is in
+    are_new_push parts start some step (forces_new parts assumed start arcs between some before so)
+    (λ links. left.1 (subst (λ (s : TxnId × TxnId). Reaches between s.0 s.1) takes (links_reached parts (sides_after start some) between (side_taken step).0 (side_taken step).1 then.plain then.reached links)))
+
 -- what is known stays known where one more side is taken
 pub known_more : (parts : Parts) (taken : Sides) (side : TxnId × TxnId) (a b : TxnId) → Known parts taken a b → Known parts (side ∷ taken) a b
 known_more parts taken side a b (by_session ra rb same below) = by_session ra rb same below
@@ -187,7 +208,7 @@ so_far_assumed parts assumed start arcs log side so = record {
   sides = λ other h. side_known other h;
   reached = λ other h. side_reached other h;
   steps = tt;
-  new = tt;
+  once = none_twice;
 }
   where
     own : Arc
@@ -240,17 +261,17 @@ known_reached parts assumed start arcs log a b end (forces_after choice is befor
 known_reached parts assumed start arcs log a b end (forces_before choice is before) = end.closed (record { choice = choice; side = First }) is (known_reached parts assumed start arcs log choice.other choice.reader end before)
 
 -- the log is right, and after it nothing more is forced
-pub full_log : (parts : Parts) (arcs : List Arc) (log : List ForceStep) → IsEnd parts [] [] arcs log → IsFullLog parts log
-full_log parts arcs log end = record {
+pub full_log : (parts : Parts) (assumed start : Sides) (arcs : List Arc) (log : List ForceStep) → IsEnd parts assumed start arcs log → IsFullLogFrom parts assumed start log
+full_log parts assumed start arcs log end = record {
   forced = end.so_far.steps;
-  new = end.so_far.new;
-  known = λ k d within. end.so_far.sides (side_taken (get_or log k d)) (step_after [] log (get_or log k d) (in_place log k d within));
-  after = λ choice is links. linked choice.reader choice.other (forces_after choice is (links_known parts [] (sides_after [] log) choice.writer choice.other end.so_far.sides links));
-  before = λ choice is links. linked choice.other choice.writer (forces_before choice is (links_known parts [] (sides_after [] log) choice.other choice.reader end.so_far.sides links));
+  once = end.so_far.once;
+  known = λ k d within. end.so_far.sides (side_taken (get_or log k d)) (step_after start log (get_or log k d) (in_place log k d within));
+  after = λ choice is links. linked choice.reader choice.other (forces_after choice is (links_known parts assumed (sides_after start log) choice.writer choice.other end.so_far.sides links));
+  before = λ choice is links. linked choice.other choice.writer (forces_before choice is (links_known parts assumed (sides_after start log) choice.other choice.reader end.so_far.sides links));
 }
   where
-    linked : (a b : TxnId) → Known parts [] a b → Links parts (sides_after [] log) a b
-    linked a b known = reached_links parts (sides_after [] log) arcs a b end.so_far.right (known_reached parts [] [] arcs log a b end known)
+    linked : (a b : TxnId) → Known parts assumed a b → Links parts (sides_after start log) a b
+    linked a b known = reached_links parts (sides_after start log) arcs a b end.so_far.right (known_reached parts assumed start arcs log a b end known)
 
 -- the relation is exact
 pub exact : (parts : Parts) (assumed start : Sides) (arcs : List Arc) (log : List ForceStep) (a b : TxnId) → IsEnd parts assumed start arcs log → Reaches arcs a b ↔ Known parts assumed a b

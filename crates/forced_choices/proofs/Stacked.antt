@@ -13,7 +13,7 @@ use Rattle.txn.specs.declared.choices.Side.TheVariants.{First, Second}
 use Rattle.txn.specs.declared.choices.ForceStep.{ForceStep}
 use Rattle.order_check.specs.declared.remainder.Parts.{Parts}
 use Rattle.order_check.specs.Based.{Remains}
-use Rattle.order_check.specs.Cycles.{Sides, AreForced, sides_after}
+use Rattle.order_check.specs.Cycles.{Sides, AreForced, AreNew, IsFullLogFrom, sides_after}
 use Rattle.order_check.specs.Known.{Known, IsChoice}
 use Rattle.known_graph.specs.Graphs.{GraphState, HasNode, HasKey, back_to, where_marked, last_mark}
 use Rattle.known_graph.specs.Reach.{Reaches}
@@ -23,7 +23,7 @@ use Rattle.forced_choices.specs.Forcing.{Forces, IsClosed}
 use Rattle.forced_choices.specs.SoFar.{IsRelation}
 use Rattle.forced_choices.specs.Rules.{arc_of_side}
 use Rattle.forced_choices.specs.Stacks.{level_of, levels_onto, IsRelationAt, IsMoreBy, AreStacked}
-use Rattle.forced_choices.proofs.SaturationLaws.{IsEnd, so_far_assumed, forces_so_far, exact}
+use Rattle.forced_choices.proofs.SaturationLaws.{IsEnd, so_far_assumed, forces_new, forces_so_far, full_log, exact}
 
 -- one more at the end
 pub levels_push : (levels : List Level) (tops : List Top) (top : Top) → levels_onto levels (tops ++ top ∷ []) ≡ level_of top ∷ levels_onto levels tops
@@ -56,10 +56,26 @@ relation_assumed parts taken start old new log steps side nodes forces closed re
   closed = closed;
 }
 
+-- and the steps are new
+pub new_assumed : (parts : Parts) (taken start : Sides) (old new : GraphState) (log steps : List ForceStep) (side : TxnId × TxnId) → Forces parts (old.arcs ++ Taken side.0 side.1 ∷ []) [] new.arcs steps → IsRelation parts taken start old log → AreNew parts (side ∷ sides_after start log) steps
+new_assumed parts taken start old new log steps side forces relation = forces_new parts (side ∷ taken) (side ∷ sides_after start log) (old.arcs ++ Taken side.0 side.1 ∷ []) new.arcs steps forces (so_far_assumed parts taken start old.arcs log side relation.so_far)
+
 -- the relation at one level more
-pub at_more : (parts : Parts) (log : List ForceStep) (levels : List Level) (old new : GraphState) (choice : Choice) (side : Side) (steps : List ForceStep) → ((taken start : Sides) (some : List ForceStep) → IsRelation parts taken start old some → IsRelation parts (arc_of choice side ∷ taken) (arc_of choice side ∷ sides_after start some) new steps) → IsRelationAt parts log levels old → IsRelationAt parts log (record { choice = choice; side = side; steps = steps } ∷ levels) new
-at_more parts log [] old new choice side steps more relation = more [] [] log relation
-at_more parts log (level ∷ levels) old new choice side steps more relation = more (assumed (level ∷ levels)) (arc_of level.choice level.side ∷ all_taken log levels) level.steps relation
+pub at_more : (parts : Parts) (log : List ForceStep) (levels : List Level) (old new : GraphState) (choice : Choice) (side : Side) (steps : List ForceStep) → IsMoreBy parts old new choice side steps → IsRelationAt parts log levels old → IsRelationAt parts log (record { choice = choice; side = side; steps = steps } ∷ levels) new
+at_more parts log [] old new choice side steps more relation = (more [] [] log relation).0
+at_more parts log (level ∷ levels) old new choice side steps more relation = (more (assumed (level ∷ levels)) (arc_of level.choice level.side ∷ all_taken log levels) level.steps relation).0
+
+-- its steps are new
+at_new : (parts : Parts) (log : List ForceStep) (levels : List Level) (old new : GraphState) (choice : Choice) (side : Side) (steps : List ForceStep) → IsMoreBy parts old new choice side steps → IsRelationAt parts log levels old → AreNew parts (arc_of choice side ∷ all_taken log levels) steps
+at_new parts log [] old new choice side steps more relation = (more [] [] log relation).1
+at_new parts log (level ∷ levels) old new choice side steps more relation = (more (assumed (level ∷ levels)) (arc_of level.choice level.side ∷ all_taken log levels) level.steps relation).1
+
+-- they are all that is forced
+pub at_full : (parts : Parts) (log : List ForceStep) (level : Level) (levels : List Level) (graph : GraphState) → IsRelationAt parts log (level ∷ levels) graph → IsFullLogFrom parts (assumed (level ∷ levels)) (arc_of level.choice level.side ∷ all_taken log levels) level.steps
+at_full parts log level levels graph relation =
+    let start = arc_of level.choice level.side ∷ all_taken log levels in
+    let end : IsEnd parts (assumed (level ∷ levels)) start graph.arcs level.steps = record { so_far = relation.so_far; closed = relation.closed } in
+    full_log parts (assumed (level ∷ levels)) start graph.arcs level.steps end
 
 -- its steps are forced
 pub at_forced : (parts : Parts) (log : List ForceStep) (level : Level) (levels : List Level) (graph : GraphState) → IsRelationAt parts log (level ∷ levels) graph → AreForced parts (arc_of level.choice level.side ∷ all_taken log levels) level.steps
@@ -132,6 +148,11 @@ pub stacked_more : (parts : Parts) (log : List ForceStep) (levels : List Level) 
 stacked_more parts log levels old marked new choice side steps h is mark more chosen =
     let here = subst (λ (g : GraphState). IsRelationAt parts log levels g) (sym is) (at_marked parts log levels old (length old.arcs ∷ old.marks) (stacked_here parts log levels old h)) in
     (at_more parts log levels marked new choice side steps more here, (old, mark ∙ last_of_marked old marked is, h), chosen)
+
+pub stacked_new : (parts : Parts) (log : List ForceStep) (levels : List Level) (old marked new : GraphState) (choice : Choice) (side : Side) (steps : List ForceStep) → AreStacked parts log levels old → marked ≡ with_marks old (length old.arcs ∷ old.marks) → IsMoreBy parts marked new choice side steps → AreNew parts (arc_of choice side ∷ all_taken log levels) steps
+stacked_new parts log levels old marked new choice side steps h is more =
+    let here = subst (λ (g : GraphState). IsRelationAt parts log levels g) (sym is) (at_marked parts log levels old (length old.arcs ∷ old.marks) (stacked_here parts log levels old h)) in
+    at_new parts log levels marked new choice side steps more here
 
 -- with one level less
 pub stacked_marks : (parts : Parts) (log : List ForceStep) (levels : List Level) (graph : GraphState) → levels ≢ [] → AreStacked parts log levels graph → graph.marks ≢ []

@@ -35,9 +35,13 @@ abbrev pub all_taken : List ForceStep → List Level → Sides
 all_taken log [] = sides_after [] log
 all_taken log (level ∷ levels) = sides_after (arc_of level.choice level.side ∷ all_taken log levels) level.steps
 
+-- all sides taken where one more is assumed, the last first
+abbrev pub taken_with : BranchState → Choice → Side → Sides
+taken_with branch choice side = arc_of choice side ∷ all_taken branch.log branch.levels
+
 -- these steps are forced by one more side
 abbrev pub AreForcedBy : BranchState → Choice → Side → List ForceStep → Type 0
-AreForcedBy branch choice side steps = AreForced branch.parts (arc_of choice side ∷ all_taken branch.log branch.levels) steps
+AreForcedBy branch choice side steps = AreForced branch.parts (taken_with branch choice side) steps
 
 -- the steps of the last level, or those forced before any side was assumed
 abbrev pub last_steps : List ForceStep → List Level → List ForceStep

@@ -1,5 +1,5 @@
 -- For private clauses: parts with more transactions, and the arcs that these bring.
-use Rattle.std.specs.Prelude.{◌≡◌, ◌<◌, ◌≤◌, ◌⊎◌, ℕ, Bool, ◌&&◌, not, is_some, All, List, Option, true, length, map}
+use Rattle.std.specs.Prelude.{◌≡◌, ◌<◌, ◌≤◌, ◌⊎◌, ℕ, Bool, ◌&&◌, not, is_some, List, Option, true, length, map}
 use Rattle.std.specs.List.{range_with_len}
 use Rattle.txn.specs.declared.transactions.TxnId.{TxnId}
 use Rattle.txn.specs.declared.transactions.Fragment.{Fragment}
@@ -59,9 +59,8 @@ LooksBack parts arc = Remains parts (end_of arc) → Remains parts (start_of arc
 abbrev pub NodesStay : List (Option TxnId) → List (Option TxnId) → Type 0
 NodesStay old new = (key : ℕ) (id : TxnId) → IsAt old key id → IsAt new key id
 
--- the graph and the log are kept of the parts, and the fresh arcs lead to more parts, none of them from what is new to what was there
+-- the graph and the log are kept of the parts, and the fresh arcs lead to more parts
 pub record GoesOn (parts more : Parts) (graph : GraphState) (log : List ForceStep) (fresh : List Arc) : Type 0 where
   pub are : AreMore parts more
   pub kept : IsKept parts graph log
   pub arcs : AreFresh parts more fresh
-  pub back : All (LooksBack parts) fresh

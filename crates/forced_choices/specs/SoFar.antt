@@ -7,7 +7,7 @@ use Rattle.txn.specs.Arcs.{start_of, end_of}
 use Rattle.order_check.specs.declared.remainder.Parts.{Parts}
 use Rattle.order_check.specs.Based.{Remains}
 use Rattle.order_check.specs.Known.{Known}
-use Rattle.order_check.specs.Cycles.{Sides, IsArc, AreForced, AreNew, sides_after}
+use Rattle.order_check.specs.Cycles.{Sides, IsArc, AreForced, TakeEachOnce, sides_after}
 use Rattle.known_graph.specs.Graphs.{GraphState, HasNode}
 use Rattle.known_graph.specs.Reach.{Reaches}
 use Rattle.forced_choices.specs.Ascending.{In}
@@ -23,7 +23,7 @@ pub record IsSoFar (parts : Parts) (assumed start : Sides) (arcs : List Arc) (lo
   pub sides : (side : TxnId × TxnId) → In (sides_after start log) side → Known parts assumed side.0 side.1
   pub reached : (side : TxnId × TxnId) → In (sides_after start log) side → Reaches arcs side.0 side.1
   pub steps : AreForced parts start log
-  pub new : AreNew parts start log
+  pub once : TakeEachOnce log
 
 -- what remains is on the graph, and each side that is forced is there
 pub record IsRelation (parts : Parts) (assumed start : Sides) (graph : GraphState) (log : List ForceStep) : Type 0 where

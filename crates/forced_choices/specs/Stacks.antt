@@ -5,7 +5,7 @@ use Rattle.txn.specs.declared.choices.Side.{Side}
 use Rattle.txn.specs.declared.choices.ForceStep.{ForceStep}
 use Rattle.order_check.specs.declared.remainder.Parts.{Parts}
 use Rattle.order_check.specs.Good.{IsGood}
-use Rattle.order_check.specs.Cycles.{Sides, sides_after}
+use Rattle.order_check.specs.Cycles.{Sides, AreNew, sides_after}
 use Rattle.order_check.specs.Known.{IsChoice}
 use Rattle.known_graph.specs.Graphs.{GraphState, last_mark}
 use Rattle.forced_choices.specs.declared.branch.Top.{Top}
@@ -28,9 +28,9 @@ abbrev pub IsRelationAt : Parts → List ForceStep → List Level → GraphState
 IsRelationAt parts log [] graph = IsRelation parts [] [] graph log
 IsRelationAt parts log (level ∷ levels) graph = IsRelation parts (assumed (level ∷ levels)) (arc_of level.choice level.side ∷ all_taken log levels) graph level.steps
 
--- the graph has one more side, and these steps that it forces
+-- the graph has one more side, and these steps that it forces, each of them new
 abbrev pub IsMoreBy : Parts → GraphState → GraphState → Choice → Side → List ForceStep → Type 0
-IsMoreBy parts old new choice side steps = (taken start : Sides) (log : List ForceStep) → IsRelation parts taken start old log → IsRelation parts (arc_of choice side ∷ taken) (arc_of choice side ∷ sides_after start log) new steps
+IsMoreBy parts old new choice side steps = (taken start : Sides) (log : List ForceStep) → IsRelation parts taken start old log → IsRelation parts (arc_of choice side ∷ taken) (arc_of choice side ∷ sides_after start log) new steps × AreNew parts (arc_of choice side ∷ sides_after start log) steps
 
 -- the graph has the relation of the last level, which assumes a side of a choice, and that of the level below where it goes back to
 -- its last mark

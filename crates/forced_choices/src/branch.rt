@@ -2,7 +2,7 @@ ghost use Rattle.std.specs.Prelude.{◌≡◌, ◌↔◌, ◌≢◌, [], ◌∷�
 ghost use Rattle.txn.specs.declared.transactions.TxnId.{TxnId};
 ghost use Rattle.txn.specs.declared.choices.Choice.{Choice};
 ghost use Rattle.txn.specs.declared.choices.ForceStep.{ForceStep};
-ghost use Rattle.order_check.specs.Cycles.{Sides, IsCycle, sides_after};
+ghost use Rattle.order_check.specs.Cycles.{AreNew, IsCycle, IsFullLogFrom};
 ghost use Rattle.order_check.specs.Explains.{KeepsSessions};
 ghost use Rattle.order_check.specs.Search.{HasCycle, IsFirstOpen};
 ghost use Rattle.known_graph.specs.Reach.{Reaches};
@@ -12,9 +12,8 @@ ghost use Rattle.known_graph.specs.Graphs.{HasNode, last_mark};
 ghost use Rattle.order_check.specs.Good.{IsGood};
 ghost use Rattle.forced_choices.specs.Forcing.{IsClosed};
 ghost use Rattle.forced_choices.specs.Tables.{AreAtColumns, IsTable};
-ghost use Rattle.forced_choices.specs.BranchState.{arc_of, assumed, all_taken, last_steps, AreForcedBy};
+ghost use Rattle.forced_choices.specs.BranchState.{assumed, all_taken, last_steps, taken_with, AreForcedBy};
 ghost use Rattle.forced_choices.specs.Stacks.{IsRelationAt, IsMoreBy, last_passed, passed_onto};
-ghost use Rattle.forced_choices.specs.SoFar.{IsRelation};
 
 use crate::listing::remaining_ids_of;
 use crate::open::first_open_from;
@@ -78,9 +77,7 @@ fn relation_with(
     requires nodes { (id : TxnId) → Remains parts.now id → HasNode graph.old id }
     requires table { IsTable parts.now graph.old.nodes table.now }
     requires closed { IsClosed parts.now graph.old.arcs }
-    ensures relation { IfOk result (λ steps. (taken start : Sides) (log : List ForceStep)
-        → IsRelation parts.now taken start graph.old log
-        → IsRelation parts.now (arc_of rule.choice rule.side ∷ taken) (arc_of rule.choice rule.side ∷ sides_after start log) graph.new steps.items) }
+    ensures relation { IfOk result (λ steps. IsMoreBy parts.now graph.old graph.new rule.choice rule.side steps.items) }
     ensures nodes { OnOk result (graph.new.nodes ≡ graph.old.nodes) }
     ensures mark { last_mark graph.new ≡ last_mark graph.old }
 {
@@ -211,6 +208,8 @@ impl Branch {
     pub fn assume(&mut self, alloc: Global, choice: Choice, side: Side) -> Result<(), NoMemory>
         requires { IsChoice self.old.parts choice }
         ensures ok { OnOk result ((steps : List ForceStep) × AreForcedBy self.old choice side steps × (self.new ≡ record self.old { levels = record { choice = choice; side = side; steps = steps } ∷ self.old.levels })) }
+        ensures full { OnOk result (IsFullLogFrom self.new.parts (assumed self.new.levels) (taken_with self.old choice side) (last_steps self.new.log self.new.levels)) }
+        ensures new { OnOk result (AreNew self.new.parts (taken_with self.old choice side) (last_steps self.new.log self.new.levels)) }
         ensures err { OnErr result (self.new ≡ self.old) }
     {
         let passed = passed_by(&self.tops);

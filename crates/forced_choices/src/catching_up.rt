@@ -8,6 +8,7 @@ ghost use Rattle.known_graph.specs.Graphs.{HasNode, last_mark};
 ghost use Rattle.forced_choices.specs.Growth.{GoesOn, IsNext, NodesStay, ids_of_fragment};
 ghost use Rattle.forced_choices.specs.Kept.{IsKept};
 ghost use Rattle.forced_choices.specs.KeptTables.{IsKeptTable};
+ghost use Rattle.forced_choices.specs.SaturatedState.{AreNewBehind, LogsOn};
 ghost use Rattle.forced_choices.specs.Tables.{IsLookup};
 
 use crate::fresh::fresh_arcs;
@@ -51,6 +52,7 @@ fn go_on_logged(
     requires table { IsLookup more.now graph.old.nodes table.now }
     requires goes_on { (parts : Parts) × GoesOn parts more.now graph.old log.old fresh.now }
     ensures ok { OnOk result (IsKept more.now graph.new log.new) }
+    ensures logged { OnOk result (AreNewBehind more.now log.old log.new) }
     ensures err { OnErr result (log.new ≡ log.old) }
     ensures nodes { OnOk result (graph.new.nodes ≡ graph.old.nodes) }
     ensures mark { last_mark graph.new ≡ last_mark graph.old }
@@ -75,6 +77,7 @@ fn go_on(
     requires table { IsLookup more.now graph.old.nodes table.now }
     requires goes_on { (parts : Parts) × GoesOn parts more.now graph.old log.old fresh.now }
     ensures ok { OnOk result (IsKept more.now graph.new log.new) }
+    ensures logged { OnOk result (AreNewBehind more.now log.old log.new) }
     ensures err { OnErr result ((log.new ≡ log.old) × (graph.new.arcs ≡ graph.old.arcs)) }
     ensures nodes { graph.new.nodes ≡ graph.old.nodes }
 {
@@ -89,7 +92,8 @@ fn go_on(
 }
 
 /// Makes the relation that of more parts. It goes on from that of the parts, unless one of the fragment has to come before what was
-/// there: then a step of the log may no longer be new, and the relation is made anew; its table is then left to the next call.
+/// there: then a read of what was there may have got its writer, which the table hasn't, and the relation is made anew; its table is
+/// then left to the next call.
 pub fn catch_up(
     alloc: Global,
     more: &Parts,
@@ -101,6 +105,7 @@ pub fn catch_up(
     requires good { IsGood more.now }
     requires next { (parts : Parts) × IsNext parts more.now fragment.now × IsKept parts graph.old log.old × IsKeptTable parts graph.old.nodes kept }
     ensures kept { IfOk result (λ left. IsKept more.now graph.new log.new) }
+    ensures logged { OnOk result (LogsOn more.now log.old log.new) }
     ensures table { IfOk result (λ left. IfSome left (IsKeptTable more.now graph.new.nodes)) }
     ensures err { OnErr result ((log.new ≡ log.old) × (graph.new.arcs ≡ graph.old.arcs) × NodesStay graph.old.nodes graph.new.nodes) }
 {

@@ -6,6 +6,7 @@ ghost use Rattle.txn.specs.declared.choices.ForceStep.{ForceStep};
 ghost use Rattle.txn.specs.Arcs.{start_of, end_of};
 ghost use Rattle.order_check.specs.declared.remainder.Parts.{Parts};
 ghost use Rattle.order_check.specs.Based.{Remains};
+ghost use Rattle.order_check.specs.Cycles.{AreNew, sides_after};
 ghost use Rattle.order_check.specs.Good.{IsGood};
 ghost use Rattle.known_graph.specs.Graphs.{HasNode, last_mark};
 ghost use Rattle.forced_choices.specs.Ascending.{In};
@@ -126,6 +127,7 @@ pub fn go_on_with(
     requires table { IsLookup more.now graph.old.nodes table.now }
     requires goes_on { (parts : Parts) × (log : List ForceStep) × GoesOn parts more.now graph.old log fresh.now }
     ensures kept { IfOk result (λ steps. (parts : Parts) (log : List ForceStep) → GoesOn parts more.now graph.old log fresh.now → IsKept more.now graph.new (log ++ steps.items)) }
+    ensures new { IfOk result (λ steps. (parts : Parts) (log : List ForceStep) → GoesOn parts more.now graph.old log fresh.now → AreNew more.now (sides_after [] log) steps.items) }
     ensures nodes { OnOk result (graph.new.nodes ≡ graph.old.nodes) }
     ensures mark { last_mark graph.new ≡ last_mark graph.old }
 {

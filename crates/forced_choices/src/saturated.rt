@@ -7,11 +7,11 @@ ghost use Rattle.known_graph.specs.Reach.{Reaches};
 ghost use Rattle.forced_choices.specs.Kept.{IsKept};
 ghost use Rattle.order_check.specs.Based.{received_count, Remains};
 ghost use Rattle.order_check.specs.Cuts.{IsContentCutOff};
-ghost use Rattle.order_check.specs.Cycles.{IsFullLog};
+ghost use Rattle.order_check.specs.Cycles.{AreNew, IsFullLog};
 ghost use Rattle.order_check.specs.Good.{IsGood};
 ghost use Rattle.order_check.specs.Known.{Known, AreOpenChoices};
 ghost use Rattle.order_check.specs.StandsFor.{parts_with};
-ghost use Rattle.forced_choices.specs.SaturatedState.{fragment_of};
+ghost use Rattle.forced_choices.specs.SaturatedState.{LogsOn, LogsOnBehindSome, fragment_of};
 ghost use Rattle.forced_choices.specs.SoFar.{IsRelation};
 
 use crate::catching_up::catch_up;
@@ -96,10 +96,11 @@ fn saturated_from(parts: Parts, graph: Graph, log: Sequence<ForceStep>) -> Satur
 }
 
 /// The known relation of the parts.
-#[tactic(auto, using(crate::proofs::Keeping::kept_of))]
+#[tactic(auto, using(crate::proofs::Keeping::kept_of, crate::proofs::Keeping::new_of))]
 fn of_whole(alloc: Global, parts: Parts) -> Result<Saturated, NoMemory>
     requires { IsGood parts }
-    ensures { IfOk result (λ saturated. saturated.parts ≡ parts) }
+    ensures parts { IfOk result (λ saturated. saturated.parts ≡ parts) }
+    ensures new { IfOk result (λ saturated. AreNew parts [] saturated.log) }
 {
     let (graph, log) = saturation_of(alloc, &parts)?;
     Ok(saturated_from(parts, graph, Sequence::new(log)))
@@ -109,7 +110,8 @@ impl Saturated {
     /// The known relation of the parts, which are copied.
     pub fn of(alloc: Global, parts: &Parts) -> Result<Saturated, NoMemory>
         requires { IsGood parts.now }
-        ensures { IfOk result (λ saturated. saturated.parts ≡ parts.now) }
+        ensures parts { IfOk result (λ saturated. saturated.parts ≡ parts.now) }
+        ensures new { IfOk result (λ saturated. AreNew parts.now [] saturated.log) }
     {
         let copy = copy_of_parts(parts)?;
         of_whole(alloc, copy)
@@ -184,6 +186,7 @@ impl Saturated {
         requires next { id.number ≡ received_count self.old.parts id.session }
         requires good { IsGood (parts_with self.old.parts (fragment_of id txn.now)) }
         ensures ok { OnOk result (self.new.parts ≡ parts_with self.old.parts (fragment_of id txn.now)) }
+        ensures logged { OnOk result (LogsOn self.new.parts self.old.log self.new.log) }
         ensures err { OnErr result (self.new ≡ self.old) }
     {
         let mut txns = Vec::with_capacity(alloc, 1)?;
@@ -202,6 +205,7 @@ impl Saturated {
         requires next { fragment.now.first ≡ received_count self.old.parts fragment.now.session }
         requires good { IsGood (parts_with self.old.parts fragment.now) }
         ensures ok { OnOk result (self.new.parts ≡ parts_with self.old.parts fragment.now) }
+        ensures logged { OnOk result (LogsOn self.new.parts self.old.log self.new.log) }
         ensures err { OnErr result (self.new ≡ self.old) }
     {
         let kept = match self.kept.take() {
@@ -237,6 +241,7 @@ impl Saturated {
         requires good { IsGood parts.now }
         requires cut_off { IsContentCutOff self.old.parts gone.now parts.now }
         ensures ok { OnOk result (self.new.parts ≡ parts.now) }
+        ensures logged { OnOk result (LogsOnBehindSome self.new.parts self.old.log self.new.log) }
         ensures err { OnErr result (self.new ≡ self.old) }
     {
         let copy = copy_of_parts(parts)?;
@@ -247,6 +252,7 @@ impl Saturated {
     fn go_on(&mut self, alloc: Global, parts: Parts) -> Result<(), NoMemory>
         requires { IsGood parts }
         ensures ok { OnOk result (self.new.parts ≡ parts) }
+        ensures new { OnOk result (AreNew self.new.parts [] self.new.log) }
         ensures err { OnErr result (self.new ≡ self.old) }
     {
         *self = of_whole(alloc, parts)?;

@@ -1,5 +1,5 @@
 -- Paths and cycles of arcs that are right, and choices that they force.
-use Rattle.std.specs.Prelude.{◌≡◌, ◌≢◌, ◌<◌, ⊤, List, [], ◌∷◌, All, Contains}
+use Rattle.std.specs.Prelude.{◌≡◌, ◌≢◌, ◌<◌, ⊤, List, [], ◌∷◌, All, AllPairs, Contains}
 use Rattle.txn.specs.declared.transactions.TxnId.{TxnId}
 use Rattle.txn.specs.declared.transactions.Source.TheVariants.{By}
 use Rattle.txn.specs.declared.choices.Arc.{Arc}
@@ -75,11 +75,20 @@ abbrev pub AreNew : Parts → Sides → List ForceStep → Type 0
 AreNew parts taken [] = ⊤
 AreNew parts taken (step ∷ steps) = (¬ Links parts taken (side_taken step).0 (side_taken step).1) × AreNew parts (side_taken step ∷ taken) steps
 
--- Steps that are forced, one after another, each new and with a side that is known, after which nothing more is forced:
--- where the other side of a choice is ruled out, arcs lead along this side.
-pub record IsFullLog (parts : Parts) (steps : List ForceStep) : Type 0 where
-  pub forced : AreForced parts [] steps
-  pub new : AreNew parts [] steps
-  pub known : All (λ step. Known parts [] (side_taken step).0 (side_taken step).1) steps
-  pub after : (choice : Choice) → IsChoice parts choice → Links parts (sides_after [] steps) choice.writer choice.other → Links parts (sides_after [] steps) choice.reader choice.other
-  pub before : (choice : Choice) → IsChoice parts choice → Links parts (sides_after [] steps) choice.other choice.reader → Links parts (sides_after [] steps) choice.other choice.writer
+-- no two of the steps take one side
+abbrev pub TakeEachOnce : List ForceStep → Type 0
+TakeEachOnce steps = AllPairs (λ one other. side_taken one ≢ side_taken other) steps
+
+-- Steps that are forced, one after another, where the sides at the start are taken. None takes a side again, and each takes one
+-- that is known from those that are assumed. After them nothing more is forced: where the other side of a choice is ruled out,
+-- arcs lead along this side.
+pub record IsFullLogFrom (parts : Parts) (assumed start : Sides) (steps : List ForceStep) : Type 0 where
+  pub forced : AreForced parts start steps
+  pub once : TakeEachOnce steps
+  pub known : All (λ step. Known parts assumed (side_taken step).0 (side_taken step).1) steps
+  pub after : (choice : Choice) → IsChoice parts choice → Links parts (sides_after start steps) choice.writer choice.other → Links parts (sides_after start steps) choice.reader choice.other
+  pub before : (choice : Choice) → IsChoice parts choice → Links parts (sides_after start steps) choice.other choice.reader → Links parts (sides_after start steps) choice.other choice.writer
+
+-- the same where no side is taken at the start
+abbrev pub IsFullLog : Parts → List ForceStep → Type 0
+IsFullLog parts steps = IsFullLogFrom parts [] [] steps

@@ -9,7 +9,7 @@ use Rattle.forced_choices.specs.Tables.{IsLookup}
 use Rattle.forced_choices.proofs.Forced.{settled_after}
 use Rattle.forced_choices.proofs.Keeping.{on_side}
 use Rattle.forced_choices.proofs.Lookups.{lookup_of}
-use Rattle.forced_choices.proofs.Stacked.{relation_assumed, arc_same}
+use Rattle.forced_choices.proofs.Stacked.{relation_assumed, new_assumed, arc_same}
 use Rattle.forced_choices.proofs.branch.relation_with.Goals as goal
 
 pub note-requires-clause-from : goal.note-requires-clause-from
@@ -53,4 +53,4 @@ returns-clause-relation c = λ taken start log relation.
     let nodes = c.in_ok-saturate.ensures.nodes ∙ c.in_ok-add_arc.ensures.nodes in
     let arcs : c.add_arc.new.self.arcs ≡ old.arcs ++ Taken side.0 side.1 ∷ [] = c.in_ok-add_arc.ensures.arcs ∙ ap (λ (p : TxnId × TxnId). old.arcs ++ Taken p.0 p.1 ∷ []) (c.conclusion.ensures ∙ arc_same c.args.rule.choice c.args.rule.side) in
     let forces = subst₂ (λ arcs log. Forces c.args.parts.now arcs log c.saturate.new.graph.arcs c.saturate.new.log.items) arcs c.new-steps.ensures.items c.in_ok-saturate.ensures.forces in
-    relation_assumed c.args.parts.now taken start old c.saturate.new.graph log c.saturate.new.log.items side nodes forces c.in_ok-saturate.ensures.closed relation
+    (relation_assumed c.args.parts.now taken start old c.saturate.new.graph log c.saturate.new.log.items side nodes forces c.in_ok-saturate.ensures.closed relation, new_assumed c.args.parts.now taken start old c.saturate.new.graph log c.saturate.new.log.items side forces relation)

@@ -1,4 +1,4 @@
-use Rattle.std.proofs.Common.{◌≡◌, ◌∙◌, List, Option, Result, Ok, Err, get_or, sym, subst}
+use Rattle.std.proofs.Common.{◌≡◌, ◌∙◌, List, Option, Result, Ok, Err, get_or, inr, sym, subst}
 use Rattle.std.specs.Prelude.{OnErr}
 use Rattle.txn.specs.declared.transactions.TxnId.{TxnId}
 use Rattle.txn.specs.declared.choices.Arc.{Arc}
@@ -9,7 +9,7 @@ use Rattle.forced_choices.specs.Kept.{IsKept}
 use Rattle.forced_choices.specs.KeptTables.{IsKeptTable}
 use Rattle.forced_choices.proofs.CatchingUp.{low_numbers}
 use Rattle.forced_choices.proofs.CaughtUp.{catches_by, goes_on_then, nodes_then, table_then, writers_then}
-use Rattle.forced_choices.proofs.Keeping.{kept_of}
+use Rattle.forced_choices.proofs.Keeping.{kept_of, new_of}
 use Rattle.forced_choices.proofs.KeptTables.{kept_lookup}
 use Rattle.forced_choices.proofs.Members.{In, in_place}
 use Rattle.forced_choices.proofs.catching_up.catch_up.Goals as goal
@@ -88,3 +88,8 @@ returns-clause-table c =
     let grown = table_then parts more fragment graph.nodes new.nodes c.args.kept c.add_writers.new.table c.add_reads.new.table c.in_ok-fresh.fresh.items c.add_reads.new.loose c.deref-6.result.now (c.deref-6.ensures.value ∙ c.in_ok-new.ensures) catches c.in_ok-add_reads.ensures in
     let then : KeptTable = record { table = c.add_reads.new.table; loose = c.add_reads.new.loose } in
     subst (λ (nodes : List (Option TxnId)). IsKeptTable more nodes then) (sym c.in_ok-go_on.ensures.nodes) grown
+
+pub returns-then-not-all_look_back-clause-logged : goal.returns-then-not-all_look_back-clause-logged
+returns-then-not-all_look_back-clause-logged c =
+    let steps = c.in_ok-anew.steps.items in
+    inr (steps, c.new.ensures, new_of c.args.more.now c.in_ok-anew.anew steps c.in_ok-anew.ensures)

@@ -7,7 +7,7 @@ use Rattle.known_graph.specs.Graphs.{HasKey}
 use Rattle.forced_choices.specs.Forcing.{Forces, AreAllSettledUnless}
 use Rattle.forced_choices.specs.Tables.{IsLookup}
 use Rattle.forced_choices.specs.Touching.{AreNoted}
-use Rattle.forced_choices.proofs.Grown.{plain_between, settled_grown, kept_grown}
+use Rattle.forced_choices.proofs.Grown.{plain_between, settled_grown, kept_grown, new_grown}
 use Rattle.forced_choices.proofs.growth.go_on_with.Goals as goal
 
 pub add_all_noted-requires : goal.add_all_noted-requires
@@ -40,3 +40,12 @@ returns-clause-kept c = λ parts log goes.
     let forces = subst₂ (λ (arcs : List Arc) (none : List ForceStep). Forces more arcs none new.arcs steps) c.in_ok-add_all_noted.ensures.arcs c.new-steps.ensures.items c.in_ok-saturate.ensures.forces in
     let nodes : (id : TxnId) → Remains more id → HasKey new.nodes id = λ id remains. subst (λ nodes. HasKey nodes id) (sym (c.in_ok-saturate.ensures.nodes ∙ c.add_all_noted.ensures.nodes)) (c.requires.nodes id remains) in
     kept_grown parts more old log fresh new steps c.requires.good goes forces c.in_ok-saturate.ensures.closed nodes
+
+pub returns-clause-new : goal.returns-clause-new
+returns-clause-new c = λ parts log goes.
+    let more = c.args.more.now in
+    let old = c.args.graph.now in
+    let new = c.saturate.new.graph in
+    let steps = c.saturate.new.log.items in
+    let forces = subst₂ (λ (arcs : List Arc) (none : List ForceStep). Forces more arcs none new.arcs steps) c.in_ok-add_all_noted.ensures.arcs c.new-steps.ensures.items c.in_ok-saturate.ensures.forces in
+    new_grown parts more old log c.args.fresh.now new steps goes forces

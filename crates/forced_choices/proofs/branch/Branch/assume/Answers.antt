@@ -1,14 +1,15 @@
 use Rattle.std.proofs.Common.{ℕ, Option, ◌≡◌, ◌∷◌, [], ◌∙◌, List, sym, ap, subst}
 use Rattle.txn.specs.declared.transactions.TxnId.{TxnId}
+use Rattle.order_check.specs.Cycles.{AreNew, IsFullLogFrom}
 use Rattle.order_check.specs.Known.{IsChoice}
 use Rattle.known_graph.specs.Graphs.{GraphState, HasKey}
-use Rattle.forced_choices.specs.BranchState.{Level, BranchState, AreForcedBy}
+use Rattle.forced_choices.specs.BranchState.{Level, BranchState, AreForcedBy, assumed, last_steps, taken_with}
 use Rattle.forced_choices.specs.declared.branch.Top.{Top}
 use Rattle.forced_choices.specs.Forcing.{IsClosed}
 use Rattle.forced_choices.specs.Tables.{IsTable}
 use Rattle.forced_choices.specs.Stacks.{AreStacked, HavePassed, levels_onto, level_of, passed_onto}
 use Rattle.forced_choices.proofs.Passed.{passed_push, passed_before, passed_more, passed_again}
-use Rattle.forced_choices.proofs.Stacked.{at_nodes, at_forced, levels_push, stacked_here, stacked_more, stacked_again, graph_again, at_closed, marked_there, last_of_marked, state_of, state_with}
+use Rattle.forced_choices.proofs.Stacked.{at_nodes, at_forced, at_full, stacked_new, levels_push, stacked_here, stacked_more, stacked_again, graph_again, at_closed, marked_there, last_of_marked, state_of, state_with}
 use Rattle.forced_choices.proofs.branch.Branch.assume.Goals as goal
 
 pub first_open_from-requires-clause-passed : goal.first_open_from-requires-clause-passed
@@ -77,3 +78,28 @@ returns-in-Ok-clause-ok c =
       subst (λ (b : BranchState). AreForcedBy b c.args.choice c.args.side ok.0) c.self.view_is forced,
       ap (λ levels. state_of c.self.inside.parts c.self.inside.log levels) more ∙ ap (state_with (level_of top)) c.self.view_is,
     )
+
+pub returns-in-Ok-clause-full : goal.returns-in-Ok-clause-full
+returns-in-Ok-clause-full c =
+    let parts = c.self.inside.parts in
+    let log = c.self.inside.log in
+    let levels = levels_onto [] c.self.inside.tops.items in
+    let ok = c.in-Ok.ensures.ok in
+    let top : Top = record { choice = c.args.choice; side = c.args.side; steps = ok.0; passed = c.in_ok-first.first.passed } in
+    let more : levels_onto [] c.take_side.new.tops.items ≡ level_of top ∷ levels = ap (λ tops. levels_onto [] tops) ok.1 ∙ levels_push [] c.self.inside.tops.items top in
+    let stacked = stacked_more parts log levels c.self.inside.graph c.mark.new.self c.take_side.new.graph c.args.choice c.args.side ok.0 c.self.invariant.stacked c.in_ok-mark.ensures.ok c.take_side.ensures.mark ok.2 (subst (λ (b : BranchState). IsChoice b.parts c.args.choice) (sym c.self.view_is) c.requires) in
+    let full = at_full parts log (level_of top) levels c.take_side.new.graph stacked.0 in
+    let here = subst (λ (b : BranchState). IsFullLogFrom parts (assumed (level_of top ∷ levels)) (taken_with b c.args.choice c.args.side) ok.0) c.self.view_is full in
+    subst (λ (new : List Level). IsFullLogFrom parts (assumed new) (taken_with c.args.self.now c.args.choice c.args.side) (last_steps log new)) (sym more) here
+
+pub returns-in-Ok-clause-new : goal.returns-in-Ok-clause-new
+returns-in-Ok-clause-new c =
+    let parts = c.self.inside.parts in
+    let log = c.self.inside.log in
+    let levels = levels_onto [] c.self.inside.tops.items in
+    let ok = c.in-Ok.ensures.ok in
+    let top : Top = record { choice = c.args.choice; side = c.args.side; steps = ok.0; passed = c.in_ok-first.first.passed } in
+    let more : levels_onto [] c.take_side.new.tops.items ≡ level_of top ∷ levels = ap (λ tops. levels_onto [] tops) ok.1 ∙ levels_push [] c.self.inside.tops.items top in
+    let new = stacked_new parts log levels c.self.inside.graph c.mark.new.self c.take_side.new.graph c.args.choice c.args.side ok.0 c.self.invariant.stacked c.in_ok-mark.ensures.ok ok.2 in
+    let here = subst (λ (b : BranchState). AreNew parts (taken_with b c.args.choice c.args.side) ok.0) c.self.view_is new in
+    subst (λ (new : List Level). AreNew parts (taken_with c.args.self.now c.args.choice c.args.side) (last_steps log new)) (sym more) here

@@ -1,0 +1,9 @@
+-- To none of the keys so far it applies.
+use Rattle.std.proofs.Common.{◌≢◌, ℕ, ◌<◌, get_or}
+use Rattle.txn.specs.declared.transactions.TheConstants.{EPOCH}
+use Rattle.std.specs.Prelude.{Any}
+use Rattle.demo_store.specs.Faults.{IsSplit}
+use Rattle.demo_store.proofs.faults.split_read.Given as goal
+
+abbrev pub invariant-loop-key : goal.invariant-loop-key
+invariant-loop-key l = (k : ℕ) → k < l.key-index → get_or l.key-items k 0 ≢ EPOCH → ¬ Any (IsSplit l.log (get_or l.key-items k 0)) l.request.reads
