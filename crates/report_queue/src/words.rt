@@ -1,7 +1,6 @@
 // The word of the latest report, and each step on it. The only ones that may step are those who hold a seat.
-ghost use Rattle.std.specs.Prelude.{◌≡◌, ◌+◌, ◌*◌, ◌-◌, ◌^◌, ◌<◌, ◌≤◌, [], All, ℕ};
-ghost use Rattle.order_check.specs.declared.remainder.Kind.{Kind};
-ghost use Rattle.report_queue.specs.Reports.{code_of, kind_at, told_by, IsBefore, IsNoLater, WasPublished};
+ghost use Rattle.std.specs.Prelude.{◌≡◌, ◌^◌, ◌<◌, ◌≤◌, [], All};
+ghost use Rattle.report_queue.specs.Reports.{code_of, told_by, IsBefore, IsNoLater, WasPublished};
 ghost use Rattle.report_queue.specs.Rule.{publishes, looks_at, heard_of, reader};
 
 use atomic_table::{Join, Play, Split, TableRule};
