@@ -1,0 +1,3 @@
+pub mod Totals
+pub mod Telling
+pub mod Keeps

@@ -1,0 +1,6 @@
+pub mod Counts
+pub mod Reports
+pub mod Rule
+pub mod Seats
+pub mod Rings
+pub mod Ends
