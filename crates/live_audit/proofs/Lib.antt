@@ -1,0 +1,9 @@
+pub mod Answering
+pub mod Ends
+pub mod Finishing
+pub mod Fronts
+pub mod Joining
+pub mod Rounds
+pub mod Sound
+pub mod Stepping
+pub mod Taking

@@ -1,0 +1,44 @@
+-- Right calls of an engine are legal steps.
+use Rattle.std.proofs.Common.{◌≡◌, ◌<◌, ◌-◌, ◌^◌, ℕ, Option, Some, None, sym, ◌∙◌, ap, subst, refl}
+use Rattle.std.specs.Prelude.{Result, Ok, Err, IfOk, IfErr, OnOk, IsSomeAnd, IsSome}
+use Rattle.txn.specs.declared.refusals.Refusal.{Refusal}
+use Rattle.txn.specs.declared.refusals.Refusal.TheVariants as refusals
+use Rattle.txn.specs.declared.transactions.Fragment.{Fragment}
+use Rattle.order_check.specs.declared.remainder.Parts.{Parts}
+use Rattle.order_check.specs.StandsFor.{IsOpenSession}
+use Rattle.polygraph.specs.ProblemState.{ProblemState}
+use Rattle.settle.specs.declared.cuts.Cut as cuts
+use Rattle.fragment_intake.specs.declared.rules.Item.TheVariants as item
+use Rattle.round_state.specs.EngineState.{EngineState}
+use Rattle.round_state.specs.Runs.{StepsLegally}
+use Rattle.round_state.specs.Steps.{IsAdmitted, IsOfferRefusal, IsCloseRefusal, IsTruncated, IsTruncateRefusal, StepsTo, IsAbandonRefusal, engine_offered, engine_closed, engine_abandoned}
+use Rattle.round_state.specs.declared.steps.Step.{Step}
+use Rattle.round_state.specs.declared.steps.Step.TheVariants as step
+use Rattle.round_state.specs.declared.steps.StepReply.{StepReply}
+use Rattle.round_state.specs.declared.steps.StepReply.TheVariants as reply
+use Rattle.live_audit.specs.CoreState.{Search}
+use Rattle.live_audit.specs.Takes.{TakesIn, Finishes}
+use Rattle.live_audit.proofs.Answering.{for_memory, none_or_some}
+
+-- what is right from here on is legal
+abbrev pub RightIsLegal : EngineState → Type 0
+RightIsLegal old = (asked : Step) (said : StepReply) (new : EngineState) → StepsTo old asked said new → StepsLegally old asked said new
+
+pub offered : (old new : EngineState) (fragment : Fragment) (said : Result (Unit {0}) Refusal) → RightIsLegal old → OnOk said (IsAdmitted old.parts fragment × (new ≡ engine_offered old fragment)) → IfErr said (λ refusal. IsOfferRefusal old.parts fragment refusal × (new ≡ old)) → TakesIn old (item.Fragment fragment) said new
+offered old new fragment (Ok done) legal ok err = (step.Offer fragment, refl, legal (step.Offer fragment) reply.Done new ok)
+offered old new fragment (Err refusal) legal ok err = (step.Offer fragment, refl, legal (step.Offer fragment) (reply.Refused refusal) new err)
+
+pub closed : (old new : EngineState) (session : ℕ) (said : Result (Unit {0}) Refusal) → RightIsLegal old → OnOk said (IsOpenSession old.parts session × (new ≡ engine_closed old session)) → IfErr said (λ refusal. IsCloseRefusal old.parts session refusal × (new ≡ old)) → TakesIn old (item.Close session) said new
+closed old new session (Ok done) legal ok err = (step.Close session, refl, legal (step.Close session) reply.Done new ok)
+closed old new session (Err refusal) legal ok err = (step.Close session, refl, legal (step.Close session) (reply.Refused refusal) new err)
+
+pub not_finished : (search : Search) (old new : EngineState) (lawful : Parts → Type 0) (refusal : Refusal) → RightIsLegal old → IsSomeAnd old.asked lawful → StepsTo old (step.Finish search.budget search.depth 1) (reply.Refused refusal) new → Finishes search old None new
+not_finished search old new lawful refusal legal some right =
+    let why = for_memory old lawful refusal some right.0 in
+    (legal (step.Finish search.budget search.depth 1) (reply.Refused refusals.NoMemory) new (subst (λ (r : Refusal). StepsTo old (step.Finish search.budget search.depth 1) (reply.Refused r) new) why right), right.1)
+
+-- an open round is abandoned
+pub given_up : (old new : EngineState) (said : Result (Unit {0}) Refusal) → RightIsLegal old → IsSome old.asked → OnOk said (IsSome old.asked × (new ≡ engine_abandoned old)) → IfErr said (λ refusal. IsAbandonRefusal old refusal × (new ≡ old)) → StepsLegally old step.Abandon reply.Done new
+given_up old new (Ok done) legal some ok err = legal step.Abandon reply.Done new ok
+given_up old new (Err refusals.NoRound) legal some ok err = absurd (none_or_some old.asked some err.0)
+given_up old new (Err refusal) legal some ok err = absurd err.0

@@ -1,0 +1,6 @@
+pub mod CoreState
+pub mod Live
+pub mod Running
+pub mod Takes
+pub mod Told
+pub mod Truth
