@@ -13,6 +13,7 @@ from typing import Callable, Dict, Iterator, List, Mapping, Optional, Sequence, 
 
 from .auditor import FENCE, Logged
 from .auditor import name as plain_name
+from .auditor import version
 
 TransactionId = Tuple[int, int]
 Source = Union[str, TransactionId]
@@ -102,10 +103,6 @@ def _overwritten(table: Table, behind: Mapping[TransactionId, Set[TransactionId]
     return found
 
 
-def _version(source: Source, name: Names) -> str:
-    return "as it was at first" if isinstance(source, str) else f"from {name(source)}"
-
-
 def _dirty_reads(table: Table, _: object, name: Names) -> Iterator[Anomaly]:
     for reader, logged in table.items():
         for key, source in logged.reads:
@@ -130,7 +127,7 @@ def _lost_updates(table: Table, _: object, name: Names) -> Iterator[Anomaly]:
                 yield Anomaly(
                     "lost update",
                     f"{name(other)} and {name(one)} both read {_told(key)} "
-                    f"{_version(source, name)} and both overwrote it: "
+                    f"{version(key, source, name)} and both overwrote it: "
                     "one of the two updates is lost",
                     (other, one),
                 )
@@ -145,7 +142,7 @@ def _fractured_reads(
                 yield Anomaly(
                     "fractured read",
                     f"{name(reader)} read {_told(seen)} from {name(other)}, and "
-                    f"{_told(key)} {_version(source, name)}, though {name(other)} wrote it too",
+                    f"{_told(key)} {version(key, source, name)}, though {name(other)} wrote it too",
                     (other, reader),
                 )
 
@@ -155,11 +152,11 @@ def _stale_reads(
 ) -> Iterator[Anomaly]:
     for reader, key, source, other in _overwritten(table, behind):
         if reader in behind[other]:
-            why = "in its session" if reader[0] == other[0] else "by what was read in between"
+            why = "in its session" if reader[0] == other[0] else "as what was read before it shows"
             yield Anomaly(
                 "stale read",
-                f"{name(reader)} comes behind {name(other)}, which wrote {_told(key)}, {why}, "
-                f"and read it {_version(source, name)}",
+                f"{name(reader)} read {_told(key)} {version(key, source, name)}, though it comes "
+                f"behind {name(other)}, which wrote it ({why})",
                 (other, reader),
             )
 

@@ -4,7 +4,9 @@
 from __future__ import annotations
 
 import argparse
+import os
 import sys
+import traceback
 from typing import Any, Callable, Iterator, List, Mapping, Optional, Sequence
 
 from . import demo
@@ -38,6 +40,9 @@ def main(words: Optional[Sequence[str]] = None) -> int:
         return MISTAKE
     except KeyboardInterrupt:
         print("undecided: it was interrupted", file=sys.stderr)
+        return UNDECIDED
+    except Exception:  # Python's own status would be 1, which says violated
+        traceback.print_exc()
         return UNDECIDED
 
 
@@ -137,7 +142,8 @@ def _explain(asked: Any) -> int:
         print(_where(run.verdict), end=" ")
         _tell(story)
     if asked.html:
-        _write_page(story, asked.script if asked.script != "-" else "a script", asked.html)
+        about = os.path.basename(asked.script) if asked.script != "-" else "a script"
+        _write_page(story, about, asked.html)
     return _status(run)
 
 

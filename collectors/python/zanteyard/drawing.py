@@ -5,7 +5,7 @@ from __future__ import annotations
 
 from dataclasses import dataclass
 from html import escape
-from typing import Dict, Iterable, List, Mapping, Sequence, Tuple
+from typing import Dict, List, Mapping, Sequence, Tuple
 
 from .stories import IN_ONE_SESSION, Link, Step, Story, TransactionId
 
@@ -40,7 +40,7 @@ class Box:
         return x + across * share, y + down * share
 
 
-def columns_of(steps: Sequence[Step], links: Iterable[Link]) -> Dict[TransactionId, int]:
+def columns_of(steps: Sequence[Step]) -> Dict[TransactionId, int]:
     """How far right each transaction stands: behind what it comes after by its session and by its
     reads, as far as these go round in no circle."""
     shown = [step.id for step in steps]
@@ -48,9 +48,8 @@ def columns_of(steps: Sequence[Step], links: Iterable[Link]) -> Dict[Transaction
     for one, following in zip(shown, shown[1:]):
         if one[0] == following[0]:
             before[following].append(one)
-    for link in links:
-        if link.start in before and link.end in before and " wrote" not in link.why:
-            before[link.end].append(link.start)
+    for step in steps:
+        before[step.id] += [source for source in step.sources if source in before]
     found: Dict[TransactionId, int] = {}
     left = list(shown)
     while left:
@@ -64,7 +63,7 @@ def columns_of(steps: Sequence[Step], links: Iterable[Link]) -> Dict[Transaction
 
 def boxes_of(story: Story) -> Dict[TransactionId, Box]:
     """Where each transaction stands."""
-    columns = columns_of(story.steps, story.links)
+    columns = columns_of(story.steps)
     lanes = sorted({step.id[0] for step in story.steps})
     tops: Dict[int, float] = {}
     top = LANE_GAP / 2
@@ -88,11 +87,11 @@ def draw_story(story: Story) -> str:
     if not story.steps:
         return ""
     boxes = boxes_of(story)
-    numbers = {(link.start, link.end): at for at, link in enumerate(story.links, 1)}
-    arcs, points = [], []
-    for link in story.links:
+    arcs: List[Tuple[bool, str]] = []
+    points: List[Point] = []
+    for number, link in enumerate(story.links or _reads(story.steps), 1):
         if link.start in boxes and link.end in boxes:
-            text, its = _arc(link, boxes, numbers[(link.start, link.end)])
+            text, its = _arc(link, boxes, number if story.links else 0)
             arcs.append((link.is_of_circle, text))
             points += its
     for box in boxes.values():
@@ -116,6 +115,17 @@ def draw_story(story: Story) -> str:
             "</svg>",
         ]
     )
+
+
+def _reads(steps: Sequence[Step]) -> List[Link]:
+    """From whom each transaction read: what is drawn where there is no one circle."""
+    names = {step.id: step.name for step in steps}
+    return [
+        Link(source, step.id, f"{step.name} read from {names[source]}", False)
+        for step in steps
+        for source in dict.fromkeys(step.sources)
+        if source in names
+    ]
 
 
 def _ends_of_arcs() -> str:
@@ -165,7 +175,7 @@ def _short(text: str) -> str:
 def _arc(
     link: Link, boxes: Mapping[TransactionId, Box], number: int
 ) -> Tuple[str, List[Point]]:
-    """The arc and what it reaches. It bends to its right, so that two opposite ones stand apart."""
+    """The arc, with a number unless that is 0, and what it reaches. It bends to its right, so that two opposite ones stand apart."""
     start, end = boxes[link.start], boxes[link.end]
     (x, y), (to_x, to_y) = start.middle, end.middle
     across, down = to_x - x, to_y - y
@@ -186,11 +196,14 @@ def _arc(
         first[1] / 4 + bent[1] / 2 + last[1] / 4,
     )
     kind, colour = ("circle", "red") if link.is_of_circle else ("other", "grey")
+    badge = (
+        f'<circle cx="{middle[0]:.1f}" cy="{middle[1]:.1f}" r="11"/>'
+        f'<text class="number" x="{middle[0]:.1f}" y="{middle[1] + 4.5:.1f}">{number}</text>'
+    )
     text = (
-        f'<g class="arc {kind}"><title>{number}. {escape(link.why)}</title>'
+        f'<g class="arc {kind}"><title>{f"{number}. " if number else ""}{escape(link.why)}</title>'
         f'<path d="M{first[0]:.1f} {first[1]:.1f}Q{bent[0]:.1f} {bent[1]:.1f} '
         f'{last[0]:.1f} {last[1]:.1f}" marker-end="url(#{colour}-head)"/>'
-        f'<circle cx="{middle[0]:.1f}" cy="{middle[1]:.1f}" r="11"/>'
-        f'<text class="number" x="{middle[0]:.1f}" y="{middle[1] + 4.5:.1f}">{number}</text></g>'
+        f"{badge if number else ''}</g>"
     )
     return text, [first, last, (middle[0] - 12, middle[1] - 12), (middle[0] + 12, middle[1] + 12)]

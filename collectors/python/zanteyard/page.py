@@ -55,6 +55,7 @@ ol.reasons .circle .mark { background: var(--red); }
 table { border-collapse: collapse; width: 100%; font-size: .93rem; }
 th, td { text-align: left; vertical-align: top; padding: .35rem .7rem .35rem 0;
   border-bottom: 1px solid var(--line); }
+th:first-child { width: 9rem; }
 th { font-weight: 600; color: var(--soft); } td.number { font-weight: 700; white-space: nowrap; }
 pre, code { font: .86rem/1.45 ui-monospace, "DejaVu Sans Mono", Menlo, monospace; }
 pre { background: var(--box); border: 1px solid var(--line); border-radius: 6px; padding: .7rem;
@@ -150,6 +151,8 @@ def _picture(story: Story) -> Iterable[str]:
             "that of the reason below, which also shows where the pointer rests. Red arrows go "
             "round in the circle, grey ones say what follows from what."
         )
+    else:
+        caption += "A grey arrow leads from a writer to who read from it."
     yield f"<figcaption>{caption}</figcaption></figure>"
 
 
@@ -157,6 +160,11 @@ def _reasons(story: Story) -> Iterable[str]:
     yield "<h2>Why no order is left</h2>"
     if not story.links:
         yield "<ul>" + "".join(f"<li>{escape(line)}</li>" for line in story.because) + "</ul>"
+        if not story.anomaly:
+            yield (
+                "<p>No one circle is in all orders: whichever way the writers of one key are put, "
+                "another circle closes. The auditor’s refutation goes through these ways.</p>"
+            )
         return
     names = dict(story.names)
     yield '<ol class="reasons">'
@@ -203,8 +211,11 @@ def _table(steps: Sequence[Step]) -> Iterable[str]:
     yield "</tbody></table>"
     yield (
         '<p class="soft">Transaction 2.7 is number 7 of session 2, counted from 0. All is left out '
-        "that the history is violated without.</p>"
+        "that the history is violated without."
     )
+    if any(step.outcome == "forgotten" for step in steps):
+        yield " “The cut” stands for all that the auditor had forgotten by then."
+    yield "</p>"
 
 
 def _again(story: Story) -> Iterable[str]:

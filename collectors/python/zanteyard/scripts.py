@@ -157,12 +157,13 @@ class ScriptRun:
             self.history.take_in(command[1], command[3])
             self._has_more = True
         elif command[0] == "begin":
-            self._round_is_open = True
+            self._round_is_open, self._has_more = True, False
         elif reply[0] == "cut":
             self.history.forget(reply[2], reply[3])
         if reply[0] == "report":
             self._round_is_open = False
-            self._has_more = self._has_more and command[0] == "finish"
+            if command[0] == "round":  # what came while a round was open isn't in its report
+                self._has_more = False
             self.verdict = self._decided(command[1], reply, number)
             yield self.verdict
 

@@ -49,6 +49,7 @@ class Step:
     name: str
     outcome: str
     deeds: Tuple[Deed, ...]
+    sources: Tuple[TransactionId, ...] = ()  # from whom it read
     clock: str = ""
     caller: str = ""
 
@@ -147,7 +148,8 @@ def _steps(
         for number, logged in enumerate(transactions):
             one = (session, number)
             if logged.reads or logged.writes or logged.outcome == "aborted" or one in told:
-                yield Step(one, names(one), logged.outcome, tuple(_deeds(logged, names)))
+                sources = tuple(source for _, source in logged.reads if source != "init")
+                yield Step(one, names(one), logged.outcome, tuple(_deeds(logged, names)), sources)
 
 
 def _deeds(logged: Logged, names: Names) -> Iterator[Deed]:
