@@ -175,26 +175,23 @@ def _short(text: str) -> str:
 def _arc(
     link: Link, boxes: Mapping[TransactionId, Box], number: int
 ) -> Tuple[str, List[Point]]:
-    """The arc, with a number unless that is 0, and what it reaches. It bends to its right, so that two opposite ones stand apart."""
+    """The arc, with a number unless that is 0, and what it reaches. One that leads to the right in
+    another lane swings over; any other bends to its right, so that two opposite ones stand apart."""
     start, end = boxes[link.start], boxes[link.end]
     (x, y), (to_x, to_y) = start.middle, end.middle
-    across, down = to_x - x, to_y - y
-    length = max(1.0, (across**2 + down**2) ** 0.5)
-    is_straight = link.why == IN_ONE_SESSION and abs(across) < WIDTH + GAP + 1
-    if is_straight:
-        bend = 0.0
-    elif abs(across) < 1:  # above one another
-        bend = WIDTH * 0.62
-    elif abs(down) < 1:  # side by side
-        bend = 50 + 0.28 * length
+    if to_x > x + WIDTH and abs(to_y - y) > 1:
+        first, last = (start.left + WIDTH, y), (end.left, to_y)
+        swing = max(70.0, (last[0] - first[0]) * 0.5)
+        way = f"C{first[0] + swing:.1f} {y:.1f} {last[0] - swing:.1f} {to_y:.1f}"
+        middle = (first[0] + last[0]) / 2, (y + to_y) / 2
     else:
-        bend = 0.2 * length
-    bent = (x + to_x) / 2 - down / length * bend, (y + to_y) / 2 + across / length * bend
-    first, last = start.edge_towards(bent), end.edge_towards(bent)
-    middle = (
-        first[0] / 4 + bent[0] / 2 + last[0] / 4,
-        first[1] / 4 + bent[1] / 2 + last[1] / 4,
-    )
+        bent = _bent(start.middle, end.middle, link.why == IN_ONE_SESSION)
+        first, last = start.edge_towards(bent), end.edge_towards(bent)
+        way = f"Q{bent[0]:.1f} {bent[1]:.1f}"
+        middle = (
+            first[0] / 4 + bent[0] / 2 + last[0] / 4,
+            first[1] / 4 + bent[1] / 2 + last[1] / 4,
+        )
     kind, colour = ("circle", "red") if link.is_of_circle else ("other", "grey")
     badge = (
         f'<circle cx="{middle[0]:.1f}" cy="{middle[1]:.1f}" r="11"/>'
@@ -202,8 +199,23 @@ def _arc(
     )
     text = (
         f'<g class="arc {kind}"><title>{f"{number}. " if number else ""}{escape(link.why)}</title>'
-        f'<path d="M{first[0]:.1f} {first[1]:.1f}Q{bent[0]:.1f} {bent[1]:.1f} '
-        f'{last[0]:.1f} {last[1]:.1f}" marker-end="url(#{colour}-head)"/>'
-        f"{badge if number else ''}</g>"
+        f'<path d="M{first[0]:.1f} {first[1]:.1f}{way} {last[0]:.1f} {last[1]:.1f}" '
+        f'marker-end="url(#{colour}-head)"/>{badge if number else ""}</g>'
     )
     return text, [first, last, (middle[0] - 12, middle[1] - 12), (middle[0] + 12, middle[1] + 12)]
+
+
+def _bent(start: Point, end: Point, is_in_one_session: bool) -> Point:
+    """The point towards which the arc bends."""
+    (x, y), (to_x, to_y) = start, end
+    across, down = to_x - x, to_y - y
+    length = max(1.0, (across**2 + down**2) ** 0.5)
+    if is_in_one_session and abs(across) < WIDTH + GAP + 1:
+        bend = 0.0
+    elif abs(across) < 1:  # above one another
+        bend = WIDTH * 0.62
+    elif abs(down) < 1:  # side by side
+        bend = 50 + 0.28 * length
+    else:
+        bend = 0.2 * length
+    return (x + to_x) / 2 - down / length * bend, (y + to_y) / 2 + across / length * bend
