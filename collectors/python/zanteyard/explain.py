@@ -5,7 +5,7 @@ or after the reader. Where that goes round in a circle no order is left; where n
 import time
 from collections import namedtuple
 
-from .auditor import name, version
+from .shrinking import name, version
 
 Arc = namedtuple("Arc", "start end why needs")  # `needs` are the arcs from which this one follows
 

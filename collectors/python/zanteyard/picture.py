@@ -2,7 +2,7 @@
 import shutil
 import subprocess
 
-from .auditor import deeds, name, statements_of
+from .shrinking import deeds, name, statements_of
 from .explain import TooLong, circle
 
 
