@@ -2,7 +2,7 @@
 and why."""
 from .apart import AuditorApart
 from .auditor import FENCE, Auditor, Cut, Full, Logged, NoCut, NoMemory, Refused
-from .explain import reasons
+from .explain import Explanation, explain_history, reasons
 from .live import LiveAuditor, Lost
 from .outcome import RATHER_LOSE_THE_AUDIT, RATHER_WAIT, Outcome, Pending, Policy, Report
 from .picture import dot_text, draw
@@ -10,11 +10,12 @@ from .pipes import Ended
 from .processes import AuditClient, AuditServer
 from .sessions import Aborted, NameTaken, OutcomeUnknown, Session, Transaction
 from .shrinking import audited, from_start, smaller, words
+from .telling import tell_violation
 
 __all__ = [
     *("Aborted", "AuditClient", "AuditServer", "Auditor", "AuditorApart", "Cut", "Ended", "FENCE"),
-    *("Full", "LiveAuditor", "Logged", "Lost", "NameTaken", "NoCut", "NoMemory", "Outcome"),
+    *("Explanation", "Full", "LiveAuditor", "Logged", "Lost", "NameTaken", "NoCut", "NoMemory", "Outcome"),
     *("OutcomeUnknown", "Pending", "Policy", "RATHER_LOSE_THE_AUDIT", "RATHER_WAIT", "Refused"),
-    *("Report", "Session", "Transaction", "audited", "dot_text", "draw", "from_start", "reasons"),
-    *("smaller", "words"),
+    *("Report", "Session", "Transaction", "audited", "dot_text", "draw", "explain_history"),
+    *("from_start", "reasons", "smaller", "tell_violation", "words"),
 ]

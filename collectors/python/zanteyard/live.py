@@ -275,7 +275,10 @@ class LiveAuditor:
         if self.is_meeting_due():
             self.take_in_all(self.meet())
             if not self.is_violated:  # it may be by a round that was to make room
+                cuts = self.cuts
                 self.audit()
+                if self.cuts == cuts and self.why_not is None:
+                    self.why_not = "no fence was settled"  # so that another meeting comes soon
         elif self.is_round_due():
             self.audit(no_cut="no meeting yet")
 
@@ -329,13 +332,16 @@ class LiveAuditor:
         why, ended = self.lost, self.state(True, self.lost)
         while not self.waiting.empty():
             self.waiting.get()
-        self.lost = None  # nothing is dropped any more: what ends before that moment is known by its number
+        self.is_meeting, self.room = True, self.most  # nobody waits for room: processes are asked
+        self.lost = None  # nothing is dropped from here on: what has ended is known by its number
         try:
             coverage = self.edges()
             self.auditor.start_anew(coverage)
         except Exception:
             self.lost = why
             raise
+        finally:
+            self.is_meeting = False
         self.earlier = (*self.earlier, ended._alone())
         self.coverage, self.report, self.pending = coverage, None, ()
         self.counted += ended.handed_in
@@ -434,7 +440,7 @@ class LiveAuditor:
                 self.taken_in += 1
 
     def audit(self, no_cut=None):
-        no_cut = self.why_not or no_cut
+        no_cut = no_cut or self.why_not
         self.report = self.auditor.last_round()
         self.left_out = self.auditor.left_out
         self.rounds += 1
