@@ -171,7 +171,24 @@ class AfterTheCommit(NoHarm):
         session = Session(auditor, 0, MemoryStore().connect())
         os.kill(auditor.program.process.pid, signal.SIGSTOP)
         self.assertLess(self.longest(lambda: session.run(add_one("x")), 1.0), BOUND + SLACK)
-        self.assertEqual(auditor.outcome().kind, "incomplete")
+        self.assertGreater(session.begun, 10)  # who comes next doesn't wait
+        os.kill(auditor.program.process.pid, signal.SIGCONT)
+        outcome = auditor.outcome()
+        self.assertEqual((outcome.kind, outcome.audited), ("serial", session.begun))
+
+    def test_one_that_stands_still_for_long_is_given_up(self):
+        self.addCleanup(setattr, zanteyard.auditor, "LATEST", zanteyard.auditor.LATEST)
+        zanteyard.auditor.LATEST = 0.5
+        for of in (Auditor, AuditorApart):
+            with self.subTest(of=of.__name__):
+                auditor = self.auditor(of=of)
+                session = Session(auditor, 0, MemoryStore().connect())
+                stands = auditor.process if of is AuditorApart else auditor.program.process
+                os.kill(stands.pid, signal.SIGSTOP)
+                self.assertLess(self.longest(lambda: session.run(add_one("x")), 1.0), BOUND + SLACK)
+                self.wait_for(lambda: session.run(add_one("x")) or auditor.failure)
+                os.kill(stands.pid, signal.SIGCONT)
+                self.assertEqual(auditor.outcome().kind, "incomplete")
 
     def test_a_client_waits_no_longer_than_the_bound_for_a_round(self):
         auditor = self.auditor()

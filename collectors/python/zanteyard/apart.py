@@ -12,13 +12,14 @@ from multiprocessing.connection import Connection, Pipe
 
 from .auditor import EFFORTS, LIMIT, PROGRAM, SECONDS, Auditor, Full, Logged, NoCut, Takes
 from .outcome import RATHER_LOSE_THE_AUDIT
-from .pipes import ENDING, Ended
+from .pipes import ENDING, Ended, Late
 
 PLACE = os.path.dirname(os.path.dirname(os.path.abspath(__file__)))
 START = (
     "import sys; sys.path.insert(0, sys.argv[1]); "
     "from zanteyard.apart import serve; serve(int(sys.argv[2]))"
 )
+UNREACHABLE = "the process between this one and cobra_audit can't be reached"
 MORE = 30.0  # seconds for an answer, beside what the program may take for its own
 
 
@@ -63,35 +64,69 @@ class AuditorApart(Takes):
         """In another process, since this one may be what was lost."""
         with self.lock:
             self.end()
-            self.failure, self.handed_in, self.taken_in = None, 0, 0
+            self.failure, self.late, self.handed_in, self.taken_in = None, None, 0, 0
             self.start(coverage)
 
     def call(self, name, *arguments, seconds=SECONDS + MORE):
         with self.lock:
+            if self.late is not None:
+                self.end_late(SECONDS)
+            self.send(name, arguments)
             try:
-                self.connection.send((name, arguments))
-                if not self.connection.poll(seconds):
-                    self.process.kill()  # it would answer later what nobody asks any more
-                    raise EOFError(f"it hasn't answered for {seconds:.3g} s")
-                is_failed, result = self.connection.recv()
-            except (OSError, ValueError, EOFError, pickle.UnpicklingError) as error:
-                told = f"the process between this one and cobra_audit can't be reached: {error}"
-                raise Ended(told) from error
+                return self.receive(seconds)
+            except Late:
+                self.give_up()
+                raise
+
+    def give_up(self):
+        """It would answer later what nobody asks any more."""
+        self.process.kill()
+
+    def send(self, name, arguments):
+        try:
+            self.connection.send((name, arguments))
+        except (OSError, ValueError) as error:
+            raise Ended(f"{UNREACHABLE}: {error}") from error
+
+    def receive(self, seconds):
+        try:
+            if not self.connection.poll(seconds):
+                raise Late(f"{UNREACHABLE}: it hasn't answered for {seconds:.3g} s")
+            is_failed, result = self.connection.recv()
+        except (OSError, EOFError, pickle.UnpicklingError) as error:
+            raise Ended(f"{UNREACHABLE}: {error}") from error
         if is_failed:
             raise result
         return result
 
-    def offer(self, session, number, *logged, ends=None):
+    def begin_take(self, kind, session, *offered):
+        if kind == "close":
+            self.send("close", (session,))
+        else:
+            self.send("offer_all", ([self.plain((session, offered[0], offered[1:]))],))
+        return session, *offered
+
+    def end_take(self, kind, asked, seconds):
+        result = self.receive(seconds)
+        if kind == "offer":
+            refused, self.left_out = result
+            if refused:
+                told = f"there is no room for transaction {asked[1]} of session {asked[0]}"
+                raise Full(told)
+            self.remaining += 1
+
+    def offer(self, session, number, *logged):
         if self.offer_all([(session, number, logged)]):
             raise Full(f"there is no room for transaction {number} of session {session}")
 
+    @staticmethod
+    def plain(fragment):
+        session, first, txns = fragment
+        return session, first, [one if type(one) is bytes else as_bytes(one) for one in txns]
+
     def offer_all(self, fragments):
         """Their transactions may be packed."""
-        plain = [
-            (session, first, [one if type(one) is bytes else as_bytes(one) for one in txns])
-            for session, first, txns in fragments
-        ]
-        refused, self.left_out = self.call("offer_all", plain)
+        refused, self.left_out = self.call("offer_all", [*map(self.plain, fragments)])
         self.remaining += sum(len(txns) for session, _, txns in fragments if session not in refused)
         return [fragment for fragment in fragments if fragment[0] in refused]
 
@@ -145,6 +180,7 @@ class AuditorApart(Takes):
     def end(self):
         """Ends the program and the process, and gives the program's status; None where that isn't
         known."""
+        self.late = None
         try:
             status = self.call("end", seconds=2 * ENDING)
         except Ended:

@@ -20,6 +20,7 @@ LONGEST = 256  # transactions of one line
 EFFORTS = ((4096, 0, 1), (65536, 4, max(1, min(16, os.cpu_count() or 1))))
 WAITS = (0.1, 0.5)  # seconds after which a line that was answered NoMemory is given again
 SECONDS = 60.0  # for the answer to a line that no client waits for
+LATEST = 10.0  # seconds after which an answer that no client waits for isn't waited for any more
 FENCE = "zanteyard fence"  # the key on which sessions run fences; its number is 0
 MARK = "zanteyard mark"  # a key that a meeting writes behind its fence, for all sessions to read
 FLAG = "zanteyard flag "  # and a session's number: a key that this session alone writes, at a meeting
@@ -75,6 +76,7 @@ class Takes:
         self.token = secrets.token_hex(12)  # of this run alone, also where its name isn't
         self.failure, self.handed_in, self.taken_in = None, 0, 0
         self.waiting = deque()
+        self.late = None  # what was asked for a session and isn't answered yet, and since when
         self.lock = threading.RLock()  # so that what is kept here follows the replies in their order
 
     def take(self, session, number, logged):
@@ -95,25 +97,37 @@ class Takes:
                 self.lock.release()
 
     def take_in(self, ends=None):
-        """All that waits; until then."""
+        """All that waits; until then. What isn't answered by then is asked for by who comes next, and
+        those don't wait."""
         with self.lock:
-            while self.waiting:
-                kind, session, *what = self.waiting.popleft()
-                if self.failure is None:
-                    try:
-                        self.take_one(kind, session, what, ends)
-                    except Exception as error:
+            while self.failure is None and (self.late or self.waiting):
+                try:
+                    if self.late is None:
+                        what = self.waiting.popleft()
+                        self.late = (what, self.begin_take(*what), time.monotonic())
+                    elif ends is not None:
+                        ends = min(ends, self.late[2] + self.policy.wait)
+                    self.end_late(SECONDS if ends is None else max(0.0, ends - time.monotonic()))
+                except Late as error:
+                    if ends is None or time.monotonic() > self.late[2] + LATEST:
+                        self.give_up()
                         self.lose(error)
+                    return
+                except Exception as error:
+                    self.lose(error)
 
-    def take_one(self, kind, session, what, ends):
-        if kind == "close":
-            self.close(session)
-        else:
-            self.offer(session, *what, ends=ends)
+    def end_late(self, seconds):
+        """The answer to what was asked for a session; raises Late, and may then be called again."""
+        (kind, *_), asked, _ = self.late
+        self.end_take(kind, asked, seconds)
+        self.late = None
+        if kind == "offer":
             self.taken_in += 1
 
     def lose(self, error):
         """Nothing more is audited but what was taken in by now."""
+        self.late = None
+        self.waiting.clear()
         if self.failure is None:
             self.failure = error
             logger.error("nothing more is audited: %s", error)
@@ -197,39 +211,82 @@ class Auditor(Takes):
         numbers count from where the audit begins."""
         with self.lock:
             self.end()
-            self.failure, self.handed_in, self.taken_in = None, 0, 0
+            self.failure, self.late, self.handed_in, self.taken_in = None, None, 0, 0
             self.start(coverage)
 
     @property
     def remaining(self):
         return sum(map(len, self.history))
 
-    def ask(self, line, ends=None):
+    def ask(self, line):
         text = written(line)
-        return self.settled(text, *self.replies_to([text], ends), ends)
+        return self.settled(text, *self.replies_to([text]))
 
-    def settled(self, text, reply, ends=None):
+    def settled(self, text, reply, seconds=SECONDS):
         """The reply, where the line isn't refused for good."""
         for wait in WAITS:
-            if reply[0] != "no" or reply[2] != "NoMemory":
-                break
-            if ends is not None and time.monotonic() + wait > ends:
+            if reply[0] != "no" or reply[2] != "NoMemory" or wait > seconds:
                 break
             time.sleep(wait)
-            (reply,) = self.replies_to([text], ends)
+            (reply,) = self.replies_to([text])
         if reply[0] == "no":
             raise KINDS.get(reply[2], Refused)(f"{text} was answered {reply[2]}")
         return reply
 
-    def replies_to(self, texts, ends=None):
+    def replies_to(self, texts):
         """Of lines that are given one behind the other; raises Late where that takes too long."""
-        lines = [text.encode() for text in texts]
         with self.lock:
-            if self.program is None:
-                raise Ended("cobra_audit has been ended")
-            self.keep(lines)
-            seconds = SECONDS if ends is None else max(0.0, ends - time.monotonic())
-            return [json.loads(answer) for answer in self.program.answers(lines, seconds)]
+            if self.late is not None and self.late[1][0] not in texts:  # else it is given again
+                self.end_late(SECONDS)
+            self.give(texts)
+            try:
+                return [json.loads(answer) for answer in self.program.answers(len(texts), SECONDS)]
+            except Late:
+                self.give_up()
+                raise
+
+    def give_up(self):
+        """It would answer later what nobody asks any more."""
+        self.program.kill()
+
+    def give(self, texts):
+        if self.program is None:
+            raise Ended("cobra_audit has been ended")
+        lines = [text.encode() for text in texts]
+        self.keep(lines)
+        self.program.ask(lines)
+
+    # a line for a session, and its answer
+
+    def begin_take(self, kind, session, *offered):
+        if kind == "close":
+            text, fragment = written(["close", session]), None
+        else:
+            number, logged = offered
+            fragment = self.covered((session, number, [logged]))
+            text = self.offer_of(fragment)
+        self.give([text])
+        return text, fragment
+
+    def end_take(self, kind, asked, seconds):
+        text, fragment = asked
+        (answer,) = self.program.answers(1, seconds)
+        try:
+            self.settled(text, json.loads(answer), seconds)
+        except Full as error:
+            told = f"there is no room for transaction {fragment[1]} of session {fragment[0]}"
+            raise Full(told) from error
+        if kind == "offer":
+            self.keep_history(fragment)
+
+    def offer_of(self, fragment):
+        session, first, txns, _ = fragment
+        return written(["offer", session, first, [*map(self.txn, txns)]])
+
+    def keep_history(self, fragment):
+        session, _, txns, left_out = fragment
+        self.history[session] += txns
+        self.left_out += left_out
 
     def keep(self, lines):
         """In the script; a file that can't be written harms nobody but who wants to read it."""
@@ -242,28 +299,24 @@ class Auditor(Takes):
                 self.script_failure = error
                 logger.error("%s lacks lines: %s", self.script.name, error)
 
-    def offer(self, session, number, *logged, ends=None):
+    def offer(self, session, number, *logged):
         """Transactions that follow one another, the first of this number. Raises Full where there is
-        no room, and Late where that takes longer than until then."""
-        if self.offer_all([(session, number, logged)], ends):
+        no room."""
+        if self.offer_all([(session, number, logged)]):
             raise Full(f"there is no room for transaction {number} of session {session}")
 
-    def offer_all(self, fragments, ends=None):
+    def offer_all(self, fragments):
         """The same of several fragments, each (session, number of the first, transactions): gives
         those for which there was no room."""
         refused = []
         with self.lock:
             moved = [self.covered(fragment) for fragment in fragments]
-            texts = [
-                written(["offer", session, first, [*map(self.txn, txns)]])
-                for session, first, txns, _ in moved
-            ]
-            replies = self.replies_to(texts, ends)
+            texts = [self.offer_of(fragment) for fragment in moved]
+            replies = self.replies_to(texts)
             for fragment, its, text, reply in zip(fragments, moved, texts, replies):
                 try:
-                    self.settled(text, reply, ends)
-                    self.history[fragment[0]] += its[2]
-                    self.left_out += its[3]
+                    self.settled(text, reply)
+                    self.keep_history(its)
                 except Full:
                     refused.append(fragment)
         return refused

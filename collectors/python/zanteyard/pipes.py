@@ -12,7 +12,7 @@ class Ended(Exception):
 
 
 class Late(Ended):
-    """The program hasn't answered in time: what it would have answered isn't waited for any more."""
+    """The program hasn't answered in time."""
 
 
 class Pipes:
@@ -26,55 +26,55 @@ class Pipes:
             told = f"{path} can't be started ({error}); README.md says how it is built"
             raise Ended(told) from error
         self.rest = b""  # what was read behind the last whole line
+        self.unsent, self.found = memoryview(b""), []  # of lines, and answers that nobody has yet
         self.waits = select.poll()
         self.waits.register(self.process.stdout, select.POLLIN | select.POLLHUP)
         self.takes = select.poll()
         self.takes.register(self.process.stdin, select.POLLOUT)
         os.set_blocking(self.process.stdin.fileno(), False)
 
-    def answers(self, lines, seconds):
-        """One to each of the lines, which are bytes without their ends. Raises Ended, or Late after
-        so many seconds."""
-        until, found = time.monotonic() + seconds, []
-        left = memoryview(b"".join(line + b"\n" for line in lines))
+    def ask(self, lines):
+        """Bytes without their ends, each of which is answered once."""
+        self.unsent = memoryview(bytes(self.unsent) + b"".join(line + b"\n" for line in lines))
+
+    def answers(self, count, seconds):
+        """So many, in the order in which was asked. Raises Ended; or Late after so many seconds, and
+        may then be called again."""
+        until = time.monotonic() + seconds
         try:
-            while len(found) < len(lines):
-                if left:
-                    left = left[self.write(left, until) :]
-                found += self.read(until, is_blocking=not left)
+            while len(self.found) < count:
+                if self.unsent:
+                    self.write(until)
+                self.read(until, is_blocking=not self.unsent)
         except BrokenPipeError:
             self.tell_end()
         except (OSError, ValueError) as error:
             raise Ended(f"cobra_audit can't be reached: {error}") from error
-        return found
+        answers, self.found = self.found[:count], self.found[count:]
+        return answers
 
-    def write(self, text, until):
-        """How many bytes of it were taken; none where answers have to be read first."""
+    def write(self, until):
+        """What the program takes, unless answers have to be read first."""
         try:
-            return os.write(self.process.stdin.fileno(), text[:65536])
+            self.unsent = self.unsent[os.write(self.process.stdin.fileno(), self.unsent[:65536]) :]
         except BlockingIOError:
             if not self.waits.poll(0) and not self.takes.poll(self.left(until)):
-                self.give_up()
-            return 0
+                raise Late("cobra_audit hasn't answered in time") from None
 
     def read(self, until, is_blocking):
         if not self.waits.poll(self.left(until) if is_blocking else 0):
             if is_blocking:
-                self.give_up()
-            return []
+                raise Late("cobra_audit hasn't answered in time")
+            return
         got = os.read(self.process.stdout.fileno(), 1 << 20)
         if not got:
             self.tell_end()
         *lines, self.rest = (self.rest + got).split(b"\n")
-        return lines
+        self.found += lines
 
     def left(self, until):
         """Milliseconds, as `poll` wants them."""
         return max(0, int(1000 * (until - time.monotonic())))
-
-    def give_up(self):
-        self.process.kill()  # it would answer later what nobody asks any more
-        raise Late("cobra_audit hasn't answered in time")
 
     def tell_end(self):
         status, error = self.end(), self.error
