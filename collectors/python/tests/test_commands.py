@@ -125,7 +125,7 @@ class Commands(unittest.TestCase):
     def test_what_was_forgotten_is_told_as_the_cut(self):
         status, out, _ = run("explain", os.path.join(WORKED, "gone_read.jsonl"))
         self.assertEqual(status, 1)
-        self.assertIn("1.0 read fence from the cut", out)
+        self.assertIn("read zanteyard's fence from the cut", out)
         self.assertIn("stale read", out)
 
     def test_worked_scripts_of_each_fault_get_their_names(self):

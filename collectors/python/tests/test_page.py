@@ -9,7 +9,7 @@ import unittest
 import zlib
 
 from zanteyard import Logged
-from zanteyard.auditor import name
+from zanteyard.shrinking import name
 from zanteyard.charts import RoundSeen
 from zanteyard.page import page_of
 from zanteyard.stories import Story, story_of

@@ -11,9 +11,9 @@ from __future__ import annotations
 from dataclasses import dataclass
 from typing import Callable, Dict, Iterator, List, Mapping, Optional, Sequence, Set, Tuple, Union
 
-from .auditor import FENCE, Logged
-from .auditor import name as plain_name
-from .auditor import version
+from .auditor import FENCE, PLAIN_FENCE, Logged
+from .shrinking import name as plain_name
+from .shrinking import version
 
 TransactionId = Tuple[int, int]
 Source = Union[str, TransactionId]
@@ -57,7 +57,7 @@ def find_anomaly(
 
 
 def _told(key: str) -> str:
-    return "the fences' row" if key in (FENCE, "fence") else key
+    return "the fences' row" if key in (FENCE, PLAIN_FENCE) else key
 
 
 def _plain_arcs(table: Table) -> Iterator[Arc]:

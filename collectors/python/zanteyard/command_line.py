@@ -10,9 +10,10 @@ import traceback
 from typing import Any, Callable, Iterator, List, Mapping, Optional, Sequence
 
 from . import demo
-from .auditor import Auditor, Ended
+from .auditor import Auditor
 from .errors import ProgramEndedError, ScriptMistakeError, ZanteyardError
 from .page import page_of
+from .pipes import Ended
 from .programs import find_program, origin_of, program_path
 from .scripts import MORE, ScriptRun, Verdict
 from .stories import EXPLAINED, Story, story_lines, verdict_story, violation_story

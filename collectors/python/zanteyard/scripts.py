@@ -10,8 +10,9 @@ from collections import Counter
 from dataclasses import dataclass, field
 from typing import Any, Dict, Iterable, Iterator, List, Mapping, Sequence, Tuple, Union
 
-from .auditor import FENCE, Logged
+from .auditor import FENCE, Logged, never_came
 from .errors import ProgramEndedError, ScriptMistakeError
+from .outcome import Pending
 
 TransactionId = Tuple[int, int]  # session and number
 Source = Union[str, TransactionId]  # "init" for the initial state
@@ -38,15 +39,6 @@ ADVICE: Mapping[str, str] = {
     "RoundOpen": "a round is open: `finish` it first",
     "NoRound": "no round is open",
 }
-
-
-@dataclass(frozen=True)
-class Pending:
-    """A read that names a transaction which hasn't come."""
-
-    reader: TransactionId
-    key: str
-    source: TransactionId
 
 
 @dataclass(frozen=True)
@@ -87,14 +79,7 @@ class History:
 
     def pending(self) -> Iterator[Pending]:
         """The reads that wait for a transaction which hasn't come."""
-        received = [mark + len(txns) for mark, txns in zip(self.marks, self.history)]
-        for session, transactions in enumerate(self.history):
-            for place, logged in enumerate(transactions, self.marks[session]):
-                for key, source in logged.reads:
-                    if source == "init":
-                        continue
-                    if source[0] >= len(received) or source[1] >= received[source[0]]:
-                        yield Pending((session, place), key, source)
+        yield from never_came(self.history, self.marks)
 
     @property
     def remaining(self) -> int:

@@ -10,10 +10,11 @@ from typing import Any, Callable, Dict, Iterable, Iterator, List, Mapping, Optio
 from typing import Sequence, Tuple
 
 from .anomalies import MEANINGS, Anomaly, find_anomaly
-from .auditor import FENCE, Logged, audited, from_start, smaller, words
-from .auditor import version as version_text
-from .explain import TooLong, circle, reasons
+from .auditor import Logged
+from .explain import SESSION, Explanation, below, explain_history
 from .scripts import History, Verdict
+from .shrinking import SECONDS, audited, from_start, smaller, words
+from .shrinking import version as version_text
 
 TransactionId = Tuple[int, int]
 Names = Callable[[TransactionId], str]
@@ -25,8 +26,8 @@ SENTENCES: Mapping[str, str] = {
     "kept",
     "spent": "undecided: the search ran out of its budget, and nothing is said of the store",
 }
-EXPLAINED = 60.0  # seconds that making the history small may take, and as many for the reasons
-IN_ONE_SESSION = "they are in one session"
+EXPLAINED = SECONDS  # that making the history small may take, and as many for the reasons
+IN_ONE_SESSION = SESSION
 SHOWN = 12  # transactions of an order, and reads that wait, which are told of a long one
 
 
@@ -124,7 +125,8 @@ def story_of(
     seconds: float = EXPLAINED,
 ) -> Story:
     """Of a violated history that is small already."""
-    links = tuple(_links(history, names, seconds))
+    explanation = explain_history(history, names, seconds)
+    links = tuple(_links(explanation))
     told = {end for link in links for end in (link.start, link.end)}
     return Story(
         "violated",
@@ -133,7 +135,7 @@ def story_of(
         tuple(_steps(history, names, told)),
         links,
         tuple(words(history, names)),
-        tuple(reasons(history, names, seconds)),
+        explanation.lines,
         script,
         names=tuple((one, names(one)) for one in sorted(told)),
     )
@@ -157,50 +159,21 @@ def _deeds(logged: Logged, names: Names) -> Iterator[Deed]:
     returned: Dict[Any, str] = dict(getattr(logged, "values", ()))
     for key, source in logged.reads:
         deed = (key, source)
-        text = f"read {_told(key)} {version_text(key, source, names)}"
+        text = f"read {key} {version_text(key, source, names)}"
         yield Deed(text, statements.get(deed, ""), returned.get(deed, ""))
     for key in logged.writes:
-        yield Deed(f"wrote {_told(key)}", statements.get((key,), ""), returned.get((key,), ""))
+        yield Deed(f"wrote {key}", statements.get((key,), ""), returned.get((key,), ""))
 
 
-def _told(key: str) -> str:
-    return "fence" if key == FENCE else key
-
-
-def _links(
-    history: Sequence[Sequence[Logged]], names: Names, seconds: float
-) -> Iterator[Link]:
-    """The arcs of a circle, each behind those from which it follows; none where none is found."""
-    try:
-        around = circle(history, names, seconds) or []
-    except TooLong:
-        return
+def _links(explanation: Explanation) -> Iterator[Link]:
+    """The arcs of its circle, each behind those from which it follows."""
+    around = [(arc.start, arc.end) for arc in explanation.arcs]
     told: List[Tuple[TransactionId, TransactionId]] = []
-
-    def tell(arcs: Sequence[Any], is_of_circle: bool) -> Iterator[Link]:
-        for start, end, why, needs in _joined(arcs):
-            yield from tell(needs, False)
-            if (start, end) not in told:
-                told.append((start, end))
-                yield Link(start, end, why, is_of_circle)
-
-    ends = {(start, end) for start, end, _, _ in _joined(around)}
-    for link in tell(around, True):
-        is_of_circle = (link.start, link.end) in ends
-        yield Link(link.start, link.end, link.why, is_of_circle)
-
-
-def _joined(arcs: Sequence[Any]) -> List[Tuple[TransactionId, TransactionId, str, Sequence[Any]]]:
-    """The arcs, with those of one session that follow one another as one."""
-    found: List[Tuple[TransactionId, TransactionId, str, Sequence[Any]]] = []
-    for arc in arcs:
-        last = found[-1] if found else None
-        is_next = last is not None and last[1] == arc.start
-        if is_next and last is not None and last[2] == arc.why == IN_ONE_SESSION:
-            found[-1] = (last[0], arc.end, IN_ONE_SESSION, ())
-        else:
-            found.append((arc.start, arc.end, arc.why, arc.needs))
-    return found
+    for arc in below(explanation.arcs):
+        ends = (arc.start, arc.end)
+        if ends not in told:
+            told.append(ends)
+            yield Link(arc.start, arc.end, arc.why, ends in around)
 
 
 def story_lines(story: Story) -> Iterator[str]:
