@@ -91,7 +91,12 @@ def unproved(name: str, folder: str) -> str:
     with open(script, "rb") as lines, open(os.devnull, "wb") as nowhere:
         try:
             trying = subprocess.Popen(
-                words, cwd=crate, stdin=lines, stdout=nowhere, stderr=nowhere, env=environment,
+                words,
+                cwd=crate,
+                stdin=lines,
+                stdout=nowhere,
+                stderr=nowhere,
+                env=environment,
                 start_new_session=True,
             )
         except OSError as error:
@@ -112,7 +117,7 @@ def taken_from(trying: "subprocess.Popen[bytes]", name: str, folder: str) -> str
         for at, _, names in os.walk(folder):
             has_replied = {"program", "stdout"} <= {*names} and os.path.getsize(f"{at}/stdout")
             if has_replied:
-                return shutil.copy(f"{at}/program", os.path.join(folder, name))
+                return str(shutil.copy(f"{at}/program", os.path.join(folder, name)))
         time.sleep(0.1)
     raise CantPackError(f"rt try has built no {name}: run it by hand to see why")
 
@@ -161,7 +166,9 @@ def stage(folder: str, programs: Sequence[str], is_proved: bool) -> None:
 
 def wheel_of(folder: str, output: str) -> str:
     """Builds the wheel by its backend alone, and gives its path."""
-    code = "import sys; from setuptools import build_meta; print(build_meta.build_wheel(sys.argv[1]))"
+    code = (
+        "import sys; from setuptools import build_meta; print(build_meta.build_wheel(sys.argv[1]))"
+    )
     words = [sys.executable, "-c", code, output]
     ended = subprocess.run(
         words, cwd=folder, stdout=subprocess.PIPE, stderr=subprocess.STDOUT, text=True
@@ -177,7 +184,10 @@ def arguments(words: Optional[Sequence[str]]) -> argparse.Namespace:
     how = asked.add_mutually_exclusive_group()
     how.add_argument("--built", action="store_true", help="takes what the gate has just built")
     how.add_argument(
-        "--unproved", nargs="?", const="", metavar="PROGRAM",
+        "--unproved",
+        nargs="?",
+        const="",
+        metavar="PROGRAM",
         help="builds without a proof, for a first try; or takes this program",
     )
     return asked.parse_args(words)

@@ -22,8 +22,6 @@ LOST = [
 ]
 
 
-
-
 def run(*words):
     out, err = io.StringIO(), io.StringIO()
     with redirect_stdout(out), redirect_stderr(err):
@@ -57,7 +55,12 @@ class Commands(unittest.TestCase):
             (0, "serial", ("check",), [*begins, '["round",32,0,1]']),
             (1, "violated", ("check",), [*LOST, '["round",32,0,1]']),
             (2, "BadLine", ("check",), [*begins, '["rouND",32,0,1]']),
-            (3, "pending", ("check",), [*begins, '["offer",1,0,[[[[5,0,7]],[]]]]', '["round",9,0,1]']),
+            (
+                3,
+                "pending",
+                ("check",),
+                [*begins, '["offer",1,0,[[[[5,0,7]],[]]]]', '["round",9,0,1]'],
+            ),
             (4, "undecided", spent, [*self.worked("real_split")[:-1], '["round",1,0,1]']),
         ]
         for wanted, word, command, lines in rows:
@@ -68,7 +71,9 @@ class Commands(unittest.TestCase):
 
     def worked(self, name):
         with open(os.path.join(WORKED, f"{name}.jsonl"), encoding="utf-8") as file:
-            return [line for line in file.read().splitlines() if not line.startswith('["round"')] + [""]
+            return [
+                line for line in file.read().splitlines() if not line.startswith('["round"')
+            ] + [""]
 
     def test_a_lost_update_in_words(self):
         status, out, _ = self.check(*LOST, '["round",32,0,1]')
@@ -78,7 +83,8 @@ class Commands(unittest.TestCase):
             [
                 "line 4: violated: no order of these transactions explains what they read, "
                 "each session's own order kept",
-                "  lost update (two transactions read one version of a key, and both overwrote it):",
+                "  lost update "
+                "(two transactions read one version of a key, and both overwrote it):",
                 "  0.0 and 1.0 both read key 5 as it was at first and both overwrote it: "
                 "one of the two updates is lost",
                 "    0.0 read key 5 as it was at first, wrote key 5",
@@ -106,7 +112,13 @@ class Commands(unittest.TestCase):
 
     def test_mistakes_of_the_call(self):
         missing = os.path.join(self.folder, "none.jsonl")
-        for words in ((), ("check",), ("check", missing), ("check", missing, "--nodes", "0"), ("no",)):
+        for words in (
+            (),
+            ("check",),
+            ("check", missing),
+            ("check", missing, "--nodes", "0"),
+            ("no",),
+        ):
             with self.subTest(words=words):
                 self.assertEqual(run(*words)[0], 2)
         self.assertEqual(self.check()[0], 2)  # an empty script
@@ -129,15 +141,27 @@ class Commands(unittest.TestCase):
         self.assertIn("stale read", out)
 
     def test_worked_scripts_of_each_fault_get_their_names(self):
-        for name, wanted in (("fault_lost_update", "lost update"), ("write_skew", "write skew"),
-                             ("aborted_attempt", "dirty read"), ("three_rounds", "stale read")):
+        for name, wanted in (
+            ("fault_lost_update", "lost update"),
+            ("write_skew", "write skew"),
+            ("aborted_attempt", "dirty read"),
+            ("three_rounds", "stale read"),
+        ):
             with self.subTest(name=name):
-                self.assertIn(f"  {wanted} (", run("explain", os.path.join(WORKED, f"{name}.jsonl"))[1])
+                self.assertIn(
+                    f"  {wanted} (", run("explain", os.path.join(WORKED, f"{name}.jsonl"))[1]
+                )
 
     def test_each_demonstration(self):
-        names = {"lost-update": "lost update", "write-skew": "write skew", "stale-read": "stale read",
-                 "torn-read": "fractured read", "dirty-read": "dirty read", "lost-write": "stale read",
-                 "reappearing": "stale read"}
+        names = {
+            "lost-update": "lost update",
+            "write-skew": "write skew",
+            "stale-read": "stale read",
+            "torn-read": "fractured read",
+            "dirty-read": "dirty read",
+            "lost-write": "stale read",
+            "reappearing": "stale read",
+        }
         self.assertEqual({*names, demo.HONEST}, {*demo.NAMES})
         for name, wanted in names.items():
             with self.subTest(name=name):

@@ -1,5 +1,6 @@
 """The wheel: made of this tree, installed into an environment of its own from no index, tried."""
 import os
+import re
 import shutil
 import subprocess
 import sys
@@ -11,9 +12,7 @@ from zanteyard.programs import BUILT
 from zanteyard.version import VERSION
 
 TOP = os.path.normpath(os.path.join(os.path.dirname(os.path.abspath(__file__)), "../../.."))
-LOST = (
-    '["open",2,8]\n["offer",0,0,[[[[5,"init"]],[5]]]]\n["offer",1,0,[[[[5,"init"]],[5]]]]\n'
-)
+LOST = '["open",2,8]\n["offer",0,0,[[[[5,"init"]],[5]]]]\n["offer",1,0,[[[[5,"init"]],[5]]]]\n'
 SERIAL = '["open",1,8]\n["offer",0,0,[[[],[5]]]]\n'
 # A script for each status of `zanteyard check`; the last one is given no more than one node.
 SCRIPTS = {
@@ -35,6 +34,13 @@ def python_for(modules):
     return None
 
 
+def commands_of_the_readme():
+    """From the environment to a violation on a page."""
+    with open(f"{TOP}/README.md", encoding="utf-8") as file:
+        found = re.search(r"```\n((?:\$ .*venv.*\n)+)```", file.read())
+    return [line[2:] for line in found[1].splitlines()]
+
+
 @unittest.skipUnless(os.path.isfile(PROGRAM), f"{PROGRAM} is not built")
 @unittest.skipUnless(python_for("setuptools, wheel"), "setuptools and wheel are not installed")
 @unittest.skipUnless(python_for("venv, ensurepip"), "python3-venv is not installed")
@@ -46,23 +52,35 @@ class Package(unittest.TestCase):
         cls.is_of_the_tree = os.path.realpath(PROGRAM) == os.path.realpath(BUILT)
         how = ["--built"] if cls.is_of_the_tree else ["--unproved", PROGRAM]
         cls.environment = {
-            key: value for key, value in os.environ.items() if key not in ("COBRA_AUDIT", "PYTHONPATH")
+            key: value
+            for key, value in os.environ.items()
+            if key not in ("COBRA_AUDIT", "PYTHONPATH")
         }
-        made = cls.run_it(f"{TOP}/package.sh", *how, "--output", f"{cls.folder}/wheels")
+        made = cls.run_it(f"{TOP}/package.sh", *how, "--output", cls.folder)
         cls.wheel = made.stdout.split()[-1] if not made.returncode else None
         cls.said = made.stdout + made.stderr
+        cls.commands = commands_of_the_readme()
         if cls.wheel:
-            cls.run_it(python_for("venv, ensurepip"), "-m", "venv", f"{cls.folder}/venv")
-            cls.installed = cls.run_it(
-                f"{cls.folder}/venv/bin/pip", "install", "--no-index", "--quiet", cls.wheel
-            )
+            cls.shell(cls.commands[0].replace("python3", python_for("venv, ensurepip"), 1))
+            cls.installed = cls.shell(cls.commands[1])
 
     @classmethod
     def run_it(cls, *words):
         return subprocess.run(
-            words, cwd=cls.folder, env=cls.environment, stdin=subprocess.DEVNULL,
-            stdout=subprocess.PIPE, stderr=subprocess.PIPE, text=True, timeout=300,
+            words,
+            cwd=cls.folder,
+            env=cls.environment,
+            stdin=subprocess.DEVNULL,
+            stdout=subprocess.PIPE,
+            stderr=subprocess.PIPE,
+            text=True,
+            timeout=300,
         )
+
+    @classmethod
+    def shell(cls, command):
+        """As it stands in a document."""
+        return cls.run_it("sh", "-c", command)
 
     def zanteyard(self, *words):
         return self.run_it(f"{self.folder}/venv/bin/zanteyard", *words)
@@ -78,7 +96,9 @@ class Package(unittest.TestCase):
             with self.subTest(status=wanted):
                 path = f"{self.folder}/script-{wanted}.jsonl"
                 with open(path, "w", encoding="utf-8") as file:
-                    file.write(script if script is not None else "".join(kept) + '["round",1,0,1]\n')
+                    file.write(
+                        script if script is not None else "".join(kept) + '["round",1,0,1]\n'
+                    )
                 more = ("--nodes", "1") if wanted == 4 else ()
                 ended = self.zanteyard("check", path, *more)
                 self.assertEqual(ended.returncode, wanted, ended.stdout + ended.stderr)
@@ -91,7 +111,8 @@ class Package(unittest.TestCase):
         self.assertEqual("+unproved" in os.path.basename(self.wheel), not self.is_of_the_tree)
 
     def test_a_page_from_a_demonstration(self):
-        ended = self.zanteyard("demo")
+        self.assertEqual(len(self.commands), 3)
+        ended = self.shell(self.commands[2])
         self.assertEqual(ended.returncode, 1, ended.stderr)
         with open(f"{self.folder}/zanteyard-lost-update.html", encoding="utf-8") as file:
             self.assertIn("These transactions can't have run one at a time", file.read())
@@ -105,8 +126,15 @@ class Package(unittest.TestCase):
         packed = self.run_it(f"{self.folder}/venv/bin/python", "-c", words).stdout.strip()
         with open(f"{packed}/cobra_audit", "ab") as file:
             file.write(b"\0")
-        self.addCleanup(self.run_it, f"{self.folder}/venv/bin/pip", "install", "--no-index",
-                        "--force-reinstall", "--quiet", self.wheel)
+        self.addCleanup(
+            self.run_it,
+            f"{self.folder}/venv/bin/pip",
+            "install",
+            "--no-index",
+            "--force-reinstall",
+            "--quiet",
+            self.wheel,
+        )
         self.assertIn("NOT THE FILE THAT WAS PACKED", self.zanteyard("--version").stdout)
 
 

@@ -43,7 +43,8 @@ class Tags(html.parser.HTMLParser):
     def handle_starttag(self, tag, attributes):
         self.seen.append(tag)
         self.asked += [
-            value for key, value in attributes
+            value
+            for key, value in attributes
             if key in ("src", "href", "xlink:href", "srcset", "data", "action") and value
         ]
         if tag not in self.EMPTY:
@@ -97,7 +98,9 @@ class Page(unittest.TestCase):
 
     def test_rounds_of_a_live_run(self):
         seen = [
-            RoundSeen(2.0 * it, "serial", 9, 0.05, waiting=("1.0 read x from 0.7, which hasn't come",))
+            RoundSeen(
+                2.0 * it, "serial", 9, 0.05, waiting=("1.0 read x from 0.7, which hasn't come",)
+            )
             for it in range(1, 9)
         ]
         text = page(rounds=seen)
@@ -113,24 +116,30 @@ def pixels(path):
         data = file.read()
     at, packed, width, height, kind = 8, b"", 0, 0, 0
     while at < len(data):
-        length, name_ = int.from_bytes(data[at:at + 4], "big"), data[at + 4:at + 8]
-        body = data[at + 8:at + 8 + length]
+        length, name_ = int.from_bytes(data[at : at + 4], "big"), data[at + 4 : at + 8]
+        body = data[at + 8 : at + 8 + length]
         if name_ == b"IHDR":
-            width, height, kind = int.from_bytes(body[:4], "big"), int.from_bytes(body[4:8], "big"), body[9]
+            width, height, kind = (
+                int.from_bytes(body[:4], "big"),
+                int.from_bytes(body[4:8], "big"),
+                body[9],
+            )
         packed += body if name_ == b"IDAT" else b""
         at += 12 + length
     size = {2: 3, 6: 4}[kind]
     raw, rows, above = zlib.decompress(packed), [], [0] * (width * size)
     for row in range(height):
         start = row * (width * size + 1)
-        how, line = raw[start], [*raw[start + 1:start + 1 + width * size]]
+        how, line = raw[start], [*raw[start + 1 : start + 1 + width * size]]
         for i in range(len(line)):
             left = line[i - size] if i >= size else 0
             up, corner = above[i], above[i - size] if i >= size else 0
             guess = left + up - corner
             near = min((abs(guess - it), at_) for at_, it in enumerate((left, up, corner)))[1]
-            line[i] = (line[i] + (0, left, up, (left + up) // 2, (left, up, corner)[near])[how]) % 256
-        rows.append([tuple(line[i:i + 3]) for i in range(0, len(line), size)])
+            line[i] = (
+                line[i] + (0, left, up, (left + up) // 2, (left, up, corner)[near])[how]
+            ) % 256
+        rows.append([tuple(line[i : i + 3]) for i in range(0, len(line), size)])
         above = line
     return width, height, rows
 
@@ -146,10 +155,18 @@ class InABrowser(unittest.TestCase):
 
     def browse(self, *words):
         whole = [
-            BROWSER, "--headless", "--no-sandbox", "--disable-gpu", "--hide-scrollbars",
-            f"--user-data-dir={self.folder}/user", *words, f"file://{self.path}",
+            BROWSER,
+            "--headless",
+            "--no-sandbox",
+            "--disable-gpu",
+            "--hide-scrollbars",
+            f"--user-data-dir={self.folder}/user",
+            *words,
+            f"file://{self.path}",
         ]
-        ended = subprocess.run(whole, stdout=subprocess.PIPE, stderr=subprocess.DEVNULL, timeout=120)
+        ended = subprocess.run(
+            whole, stdout=subprocess.PIPE, stderr=subprocess.DEVNULL, timeout=120
+        )
         self.assertEqual(ended.returncode, 0)
         return ended.stdout.decode()
 

@@ -88,9 +88,9 @@ def _behind(table: Table) -> Dict[TransactionId, Set[TransactionId]]:
     return found
 
 
-def _overwritten(table: Table, behind: Mapping[TransactionId, Set[TransactionId]]) -> List[
-    Tuple[TransactionId, str, Source, TransactionId]
-]:
+def _overwritten(
+    table: Table, behind: Mapping[TransactionId, Set[TransactionId]]
+) -> List[Tuple[TransactionId, str, Source, TransactionId]]:
     """Each (reader, key, source, other) where the other wrote a later version than was read."""
     found = []
     for reader, logged in table.items():
@@ -108,7 +108,9 @@ def _dirty_reads(table: Table, _: object, name: Names) -> Iterator[Anomaly]:
         for key, source in logged.reads:
             if source in table and key not in table[source].writes:
                 is_aborted = table[source].outcome == "aborted" or not table[source].writes
-                why = "which was aborted, or wrote nothing" if is_aborted else "which didn't write it"
+                why = (
+                    "which was aborted, or wrote nothing" if is_aborted else "which didn't write it"
+                )
                 yield Anomaly(
                     "dirty read" if is_aborted else "read of what was never written",
                     f"{name(reader)} read {_told(key)} from {name(source)}, {why}",

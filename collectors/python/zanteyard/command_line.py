@@ -79,7 +79,11 @@ def parser() -> argparse.ArgumentParser:
     explain.add_argument("--html", metavar="FILE", help="writes a page to look at")
     shown = command("demo", _demo, "audits a store in memory that has a fault")
     shown.add_argument(
-        "name", nargs="?", default="lost-update", choices=demo.NAMES, metavar="NAME",
+        "name",
+        nargs="?",
+        default="lost-update",
+        choices=demo.NAMES,
+        metavar="NAME",
         help="one of " + ", ".join(demo.NAMES) + " (lost-update)",
     )
     shown.add_argument(
@@ -94,12 +98,18 @@ def _add_script(command: argparse.ArgumentParser) -> None:
         "script", metavar="SCRIPT", help="a file of lines as docs/FORMATS.md has them; - for input"
     )
     command.add_argument(
-        "--nodes", type=_nodes, default=MORE[1][0], metavar="N",
+        "--nodes",
+        type=_nodes,
+        default=MORE[1][0],
+        metavar="N",
         help="the greatest budget that a round is given again with, in nodes of the search "
         f"({MORE[1][0]}; at most {MORE[-1][0]})",
     )
     command.add_argument(
-        "--seconds", type=float, default=EXPLAINED, metavar="S",
+        "--seconds",
+        type=float,
+        default=EXPLAINED,
+        metavar="S",
         help=f"how long making a violated history small may take ({EXPLAINED:.0f})",
     )
 

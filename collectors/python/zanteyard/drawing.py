@@ -71,9 +71,7 @@ def boxes_of(story: Story) -> Dict[TransactionId, Box]:
         tops[lane] = top
         top += max(_height(step) for step in story.steps if step.id[0] == lane) + LANE_GAP
     return {
-        step.id: Box(
-            LEFT + columns[step.id] * (WIDTH + GAP), tops[step.id[0]], _height(step)
-        )
+        step.id: Box(LEFT + columns[step.id] * (WIDTH + GAP), tops[step.id[0]], _height(step))
         for step in story.steps
     }
 
@@ -130,12 +128,16 @@ def _reads(steps: Sequence[Step]) -> List[Link]:
 
 def _ends_of_arcs() -> str:
     heads = [("red", "circle-head"), ("grey", "other-head")]
-    return "<defs>" + "".join(
-        f'<marker id="{colour}-head" viewBox="0 0 10 10" refX="9" refY="5" markerWidth="7" '
-        f'markerHeight="7" orient="auto-start-reverse"><path class="{name}" '
-        'd="M0 0L10 5L0 10z"/></marker>'
-        for colour, name in heads
-    ) + "</defs>"
+    return (
+        "<defs>"
+        + "".join(
+            f'<marker id="{colour}-head" viewBox="0 0 10 10" refX="9" refY="5" markerWidth="7" '
+            f'markerHeight="7" orient="auto-start-reverse"><path class="{name}" '
+            'd="M0 0L10 5L0 10z"/></marker>'
+            for colour, name in heads
+        )
+        + "</defs>"
+    )
 
 
 def _lanes(story: Story, boxes: Mapping[TransactionId, Box], right: float) -> List[str]:
@@ -172,11 +174,9 @@ def _short(text: str) -> str:
     return text if len(text) <= MOST_LETTERS else text[: MOST_LETTERS - 1] + "…"
 
 
-def _arc(
-    link: Link, boxes: Mapping[TransactionId, Box], number: int
-) -> Tuple[str, List[Point]]:
+def _arc(link: Link, boxes: Mapping[TransactionId, Box], number: int) -> Tuple[str, List[Point]]:
     """The arc, with a number unless that is 0, and what it reaches. One that leads to the right in
-    another lane swings over; any other bends to its right, so that two opposite ones stand apart."""
+    another lane swings over; any other bends to its right, so that opposite ones stand apart."""
     start, end = boxes[link.start], boxes[link.end]
     (x, y), (to_x, to_y) = start.middle, end.middle
     if to_x > x + WIDTH and abs(to_y - y) > 1:

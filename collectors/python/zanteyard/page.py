@@ -49,7 +49,8 @@ svg.chart circle { fill: var(--green); } svg.chart circle.violated { fill: var(-
 svg.chart circle.pending, svg.chart circle.spent { fill: var(--amber); }
 ol.reasons { list-style: none; padding-left: 0; counter-reset: none; }
 ol.reasons .mark { display: inline-block; min-width: 1.55rem; text-align: center; color: #fff;
-  border-radius: 1rem; font-size: .8rem; font-weight: 700; margin-right: .5rem; background: #5d6a7a; }
+  border-radius: 1rem; font-size: .8rem; font-weight: 700; margin-right: .5rem;
+  background: #5d6a7a; }
 ol.reasons .circle .mark { background: var(--red); }
 .around { font-size: 1.05rem; font-weight: 600; color: var(--red); }
 table { border-collapse: collapse; width: 100%; font-size: .93rem; }
@@ -83,9 +84,7 @@ BEFORE_YOU_ACCUSE = (
 )
 
 
-def page_of(
-    story: Story, about: str, origin: str, rounds: Sequence[RoundSeen] = ()
-) -> str:
+def page_of(story: Story, about: str, origin: str, rounds: Sequence[RoundSeen] = ()) -> str:
     """The whole page. `about` says in a few words what was audited, `origin` by which program."""
     parts: List[str] = [_head(story, about)]
     if story.kind == "violated":

@@ -73,9 +73,7 @@ def origin_of(path: str) -> Origin:
     with open(NOTE, encoding="utf-8") as file:
         note: Mapping[str, Any] = json.load(file)
     noted = note["programs"].get(os.path.basename(path), {}).get("sha256")
-    return Origin(
-        path, bool(note["proved"]), note["kit"], note["commit"], noted == sha256_of(path)
-    )
+    return Origin(path, bool(note["proved"]), note["kit"], note["commit"], noted == sha256_of(path))
 
 
 def sha256_of(path: str) -> str:

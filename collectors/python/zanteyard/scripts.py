@@ -94,7 +94,9 @@ def key_name(number: int) -> str:
 
 def logged_of(reads: Iterable[Any], keys: Iterable[int]) -> Logged:
     """A transaction of a script. One that did nothing may be an attempt that was aborted."""
-    sources = [(key_name(key), "init" if rest[0] == "init" else tuple(rest)) for key, *rest in reads]
+    sources = [
+        (key_name(key), "init" if rest[0] == "init" else tuple(rest)) for key, *rest in reads
+    ]
     return Logged(sources, tuple(map(key_name, keys)))
 
 
@@ -161,7 +163,9 @@ class ScriptRun:
             if nodes < more <= self.most_nodes:
                 nodes, rounds, self._has_more = more, rounds + 1, False
                 reply = self._ask_for("round", more, depth, workers)
-        return Verdict(reply[2], number, reply[3], reply[4] if len(reply) > 4 else [], nodes, rounds)
+        return Verdict(
+            reply[2], number, reply[3], reply[4] if len(reply) > 4 else [], nodes, rounds
+        )
 
     def _ask_for(self, *words: Any) -> List[Any]:
         return self._ask(json.dumps(words).encode(), 0)

@@ -96,7 +96,7 @@ class Story:
 
 def verdict_story(verdict: Verdict, history: History) -> Story:
     """Of a verdict that isn't violated."""
-    order = ()
+    order: Tuple[str, ...] = ()
     if verdict.kind in ("serial", "pending"):
         order = tuple(f"{session}.{number}" for session, number in verdict.certificate)
     waiting = tuple(
