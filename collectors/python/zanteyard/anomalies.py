@@ -177,7 +177,7 @@ def _write_skews(
             for following in after.get(way[-1], {}):
                 if following == start:
                     circle = [*way, start]
-                    told = ", ".join(
+                    told = ", and ".join(
                         f"{name(one)} read {_told(after[one][two])}, which {name(two)} overwrote"
                         for one, two in zip(circle, circle[1:])
                     )

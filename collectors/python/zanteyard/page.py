@@ -61,6 +61,7 @@ th { font-weight: 600; color: var(--soft); } td.number { font-weight: 700; white
 pre, code { font: .86rem/1.45 ui-monospace, "DejaVu Sans Mono", Menlo, monospace; }
 pre { background: var(--box); border: 1px solid var(--line); border-radius: 6px; padding: .7rem;
   overflow-x: auto; white-space: pre-wrap; overflow-wrap: anywhere; }
+td.did { min-width: 13rem; }
 td code { overflow-wrap: anywhere; color: var(--soft); }
 @media print { body { padding: 0; max-width: none; font-size: 11pt; } .wide { overflow: visible; }
   svg.timeline { max-width: 100%; } h2, figcaption { break-after: avoid; }
@@ -198,7 +199,8 @@ def _table(steps: Sequence[Step]) -> Iterable[str]:
                 outcome = "" if step.outcome == "committed" else f" ({escape(step.outcome)})"
                 yield f'<td class="number" rowspan="{rows}">{escape(step.name)}{outcome}</td>'
             deed = deeds[at] if deeds else None
-            yield f"<td>{escape(deed.text) if deed else 'nothing that matters here'}</td>"
+            did = escape(deed.text) if deed else "nothing that matters here"
+            yield f'<td class="did">{did}</td>'
             if has_returned:
                 yield f"<td>{escape(deed.returned) if deed else ''}</td>"
             if has_statements:
