@@ -235,9 +235,9 @@ def audited_run(asked, make_store):
     """The clients beside the auditor; gives what became of the audit, too."""
     policy = RATHER_WAIT if asked.rather_wait else RATHER_LOSE_THE_AUDIT
     with AuditorApart(asked.clients) as auditor:
-        live = LiveAuditor(auditor, every=asked.every, policy=policy)
-        clients = beside(asked, make_store, live)
-        outcome = live.stop()
+        with LiveAuditor(auditor, every=asked.every, policy=policy) as live:
+            clients = beside(asked, make_store, live)
+            outcome = live.stop()
         if live.is_violated:
             history, called = from_start(auditor)
             tell_violation(history, "violation", called)

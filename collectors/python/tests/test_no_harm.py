@@ -18,7 +18,7 @@ from .test_live import add_one, set_to
 
 SOON = 60.0  # seconds, where other programs have the processors
 BOUND = 0.25  # seconds that a client waits for the audit at most
-SLACK = 0.5  # seconds more, where other programs have the processors
+SLACK = 2.0  # seconds more, where other programs have the processors
 
 
 @unittest.skipUnless(os.path.isfile(PROGRAM), f"{PROGRAM} is not built")

@@ -49,6 +49,7 @@ class AuditorApart(Takes):
         self.process = subprocess.Popen(
             [sys.executable, "-I", "-c", START, PLACE, descriptor],
             stdin=subprocess.DEVNULL,
+            stdout=subprocess.DEVNULL,
             pass_fds=[theirs.fileno()],
         )
         theirs.close()
@@ -57,13 +58,14 @@ class AuditorApart(Takes):
             more = (self.script_path, self.audits, coverage)
             self.call("open", self.sessions, self.limit, self.path, *more)
         except BaseException:
-            self.end()
+            self.end_program()
             raise
 
     def start_anew(self, coverage=None):
-        """In another process, since this one may be what was lost."""
+        """In another process, since this one may be what was lost. Raises Ended behind `end`."""
         with self.lock:
-            self.end()
+            self.check_end()
+            self.end_program()
             self.failure, self.late, self.handed_in, self.taken_in = None, None, 0, 0
             self.start(coverage)
 
@@ -180,6 +182,11 @@ class AuditorApart(Takes):
     def end(self):
         """Ends the program and the process, and gives the program's status; None where that isn't
         known."""
+        self.is_ended = True
+        with self.lock:
+            return self.end_program()
+
+    def end_program(self):
         self.late = None
         try:
             status = self.call("end", seconds=2 * ENDING)

@@ -76,6 +76,7 @@ class Takes:
         self.token = secrets.token_hex(12)  # of this run alone, also where its name isn't
         self.failure, self.handed_in, self.taken_in = None, 0, 0
         self.waiting = deque()
+        self.is_ended = False  # by who has made it
         self.late = None  # what was asked for a session and isn't answered yet, and since when
         self.lock = threading.RLock()  # so that what is kept here follows the replies in their order
 
@@ -115,6 +116,10 @@ class Takes:
                     return
                 except Exception as error:
                     self.lose(error)
+
+    def check_end(self):
+        if self.is_ended:
+            raise Ended("the auditor has been ended")
 
     def end_late(self, seconds):
         """The answer to what was asked for a session; raises Late, and may then be called again."""
@@ -197,7 +202,7 @@ class Auditor(Takes):
             self.program = Pipes(self.path)
             self.ask(["open", self.sessions, self.limit])
         except BaseException:
-            self.end()
+            self.end_program()
             raise
 
     def open_script(self):
@@ -208,9 +213,10 @@ class Auditor(Takes):
 
     def start_anew(self, coverage=None):
         """Another program, which knows nothing of what the one before it was given. By a Coverage,
-        numbers count from where the audit begins."""
+        numbers count from where the audit begins. Raises Ended behind `end`."""
         with self.lock:
-            self.end()
+            self.check_end()
+            self.end_program()
             self.failure, self.late, self.handed_in, self.taken_in = None, None, 0, 0
             self.start(coverage)
 
@@ -393,11 +399,15 @@ class Auditor(Takes):
 
     def end(self):
         """Ends the program, and gives its status; may be called again."""
+        self.is_ended = True
         with self.lock:
-            if self.script is not None:
-                self.script.close()
-                self.script = None
-            return self.program.end() if self.program is not None else None
+            return self.end_program()
+
+    def end_program(self):
+        if self.script is not None:
+            self.script.close()
+            self.script = None
+        return self.program.end() if self.program is not None else None
 
     def __enter__(self):
         return self

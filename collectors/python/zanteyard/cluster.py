@@ -6,9 +6,11 @@ import signal
 import subprocess
 import sys
 import tempfile
+import time
 from contextlib import contextmanager
 
 STOPPING = 20  # seconds for a server to stop
+TRIES = 50  # to remove its folder
 
 
 def program(name):
@@ -69,11 +71,31 @@ class Cluster:
 
     def stop(self):
         """At once, as if it were killed; does nothing where it doesn't run."""
-        if os.path.exists(f"{self.data}/postmaster.pid"):
-            self.run("pg_ctl", "-D", self.data, "-m", "immediate", "-w", "stop", timeout=STOPPING)
+        ends = time.monotonic() + STOPPING
+        pid = self.runs()
+        while pid is not None:
+            is_late = time.monotonic() > ends
+            try:
+                os.kill(pid, signal.SIGKILL if is_late else signal.SIGQUIT)
+            except ProcessLookupError:
+                return
+            time.sleep(0.05)
+            pid = self.runs()
+
+    def runs(self):
+        """The number of the server's process, or None."""
+        try:
+            with open(f"{self.data}/postmaster.pid", encoding="ascii") as file:
+                pid = abs(int(file.readline()))  # below 0 while initdb runs one
+            with open(f"/proc/{pid}/stat", encoding="utf-8", errors="replace") as file:
+                return None if file.read().rsplit(")", 1)[1].split()[0] == "Z" else pid
+        except (OSError, ValueError, IndexError):
+            return None
 
     def __exit__(self, *_):
-        try:
-            self.stop()
-        finally:
+        self.stop()
+        for _ in range(TRIES):  # what initdb has begun may still make files
             shutil.rmtree(self.folder, ignore_errors=True)
+            if not os.path.exists(self.folder):
+                break
+            time.sleep(0.1)

@@ -237,8 +237,17 @@ class LiveAuditor:
         self.thread.join(seconds)
         if self.thread.is_alive():
             self.lose(Lost(f"it hasn't audited what was handed in after {seconds:g} s"))
-            self.end_all()
+            self.failed, self.has_ended = self.lost, True
         return self.outcome
+
+    def __enter__(self):
+        return self
+
+    def __exit__(self, kind, *_):
+        """As `stop` does; at once, where an exception ends it."""
+        if kind is not None:
+            self.lose(Lost(f"it was given up ({kind.__name__})"))
+        self.stop(STOPPING if kind is None else 1.0)
 
     # the thread
 
@@ -308,11 +317,11 @@ class LiveAuditor:
     def begin_anew(self):
         """Whether another audit has begun."""
         self.conclude()
-        if self.is_violated or self.is_stopping or not self.policy.begins_anew:
+        if self.is_violated or self.cant_begin():
             return False
         pause = self.policy.pause
         self.wait_until(self.began + pause)
-        while not self.is_stopping:
+        while not self.cant_begin():
             try:
                 self.start_anew()
                 return True
@@ -322,8 +331,11 @@ class LiveAuditor:
             pause = min(2 * pause, LONGEST_PAUSE)
         return False
 
+    def cant_begin(self):
+        return self.is_stopping or self.auditor.is_ended or not self.policy.begins_anew
+
     def wait_until(self, ends):
-        while not self.is_stopping and time.monotonic() < ends:
+        while not self.cant_begin() and time.monotonic() < ends:
             time.sleep(max(0.0, min(PAUSE, ends - time.monotonic())))
 
     def start_anew(self):

@@ -173,10 +173,17 @@ class Part:
         return logged._replace(reads=reads, statements=())
 
     def lesser(self):
-        """The same without one transaction, the last first; then without one read, or without a write
-        that nobody has read; each behind what is left out."""
-        for id in sorted(self.txns, key=lambda id: (-id[1], id[0])):
-            yield id, self.only(self.txns.keys() - {id})
+        """The same without some transactions, the last first, and fewer and fewer; then without one
+        read, or without a write that nobody has read; each behind what is left out."""
+        ids = sorted(self.txns, key=lambda id: (-id[1], id[0]))
+        size = max(1, len(ids) // 2)
+        while size:
+            for start in range(0, len(ids), size):
+                out = frozenset(ids[start : start + size])
+                part = self.only(self.txns.keys() - out)
+                if len(part.txns) < len(self.txns):
+                    yield out, part
+            size //= 2
         read = {(source, key) for logged in self.txns.values() for key, source in logged.reads}
         for id, logged in self.txns.items():
             for deed in logged.reads:
