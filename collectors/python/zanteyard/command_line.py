@@ -9,7 +9,7 @@ import sys
 import traceback
 from typing import Any, Callable, Iterator, List, Mapping, Optional, Sequence
 
-from . import demo
+from . import demo, postgres_audit
 from .auditor import Auditor
 from .errors import ProgramEndedError, ScriptMistakeError, ZanteyardError
 from .page import page_of
@@ -90,6 +90,9 @@ def parser() -> argparse.ArgumentParser:
         "--html", metavar="FILE", help="where the page is written (zanteyard-NAME.html)"
     )
     shown.add_argument("--no-html", action="store_true", help="writes no page")
+    audit = command("audit", _audit, "audits clients of a server while they run")
+    audit.add_argument("server", choices=("postgres",), help="which kind of server")
+    postgres_audit.add_arguments(audit)
     return whole
 
 
@@ -177,6 +180,15 @@ def _demo(asked: Any) -> int:
     return STATUSES[report.kind]
 
 
+def _audit(asked: Any) -> int:
+    ran = postgres_audit.run(asked)
+    for line in ran.lines():
+        print(line)
+    if asked.html:
+        _write(ran.page(_origin()), asked.html)
+    return STATUSES.get(ran.outcome.whole.kind, UNDECIDED)
+
+
 def _story(verdict: Verdict, run: ScriptRun, seconds: float) -> Story:
     if verdict.kind == "violated":
         return violation_story(run.history, find_program(), verdict.counts, seconds)
@@ -203,9 +215,17 @@ def _tell_no_cuts(run: ScriptRun) -> None:
 
 
 def _write_page(story: Story, about: str, path: str) -> None:
+    _write(page_of(story, about, _origin()), path)
+
+
+def _write(page: str, path: str) -> None:
     with open(path, "w", encoding="utf-8") as file:
-        file.write(page_of(story, about, origin_of(find_program()).sentence()))
+        file.write(page)
     print(f"(to look at: {path})")
+
+
+def _origin() -> str:
+    return origin_of(find_program()).sentence()
 
 
 def _status(run: ScriptRun) -> int:
