@@ -8,6 +8,7 @@ from contextlib import redirect_stderr, redirect_stdout
 
 from zanteyard import demo
 from zanteyard.auditor import PROGRAM
+from zanteyard.cluster import program
 from zanteyard.command_line import main
 from zanteyard.programs import Origin, find_program, program_path
 from zanteyard.version import VERSION
@@ -173,6 +174,31 @@ class Commands(unittest.TestCase):
         status, out, _ = run("demo", demo.HONEST, "--no-html")
         self.assertEqual(status, 0)
         self.assertIn("one such order: 0.0 ", out)
+
+    def test_audit_postgres(self):
+        try:
+            import psycopg2  # noqa: F401
+        except ImportError:
+            self.skipTest("psycopg2 is not installed")
+        if not program("initdb"):
+            self.skipTest("PostgreSQL is not installed")
+        self.addCleanup(os.chdir, os.getcwd())
+        os.chdir(self.folder)
+        few = ("audit", "postgres", "--unaudited", "0", "--clients", "4", "--html", "page.html")
+        skewed = ("--level", "repeatable", "--workload", "skew", "--every", "128")
+        for wanted, kind, more in (
+            (1, "violated", (*skewed, "--seconds", "20")),
+            (0, "serial", ("--workload", "counter", "--seconds", "2")),
+        ):
+            with self.subTest(kind=kind):
+                status, out, err = run(*few, *more)
+                self.assertEqual(status, wanted, out + err)
+                self.assertRegex(out, f"(?m)^[a-z]+ at [a-z ]+: {kind}")
+                with open("page.html", encoding="utf-8") as file:
+                    page = file.read()
+                self.assertIn(f'<span class="verdict {kind}">', page)
+                self.assertIn('<svg class="chart"', page)
+        self.assertEqual(run("audit", "mysql")[0], 2)
 
     def test_an_error_of_ours_never_looks_like_a_verdict(self):
         told = demo.STORIES

@@ -24,6 +24,7 @@ ELSEWHERE = {
     r"venv/bin/.*": "test_package",
     r"\./test\.sh": "the gate, which has called this",
     r"rt .*": "the gate, which runs the same program on the same script",
+    r"zanteyard audit postgres .*": "test_commands, with less time",
     r"/usr/bin/python3 examples/postgres_\w+\.py .*": "test.sh and test_examples, with less time",
 }
 

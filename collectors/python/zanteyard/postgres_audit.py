@@ -4,7 +4,6 @@ violation. `zanteyard audit postgres` and `examples/postgres_live.py` are this."
 from __future__ import annotations
 
 import argparse
-import contextlib
 import tempfile
 import time
 from dataclasses import dataclass
@@ -103,11 +102,11 @@ def _beside(asked: Any, make_store: MakesStore, live: LiveAuditor) -> Clients:
         sessions = [live.session(make_store()) for _ in range(asked.clients)]
         more = (asked.seconds, lambda: live.is_over, asked.rate)
         return Clients(sessions, WORKLOADS[asked.workload], *more)
-    with contextlib.ExitStack() as stack:
-        folder = stack.enter_context(tempfile.TemporaryDirectory(prefix="zanteyard-"))
-        server = stack.enter_context(AuditServer(live, f"{folder}/audit"))
-        those = (asked.clients, asked.workload, asked.seconds, asked.rate)
-        return ClientProcesses(server.path, make_store, *those)
+    with tempfile.TemporaryDirectory(prefix="zanteyard-") as folder:
+        with AuditServer(live, f"{folder}/audit") as server:
+            those = (asked.clients, asked.workload, asked.seconds, asked.rate)
+            clients = ClientProcesses(server.path, make_store, *those)
+    return clients
 
 
 class _Rounds:
@@ -141,7 +140,7 @@ def audited_run(
             history, called = from_start(auditor)
             small = tell_violation(history, "violation", called)
             if asked.html:
-                story = story_of(small, called, _script(), live.report.counts, PAGE_SECONDS)
+                story = story_of(small, called, _script(), outcome.counts or (), PAGE_SECONDS)
         return live, outcome, clients, story, tuple(rounds.seen)
 
 
