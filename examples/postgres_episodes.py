@@ -1,7 +1,11 @@
-"""Audits a PostgreSQL of its own: clients that run at the same time, in episodes of so many transactions, each audited by itself.
+"""Audits clients of a PostgreSQL that run at the same time, in episodes that are each audited by itself.
 
-    python3 examples/postgres_episodes.py [--level serializable|repeatable|committed] [--workload counter|skew|mixed] [--episodes N]
-        [--transactions N] [--clients N]
+    python3 examples/postgres_episodes.py [--level serializable|repeatable|committed]
+        [--workload counter|skew|mixed] [--episodes N] [--transactions N] [--clients 2|4|8]
+
+It starts a server of its own in a folder that is thrown away. What is left of the first violated episode
+is told in words, and written as a script for cobra_audit and as a picture. The status is 0 where every
+episode is serial, and 1 where one isn't.
 """
 import argparse
 import os
@@ -11,11 +15,16 @@ import threading
 import time
 from collections import Counter
 
-sys.path.insert(0, os.path.join(os.path.dirname(os.path.abspath(__file__)), "../collectors/python"))
-from zanteyard import Aborted, Auditor, Ended, Session, audited, reasons, smaller, words
-from zanteyard.cluster import Cluster, program
+TOP = os.path.join(os.path.dirname(os.path.abspath(__file__)), "..")
+sys.path.insert(0, os.path.join(TOP, "collectors/python"))
+from zanteyard import Aborted, Auditor, Ended, Session, tell_violation
+from zanteyard.cluster import Cluster, ended_by_signals, program
 
-LEVELS = {"serializable": "serializable", "repeatable": "repeatable read", "committed": "read committed"}
+LEVELS = {
+    "serializable": "serializable",
+    "repeatable": "repeatable read",
+    "committed": "read committed",
+}
 
 
 def number_at(transaction, key):
@@ -49,7 +58,8 @@ class OwnKeys:
 
     def __init__(self, store, prefix):
         self.store, self.prefix = store, prefix
-        self.begin, self.commit, self.rollback, self.outcome = store.begin, store.commit, store.rollback, store.outcome
+        self.begin, self.commit = store.begin, store.commit
+        self.rollback, self.outcome = store.rollback, store.outcome
 
     @property
     def statement(self):
@@ -74,32 +84,36 @@ def client_runs(session, client, workload, count, failures):
 
 
 def episode(stores, name, workload, transactions):
-    """What was logged, and the verdict."""
-    with Auditor(len(stores), transactions) as auditor:
+    """What was logged, and the outcome."""
+    with Auditor(len(stores), transactions, run_name=name) as auditor:
         failures = []
-        sessions = [Session(auditor, client, OwnKeys(store, f"{name}/"), name) for client, store in enumerate(stores)]
+        sessions = [
+            Session(auditor, client, OwnKeys(store, f"{name}/")) for client, store in enumerate(stores)
+        ]
         each = transactions // len(stores)
-        threads = [threading.Thread(target=client_runs, args=(it, it.number, workload, each, failures)) for it in sessions]
+        threads = [
+            threading.Thread(
+                target=client_runs, args=(it, it.number, workload, each, failures), daemon=True
+            )
+            for it in sessions
+        ]
         for thread in threads:
             thread.start()
         for thread in threads:
             thread.join()
         if failures:
             raise failures[0]
-        return auditor.history, auditor.round().kind
+        outcome = auditor.outcome()
+        if outcome.failure:
+            raise outcome.failure
+        return auditor.history, outcome.kind
 
 
-def tell(history, name):
-    small = smaller(history)
-    with open(f"{name}.jsonl", "w") as file:
-        file.write(audited(small)[1])
-    print("violated: of what was logged, no order explains this part, each client's own order kept:")
-    for line in words(small):
-        print(f"  {line}")
-    print("because")
-    for line in reasons(small):
-        print(f"  {line}")
-    print(f"(cobra_audit < {name}.jsonl says so again)")
+def count_of_transactions(text):
+    count = int(text)
+    if not 8 <= count <= 4096:
+        raise argparse.ArgumentTypeError(f"{count} is not from 8 to 4096")
+    return count
 
 
 def main():
@@ -107,29 +121,37 @@ def main():
     asked.add_argument("--level", choices=LEVELS, default="serializable")
     asked.add_argument("--workload", choices=WORKLOADS, default="mixed")
     asked.add_argument("--episodes", type=int, default=10)
-    asked.add_argument("--transactions", type=int, default=400, help="of an episode, at most 4096")
+    told = "of an episode, 8 to 4096"
+    asked.add_argument("--transactions", type=count_of_transactions, default=400, help=told)
     asked.add_argument("--clients", type=int, choices=(2, 4, 8), default=4)
     asked = asked.parse_args()
     try:
         from zanteyard.postgres_store import PostgresStore, prepare
     except ImportError:
-        sys.exit("psycopg2 is wanted: apt-get install python3-psycopg2, and run this by the Python that it is for (/usr/bin/python3)")
+        sys.exit(
+            "psycopg2 is wanted: apt-get install python3-psycopg2, and run this by the Python that it "
+            "is for (/usr/bin/python3)"
+        )
     if not program("initdb"):
         sys.exit("PostgreSQL is wanted: apt-get install postgresql")
-    with Cluster() as cluster:
+    with ended_by_signals(), Cluster() as cluster:
         stores = [PostgresStore(cluster.dsn, LEVELS[asked.level]) for _ in range(asked.clients)]
         prepare(cluster.dsn)
         began, kinds, aborted = time.monotonic(), Counter(), 0
         for number in range(asked.episodes):
-            history, kind = episode(stores, f"episode-{number}", WORKLOADS[asked.workload], asked.transactions)
+            name, workload = f"episode-{number}", WORKLOADS[asked.workload]
+            history, kind = episode(stores, name, workload, asked.transactions)
             aborted += sum(logged.outcome == "aborted" for txns in history for logged in txns)
             kinds[kind] += 1
             if kind == "violated" and kinds[kind] == 1:
-                tell(history, f"episode-{number}")
+                tell_violation(history, name)
         took = time.monotonic() - began
     count = asked.episodes * (asked.transactions // asked.clients) * asked.clients
     told = ", ".join(f"{how_many} {kind}" for kind, how_many in sorted(kinds.items()))
-    print(f"{asked.workload} at {LEVELS[asked.level]}: of {asked.episodes} episodes {told}; {aborted} of {count} transactions aborted; {took:.1f} s")
+    print(
+        f"{asked.workload} at {LEVELS[asked.level]}: of {asked.episodes} episodes {told}; "
+        f"{aborted} of {count} transactions aborted; {took:.1f} s"
+    )
     sys.exit(0 if kinds["serial"] == asked.episodes else 1)
 
 

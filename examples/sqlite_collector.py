@@ -1,13 +1,31 @@
-"""A whole collector: two clients of a small bank in SQLite, audited by cobra_audit. docs/COLLECTORS.md tells why each part is as it is.
+"""A whole collector: two clients of a small bank in SQLite, audited by cobra_audit.
 
-    python3 examples/sqlite_collector.py [FAULT] [PROGRAM]      FAULT: honest (the default), stale, lost-update, dirty-read or lost-write
+    python3 examples/sqlite_collector.py [FAULT] [PROGRAM]
+
+FAULT is honest (the default), stale, lost-update, dirty-read or lost-write, and PROGRAM the auditor, where
+it isn't the one that the repository builds. docs/COLLECTORS.md tells why each part is as it is.
 """
-import json, os, sqlite3, subprocess, sys, tempfile
+import json
+import os
+import sqlite3
+import subprocess
+import sys
+import tempfile
 
-FAULT = sys.argv[1] if len(sys.argv) > 1 else "honest"
-PROGRAM = sys.argv[2] if len(sys.argv) > 2 else f"{os.path.dirname(os.path.abspath(__file__))}/../crates/cobra_audit/out/cobra_audit"
-if FAULT not in ("honest", "stale", "lost-update", "dirty-read", "lost-write") or not os.path.isfile(PROGRAM):
-    sys.exit(f"{__doc__}\n{PROGRAM}: {'there' if os.path.isfile(PROGRAM) else 'not built yet, see README.md'}")
+FAULTS = ("honest", "stale", "lost-update", "dirty-read", "lost-write")
+BUILT = "../crates/cobra_audit/out/cobra_audit"
+FAULT, PROGRAM = (*sys.argv[1:3], *("honest", None)[len(sys.argv) - 1 :])[:2]
+PROGRAM = PROGRAM or os.environ.get("COBRA_AUDIT")
+PROGRAM = PROGRAM or os.path.join(os.path.dirname(os.path.abspath(__file__)), BUILT)
+if FAULT in ("-h", "--help"):
+    sys.exit(print(__doc__.strip()))
+if FAULT not in FAULTS or len(sys.argv) > 3:
+    named = FAULT if FAULT not in FAULTS else sys.argv[3]
+    print(f"{named} is no fault: honest, or {', '.join(FAULTS[1:])}", file=sys.stderr)
+    sys.exit(2)
+if not os.path.isfile(PROGRAM):
+    print(f"{PROGRAM} isn't there: README.md says how it is built", file=sys.stderr)
+    sys.exit(2)
 
 
 class Auditor:
@@ -45,14 +63,15 @@ class Session:
     def get(self, key):
         if key in self.writes:
             return self.writes[key]  # its own write: not logged
-        order = "ASC" if FAULT == "stale" else "DESC"  # the fault: the oldest version in place of the newest
-        found = f"SELECT value, session, number FROM versions WHERE key = ? ORDER BY rowid {order} LIMIT 1"
+        order = "ASC" if FAULT == "stale" else "DESC"  # the fault: the oldest in place of the newest
+        found = f"SELECT value, session, number FROM versions WHERE key = ? ORDER BY rowid {order}"
         value, *source = self.store.execute(found, (key,)).fetchone() or (None, "init")
         self.reads.add((self.auditor.number(key), *source))
         return value
 
     def put(self, key, value):
-        self.writes[key] = value  # goes to the store at the commit, once: no version is there to be read but the last
+        # It goes to the store at the commit, once: no version is there to be read but the last.
+        self.writes[key] = value
 
     def commit(self):
         try:
@@ -60,7 +79,8 @@ class Session:
                 self.store.execute("BEGIN")
             for key, value in self.writes.items():  # beside the value the writer's name
                 self.store.execute("INSERT INTO versions VALUES (?, ?, ?, ?)", (key, value, *self.id))
-            self.store.execute("ROLLBACK" if FAULT == "lost-write" and self.id == (1, 1) else "COMMIT")
+            is_lost = FAULT == "lost-write" and self.id == (1, 1)
+            self.store.execute("ROLLBACK" if is_lost else "COMMIT")
         except sqlite3.Error as error:  # a local store leaves no doubt that nothing was committed
             self.store.execute("COMMIT" if FAULT == "dirty-read" else "ROLLBACK")
             return self.offer([], [], f"aborted ({error})")
@@ -73,31 +93,41 @@ class Session:
         return outcome == "committed"
 
 
+def put(client, **values):
+    client.begin()
+    for key, value in values.items():
+        client.put(key, value)
+    return client.commit()
+
+
 def work(alice, bob):
-    alice.begin(), alice.put("rent", 100), alice.put("food", 50), alice.commit()
+    put(alice, rent=100, food=50)
     bob.begin(), alice.begin()  # at the same time, both take 10 from the rent
     for client in (bob, alice):
         client.put("rent", client.get("rent") - 10)
     alice.commit()
     if not bob.commit():  # an honest store lets one of them commit; the other tries once more
         bob.begin(), bob.put("rent", bob.get("rent") - 10), bob.commit()
-    alice.begin(), alice.put("food", 900), alice.put("rent", -750), alice.commit()  # aborts: nothing may be below 0
+    put(alice, food=900, rent=-750)  # aborts: nothing may be below 0
     bob.begin(), bob.get("rent"), bob.get("food"), bob.commit()
-    alice.begin(), alice.put("food", 130), alice.put("rent", 0), alice.commit()
+    put(alice, food=130, rent=0)
 
 
 with tempfile.TemporaryDirectory() as folder:
     setup = sqlite3.connect(f"{folder}/bank", isolation_level=None)
-    setup.executescript("PRAGMA journal_mode = WAL; CREATE TABLE versions (key, value CHECK (value >= 0), session, number)")
+    table = "versions (key, value CHECK (value >= 0), session, number)"
+    setup.executescript(f"PRAGMA journal_mode = WAL; CREATE TABLE {table}")
     auditor = Auditor(sessions=2, limit=8)
     work(Session(0, auditor, f"{folder}/bank"), Session(1, auditor, f"{folder}/bank"))
     _, _, kind, counts, certificate = auditor.ask("round", 4096, 0, 1)
-    told = "" if kind == "violated" else " ".join(f"{session}.{number}" for session, number in certificate)
+    order = certificate if kind != "violated" else []
+    told = " ".join(f"{session}.{number}" for session, number in order)
     says = {
         "serial": f"one at a time in the order {told}, these transactions would have read the same",
-        "pending": f"the order {told} explains what they read, where transactions that are still to come allow it",
+        "pending": f"the order {told} explains what they read, if what is still to come allows it",
         "violated": "no order that keeps each session's own explains what they read",
     }
     if kind == "violated":
-        print(*(f"  {json.dumps(item)}" for item in certificate), sep="\n")  # docs/FORMATS.md says how to read it
+        # docs/FORMATS.md says how to read it
+        print(*(f"  {json.dumps(item)}" for item in certificate), sep="\n")
     print(f"{FAULT}: {kind}: {says[kind]}")

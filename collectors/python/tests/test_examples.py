@@ -1,30 +1,90 @@
-"""The examples at the top say what docs/COLLECTORS.md and README.md here say of them."""
+"""The examples at the top say what docs/COLLECTORS.md and README.md here say of them, and end well."""
 import os
+import re
+import signal
 import subprocess
 import sys
 import tempfile
+import time
 import unittest
 
 from zanteyard import Session
 from zanteyard.auditor import PROGRAM
-from zanteyard.cluster import program
+from zanteyard.cluster import Cluster, program
 from zanteyard.memory_store import MemoryStore
 
-EXAMPLES = os.path.normpath(os.path.join(os.path.dirname(os.path.abspath(__file__)), "../../../examples"))
+TOP = os.path.normpath(os.path.join(os.path.dirname(os.path.abspath(__file__)), "../../.."))
+EXAMPLES = os.path.join(TOP, "examples")
+FAULTS = ("stale", "lost-update", "dirty-read", "lost-write")
+ENDING = 60.0  # seconds for a program to end
 
 
 @unittest.skipUnless(os.path.isfile(PROGRAM), f"{PROGRAM} is not built")
 class Examples(unittest.TestCase):
-    def told(self, name, *arguments):
-        with tempfile.TemporaryDirectory() as folder:
-            ended = subprocess.run([sys.executable, f"{EXAMPLES}/{name}", *arguments], cwd=folder, stdout=subprocess.PIPE, text=True, timeout=200)
-            return ended.returncode, ended.stdout.splitlines(), sorted(os.listdir(folder))
+    def setUp(self):
+        folder = tempfile.TemporaryDirectory()
+        self.addCleanup(folder.cleanup)
+        self.folder = folder.name
+        os.chmod(self.folder, 0o711)  # servers in it run as another user, where this runs as root
+        os.makedirs(f"{self.folder}/work")
+        os.makedirs(f"{self.folder}/tmp", mode=0o711)
+
+    def begin(self, name, *arguments, **more):
+        """In a folder of its own, with servers in another one."""
+        return subprocess.Popen(
+            [sys.executable, f"{EXAMPLES}/{name}", *arguments],
+            cwd=f"{self.folder}/work",
+            env={**os.environ, "TMPDIR": f"{self.folder}/tmp", "COBRA_AUDIT": PROGRAM, **more},
+            stdout=subprocess.PIPE,
+            stderr=subprocess.STDOUT,
+            text=True,
+        )
+
+    def told(self, name, *arguments, **more):
+        """The status, the lines, and what is left in the folder that it ran in."""
+        running = self.begin(name, *arguments, **more)
+        text = running.communicate(timeout=200)[0]
+        self.assertNotIn("Traceback", text)
+        self.assertEqual(os.listdir(f"{self.folder}/tmp"), [])
+        return running.returncode, text.splitlines(), sorted(os.listdir(f"{self.folder}/work"))
+
+    def postgres_is_there(self):
+        try:
+            import psycopg2  # noqa: F401
+        except ImportError:
+            self.skipTest("psycopg2 is not installed")
+        if not program("initdb"):
+            self.skipTest("PostgreSQL is not installed")
 
     def test_sqlite_collector(self):
-        for fault, kind in (("honest", "serial"), *((it, "violated") for it in ("stale", "lost-update", "dirty-read", "lost-write"))):
+        for fault in FAULTS:
             with self.subTest(fault=fault):
                 status, lines, _ = self.told("sqlite_collector.py", fault, PROGRAM)
-                self.assertEqual((status, lines[-1].split(":")[:2]), (0, [fault, f" {kind}"]))
+                self.assertEqual((status, lines[-1].split(":")[:2]), (0, [fault, " violated"]))
+
+    def test_collectors_shows_what_it_prints(self):
+        with open(f"{TOP}/docs/COLLECTORS.md", encoding="utf-8") as file:
+            shown = re.search(r"```\n\$ python3 examples/sqlite_collector.py honest\n(.*?)```", file.read(), re.DOTALL)
+        status, lines, _ = self.told("sqlite_collector.py", "honest", PROGRAM)
+        self.assertEqual((status, lines), (0, shown.group(1).splitlines()))
+
+    def test_what_is_no_fault_is_told(self):
+        status, lines, _ = self.told("sqlite_collector.py", "foo", PROGRAM)
+        self.assertEqual((status, len(lines)), (2, 1))
+        self.assertIn("foo is no fault", lines[0])
+        for fault in FAULTS:
+            self.assertIn(fault, lines[0])
+
+    def test_arguments(self):
+        for count, wanted in (("1", 2), ("65", 2), ("two", 2)):
+            status, lines, _ = self.told("postgres_live.py", "--clients", count)
+            self.assertEqual(status, wanted)
+            self.assertIn("--clients", lines[-1])
+        for name in ("postgres_live.py", "postgres_episodes.py"):
+            status, lines, _ = self.told(name, "--help")
+            self.assertEqual(status, 0)
+            about = " ".join(" ".join(lines).split("options:")[0].split("\n")).strip()
+            self.assertTrue(about.endswith("."), about)  # a whole sentence
 
     def test_clients_keep_to_their_rate(self):
         sys.path.insert(0, EXAMPLES)
@@ -33,23 +93,94 @@ class Examples(unittest.TestCase):
 
         store = MemoryStore()
         sessions = [Session(Nothing(), number, store.connect()) for number in range(4)]
-        clients = Clients(sessions, lambda transaction, client: transaction.put("x", client), 0.5, lambda: False, rate=100)
+        body = lambda transaction, client: transaction.put("x", client)
+        clients = Clients(sessions, body, 0.5, lambda: False, rate=100)
         self.assertLessEqual(1, clients.committed)
-        self.assertLessEqual(clients.committed, 4 * 14)  # 0.5 s of 25 a second each, the first at once and one more at the end
+        # 0.5 s of 25 a second each, the first at once and one more at the end
+        self.assertLessEqual(clients.committed, 4 * 14)
 
     def test_postgres_episodes(self):
-        try:
-            import psycopg2  # noqa: F401
-        except ImportError:
-            self.skipTest("psycopg2 is not installed")
-        if not program("initdb"):
-            self.skipTest("PostgreSQL is not installed")
-        status, lines, files = self.told("postgres_episodes.py", "--episodes", "5", "--transactions", "80")
+        self.postgres_is_there()
+        few = ("--episodes", "5", "--transactions", "80")
+        status, lines, files = self.told("postgres_episodes.py", *few)
         self.assertEqual((status, files), (0, []))
         self.assertIn("5 serial", lines[-1])
-        status, lines, files = self.told("postgres_episodes.py", "--level", "committed", "--workload", "counter", "--episodes", "5", "--transactions", "80")
-        self.assertEqual((status, len(files)), (1, 1))
+        status, lines, files = self.told(
+            "postgres_episodes.py", "--level", "committed", "--workload", "counter", *few
+        )
+        self.assertEqual((status, files[-1].split(".")[-1] in ("jsonl", "svg")), (1, True))
         self.assertIn("violated", lines[0])
+
+    def test_a_violation_is_told_where_the_disk_is_full(self):
+        self.postgres_is_there()
+        for name in ("violation.jsonl", "violation.dot"):
+            os.symlink("/dev/full", f"{self.folder}/work/{name}")
+        status, lines, _ = self.told(
+            *("postgres_live.py", "--level", "committed", "--workload", "counter"),
+            *("--seconds", "20", "--unaudited", "0", "--every", "256"),
+        )
+        text = "\n".join(lines)
+        self.assertEqual(status, 1, text)
+        self.assertIn("so none can come first of", text)
+        self.assertIn("No space left on device", text)
+
+    def test_nothing_is_left_behind_at_sigterm(self):
+        self.postgres_is_there()
+        for more in ((), ("--processes",)):
+            with self.subTest(more=more):
+                running = self.begin("postgres_live.py", "--seconds", "100", "--unaudited", "0", *more)
+                self.assertIn("round 1", running.stdout.readline())
+                began = time.monotonic()
+                running.send_signal(signal.SIGTERM)
+                text = running.communicate(timeout=ENDING)[0]
+                self.assertEqual(running.returncode, 128 + signal.SIGTERM, text)
+                self.assertLess(time.monotonic() - began, ENDING)
+                self.assertNotIn("Traceback", text)
+                self.assertEqual(os.listdir(f"{self.folder}/tmp"), [])
+                self.assertEqual(self.of_folder(), [])
+
+    def of_folder(self):
+        """Processes that name the folder."""
+        found = []
+        for process in filter(str.isdigit, os.listdir("/proc")):
+            try:
+                with open(f"/proc/{process}/cmdline", "rb") as file:
+                    if self.folder.encode() in file.read():
+                        found.append(process)
+            except OSError:
+                pass
+        return found
+
+    def test_a_server_of_ones_own(self):
+        """Its user may make tables, and nothing else."""
+        self.postgres_is_there()
+        import psycopg2
+
+        with Cluster() as cluster:
+            admin = psycopg2.connect(cluster.dsn)
+            self.addCleanup(admin.close)
+            admin.autocommit = True
+            cursor = admin.cursor()
+            cursor.execute("CREATE ROLE modest LOGIN; CREATE SCHEMA modest; GRANT ALL ON SCHEMA modest TO modest")
+            cursor.execute("ALTER ROLE modest SET search_path = modest")
+            cursor.execute("CREATE TABLE zanteyard (mine int)")  # somebody else's
+            few = ("--seconds", "2", "--unaudited", "0.5", "--clients", "4", "--rather-wait")
+            for user, made in (("postgres", "the schema zanteyard_"), ("modest", "the table zanteyard_")):
+                for more in ((), ("--processes",)):
+                    with self.subTest(user=user, more=more):
+                        dsn = f"host={cluster.folder} user={user} dbname=postgres"
+                        status, lines, _ = self.told("postgres_live.py", "--dsn", dsn, *few, *more)
+                        self.assertEqual(status, 0, lines)
+                        self.assertIn("drops", lines[0])
+                        self.assertIn(made, " ".join(lines[:2]))
+            names = {"PGHOST": cluster.folder, "PGUSER": "postgres", "PGDATABASE": "postgres"}
+            status, lines, _ = self.told("postgres_live.py", *few, "--dsn", **names)
+            self.assertEqual(status, 0, lines)
+            cursor.execute(
+                "SELECT relname::text FROM pg_class WHERE relname LIKE 'zanteyard%' AND relkind = 'r'"
+                " UNION SELECT nspname::text FROM pg_namespace WHERE nspname LIKE 'zanteyard%'"
+            )
+            self.assertEqual(cursor.fetchall(), [("zanteyard",)])
 
 
 if __name__ == "__main__":

@@ -7,8 +7,9 @@ import threading
 import time
 import unittest
 
-from zanteyard import FENCE, Aborted, Auditor, AuditorApart, Ended, Full, LiveAuditor, Logged, NoCut, NoMemory, Refused, audited, dot_text, draw, from_start, reasons, smaller, words
-from zanteyard.auditor import MARK, PROGRAM
+from zanteyard import FENCE, Aborted, Auditor, AuditorApart, Ended, Full, LiveAuditor, Logged, NoCut
+from zanteyard import NoMemory, Policy, Refused, audited, dot_text, draw, from_start, reasons, smaller, words
+from zanteyard.auditor import FLAG, MARK, PROGRAM
 from zanteyard.live import fragments
 from zanteyard.memory_store import MemoryStore
 
@@ -35,13 +36,15 @@ class WithProgram(unittest.TestCase):
     def live(self, sessions, limit=4096, **more):
         self.auditor = self.AUDITOR(sessions, limit)
         self.addCleanup(self.auditor.end)
-        return LiveAuditor(self.auditor, **{"every": 20, "seconds": 600.0, "patience": 60.0, "tell": self.told.append, **more})
+        wait = {"policy": Policy(60.0, begins_anew=False), "patience": 60.0}  # other programs run, too
+        more = {"every": 20, "seconds": 600.0, "tell": self.told.append, **wait, **more}
+        return LiveAuditor(self.auditor, **more)
 
     def ended(self, live):
-        report = live.stop()
-        if live.failure:
-            raise live.failure
-        return report
+        outcome = live.stop()
+        if outcome.failure:
+            raise outcome.failure
+        return outcome
 
 
 def run_clients(live, stores, count, body):
@@ -97,11 +100,15 @@ class Meetings(WithProgram):
         self.wait_for(lambda: live.rounds)
         history = [[*txns] for txns in self.auditor.history]
         self.ended(live)
-        fence, read = (lambda *before: ([(FENCE, *before)], [FENCE])), (lambda key, source: ([(key, source)], []))
         done = [[(one.reads, one.writes) for one in txns] for txns in history]
-        self.assertEqual(done[0], [([], ["x"]), fence("init"), read(MARK, (1, 3))])
-        self.assertEqual(done[1], [([], ["x"]), fence((0, 1)), read("x", (1, 0)), ([(MARK, "init")], [MARK])])
-        self.assertEqual(done[2], [fence((1, 1))])  # it has no client
+        read = lambda key, source: ([(key, source)], [])
+        exchange = lambda key, source: ([(key, source)], [key])
+        flag = f"{FLAG}0"  # the other one, which was used last, leads
+        self.assertEqual(done[0], [([], ["x"]), exchange(flag, "init"), read(MARK, (1, 4))])
+        self.assertEqual(done[1][:2], [([], ["x"]), exchange(MARK, "init")])
+        self.assertEqual(done[1][2], ([("x", (1, 0)), (flag, (0, 1))], []))
+        self.assertEqual(done[1][3:], [exchange(FENCE, "init"), exchange(MARK, (1, 1))])
+        self.assertEqual(done[2], [read(MARK, (1, 4))])  # it has no client
         self.assertEqual(live.report.kind, "serial")
 
     def test_no_client_goes_on_before_all_are_behind(self):
@@ -110,13 +117,13 @@ class Meetings(WithProgram):
         could_go_on = []
 
         def later(deed):
-            def looks_first(**more):
+            def looks_first(*arguments):
                 could_go_on.append(a.turn.acquire(blocking=False))
-                return deed(**more)
+                return deed(*arguments)
 
             return looks_first
 
-        b.fence, b.read_mark, c.write_mark = later(b.fence), later(b.read_mark), later(c.write_mark)
+        c.fence, b.read_mark, c.read_all = later(c.fence), later(b.read_mark), later(c.read_all)
         for session in (a, b, c):
             session.run(add_one("x"))
         self.wait_for(lambda: live.cuts)
@@ -130,9 +137,9 @@ class Meetings(WithProgram):
         for turn in range(4):
             for _ in range(6):
                 a.run(add_one("x"))
-            self.wait_for(lambda: live.rounds > turn)
+            self.wait_for(lambda: live.cuts > turn)
         self.assertEqual(self.ended(live).kind, "serial")
-        self.assertEqual(live.cuts, live.rounds)
+        self.assertEqual(live.cuts, live.meetings)
 
     def wait_for(self, condition):
         until = time.monotonic() + 60  # where other programs have the processors
@@ -153,15 +160,16 @@ class Meetings(WithProgram):
         long.commit()
         self.assertEqual(self.ended(live).kind, "serial")
 
-    def test_an_idle_session_is_closed_and_another_takes_its_place(self):
+    def test_an_idle_session_is_left_and_its_client_takes_one_when_it_comes_back(self):
         live, store = self.live(3, every=1, idle=600.0), MemoryStore()
         a, b = (live.session(store.connect()) for _ in range(2))
         b.run(add_one("x"))
         b.used_at -= 700
         a.run(add_one("x"))
         self.wait_for(lambda: not b.is_open)
+        self.wait_for(lambda: sorted(place.number for place in live.left) == [1, 2])
         b.run(add_one("x"))
-        self.assertEqual((b.number, b.is_open), (2, True))
+        self.assertEqual((b.number in (1, 2), b.is_open, len(live.left)), (True, True, 1))
         self.assertEqual(self.ended(live).kind, "serial")
 
     def with_write(self, live, store, write):
@@ -176,7 +184,7 @@ class Meetings(WithProgram):
         session.store.write = both
         return session
 
-    def test_a_fence_that_the_store_aborts_is_run_once_all_are_held(self):
+    def test_a_flag_that_the_store_aborts_is_run_again(self):
         aborts = []
 
         def abort(session):
@@ -186,10 +194,10 @@ class Meetings(WithProgram):
         live, store = self.live(2, every=2), MemoryStore()
         a, b = self.with_write(live, store, abort), live.session(store.connect())
         a.run(add_one("x"))
-        aborts += ["for what another did", "once more"]  # as often as it is tried before
+        aborts += ["for what another did", "once more"]
         b.run(add_one("x"))
         self.wait_for(lambda: live.cuts)
-        self.assertEqual((live.fenced.number, aborts), (a.number, []))
+        self.assertEqual(aborts, [])
         self.assertEqual(self.ended(live).kind, "serial")
 
     def test_clients_leave_room_for_the_next_meeting(self):
@@ -205,36 +213,65 @@ class Meetings(WithProgram):
         self.assertLessEqual(rooms[0], min(30, 40 - reserve))
         self.assertLess(rooms[-1], rooms[0])
 
-    def test_no_session_is_lost_where_a_fence_of_one_that_is_left_fails(self):
-        failures = [RuntimeError("not now")]
+    def with_read(self, live, store, read):
+        """A session whose store calls this before each read of the mark."""
+        session = live.session(store.connect())
+        plain = session.store.read
 
-        def fail_once(session):
-            if session == 1 and failures:
-                raise failures.pop()
+        def both(key):
+            if key == MARK:
+                read()
+            return plain(key)
+
+        session.store.read = both
+        return session
+
+    def test_no_session_is_lost_where_what_is_run_for_one_that_is_left_fails(self):
+        failures = []
+
+        def fail_once():
+            if len(failures) < 2:
+                failures.append(RuntimeError("not now"))
+                raise failures[-1]
 
         live, store = self.live(3, every=1), MemoryStore()
-        a = self.with_write(live, store, fail_once)
+        a = self.with_read(live, store, lambda: None)
+        a.run(add_one("x"))
+        self.wait_for(lambda: live.cuts)
+        a.store.read, plain = self.failing(a.store.read, fail_once), a.store.read
         a.run(add_one("x"))
         self.wait_for(lambda: any("no cut: the meeting failed (not now)" in line for line in self.told))
+        a.store.read = plain
+        cuts = live.cuts
 
-        def is_cut():  # at the second meeting after that: the number of the fence that failed stands behind the next one
+        def is_cut():
             a.run(add_one("x"))
-            return live.cuts > 0
+            return live.cuts > cuts
 
         self.wait_for(is_cut)
+        self.wait_for(lambda: len(live.left) == 2)
         self.assertEqual(sorted(live.session(store.connect()).number for _ in range(2)), [1, 2])
         self.assertEqual(self.ended(live).kind, "serial")
 
-    def test_a_client_that_comes_in_a_meeting_waits_for_its_session(self):
-        is_there, may_go_on, came = threading.Event(), threading.Event(), []
+    def failing(self, read, fail):
+        def both(key):
+            if key == MARK:
+                fail()
+            return read(key)
 
-        def wait_once(session):
-            if session == 1:
+        return both
+
+    def test_a_client_that_comes_in_a_meeting_waits_for_its_session(self):
+        is_there, may_go_on, came, reads = threading.Event(), threading.Event(), [], []
+
+        def wait_once():
+            reads.append(1)
+            if len(reads) == 3:  # the first two are those of the leader, which overwrites the mark
                 is_there.set()
                 may_go_on.wait(60)
 
         live, store = self.live(2, every=1), MemoryStore()
-        a = self.with_write(live, store, wait_once)
+        a = self.with_read(live, store, wait_once)
         a.run(add_one("x"))
         self.assertTrue(is_there.wait(60))
         comes = threading.Thread(target=lambda: came.append(live.session(store.connect())))
@@ -283,7 +320,7 @@ class Meetings(WithProgram):
         self.assertEqual(self.ended(live).kind, "violated")
         self.assertLess(live.taken_in, 800)
         history, called = from_start(self.auditor)
-        small = smaller(history)
+        small = smaller(history, seconds=60)
         self.assertEqual(audited(small)[0].kind, "violated")
         self.assertIn("none can come first of", reasons(small, called)[-1])
 
@@ -394,7 +431,7 @@ class MadeUp(unittest.TestCase):
         history, called = from_start(self.cut_auditor())
         self.assertEqual(
             list(words(history, called))[2:],
-            ["1.1 read fence from the cut, wrote fence", "1.2 read x in a version older than that at the cut, wrote y"],
+            ["1.1 read zanteyard's fence from the cut, wrote zanteyard's fence", "1.2 read x in a version older than that at the cut, wrote y"],
         )
 
     @unittest.skipUnless(os.path.isfile(PROGRAM), f"{PROGRAM} is not built")

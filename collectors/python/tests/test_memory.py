@@ -164,11 +164,13 @@ class Recipes(WithAuditor):
 
     def test_the_limit(self):
         a, _, _ = self.sessions()
-        for _ in range(8):
+        for _ in range(9):
             a.run(put(x=1))
         with self.assertRaises(Full):
-            a.run(put(x=1))
-        self.assertEqual(self.kind(), "serial")
+            self.kind()
+        outcome = self.auditor.outcome()
+        self.assertEqual((outcome.kind, outcome.audited, outcome.handed_in), ("incomplete", 8, 9))
+        self.assertEqual(outcome.report.kind, "serial")
 
     def test_a_wrong_log_is_refused(self):
         with self.assertRaises(Refused):
@@ -177,8 +179,9 @@ class Recipes(WithAuditor):
     def test_a_program_that_ends_is_told(self):
         a, _, _ = self.sessions()
         self.auditor.program.kill()
+        a.run(put(x=1))
         with self.assertRaises(Ended):
-            a.run(put(x=1))
+            self.kind()
 
     def test_a_reply_that_can_not_be_written(self):
         with tempfile.TemporaryDirectory() as folder:

@@ -1,9 +1,10 @@
 """The same against a real PostgreSQL, where it is installed."""
 import os
+import threading
 import unittest
 
-from zanteyard import FENCE, Aborted, Auditor, OutcomeUnknown, Session, smaller, words
-from zanteyard.auditor import PROGRAM
+from zanteyard import FENCE, Aborted, Auditor, NameTaken, OutcomeUnknown, Session, smaller, words
+from zanteyard.auditor import FLAG, PROGRAM
 from zanteyard.cluster import Cluster, program
 
 try:
@@ -110,8 +111,96 @@ class Postgres(unittest.TestCase):
         self.assertEqual(done, [[fence("init"), fence((1, 0))], [fence((0, 0))], []])
         run = dict(self.auditor.history[1][0].statements)
         self.assertEqual(run[(FENCE, (0, 0))], run[(FENCE,)])
-        self.assertIn(f"key = '{FENCE}') INSERT INTO zanteyard VALUES ('{FENCE}', '', 'run', 1, 0) ON CONFLICT", run[(FENCE,)])
+        self.assertIn(f"WHERE key = '{FENCE}' FOR UPDATE", run[(FENCE,)])
         self.assertEqual(self.kind(), "serial")
+
+    def all_at_once(self, auditor, level, deed, times=25):
+        """Six clients do it so many times each."""
+        sessions, failures = [], []
+        for number in range(6):
+            sessions.append(Session(auditor, number, PostgresStore(self.dsn, level), patience=60))
+            self.addCleanup(sessions[-1].store.close)
+
+        def client(session):
+            try:
+                for _ in range(times):
+                    deed(session)
+            except Exception as error:
+                failures.append(error)
+
+        threads = [threading.Thread(target=client, args=(session,)) for session in sessions]
+        for thread in threads:
+            thread.start()
+        for thread in threads:
+            thread.join()
+        self.assertEqual(failures, [])
+
+    def test_fences_at_once_are_in_one_row(self):
+        """At each level none overwrites another one than it has read, by a statement of its own or in
+        a client's transaction."""
+        deeds = {
+            "fence": lambda session: session.fence(),
+            "exchange": lambda session: session.run(lambda t: t.exchange("x", "1"), attempts=1000),
+        }
+        for level in ("serializable", "repeatable read", "read committed"):
+            for name, deed in deeds.items():
+                with self.subTest(level=level, deed=name):
+                    auditor = Auditor(6, 4096)
+                    self.addCleanup(auditor.end)
+                    self.all_at_once(auditor, level, deed)
+                    done = [it for txns in auditor.history for it in txns if it.outcome == "committed"]
+                    sources = [source for logged in done for _, source in logged.reads]
+                    self.assertEqual((len(sources), len(set(sources))), (150, 150))
+                    self.assertEqual(auditor.round().kind, "serial")
+
+    def test_what_clients_do_at_their_level_stays_at_it(self):
+        auditor = Auditor(6, 4096)
+        self.addCleanup(auditor.end)
+        count = lambda t: t.put("x", str(int(t.get("x") or 0) + 1))
+        self.all_at_once(auditor, "read committed", lambda session: session.run(count))
+        self.assertEqual(auditor.round().kind, "violated")
+
+    def test_a_name_that_the_table_knows_is_refused_at_the_start(self):
+        for attempt in range(2):
+            auditor = Auditor(3, 8)
+            self.addCleanup(auditor.end)
+            a, b = (Session(auditor, it, PostgresStore(self.dsn), "monday") for it in range(2))
+            for session in (a, b):
+                self.addCleanup(session.store.close)
+            if attempt:
+                with self.assertRaisesRegex(NameTaken, "monday"):
+                    a.run(lambda t: t.put("x", "1"))
+            else:
+                a.run(lambda t: t.put("x", "1"))
+                b.run(lambda t: t.get("x"))
+            self.assertEqual(auditor.round().kind, "serial")
+            self.assertEqual(auditor.remaining, 0 if attempt else 2)
+
+    def test_a_name_of_before_names_were_claimed_is_refused(self):
+        self.admin.cursor().execute("INSERT INTO zanteyard VALUES ('x', '1', 'run', 0, 0)")
+        with self.assertRaises(NameTaken):
+            self.sessions()[0].run(lambda t: t.put("x", "1"))
+
+    def test_the_answer_to_a_statement_that_is_a_transaction_is_lost(self):
+        class LosesOne(PostgresStore):
+            def send(self, text, values=()):
+                cursor = super().send(text, values)
+                if "UPDATE" in text or "INSERT" in text:
+                    self.connection.close()
+                    raise psycopg2.OperationalError("the answer is lost")
+                return cursor
+
+        a, b, c = (*self.sessions(store=LosesOne)[:2], self.sessions()[2])
+        c.fence()
+        for session, lost, found in ((a, a.flag, lambda: None), (b, b.fence, c.fence)):
+            with self.assertRaises(OutcomeUnknown):
+                lost()
+            found()
+            self.assertFalse(session.is_open)
+        self.assertEqual(self.auditor.history[0], [([], [f"{FLAG}0"], "unknown", ())])
+        self.assertEqual(self.auditor.history[1], [])  # a fence of which nobody knows what it read
+        outcome = self.auditor.outcome()
+        self.assertEqual((outcome.kind, outcome.pending), ("pending", (((2, 1), FENCE, (1, 0)),)))
 
     def test_the_answer_to_a_fence_is_lost(self):
         a = self.sessions(store=Lossy)[0]

@@ -85,8 +85,6 @@ class Elsewhere(test_live.Meetings):
         self.assertIsInstance(live.failure, Ended)
         self.assertIn(f"the process of the sessions {b.number} is lost", str(live.failure))
         self.assertEqual((live.report.kind, live.taken_in), ("serial", 2))
-        with self.assertRaisesRegex(Ended, "nothing more is audited"):
-            self.client.session(store.connect())
         a.run(add_one("x"))  # the client goes on
 
     def test_clients_go_on_where_the_audit_is_gone(self):
@@ -95,6 +93,7 @@ class Elsewhere(test_live.Meetings):
         b.run(add_one("x"))
         b.used_at -= 700
         self.wait_for(lambda: self.is_cut(live, a) and not b.is_open)
+        b.run(add_one("x"))
         self.cut_off(other)
         self.wait_for(lambda: other.is_gone)
         b.run(add_one("x"))
@@ -125,21 +124,23 @@ class Elsewhere(test_live.Meetings):
         other.leave()
         self.wait_for(lambda: live.waiting.qsize() < 10)
 
-    def test_a_fence_of_a_session_that_is_left_comes_late(self):
+    def test_what_is_run_for_a_session_that_is_left_comes_late(self):
         self.addCleanup(setattr, processes, "PATIENCE", processes.PATIENCE)
-        live, store = self.live(2, every=1), MemoryStore()
-        a, lend, late = self.client.session(store.connect()), self.client.call_lend, []
+        live, store = self.live(2, every=1, patience=0.2), MemoryStore()
+        a, pass_on, late = self.client.session(store.connect()), self.client.call_pass_on, []
 
         def later(*arguments):
             if not late:
                 late.append(time.sleep(1.0))
-            return lend(*arguments)
+            return pass_on(*arguments)
 
-        self.client.call_lend, processes.PATIENCE = later, 0.2
+        self.client.call_pass_on, processes.PATIENCE = later, 0.2
         a.run(add_one("x"))
         self.wait_for(lambda: any("hasn't answered" in line for line in self.told))
-        processes.PATIENCE = 60.0
+        processes.PATIENCE = live.patience = 60.0
+        self.wait_for(lambda: live.left)
         self.wait_for(lambda: self.is_cut(live, a))
+        self.wait_for(lambda: live.left)
         self.assertEqual(self.client.session(store.connect()).number, 1)
         self.assertEqual(self.ended(live).kind, "serial")
 
@@ -151,7 +152,7 @@ class Elsewhere(test_live.Meetings):
             live = self.live(1)
             with AuditServer(live, path), AuditClient(path) as client:
                 client.session(MemoryStore().connect()).run(add_one("x"))
-            self.assertEqual((self.ended(live).kind, live.taken_in), ("serial", 2))  # it leaves with a fence
+            self.assertEqual((self.ended(live).kind, live.taken_in), ("serial", 1))
 
     def test_a_session_in_a_transaction_can_not_be_left(self):
         live, store, other = self.live(2), MemoryStore(), self.another()
@@ -189,10 +190,10 @@ class Elsewhere(test_live.Meetings):
         processes.PATIENCE = 0.1
         live, store, other = self.live(2, every=1, patience=0.05), MemoryStore(), self.another()
         a, b = self.client.session(store.connect()), other.session(store.connect())
-        (stuck,) = [it for it in self.server.processes if b.number in [session.number for session in it.sessions.values()]]
-        plain, stuck.tell = stuck.tell, lambda *_: True  # calls don't get there
+        (stuck,) = [it for it in self.server.processes if b.number in it.has]
+        plain, stuck.tell = stuck.tell, lambda *_, **__: True  # calls don't get there
         a.run(add_one("x"))
-        self.wait_for(lambda: any(f"no cut: a transaction of session {b.number} took longer" in line for line in self.told))
+        self.wait_for(lambda: any(f"sessions {b.number} hasn't answered" in line for line in self.told))
         processes.PATIENCE, live.patience, stuck.tell = 60.0, 60.0, plain  # where other programs have the processors
         self.wait_for(lambda: self.is_cut(live, a))
         other.leave()

@@ -1,13 +1,21 @@
-"""Audits the transactions of a store's clients with cobra_audit. docs/COLLECTORS.md says what is logged, and why."""
+"""Audits the transactions of a store's clients with cobra_audit. docs/COLLECTORS.md says what is logged,
+and why."""
 from .apart import AuditorApart
-from .auditor import FENCE, Auditor, Cut, Ended, Full, Logged, NoCut, NoMemory, Refused, Report, audited, from_start, smaller, words
-from .explain import reasons
-from .live import LiveAuditor
+from .auditor import FENCE, Auditor, Cut, Full, Logged, NoCut, NoMemory, Refused
+from .explain import Explanation, explain_history, reasons
+from .live import LiveAuditor, Lost
+from .outcome import RATHER_LOSE_THE_AUDIT, RATHER_WAIT, Outcome, Pending, Policy, Report
 from .picture import dot_text, draw
+from .pipes import Ended
 from .processes import AuditClient, AuditServer
-from .sessions import Aborted, OutcomeUnknown, Session, Transaction
+from .sessions import Aborted, NameTaken, OutcomeUnknown, Session, Transaction
+from .shrinking import audited, from_start, smaller, words
+from .telling import tell_violation
 
 __all__ = [
-    *("FENCE", "AuditClient", "AuditServer", "Auditor", "AuditorApart", "Cut", "Ended", "Full", "Logged", "NoCut", "NoMemory", "Refused", "Report", "audited", "from_start", "smaller", "words"),
-    *("reasons", "LiveAuditor", "dot_text", "draw", "Aborted", "OutcomeUnknown", "Session", "Transaction"),
+    *("Aborted", "AuditClient", "AuditServer", "Auditor", "AuditorApart", "Cut", "Ended", "FENCE"),
+    *("Explanation", "Full", "LiveAuditor", "Logged", "Lost", "NameTaken", "NoCut", "NoMemory", "Outcome"),
+    *("OutcomeUnknown", "Pending", "Policy", "RATHER_LOSE_THE_AUDIT", "RATHER_WAIT", "Refused"),
+    *("Report", "Session", "Transaction", "audited", "dot_text", "draw", "explain_history"),
+    *("from_start", "reasons", "smaller", "tell_violation", "words"),
 ]

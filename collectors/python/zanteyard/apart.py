@@ -1,5 +1,6 @@
-"""An auditor in a process of its own. The threads of a Python program run one at a time, so that whatever is done there with a log on its
-way to cobra_audit is taken from the clients; here they hand over what was logged, as bytes, and the rest is done beside them."""
+"""An auditor in a process of its own. The threads of a Python program run one at a time, so that whatever
+is done there with a log on its way to cobra_audit is taken from the clients; here they hand over what
+was logged, as bytes, and the rest is done beside them."""
 import gc
 import marshal
 import os
@@ -7,53 +8,134 @@ import pickle
 import signal
 import subprocess
 import sys
-import threading
+from multiprocessing.connection import Connection, Pipe
 
-from .auditor import EFFORTS, LIMIT, PROGRAM, Auditor, Ended, Full, Logged, NoCut
+from .auditor import EFFORTS, LIMIT, PROGRAM, SECONDS, Auditor, Full, Logged, NoCut, Takes
+from .outcome import RATHER_LOSE_THE_AUDIT
+from .pipes import ENDING, Ended, Late
 
 PLACE = os.path.dirname(os.path.dirname(os.path.abspath(__file__)))
-START = "import sys; sys.path.insert(0, sys.argv[1]); from zanteyard.apart import serve; serve()"
+START = (
+    "import sys; sys.path.insert(0, sys.argv[1]); "
+    "from zanteyard.apart import serve; serve(int(sys.argv[2]))"
+)
+UNREACHABLE = "the process between this one and cobra_audit can't be reached"
+MORE = 30.0  # seconds for an answer, beside what the program may take for its own
 
 
-class AuditorApart:
-    """In place of an Auditor: calls go to one in another process, and their results come from there. For threads."""
+class AuditorApart(Takes):
+    """In place of an Auditor: calls go to one in another process, and their results come from there. For
+    threads. Raises Ended where that process can't be reached."""
 
-    def __init__(self, sessions, limit=LIMIT, program=PROGRAM):
-        self.sessions, self.limit, self.remaining, self.can_cut = sessions, limit, 0, True
-        self.lock = threading.Lock()
-        self.process = subprocess.Popen([sys.executable, "-I", "-c", START, PLACE], stdin=subprocess.PIPE, stdout=subprocess.PIPE)
+    def __init__(
+        self,
+        sessions,
+        limit=LIMIT,
+        program=PROGRAM,
+        run_name=None,
+        script=None,
+        policy=RATHER_LOSE_THE_AUDIT,
+    ):
+        self.sessions, self.limit, self.path, self.script_path = sessions, limit, program, script
+        self.hand_in_to(policy, run_name)
+        self.process = self.connection = None
+        self.audits = 0
+        self.start(None)
+
+    def start(self, coverage):
+        self.remaining, self.can_cut, self.left_out = 0, True, 0
+        self.connection, theirs = Pipe()
+        descriptor = str(theirs.fileno())
+        self.process = subprocess.Popen(
+            [sys.executable, "-I", "-c", START, PLACE, descriptor],
+            stdin=subprocess.DEVNULL,
+            stdout=subprocess.DEVNULL,
+            pass_fds=[theirs.fileno()],
+        )
+        theirs.close()
+        self.audits += 1
         try:
-            self.call("open", sessions, limit, program)
+            more = (self.script_path, self.audits, coverage)
+            self.call("open", self.sessions, self.limit, self.path, *more)
         except BaseException:
-            self.end()
+            self.end_program()
             raise
 
-    def call(self, name, *arguments):
+    def start_anew(self, coverage=None):
+        """In another process, since this one may be what was lost. Raises Ended behind `end`."""
         with self.lock:
+            self.check_end()
+            self.end_program()
+            self.failure, self.late, self.handed_in, self.taken_in = None, None, 0, 0
+            self.start(coverage)
+
+    def call(self, name, *arguments, seconds=SECONDS + MORE):
+        with self.lock:
+            if self.late is not None:
+                self.end_late(SECONDS)
+            self.send(name, arguments)
             try:
-                pickle.dump((name, arguments), self.process.stdin, pickle.HIGHEST_PROTOCOL)
-                self.process.stdin.flush()
-                is_failed, result = pickle.load(self.process.stdout)
-            except (OSError, ValueError, EOFError, pickle.UnpicklingError) as error:
-                raise Ended(f"the process between this one and cobra_audit can't be reached: {error}") from error
+                return self.receive(seconds)
+            except Late:
+                self.give_up()
+                raise
+
+    def give_up(self):
+        """It would answer later what nobody asks any more."""
+        self.process.kill()
+
+    def send(self, name, arguments):
+        try:
+            self.connection.send((name, arguments))
+        except (OSError, ValueError) as error:
+            raise Ended(f"{UNREACHABLE}: {error}") from error
+
+    def receive(self, seconds):
+        try:
+            if not self.connection.poll(seconds):
+                raise Late(f"{UNREACHABLE}: it hasn't answered for {seconds:.3g} s")
+            is_failed, result = self.connection.recv()
+        except (OSError, EOFError, pickle.UnpicklingError) as error:
+            raise Ended(f"{UNREACHABLE}: {error}") from error
         if is_failed:
             raise result
         return result
+
+    def begin_take(self, kind, session, *offered):
+        if kind == "close":
+            self.send("close", (session,))
+        else:
+            self.send("offer_all", ([self.plain((session, offered[0], offered[1:]))],))
+        return session, *offered
+
+    def end_take(self, kind, asked, seconds):
+        result = self.receive(seconds)
+        if kind == "offer":
+            refused, self.left_out = result
+            if refused:
+                told = f"there is no room for transaction {asked[1]} of session {asked[0]}"
+                raise Full(told)
+            self.remaining += 1
 
     def offer(self, session, number, *logged):
         if self.offer_all([(session, number, logged)]):
             raise Full(f"there is no room for transaction {number} of session {session}")
 
+    @staticmethod
+    def plain(fragment):
+        session, first, txns = fragment
+        return session, first, [one if type(one) is bytes else as_bytes(one) for one in txns]
+
     def offer_all(self, fragments):
         """Their transactions may be packed."""
-        plain = [(session, first, [one if type(one) is bytes else as_bytes(one) for one in txns]) for session, first, txns in fragments]
-        refused = {*self.call("offer_all", plain)}
+        refused, self.left_out = self.call("offer_all", [*map(self.plain, fragments)])
         self.remaining += sum(len(txns) for session, _, txns in fragments if session not in refused)
         return [fragment for fragment in fragments if fragment[0] in refused]
 
     @staticmethod
     def packed(logged):
-        """As bytes, which leave nothing to the clients' garbage collector. What can't be made such is left as it is, for offer_all to tell."""
+        """As bytes, which leave nothing to the clients' garbage collector. What can't be made such is
+        left as it is, for offer_all to tell."""
         try:
             return as_bytes(logged)
         except ValueError:
@@ -63,7 +145,14 @@ class AuditorApart:
         self.call("close", session)
 
     def round(self, efforts=EFFORTS):
-        return self.call("round", efforts)
+        """As Auditor.round."""
+        self.take_in()
+        if self.failure is not None:
+            raise self.failure
+        return self.last_round(efforts)
+
+    def last_round(self, efforts=EFFORTS):
+        return self.call("last_round", efforts)
 
     def truncate(self):
         try:
@@ -86,17 +175,28 @@ class AuditorApart:
     def base(self):
         return self.call("get", "base")
 
+    @property
+    def script_failure(self):
+        return self.call("get", "script_failure")
+
     def end(self):
-        """Ends the program and the process, and gives the program's status; None where that isn't known."""
+        """Ends the program and the process, and gives the program's status; None where that isn't
+        known."""
+        self.is_ended = True
+        with self.lock:
+            return self.end_program()
+
+    def end_program(self):
+        self.late = None
         try:
-            status = self.call("end")
+            status = self.call("end", seconds=2 * ENDING)
         except Ended:
             status = None
-        for pipe in (self.process.stdin, self.process.stdout):
-            try:
-                pipe.close()
-            except OSError:
-                pass
+        self.connection.close()
+        try:
+            self.process.wait(ENDING)
+        except subprocess.TimeoutExpired:
+            self.process.kill()
         self.process.wait()
         return status
 
@@ -121,6 +221,10 @@ class OfPacked(Auditor):
     def txn(self, packed):
         return super().txn(unpacked(packed))
 
+    def moved(self, packed):
+        logged, left_out = super().moved(unpacked(packed))
+        return as_bytes(logged), left_out
+
 
 class Served:
     """The other process's end of the calls."""
@@ -128,12 +232,16 @@ class Served:
     def __init__(self):
         self.auditor = None
 
-    def open(self, sessions, limit, program):
-        self.auditor = OfPacked(sessions, limit, program)
+    def open(self, sessions, limit, program, script, audits, coverage):
+        behind = f".{audits}" if audits > 1 else ""
+        script = script and f"{script}{behind}"
+        self.auditor = OfPacked(sessions, limit, program, "", script)
+        self.auditor.coverage = coverage
 
     def offer_all(self, fragments):
-        """The sessions whose transactions there was no room for."""
-        return [session for session, _, _ in self.auditor.offer_all(fragments)]
+        """The sessions whose transactions there was no room for, and how many reads were left out."""
+        refused = {session for session, _, _ in self.auditor.offer_all(fragments)}
+        return refused, self.auditor.left_out
 
     def get(self, name):
         return getattr(self.auditor, name)
@@ -143,20 +251,25 @@ class Served:
 
     def answer(self, name, arguments):
         try:
-            return False, getattr(self if hasattr(self, name) else self.auditor, name)(*arguments)
+            deed = getattr(self if hasattr(self, name) else self.auditor, name)
+            return False, deed(*arguments)
         except Exception as error:
             return True, error
 
 
-def serve():
+def serve(descriptor):
     """Answers calls until there are no more."""
     signal.signal(signal.SIGINT, signal.SIG_IGN)  # it ends when the clients' process does
     gc.freeze()  # what is there by now stays
-    calls, answers, served = sys.stdin.buffer, sys.stdout.buffer, Served()
+    calls, served = Connection(descriptor), Served()
     while True:
         try:
-            call = pickle.load(calls)
+            name, arguments = calls.recv()
         except EOFError:
             break
-        pickle.dump(served.answer(*call), answers, pickle.HIGHEST_PROTOCOL)
-        answers.flush()
+        answer = served.answer(name, arguments)
+        try:
+            calls.send(answer)
+        except OSError:
+            break  # nobody waits for it any more
+    served.end()

@@ -1,26 +1,35 @@
 """The program cobra_audit, started with pipes on both ends, and what was given to it."""
 import json
+import logging
 import os
-import subprocess
+import secrets
 import threading
 import time
-from collections import Counter, namedtuple
+from collections import Counter, deque, namedtuple
+
+from .outcome import RATHER_LOSE_THE_AUDIT, Outcome, Pending, Report, kind_of
+from .pipes import Ended, Late, Pipes
 
 BUILT = os.path.join(os.path.dirname(__file__), "../../../crates/cobra_audit/out/cobra_audit")
 PROGRAM = os.environ.get("COBRA_AUDIT", os.path.normpath(BUILT))
 
-# The certificate is an order where the kind is serial or pending, and the items of a refutation where it is violated.
-Report = namedtuple("Report", "number kind counts certificate", defaults=(None,))
 LIMIT = 4096  # the most transactions that may remain
 LONGEST = 256  # transactions of one line
-# Of a round: how many nodes of the search it may look at, how deep the search is split, and how many workers share it. The next is tried
-# where one hasn't decided.
+# Of a round: how many nodes of the search it may look at, how deep the search is split, and how many
+# workers share it. The next is tried where one hasn't decided.
 EFFORTS = ((4096, 0, 1), (65536, 4, max(1, min(16, os.cpu_count() or 1))))
 WAITS = (0.1, 0.5)  # seconds after which a line that was answered NoMemory is given again
+SECONDS = 60.0  # for the answer to a line that no client waits for
+LATEST = 10.0  # seconds after which an answer that no client waits for isn't waited for any more
 FENCE = "zanteyard fence"  # the key on which sessions run fences; its number is 0
-MARK = "zanteyard mark"  # the key that a meeting writes behind its last fence, for every session to read
-# What one transaction did: reads are pairs of a key's name and a source, which is "init" or (session, number); writes are names of keys.
-# Statements are for who is told of a violation: pairs of a deed, which is a read or (key,) for a write, and what was run for it.
+MARK = "zanteyard mark"  # a key that a meeting writes behind its fence, for all sessions to read
+FLAG = "zanteyard flag "  # and a session's number: a key that this session alone writes, at a meeting
+PLAIN_FENCE = "zanteyard's fence"  # the key of fences, where what is left of one may be none
+OWN = (FENCE, MARK, FLAG, PLAIN_FENCE)  # what the keys of the collector's own transactions begin with
+logger = logging.getLogger("zanteyard")
+# What one transaction did: reads are pairs of a key's name and a source, which is "init" or (session,
+# number); writes are names of keys. Statements are for who is told of a violation: pairs of a deed,
+# which is a read or (key,) for a write, and what was run for it.
 Logged = namedtuple("Logged", "reads writes outcome statements", defaults=("committed", ()))
 # The fence up to which the auditor has forgotten, and how many transactions that were.
 Cut = namedtuple("Cut", "fence gone")
@@ -35,40 +44,181 @@ class Full(Refused):
 
 
 class NoMemory(Refused):
-    """The program was refused memory for it, also when it was given the line again; nothing has changed."""
+    """The program was refused memory for it, also when it was given the line again; nothing has
+    changed."""
 
 
 class NoCut(Refused):
-    """No round has found a fence up to which everything is settled; or the program has no such command."""
+    """No round has found a fence up to which everything is settled; or the program has no such
+    command."""
 
 
 KINDS = {"Backlog": Full, "NoCut": NoCut, "NoMemory": NoMemory}
 
 
-class Ended(Exception):
-    """The program ended, or can't be reached, and what it knew is gone with it."""
+def fresh_name():
+    """A run's name that no other run has."""
+    return f"{time.strftime('%Y-%m-%d %H:%M:%S')} {secrets.token_hex(6)}"
 
 
-class Auditor:
-    """For threads: each call is one line and its reply."""
+def is_own(key):
+    """Whether it is a key of the collector's own transactions."""
+    return isinstance(key, str) and key.startswith(OWN)
 
-    def __init__(self, sessions, limit=LIMIT, program=PROGRAM):
-        self.sessions, self.limit = sessions, limit
-        self.numbers, self.names = {FENCE: 0}, [FENCE]  # of each key, by its name; and the other way round
-        self.history = [[] for _ in range(sessions)]  # what was taken in and isn't forgotten, as Logged
-        self.marks = [0] * sessions  # how many of each session are forgotten
+
+class Takes:
+    """What sessions hand in when the store has answered: it never raises, and waits no longer than the
+    policy says. What can't be taken in ends the audit, which `failure` and the log tell."""
+
+    def hand_in_to(self, policy, run_name):
+        self.policy, self.is_named = policy, run_name is not None
+        self.run_name = run_name if self.is_named else fresh_name()
+        self.token = secrets.token_hex(12)  # of this run alone, also where its name isn't
+        self.failure, self.handed_in, self.taken_in = None, 0, 0
+        self.waiting = deque()
+        self.is_ended = False  # by who has made it
+        self.late = None  # what was asked for a session and isn't answered yet, and since when
+        self.lock = threading.RLock()  # so that what is kept here follows the replies in their order
+
+    def take(self, session, number, logged):
+        self.hand_in(("offer", session, number, logged))
+        self.handed_in += 1
+
+    def take_close(self, session):
+        """Nothing more of this session comes."""
+        self.hand_in(("close", session))
+
+    def hand_in(self, what):
+        self.waiting.append(what)
+        ends = time.monotonic() + self.policy.wait
+        if self.lock.acquire(timeout=self.policy.wait):  # else who has it takes it in
+            try:
+                self.take_in(ends)
+            finally:
+                self.lock.release()
+
+    def take_in(self, ends=None):
+        """All that waits; until then. What isn't answered by then is asked for by who comes next, and
+        those don't wait."""
+        with self.lock:
+            while self.failure is None and (self.late or self.waiting):
+                try:
+                    if self.late is None:
+                        what = self.waiting.popleft()
+                        self.late = (what, self.begin_take(*what), time.monotonic())
+                    elif ends is not None:
+                        ends = min(ends, self.late[2] + self.policy.wait)
+                    self.end_late(SECONDS if ends is None else max(0.0, ends - time.monotonic()))
+                except Late as error:
+                    if ends is None or time.monotonic() > self.late[2] + LATEST:
+                        self.give_up()
+                        self.lose(error)
+                    return
+                except Exception as error:
+                    self.lose(error)
+
+    def check_end(self):
+        if self.is_ended:
+            raise Ended("the auditor has been ended")
+
+    def end_late(self, seconds):
+        """The answer to what was asked for a session; raises Late, and may then be called again."""
+        (kind, *_), asked, _ = self.late
+        self.end_take(kind, asked, seconds)
+        self.late = None
+        if kind == "offer":
+            self.taken_in += 1
+
+    def lose(self, error):
+        """Nothing more is audited but what was taken in by now."""
+        self.late = None
+        self.waiting.clear()
+        if self.failure is None:
+            self.failure = error
+            logger.error("nothing more is audited: %s", error)
+
+    def outcome(self):
+        """After a round over all that was handed in. Raises nothing."""
+        report = None
+        try:
+            self.take_in()
+            report = self.last_round()
+        except Exception as error:
+            self.lose(error)
+        is_whole = self.taken_in >= self.handed_in
+        pending = tuple(never_came(self.history)) if report and report.kind == "pending" else ()
+        kind = kind_of(report, self.failure, is_whole)
+        handed_in = max(self.handed_in, self.taken_in)
+        return Outcome(kind, self.taken_in, handed_in, self.failure, pending, report, self.run_name)
+
+
+def never_came(history, marks=None):
+    """The reads of a history that name transactions which aren't in it, each a Pending."""
+    marks = marks or [0] * len(history)
+    for session, txns in enumerate(history):
+        for number, logged in enumerate(txns, marks[session]):
+            for key, source in logged.reads:
+                if source != "init":
+                    ended = marks[source[0]] + len(history[source[0]]) if source[0] < len(marks) else 0
+                    if source[1] >= ended:
+                        yield Pending((session, number), key, source)
+
+
+class Auditor(Takes):
+    """For threads: each call is one line and its reply. What sessions hand in (`take`) never raises;
+    all other calls raise Ended where the program is gone and Refused where it refuses a line.
+
+    `run_name` is beside each value that sessions write: each run needs one of its own, and has it
+    where none is given. `script` names a file to which every line goes that the program was given, so
+    that it can be given them again. `policy` says how long sessions wait."""
+
+    def __init__(
+        self,
+        sessions,
+        limit=LIMIT,
+        program=PROGRAM,
+        run_name=None,
+        script=None,
+        policy=RATHER_LOSE_THE_AUDIT,
+    ):
+        self.sessions, self.limit, self.path = sessions, limit, program
+        self.hand_in_to(policy, run_name)
+        self.script_path, self.script, self.audits = script, None, 0
+        self.program = None
+        self.start(None)
+
+    def start(self, coverage):
+        self.coverage, self.left_out = coverage, 0  # reads whose source the audit isn't about
+        self.numbers, self.names = {FENCE: 0}, [FENCE]  # of each key, by its name; and the other way
+        self.history = [[] for _ in range(self.sessions)]  # what was taken in and isn't forgotten
+        self.marks = [0] * self.sessions  # how many of each session are forgotten
         self.base = {}  # of each key that a forgotten transaction wrote, the last that did
         self.can_cut = True  # until the program says that it doesn't know the command
-        self.lock = threading.RLock()  # so that what is kept here follows the replies in their order
+        self.effort = EFFORTS[0]  # of the last round
+        self.audits += 1
+        self.script_failure = None
         try:
-            self.program = subprocess.Popen([program], stdin=subprocess.PIPE, stdout=subprocess.PIPE, stderr=subprocess.PIPE, text=True)
-        except OSError as error:
-            raise Ended(f"{program} can't be started ({error}); README.md says how it is built") from error
-        try:
-            self.ask(["open", sessions, limit])
+            self.open_script()
+            self.program = Pipes(self.path)
+            self.ask(["open", self.sessions, self.limit])
         except BaseException:
-            self.end()
+            self.end_program()
             raise
+
+    def open_script(self):
+        """Of a second audit the script is beside the first one's, with its number behind the name."""
+        if self.script_path is not None:
+            behind = f".{self.audits}" if self.audits > 1 else ""
+            self.script = open(f"{self.script_path}{behind}", "wb", buffering=0)
+
+    def start_anew(self, coverage=None):
+        """Another program, which knows nothing of what the one before it was given. By a Coverage,
+        numbers count from where the audit begins. Raises Ended behind `end`."""
+        with self.lock:
+            self.check_end()
+            self.end_program()
+            self.failure, self.late, self.handed_in, self.taken_in = None, None, 0, 0
+            self.start(coverage)
 
     @property
     def remaining(self):
@@ -78,10 +228,10 @@ class Auditor:
         text = written(line)
         return self.settled(text, *self.replies_to([text]))
 
-    def settled(self, text, reply):
+    def settled(self, text, reply, seconds=SECONDS):
         """The reply, where the line isn't refused for good."""
         for wait in WAITS:
-            if reply[0] != "no" or reply[2] != "NoMemory":
+            if reply[0] != "no" or reply[2] != "NoMemory" or wait > seconds:
                 break
             time.sleep(wait)
             (reply,) = self.replies_to([text])
@@ -90,40 +240,112 @@ class Auditor:
         return reply
 
     def replies_to(self, texts):
-        """Lines that are written at once: their replies together have to fit into a pipe."""
+        """Of lines that are given one behind the other; raises Late where that takes too long."""
         with self.lock:
+            if self.late is not None and self.late[1][0] not in texts:  # else it is given again
+                self.end_late(SECONDS)
+            self.give(texts)
             try:
-                self.program.stdin.write("".join(text + "\n" for text in texts))
-                self.program.stdin.flush()
-                answers = [self.program.stdout.readline() for _ in texts]
-            except (OSError, ValueError) as error:
-                raise Ended(f"cobra_audit can't be reached: {error}") from error
-            if not all(answers):
-                raise Ended(f"cobra_audit ended with status {self.program.wait()}: {self.program.stderr.read().strip()}")
-        return [json.loads(answer) for answer in answers]
+                return [json.loads(answer) for answer in self.program.answers(len(texts), SECONDS)]
+            except Late:
+                self.give_up()
+                raise
+
+    def give_up(self):
+        """It would answer later what nobody asks any more."""
+        self.program.kill()
+
+    def give(self, texts):
+        if self.program is None:
+            raise Ended("cobra_audit has been ended")
+        lines = [text.encode() for text in texts]
+        self.keep(lines)
+        self.program.ask(lines)
+
+    # a line for a session, and its answer
+
+    def begin_take(self, kind, session, *offered):
+        if kind == "close":
+            text, fragment = written(["close", session]), None
+        else:
+            number, logged = offered
+            fragment = self.covered((session, number, [logged]))
+            text = self.offer_of(fragment)
+        self.give([text])
+        return text, fragment
+
+    def end_take(self, kind, asked, seconds):
+        text, fragment = asked
+        (answer,) = self.program.answers(1, seconds)
+        try:
+            self.settled(text, json.loads(answer), seconds)
+        except Full as error:
+            told = f"there is no room for transaction {fragment[1]} of session {fragment[0]}"
+            raise Full(told) from error
+        if kind == "offer":
+            self.keep_history(fragment)
+
+    def offer_of(self, fragment):
+        session, first, txns, _ = fragment
+        return written(["offer", session, first, [*map(self.txn, txns)]])
+
+    def keep_history(self, fragment):
+        session, _, txns, left_out = fragment
+        self.history[session] += txns
+        self.left_out += left_out
+
+    def keep(self, lines):
+        """In the script; a file that can't be written harms nobody but who wants to read it."""
+        if self.script is not None and self.script_failure is None:
+            try:
+                text = b"".join(line + b"\n" for line in lines)
+                while text:
+                    text = text[self.script.write(text) :]
+            except OSError as error:
+                self.script_failure = error
+                logger.error("%s lacks lines: %s", self.script.name, error)
 
     def offer(self, session, number, *logged):
-        """Transactions that follow one another, the first of this number."""
+        """Transactions that follow one another, the first of this number. Raises Full where there is
+        no room."""
         if self.offer_all([(session, number, logged)]):
             raise Full(f"there is no room for transaction {number} of session {session}")
 
     def offer_all(self, fragments):
-        """The same of several fragments, each (session, number of the first, transactions): gives those for which there was no room."""
+        """The same of several fragments, each (session, number of the first, transactions): gives
+        those for which there was no room."""
         refused = []
         with self.lock:
-            texts = [written(["offer", session, first, [*map(self.txn, txns)]]) for session, first, txns in fragments]
-            for fragment, text, reply in zip(fragments, texts, self.replies_to(texts)):
+            moved = [self.covered(fragment) for fragment in fragments]
+            texts = [self.offer_of(fragment) for fragment in moved]
+            replies = self.replies_to(texts)
+            for fragment, its, text, reply in zip(fragments, moved, texts, replies):
                 try:
                     self.settled(text, reply)
-                    self.history[fragment[0]] += fragment[2]
+                    self.keep_history(its)
                 except Full:
                     refused.append(fragment)
         return refused
 
+    def covered(self, fragment):
+        """The fragment as the audit sees it, and how many reads were left out."""
+        session, first, txns = fragment
+        if self.coverage is None:
+            return session, first, txns, 0
+        moved = [self.moved(logged) for logged in txns]
+        return session, first, [logged for logged, _ in moved], sum(count for _, count in moved)
+
+    def moved(self, logged):
+        return self.coverage.moved(logged)
+
     def txn(self, logged):
         """As lines have it."""
-        reads = sorted([(self.key_number(key), *(() if source == "init" else source)) for key, source in logged.reads])
-        texts = [read if len(read) > 1 else (*read, "init") for read in reads]  # "init" comes before every transaction
+        reads = sorted(
+            (self.key_number(key), *(() if source == "init" else source))
+            for key, source in logged.reads
+        )
+        # "init" comes before every transaction
+        texts = [read if len(read) > 1 else (*read, "init") for read in reads]
         return [texts, sorted(map(self.key_number, logged.writes))]
 
     def key_number(self, key):
@@ -140,7 +362,16 @@ class Auditor:
         self.ask(["close", session])
 
     def round(self, efforts=EFFORTS):
-        """The report of a round over all that was taken in. One that ends spent is given again with the next effort: then it tells of the last."""
+        """The report of a round over all that sessions have handed in. One that ends spent is given
+        again with the next effort: then it tells of the last. Raises why, where something that
+        sessions did was lost: `outcome` tells what is known all the same."""
+        self.take_in()
+        if self.failure is not None:
+            raise self.failure
+        return self.last_round(efforts)
+
+    def last_round(self, efforts=EFFORTS):
+        """The same of what was taken in, whatever was lost."""
         for self.effort in efforts:
             report = Report(*self.ask(["round", *self.effort])[1:])
             if report.kind != "spent":
@@ -148,7 +379,8 @@ class Auditor:
         return report
 
     def truncate(self):
-        """Has the auditor forget what the last round found settled. The lines keep in which order what remains stands to it."""
+        """Has the auditor forget what the last round found settled. The lines keep in which order what
+        remains stands to it. Raises NoCut where nothing is."""
         with self.lock:
             try:
                 _, fence, gone, last = self.ask(["truncate"])
@@ -157,23 +389,25 @@ class Auditor:
             except Refused as error:
                 self.can_cut = "BadLine" not in str(error)
                 raise NoCut(str(error)) from error
-            self.base.update((self.names[key], (session, number)) for key, session, number in last)
+            self.base.update(
+                (self.names[key], (session, number)) for key, session, number in last
+            )
             for session, count in Counter(session for session, _ in gone).items():
                 del self.history[session][:count]
                 self.marks[session] += count
             return Cut(tuple(fence), len(gone))
 
     def end(self):
-        """Ends the program, and gives its status."""
+        """Ends the program, and gives its status; may be called again."""
+        self.is_ended = True
         with self.lock:
-            try:
-                self.program.stdin.close()
-            except OSError:
-                pass
-            status = self.program.wait()
-            self.program.stdout.close()
-            self.program.stderr.close()
-            return status
+            return self.end_program()
+
+    def end_program(self):
+        if self.script is not None:
+            self.script.close()
+            self.script = None
+        return self.program.end() if self.program is not None else None
 
     def __enter__(self):
         return self
@@ -184,179 +418,3 @@ class Auditor:
 
 def written(line):
     return json.dumps(line, separators=(",", ":"))
-
-
-def audited(history, program=PROGRAM):
-    """The report of an auditor of its own, and the script that gives it."""
-    limit = max(1, sum(map(len, history)))
-    with Auditor(len(history), limit, program) as auditor:
-        script = [["open", len(history), limit]]
-        for session, txns in enumerate(history):
-            for first in range(0, len(txns), LONGEST):
-                fragment = txns[first : first + LONGEST]
-                auditor.offer(session, first, *fragment)
-                script.append(["offer", session, first, [*map(auditor.txn, fragment)]])
-        report = auditor.round()
-        script.append(["round", *auditor.effort])
-        return report, "".join(written(line) + "\n" for line in script)
-
-
-START = "everything before the cut"  # a key that the first transaction of such a history writes, and that each session reads first
-
-
-def from_start(auditor):
-    """What remains as a history without a cut and without fences' own key, and the names of its transactions. Where something is forgotten,
-    a first transaction stands for it: it writes the last version of each key, and every session begins with one that reads from it."""
-    marks, base = auditor.marks, auditor.base
-    gone, some_gone = (0, 0), any(marks)
-
-    def moved(key, source):
-        if source == "init" or not some_gone:
-            return source
-        if source[1] >= marks[source[0]]:
-            return (source[0], source[1] - marks[source[0]] + 1)
-        return "init" if base.get(key, source) != source else gone  # an older one than the last is as wrong as the initial state
-
-    def plain(key):
-        return "fence" if key == FENCE else key  # what is left of a fence may be none
-
-    def plain_deed(key, *source):
-        return (plain(key), *(moved(key, it) for it in source))
-
-    def without_cut(one):
-        return one._replace(
-            reads=[plain_deed(*read) for read in one.reads],
-            writes=[*map(plain, one.writes)],
-            statements=[(plain_deed(*deed), statement) for deed, statement in one.statements],
-        )
-
-    history = [[without_cut(one) for one in txns] for txns in auditor.history]
-    if not some_gone:
-        return history, name
-    first = Logged((), (START, *sorted(map(plain, base))), "forgotten")
-    after = Logged(((START, gone),), (), "forgotten")
-
-    def renamed(id):
-        return f"{id[0]}.{id[1] - 1 + marks[id[0]]}" if id[1] else ("the cut" if id == gone else f"the cut in {id[0]}")
-
-    renamed.older = {plain(key): "in a version older than that at the cut" for key in base}
-    return [[after if session else first, *txns] for session, txns in enumerate(history)], renamed
-
-
-def name(id):
-    return f"{id[0]}.{id[1]}"
-
-
-def named(items):
-    """The transactions that the items of a refutation name."""
-    found = set()
-    for kind, first, *rest in items:
-        if kind in ("nowrite", "gone"):
-            found.add((first, rest[0]))
-        if kind in ("force", "split"):
-            found.update([(first[0], first[1]), (first[3], first[4]), (first[5], first[6])])
-        for arc in {"force": rest[-1:], "cycle": [first]}.get(kind, [[]])[0]:
-            found.update([tuple(arc[-4:-2]), tuple(arc[-2:])])
-    return found
-
-
-def only(history, ids):
-    """The same, where no other transaction did anything, nor is read from. It is true of the store too: a read is left out where it
-    stands, and a write only where no read of it is left."""
-
-    def is_kept(key, source):
-        if source == "init" or source in ids:
-            return True
-        session, number = source  # a read of what its source didn't write is kept: it is what is wrong
-        return number < len(history[session]) and key not in history[session][number].writes
-
-    def part(id, logged):
-        if id not in ids:
-            return Logged((), ())
-        return logged._replace(reads=[(key, source) for key, source in logged.reads if is_kept(key, source)])
-
-    return [[part((session, number), logged) for number, logged in enumerate(txns)] for session, txns in enumerate(history)]
-
-
-def without_ends(history):
-    """The same without the last transactions of sessions that did nothing."""
-    return [txns[: max([number + 1 for number, logged in enumerate(txns) if logged.reads or logged.writes], default=0)] for txns in history]
-
-
-def less(history):
-    """The same without a session's last transaction, without one read, or without a write that nobody has read, each behind what is left out.
-    What is left is still true of the store."""
-    for session, txns in enumerate(history):
-        if txns:
-            yield (session, len(txns) - 1), [*history[:session], txns[:-1], *history[session + 1 :]]
-    read = {(source, key) for txns in history for logged in txns for key, source in logged.reads}
-    for session, txns in enumerate(history):
-        for number, logged in enumerate(txns):
-            parts = [(one, logged._replace(reads=[other for other in logged.reads if other != one])) for one in logged.reads]
-            parts += [
-                ((key,), logged._replace(writes=tuple(other for other in logged.writes if other != key)))
-                for key in logged.writes
-                if ((session, number), key) not in read
-            ]
-            for deed, part in parts:
-                yield (session, number, deed), [*history[:session], [*txns[:number], part, *txns[number + 1 :]], *history[session + 1 :]]
-
-
-def smaller(history, program=PROGRAM, seconds=60):
-    """A part of a violated history that is violated too, while nothing that has one thing less is; or as small as it got in so many seconds. It
-    begins with what a refutation names."""
-    ends = time.monotonic() + seconds
-    report = audited(history, program)[0]
-    if report.kind == "violated":
-        part = without_ends(only(history, named(report.certificate)))
-        if audited(part, program)[0].kind == "violated":
-            history = part
-    needed = set()  # what can't be left out of a history can't be left out of a part of it
-    while True:
-        for what, candidate in less(history):
-            if time.monotonic() > ends:
-                return history
-            if what in needed:
-                continue
-            if audited(candidate, program)[0].kind == "violated":
-                history = candidate
-                break
-            needed.add(what)
-        else:
-            return history
-
-
-def version(key, source, name):
-    """Which version of the key was read."""
-    if source != "init":
-        return f"from {name(source)}"
-    return getattr(name, "older", {}).get(key, "as it was at first")
-
-
-def deeds(logged, name):
-    """What a transaction did."""
-    if logged.outcome == "aborted":
-        return ["aborted"]
-    return [f"read {key} {version(key, source, name)}" for key, source in logged.reads] + [f"wrote {key}" for key in logged.writes]
-
-
-TOLD = 240  # characters of a statement, at most
-
-
-def statements_of(logged):
-    """Lines that tell what was run for what the transaction did, where that is known."""
-    left, told = dict(logged.statements), {}
-    for deed in (*logged.reads, *((key,) for key in logged.writes)):
-        if deed in left:
-            told.setdefault(" ".join(left[deed].split()), []).append(("wrote" if len(deed) == 1 else "read") + f" {deed[0]}")
-    for statement, its in told.items():
-        yield f"{', '.join(its)}: {statement if len(statement) <= TOLD else statement[:TOLD] + ' ..'}"
-
-
-def words(history, name=name):
-    """A line for each transaction, with its statements behind it."""
-    for session, txns in enumerate(history):
-        for number, logged in enumerate(txns):
-            if deeds(logged, name):  # else it is there for its number alone
-                yield f"{name((session, number))} {', '.join(deeds(logged, name))}"
-                yield from (f"    {line}" for line in statements_of(logged))

@@ -2,50 +2,100 @@
 import glob
 import os
 import shutil
+import signal
 import subprocess
+import sys
 import tempfile
+import time
+from contextlib import contextmanager
+
+STOPPING = 20  # seconds for a server to stop
+TRIES = 50  # to remove its folder
 
 
 def program(name):
-    places = sorted(glob.glob(f"/usr/lib/postgresql/*/bin/{name}"), key=lambda path: int(path.split("/")[4]))
+    """Where PostgreSQL's program of this name is; None where it isn't installed."""
+    places = glob.glob(f"/usr/lib/postgresql/*/bin/{name}")
+    places.sort(key=lambda path: int(path.split("/")[4]))
     return shutil.which(name) or (places[-1] if places else None)
 
 
+@contextmanager
+def ended_by_signals():
+    """In here SIGTERM, which `timeout` and systemd send, ends the program as an exception does: what it
+    has begun is cleaned up. For the main thread."""
+
+    def end(number, _):
+        signal.signal(number, signal.SIG_IGN)  # once is enough
+        sys.exit(128 + number)
+
+    before = signal.signal(signal.SIGTERM, end)
+    try:
+        yield
+    finally:
+        signal.signal(signal.SIGTERM, before)
+
+
 class Cluster:
-    """Listens on a socket in its folder alone. PostgreSQL won't run as root, so that root runs it as the user postgres."""
+    """Listens on a socket in its folder alone. PostgreSQL won't run as root, so that root runs it as the
+    user postgres."""
+
+    table = "zanteyard"
 
     def __init__(self):
         self.user = {"user": "postgres", "group": "postgres"} if os.geteuid() == 0 else {}
 
-    def run(self, name, *arguments):
-        subprocess.run([program(name), *arguments], check=True, cwd=self.folder, stdout=subprocess.DEVNULL, **self.user)
+    def run(self, name, *arguments, **more):
+        call = [program(name), *arguments]
+        quiet = {"stdin": subprocess.DEVNULL, "stdout": subprocess.DEVNULL}
+        subprocess.run(call, check=True, cwd=self.folder, **quiet, **self.user, **more)
 
     def __enter__(self):
         self.folder = tempfile.mkdtemp(prefix="zanteyard-")
-        if self.user:
-            shutil.chown(self.folder, "postgres", "postgres")
-        self.dsn, self.runs = f"host={self.folder} user=postgres dbname=postgres", False
+        self.data = f"{self.folder}/data"
+        self.dsn = f"host={self.folder} user=postgres dbname=postgres"
         try:
-            self.start(f"{self.folder}/data")
+            if self.user:
+                shutil.chown(self.folder, "postgres", "postgres")
+            self.run("initdb", "-D", self.data, *"-A trust -U postgres -E UTF8 --locale=C --no-sync".split())
+            self.start()
         except BaseException:
-            shutil.rmtree(self.folder, ignore_errors=True)
+            self.__exit__()
             raise
         return self
 
-    def start(self, data):
-        self.run("initdb", "-D", data, "-A", "trust", "-U", "postgres", "-E", "UTF8", "--locale=C", "--no-sync")
+    def start(self):
+        """Again, where it was stopped."""
         options = f"-c listen_addresses='' -c unix_socket_directories={self.folder} -c fsync=off"
-        self.run("pg_ctl", "-D", data, "-l", f"{self.folder}/log", "-o", options, "-w", "start")
-        self.runs = True
+        self.run("pg_ctl", "-D", self.data, "-l", f"{self.folder}/log", "-o", options, "-w", "start")
 
     def stop(self):
-        """At once, as if it were killed."""
-        if self.runs:
-            self.runs = False
-            self.run("pg_ctl", "-D", f"{self.folder}/data", "-m", "immediate", "-w", "stop")
+        """At once, as if it were killed; does nothing where it doesn't run."""
+        ends = time.monotonic() + STOPPING
+        pid = self.runs()
+        while pid is not None:
+            is_late = time.monotonic() > ends
+            try:
+                os.kill(pid, signal.SIGKILL if is_late else signal.SIGQUIT)
+            except ProcessLookupError:
+                return
+            time.sleep(0.05)
+            pid = self.runs()
+
+    def runs(self):
+        """The number of the server's process, or None."""
+        try:
+            with open(f"{self.data}/postmaster.pid", encoding="ascii") as file:
+                pid = abs(int(file.readline()))  # below 0 while initdb runs one
+            with open(f"/proc/{pid}/stat", encoding="utf-8", errors="replace") as file:
+                return None if file.read().rsplit(")", 1)[1].split()[0] == "Z" else pid
+        except (OSError, ValueError, IndexError):
+            return None
 
     def __exit__(self, *_):
-        try:
-            self.stop()
-        finally:
+        self.stop()
+        for _ in range(TRIES):  # what initdb has begun may still make files
             shutil.rmtree(self.folder, ignore_errors=True)
+            if not os.path.exists(self.folder):
+                break
+            time.sleep(0.1)

@@ -1,17 +1,36 @@
-"""Why no order explains a history, in words. This is an aid: the verdict is the auditor's, and rests on none of this.
+"""Why no order explains a history, in words. This is an aid: the verdict is the auditor's, and rests on
+none of this.
 
-What must come before what follows from sessions, from reads, and from other writers of what was read, which stand before the writer
-or after the reader. Where that goes round in a circle no order is left; where none does, it takes a trial of all orders to see it."""
+What must come before what follows from sessions, from reads, and from other writers of what was read,
+which stand before the writer or after the reader. Where that goes round in a circle no order is left;
+where none does, it takes a trial of all orders to see it.
+"""
 import time
 from collections import namedtuple
+from dataclasses import dataclass
+from typing import Tuple
 
-from .auditor import name, version
+from .shrinking import SECONDS, name, version
 
 Arc = namedtuple("Arc", "start end why needs")  # `needs` are the arcs from which this one follows
+SESSION = "they are in one session"
+
+
+@dataclass(frozen=True)
+class Explanation:
+    """`lines` tell it, each after those from which it follows; `arcs` lead from a transaction back to
+    itself, and there are none where the lines tell something else."""
+
+    lines: Tuple[str, ...]
+    arcs: Tuple[Arc, ...] = ()
 
 
 def table(history):
-    return {(session, number): logged for session, txns in enumerate(history) for number, logged in enumerate(txns)}
+    return {
+        (session, number): logged
+        for session, txns in enumerate(history)
+        for number, logged in enumerate(txns)
+    }
 
 
 def wrong_reads(history, name=name):
@@ -20,28 +39,51 @@ def wrong_reads(history, name=name):
     for reader, logged in txns.items():
         for key, source in logged.reads:
             if source in txns and key not in txns[source].writes:
-                yield f"{name(reader)} read {key} from {name(source)}, which " + ("aborted" if txns[source].outcome == "aborted" else "didn't write it")
+                why = "aborted" if txns[source].outcome == "aborted" else "didn't write it"
+                yield f"{name(reader)} read {key} from {name(source)}, which {why}"
 
 
-def plain_arcs(txns, name=name):
+def session_arcs(txns):
+    """From each transaction that did something to the next one of its session that did."""
+    last = {}
+    for id in sorted(id for id, logged in txns.items() if logged.reads or logged.writes):
+        if id[0] in last:
+            yield Arc(last[id[0]], id, SESSION, ())
+        last[id[0]] = id
+
+
+def read_arcs(txns, name=name):
+    writers = {}
     for id, logged in txns.items():
-        if (id[0], id[1] + 1) in txns:
-            yield Arc(id, (id[0], id[1] + 1), "they are in one session", ())
+        for key in logged.writes:
+            writers.setdefault(key, []).append(id)
+    for id, logged in txns.items():
         for key, source in logged.reads:
             if source == "init":
-                for other, its in txns.items():
-                    if other != id and key in its.writes:
-                        yield Arc(id, other, f"{name(id)} read {key} {version(key, source, name)}, and {name(other)} wrote it", ())
+                read = f"{name(id)} read {key} {version(key, source, name)}"
+                for other in writers.get(key, ()):
+                    if other != id:
+                        yield Arc(id, other, f"{read}, and {name(other)} wrote it", ())
             elif source in txns:
                 yield Arc(source, id, f"{name(id)} read {key} from {name(source)}", ())
 
 
-def path(arcs, start, end):
+def merged(way):
+    """The same way, where a run of transactions of one session is one arc."""
+    found = []
+    for arc in way:
+        if found and found[-1].why == arc.why == SESSION:
+            arc = Arc(found.pop().start, arc.end, SESSION, ())
+        found.append(arc)
+    return found
+
+
+def path(arcs_from, start, end):
     """The fewest arcs that lead from the one to the other, at least one; or None."""
     found, queue = {}, [start]
     for at in queue:
-        for arc in arcs:
-            if arc.start == at and arc.end not in found:
+        for arc in arcs_from.get(at, ()):
+            if arc.end not in found:
                 found[arc.end] = arc
                 queue.append(arc.end)
         if end in found:
@@ -56,8 +98,21 @@ class TooLong(Exception):
     """The time is up."""
 
 
+def check(ends):
+    if time.monotonic() > ends:
+        raise TooLong
+
+
+def by_start(arcs):
+    found = {}
+    for arc in arcs:
+        found.setdefault(arc.start, []).append(arc)
+    return found
+
+
 def forced_arcs(txns, arcs, name, ends):
     """What follows of other writers."""
+    arcs_from = by_start(arcs)
     for reader, logged in txns.items():
         for key, writer in logged.reads:
             if writer not in txns or key not in txns[writer].writes:
@@ -65,62 +120,70 @@ def forced_arcs(txns, arcs, name, ends):
             for other, its in txns.items():
                 if key not in its.writes or other in (reader, writer):
                     continue
-                if time.monotonic() > ends:
-                    raise TooLong
+                check(ends)
                 read = f"{name(reader)} read {key} from {name(writer)}, and {name(other)}, which wrote it too, comes"
-                after, before = path(arcs, writer, other), path(arcs, other, reader)
+                after, before = path(arcs_from, writer, other), path(arcs_from, other, reader)
                 if after:
-                    yield Arc(reader, other, f"{read} after {name(writer)}", tuple(after))
+                    yield Arc(reader, other, f"{read} after {name(writer)}", tuple(merged(after)))
                 if before:
-                    yield Arc(other, writer, f"{read} before {name(reader)}", tuple(before))
+                    yield Arc(other, writer, f"{read} before {name(reader)}", tuple(merged(before)))
 
 
 def circles_of(txns, arcs, ends):
+    arcs_from = by_start(arcs)
     for id in txns:
-        if time.monotonic() > ends:
-            raise TooLong
-        way = path(arcs, id, id)
+        check(ends)
+        way = path(arcs_from, id, id)
         if way:
-            yield way
+            if len(way) > 1 and way[0].why == way[-1].why == SESSION:
+                way = [way[-1], *way[:-1]]  # so that a run of one session isn't cut in two
+            yield merged(way)
 
 
-def circle(history, name=name, seconds=60):
+def circle(history, name=name, seconds=SECONDS):
     """Arcs that lead from a transaction back to itself, or None; raises TooLong."""
     ends = time.monotonic() + seconds
     txns = table(history)
-    arcs = list(plain_arcs(txns, name))
+    arcs = [*session_arcs(txns), *read_arcs(txns, name)]
     while True:
         circles = [*circles_of(txns, arcs, ends)]
         if circles:
             return min(circles, key=len)
         known = {(arc.start, arc.end) for arc in arcs}
         new = {(arc.start, arc.end): arc for arc in forced_arcs(txns, arcs, name, ends)}
-        more = [arc for ends, arc in new.items() if ends not in known]
+        more = [arc for pair, arc in new.items() if pair not in known]
         if not more:
             return None
         arcs += more
 
 
-def reasons(history, name=name, seconds=60):
-    """The lines that tell it, each after those from which it follows; or one that says that it took longer."""
-    wrong = list(wrong_reads(history, name))
+def below(arcs):
+    """The arcs, each behind those from which it follows."""
+    found = []
+    for arc in arcs:
+        for one in (*below(arc.needs), arc):
+            if one not in found:
+                found.append(one)
+    return found
+
+
+def explain_history(history, name=name, seconds=SECONDS):
+    """The Explanation of a violated history; it says so where it takes longer."""
+    wrong = tuple(wrong_reads(history, name))
     if wrong:
-        return wrong
+        return Explanation(wrong)
     try:
         around = circle(history, name, seconds)
     except TooLong:
-        return [f"it takes more than {seconds} s to say why in words; the auditor's refutation says it"]
+        told = f"it takes more than {seconds:g} s to say why in words; the auditor's refutation says it"
+        return Explanation((told,))
     if around is None:
-        return ["each order fails in its own way"]
-    told = []
+        return Explanation(("each order fails in its own way",))
+    lines = [f"{name(arc.start)} comes before {name(arc.end)}: {arc.why}" for arc in below(around)]
+    last = "so none can come first of " + ", ".join(name(arc.start) for arc in around)
+    return Explanation((*lines, last), tuple(around))
 
-    def tell(arc):
-        for needed in arc.needs:
-            tell(needed)
-        line = f"{name(arc.start)} comes before {name(arc.end)}: {arc.why}"
-        if line not in told:
-            told.append(line)
 
-    for arc in around:
-        tell(arc)
-    return told + ["so none can come first of " + ", ".join(name(arc.start) for arc in around)]
+def reasons(history, name=name, seconds=SECONDS):
+    """The lines of its explanation."""
+    return [*explain_history(history, name, seconds).lines]

@@ -1,7 +1,7 @@
 """A store in memory, whose faults can be switched on. Honest, it lets a transaction commit only where all that it read is still the newest."""
 import threading
 
-from .sessions import Aborted, OutcomeUnknown
+from .sessions import Aborted, NameTaken, OutcomeUnknown
 
 FAULTS = ("stale-read", "lost-update", "write-skew", "torn-read", "dirty-read", "lost-write", "reappearing")
 
@@ -12,6 +12,7 @@ class MemoryStore:
     def __init__(self, fault=None):
         assert fault is None or fault in FAULTS, fault
         self.fault, self.versions, self.moment, self.lock = fault, {}, 0, threading.RLock()
+        self.runs = {}  # of each run's name, its token
 
     def connect(self):
         return Connection(self)
@@ -80,6 +81,11 @@ class Connection:
             for key, (value, name) in self.writes.items():
                 self.shared.versions.setdefault(key, []).append((value, name, self.shared.moment + 1))
             self.shared.moment += 1
+
+    def claim(self, run_name, token):
+        with self.shared.lock:
+            if self.shared.runs.setdefault(run_name, token) != token:
+                raise NameTaken(f"the store knows the name {run_name}: an earlier run had it")
 
     def outcome(self):
         return self.last_outcome if self.known else "unknown"

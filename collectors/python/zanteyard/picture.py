@@ -2,50 +2,51 @@
 import shutil
 import subprocess
 
-from .auditor import deeds, name, statements_of
-from .explain import TooLong, circle
+from .explain import below, explain_history
+from .shrinking import deeds, name, statements_of
+
+DRAWING = 20.0  # seconds for `dot`
 
 
 def quoted(*lines):
-    return '"' + "\\n".join(line.replace("\\", "\\\\").replace('"', '\\"') for line in lines) + '"'
+    escaped = (line.replace("\\", "\\\\").replace('"', '\\"') for line in lines)
+    return '"' + "\\n".join(escaped) + '"'
 
 
-def below(arcs):
-    """The arcs, and those from which they follow."""
-    found = []
-    for arc in arcs:
-        for one in (*below(arc.needs), arc):
-            if one not in found:
-                found.append(one)
-    return found
-
-
-def dot_text(history, name=name):
-    """Each transaction with what it did, a column for each session. The circle's arcs are bold and red, those from which they follow
-    are grey; an arc goes from what comes before to what comes after. There is none where it takes too long to find them."""
-    try:
-        around = circle(history, name) or []
-    except TooLong:
-        around = []
-    lines = ["digraph violation {", "  node [shape=box, fontname=Helvetica]; edge [fontname=Helvetica, fontsize=10];"]
+def dot_text(history, name=name, arcs=None):
+    """Each transaction with what it did, a column for each session. The arcs are an explanation's,
+    which is made where none are given. They are bold and red, those from which they follow are grey; an
+    arc goes from what comes before to what comes after."""
+    around = explain_history(history, name).arcs if arcs is None else arcs
+    lines = [
+        "digraph violation {",
+        "  node [shape=box, fontname=Helvetica]; edge [fontname=Helvetica, fontsize=10];",
+    ]
     for session, txns in enumerate(history):
         for number, logged in enumerate(txns):
             if deeds(logged, name):
-                label = quoted(name((session, number)), *deeds(logged, name))
-                run = [*statements_of(logged)]  # seen in the SVG where the pointer rests on the transaction
+                its = name((session, number))
+                label = quoted(its, *deeds(logged, name))
+                run = [*statements_of(logged)]  # seen in the SVG where the pointer rests on it
                 more = f", tooltip={quoted(*run)}" if run else ""
-                lines.append(f"  {quoted(name((session, number)))} [label={label}, group=session{session}{more}];")
+                lines.append(f"  {quoted(its)} [label={label}, group=session{session}{more}];")
     for arc in below(around):
         style = "color=red, penwidth=2" if arc in around else "color=grey, fontcolor=grey40"
-        lines.append(f"  {quoted(name(arc.start))} -> {quoted(name(arc.end))} [label={quoted(arc.why)}, {style}];")
+        ends = f"{quoted(name(arc.start))} -> {quoted(name(arc.end))}"
+        lines.append(f"  {ends} [label={quoted(arc.why)}, {style}];")
     return "\n".join([*lines, "}", ""])
 
 
-def draw(history, path, name=name):
-    """Writes path.dot, and path.svg where `dot` is installed; gives the names of the files."""
-    with open(f"{path}.dot", "w") as file:
-        file.write(dot_text(history, name))
+def draw(history, path, name=name, arcs=None):
+    """Writes path.dot, and path.svg where `dot` is installed and makes one; gives the names of the
+    files. Raises OSError where they can't be written."""
+    with open(f"{path}.dot", "w", encoding="utf-8") as file:
+        file.write(dot_text(history, name, arcs))
     if not shutil.which("dot"):
         return [f"{path}.dot"]
-    subprocess.run(["dot", "-Tsvg", "-o", f"{path}.svg", f"{path}.dot"], check=True)
+    try:
+        call = ["dot", "-Tsvg", "-o", f"{path}.svg", f"{path}.dot"]
+        subprocess.run(call, check=True, timeout=DRAWING)
+    except subprocess.SubprocessError:
+        return [f"{path}.dot"]
     return [f"{path}.dot", f"{path}.svg"]

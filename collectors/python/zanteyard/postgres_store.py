@@ -1,53 +1,101 @@
-"""A table of PostgreSQL as a store. Each row has its writer's name beside the value; the value NULL marks a deleted key."""
+"""A table of PostgreSQL as a store. Each row has its writer's name beside the value; the value NULL
+marks a deleted key."""
+import re
+
 import psycopg2
 from psycopg2 import errors
 
-from .sessions import Aborted, OutcomeUnknown
+from .sessions import Aborted, NameTaken, OutcomeUnknown
 
-TABLE = """CREATE TABLE IF NOT EXISTS zanteyard (
+LEVELS = ("serializable", "repeatable read", "read committed")
+TABLE = """CREATE TABLE IF NOT EXISTS {table} (
     key text PRIMARY KEY, value text, run text NOT NULL, session int NOT NULL, number bigint NOT NULL)"""
-READ = "SELECT value, run, session, number FROM zanteyard WHERE key = %s"
-READ_ALL = "SELECT key, value, run, session, number FROM zanteyard WHERE key = ANY(%s)"
-WRITE = """INSERT INTO zanteyard VALUES (%s, %s, %s, %s, %s) ON CONFLICT (key) DO UPDATE
+READ = "SELECT value, run, session, number FROM {table} WHERE key = %s"
+READ_ALL = "SELECT key, value, run, session, number FROM {table} WHERE key = ANY(%s)"
+TRANSACTION = "RETURNING pg_current_xact_id()::text"  # told by each write: no commit has to ask
+WRITE = f"""INSERT INTO {{table}} VALUES (%s, %s, %s, %s, %s) ON CONFLICT (key) DO UPDATE
     SET value = excluded.value, run = excluded.run, session = excluded.session, number = excluded.number
-    RETURNING pg_current_xact_id()::text"""  # told by each write, so that no commit has to ask for it
-EXCHANGE = f"""WITH old AS ({READ}) {WRITE}, (SELECT value FROM old), (SELECT run FROM old), (SELECT session FROM old),
-    (SELECT number FROM old)"""  # a statement sees what was there before it
+    {TRANSACTION}"""
+# The row is locked before it is read, so that what is given is what is overwritten: a plain
+# subselect would give what the statement's snapshot has, from before it waited for the lock.
+OVERWRITE = f"""UPDATE {{table}} AS now SET value = %s, run = %s, session = %s, number = %s
+    FROM (SELECT * FROM {{table}} WHERE key = %s FOR UPDATE) AS before WHERE now.key = before.key
+    {TRANSACTION}, before.value, before.run, before.session, before.number"""
+FIRST = f"INSERT INTO {{table}} VALUES (%s, %s, %s, %s, %s) ON CONFLICT (key) DO NOTHING {TRANSACTION}"
+KNOWS = "SELECT EXISTS (SELECT 1 FROM {table} WHERE run = %s)"
 CONFLICTS = (errors.SerializationFailure, errors.DeadlockDetected)
+ATTEMPTS = 10  # at the first row of a key: each fails only where another client has just made it
+RUN = "zanteyard run "  # before a run's name: the key of the row that says whose it is
 
 
-def prepare(dsn):
+def quoted(table):
+    """The table's name, or "schema.table", as statements have it."""
+    parts = [
+        part if re.fullmatch("[a-z_][a-z0-9_]*", part) else '"' + part.replace('"', '""') + '"'
+        for part in table.split(".", 1)
+    ]
+    return ".".join(parts)
+
+
+def prepare(dsn, table="zanteyard"):
     """Makes the table, where it isn't there."""
     connection = psycopg2.connect(dsn)
-    with connection:
-        connection.cursor().execute(TABLE)
-    connection.close()
+    try:
+        with connection:
+            connection.cursor().execute(TABLE.format(table=quoted(table)))
+    finally:
+        connection.close()
 
 
 class PostgresStore:
-    """One connection. `level` is "serializable", "repeatable read" or "read committed"."""
+    """One connection, for one thread at a time. `level` is "serializable", "repeatable read" or "read
+    committed"; `table` may be "schema.table"."""
 
-    def __init__(self, dsn, level="serializable"):
-        self.dsn, self.level, self.connection, self.transaction_id = dsn, level, None, None
+    def __init__(self, dsn, level="serializable", table="zanteyard"):
+        if level not in LEVELS:
+            raise ValueError(f"{level} is none of {', '.join(LEVELS)}")
+        self.dsn, self.level, self.table = dsn, level, quoted(table)
+        self.connection, self.transaction_id = None, None
         self.statement = None  # what was run last, as the server got it
+        self.before = ""  # what the transaction's first statement is sent behind
+        self.is_alone = False
 
     def connect(self):
+        """Opens the connection, and raises psycopg2's errors where it can't."""
         self.connection = psycopg2.connect(self.dsn)
-        self.connection.set_session(isolation_level=self.level)
+        self.connection.autocommit = True  # transactions are begun here, on the way of a statement
 
-    def ask(self, *statement):
+    def send(self, text, values=()):
+        """All that is sent to the server goes through here: one call is one way there and back."""
         cursor = self.connection.cursor()
+        cursor.execute(text, values)
+        return cursor
+
+    def ask(self, text, values=()):
+        before, self.before = self.before, "" if not self.is_alone else self.before
         try:
-            cursor.execute(*statement)
+            cursor = self.send(before + text.format(table=self.table), values)
         except CONFLICTS as error:
             raise Aborted(str(error).strip()) from error
-        self.statement = cursor.query.decode(errors="replace")
+        except psycopg2.Error as error:
+            if self.is_alone and (error.pgcode is None or self.connection.closed):
+                raise OutcomeUnknown(str(error).strip()) from error
+            raise
+        self.statement = cursor.query.decode(errors="replace")[len(before) :]
         return cursor
 
     def begin(self):
         if self.connection is None or self.connection.closed:
             self.connect()
-        self.transaction_id = None
+        self.transaction_id, self.is_alone = None, False
+        self.before = f"BEGIN ISOLATION LEVEL {self.level.upper()}; "
+
+    def begin_alone(self, seconds):
+        """Instead of `begin`, where what follows are statements that need no other one: each is a
+        transaction by itself, is done or not after so many seconds, and holds no lock behind it."""
+        self.begin()
+        self.is_alone = True
+        self.before = f"SET LOCAL statement_timeout = {max(1, int(1000 * seconds))}; "
 
     def read(self, key):
         row = self.ask(READ, (key,)).fetchone()
@@ -60,8 +108,16 @@ class PostgresStore:
         (self.transaction_id,) = self.ask(WRITE, (key, value, *name)).fetchone()
 
     def exchange(self, key, value, name):
-        self.transaction_id, *row = self.ask(EXCHANGE, (key, key, value, *name)).fetchone()
-        return None if row[1] is None else (row[0], tuple(row[1:]))
+        for _ in range(ATTEMPTS):
+            row = self.ask(OVERWRITE, (value, *name, key)).fetchone()
+            if row is not None:
+                self.transaction_id = row[0]
+                return row[1], row[2:]
+            row = self.ask(FIRST, (key, value, *name)).fetchone()
+            if row is not None:
+                (self.transaction_id,) = row
+                return None
+        raise Aborted(f"{key} came and went {ATTEMPTS} times")
 
     def commit(self):
         try:
@@ -74,20 +130,50 @@ class PostgresStore:
             raise  # the server has answered: it is aborted
 
     def send_commit(self):
-        self.connection.commit()
+        if self.is_alone or self.before:
+            return  # nothing is open
+        if self.send("COMMIT").statusmessage != "COMMIT":  # a statement of it has failed
+            raise Aborted("the transaction had failed before its commit")
 
     def rollback(self):
-        if self.connection is not None and not self.connection.closed:
-            self.connection.rollback()
+        """Where the server can't be told, the connection is closed: then it finds out by itself."""
+        if self.connection is None or self.connection.closed or self.is_alone or self.before:
+            return
+        try:
+            self.send("ROLLBACK")
+        except psycopg2.Error:
+            self.close()
+
+    def close(self):
+        """Closes the connection; the next transaction opens another one. May be called twice."""
+        if self.connection is not None:
+            self.connection.close()
 
     def outcome(self):
         """By a connection of its own, since the one at hand may be broken."""
+        if self.transaction_id is None:
+            return "unknown"
         try:
-            with psycopg2.connect(self.dsn) as connection:
+            connection = psycopg2.connect(self.dsn)
+            try:
                 cursor = connection.cursor()
                 cursor.execute("SELECT pg_xact_status(%s::text::xid8)", (self.transaction_id,))
                 status = cursor.fetchone()[0]
-            connection.close()
+            finally:
+                connection.close()
         except psycopg2.Error:
             return "unknown"
         return status if status in ("committed", "aborted") else "unknown"
+
+    def claim(self, run_name, token):
+        """Makes the name that of one run, or raises NameTaken where it is another's."""
+        name = (RUN + run_name, token, run_name, -1, 0)
+        self.begin_alone(60)
+        row = self.ask(READ, name[:1]).fetchone()
+        if row is None:
+            is_known = self.ask(KNOWS, (run_name,)).fetchone()[0]
+            if not is_known and self.ask(FIRST, name).fetchone() is not None:
+                return
+            row = self.ask(READ, name[:1]).fetchone()
+        if row is None or row[0] != token:
+            raise NameTaken(f"{self.table} knows the name {run_name}: an earlier run had it")

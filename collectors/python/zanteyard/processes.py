@@ -1,42 +1,71 @@
 """A live audit of clients in several processes.
 
-The process that has the LiveAuditor lets the others in by an AuditServer, a socket in the file system. In each of those an AuditClient stands in
-the LiveAuditor's place: its sessions run there, over connections of their own; what they did is handed over some twenty-five times a second; and
-meetings hold them and run their fences by calls over the same socket. All messages of a process come in the order in which they were sent, so
-that whatever was done before a call was answered has been handed over by then.
+The process that has the LiveAuditor lets the others in by an AuditServer, a socket in the file system. In
+each of those an AuditClient stands in the LiveAuditor's place: its sessions run there, over connections
+of their own; what they did is handed over some twenty-five times a second; and meetings hold them and
+run their flags by calls over the same socket. All messages of a process come in the order in which they
+were sent, so that whatever was done before a call was answered has been handed over by then. No client
+sends or receives anything: threads beside them do, and where these can't the client goes on.
 """
+import logging
 import marshal
 import os
 import queue
+import socket
+import struct
 import threading
 import time
+from dataclasses import astuple
 from multiprocessing.connection import Client, Listener
 
 from .apart import as_bytes, unpacked
-from .auditor import LONGEST, Ended
-from .live import PAUSE, unseen
-from .sessions import Session
+from .auditor import LONGEST
+from .live import PAUSE, Lost, unseen
+from .meetings import Group, Missed
+from .outcome import Policy
+from .pipes import Ended
+from .sessions import Place, Session
 
+logger = logging.getLogger("zanteyard")
 PATIENCE = 5.0  # seconds for an answer, beside those that the call may take
 LEAVING = 30.0  # seconds for sessions to end their transactions
+SENDING = 30.0  # seconds in which the other end has to take what is sent
 
 
 class Messages:
-    """One end of a connection between two processes: plain values alone, several of which make a message."""
+    """One end of a connection between two processes: plain values alone, several make a message."""
 
     def __init__(self, connection):
         self.connection, self.lock = connection, threading.Lock()
+        with socket.socket(fileno=os.dup(connection.fileno())) as same:
+            seconds = struct.pack("ll", int(SENDING), 0)
+            same.setsockopt(socket.SOL_SOCKET, socket.SO_SNDTIMEO, seconds)
 
-    def send(self, *message):
-        with self.lock:
-            self.connection.send_bytes(marshal.dumps(message))
+    def send(self, *message, seconds=SENDING):
+        """Raises OSError where the other end is gone or takes nothing."""
+        text = marshal.dumps(message)
+        if not self.lock.acquire(timeout=seconds):
+            raise OSError("something else is still on its way")
+        try:
+            self.connection.send_bytes(text)
+        finally:
+            self.lock.release()
 
     def receive(self):
         return marshal.loads(self.connection.recv_bytes())
 
+    def tell(self, *message, seconds=SENDING):
+        """Whether it could be sent."""
+        try:
+            self.send(*message, seconds=seconds)
+        except (OSError, TypeError):  # the latter where it is closed meanwhile
+            return False  # who listens will find out why
+        return True
+
 
 class AuditServer:
-    """Lets processes of clients into a live audit, by a socket at this path. Who can open it is believed, which is this user alone."""
+    """Lets processes of clients into a live audit, by a socket at this path. Who can open it is
+    believed, which is this user alone."""
 
     def __init__(self, live, path):
         self.live, self.path, self.processes, self.is_closing = live, path, [], False
@@ -62,8 +91,9 @@ class AuditServer:
             if self.is_closing:
                 connection.close()
                 return
-            self.processes = [*(it for it in self.processes if it.thread.is_alive()), ClientProcess(self.live, connection)]
-            self.processes[-1].thread.start()
+            process = ClientProcess(self.live, connection)
+            self.processes = [*(it for it in self.processes if it.thread.is_alive()), process]
+            process.thread.start()
 
     def tell_end(self):
         """Nothing more is audited: clients see it by `is_over`."""
@@ -71,8 +101,8 @@ class AuditServer:
             process.tell_end()
 
     def close(self, patience=30.0):
-        """Lets nobody in any more, and waits for so many seconds until all have left; before the LiveAuditor is stopped, so that it takes in all that
-        they did. Who is still there by then is lost."""
+        """Lets nobody in any more, and waits for so many seconds until all have left; before the
+        LiveAuditor is stopped, so that it takes in all that they did. Who is still there is lost."""
         if self.is_closing:
             return
         self.is_closing = True
@@ -87,7 +117,7 @@ class AuditServer:
         for process in self.processes:
             process.thread.join(max(0.0, until - time.monotonic()))
             if process.thread.is_alive():
-                process.lose(f"it hadn't left after {patience} s")
+                process.lose(f"it hadn't left after {patience:g} s")
 
     def __enter__(self):
         return self
@@ -97,275 +127,296 @@ class AuditServer:
 
 
 class ClientProcess(Messages):
-    """A process of clients, as the auditor's sees it."""
+    """A process of clients, as the auditor's sees it: a group of sessions, which meetings call."""
+
+    is_here = False
 
     def __init__(self, live, connection):
         super().__init__(connection)
-        self.live, self.sessions, self.has_left = live, {}, False
-        self.most = max(1, live.most // (2 * live.auditor.sessions))  # a session's transactions on their way: of all half of what may wait here
-        self.answers, self.asked, self.lent = queue.SimpleQueue(), 0, {}
-        self.coming = threading.Lock()  # held while a session joins, and as none can any more
+        self.live, self.has_left, self.has = live, False, set()  # the numbers of its sessions
+        # A session's transactions on their way: of all, half of what may wait here.
+        self.most = max(1, live.most // (2 * live.auditor.sessions))
+        self.answers, self.asked, self.lent = {}, 0, {}
+        self.changed = threading.Condition()  # around those
         self.thread = threading.Thread(target=self.listen, daemon=True)
 
     def listen(self):
+        live = self.live
         try:
-            self.send("welcome", self.live.run_name, self.most)
-            if self.live.has_ended:
+            self.send("welcome", live.run_name, live.is_named, live.token, self.most, astuple(live.policy))
+            if live.has_ended:
                 self.send("over")
+            live.groups.append(self)
             while not self.has_left:
                 kind, *rest = self.receive()
                 getattr(self, f"take_{kind}")(*rest)
         except Exception as error:  # it ended without leaving, or sent what isn't known
-            with self.coming:
-                self.lose(str(error) or "it ended without leaving")
-                self.has_left = True
-        self.answers.put(None)
+            self.lose(str(error) or "it ended without leaving")
+            self.has_left = True
+        if self in live.groups:
+            live.groups.remove(self)
+        with self.changed:
+            self.changed.notify_all()
         self.connection.close()
 
     def lose(self, why):
-        if self.sessions and not self.has_left:  # else it did nothing that isn't known
-            sessions = ", ".join(str(session.number) for session in self.sessions.values())
-            self.live.lose(Ended(f"the process of the sessions {sessions} is lost, and what was done in them last isn't known: {why}"))
+        if self.has and not self.has_left:  # else it did nothing that isn't known
+            sessions = ", ".join(map(str, sorted(self.has)))
+            told = f"the process of the sessions {sessions} is lost, and what was done in them last isn't known"
+            self.live.lose(Ended(f"{told}: {why}"))
 
-    def take_logged(self, logged):
-        for what in logged:
-            if len(what) == 1:
-                raise ValueError(*what)
-            if len(what) == 2:
-                self.live.close(what[1])
+    def take_logged(self, logged, dropped):
+        live = self.live
+        for came, session, number, keys, packed in logged:
+            if number is None:
+                live.take_close(session)
             else:
-                came, session, number, keys, packed = what
-                self.live.hand_in(came, session, number, keys, packed if self.live.packed else unpacked(packed))
-        self.live.wait_for_room(PAUSE / 4)
+                live.hand_in(came, session, number, keys, packed if live.packed else unpacked(packed))
+        if dropped:
+            live.counts[-1] = live.counts.get(-1, 0) + dropped
+        self.wait_for_room()
         self.tell("taken", len(logged))
 
-    def take_join(self, key):
-        threading.Thread(target=self.join, args=(key,), daemon=True).start()  # who joins may have to wait, while a meeting calls this process
+    def wait_for_room(self):
+        """What isn't answered yet counts as on its way, so that clients there wait, or don't."""
+        while self.live.waiting.qsize() > self.live.room and not self.live.goes_on():
+            time.sleep(PAUSE / 4)
 
-    def join(self, key):
-        """The number of a session that is left, for a new session, or for one that has ended (None)."""
-        if key is None:
-            left = self.live.next_left()
-        else:
-            with self.live.gate, self.coming:  # a meeting has all sessions that there are as it begins
-                if self.has_left:
-                    return
-                left = self.live.next_left()
-                if left is not None:
-                    self.sessions[key] = ElsewhereSession(self, key, left[0])
-                    self.live.sessions.append(self.sessions[key])
-                    with self.live.lock:
-                        self.live.reserve += self.most
-        self.tell("left", left)
+    def take_lost(self, why):
+        """It goes on, and what it did from then on isn't known."""
+        self.live.lose(Lost(why))
 
     def take_lose(self, why):
         raise ValueError(why)
 
-    def take_answer(self, *answer):
-        self.answers.put(answer)
+    def take_join(self, asked, is_new):
+        """Who joins may have to wait, while a meeting calls this process."""
+        threading.Thread(target=self.join, args=(asked, is_new), daemon=True).start()
 
-    def take_leave(self, still_open):
-        """Its sessions are left for others: each with its number, and how many transactions it has had."""
+    def join(self, asked, is_new):
+        """A session that is left, for a new client, or for one whose session has ended."""
+        place = self.live.next_left()
+        if place is None and not is_new:
+            sessions = self.live.auditor.sessions
+            self.live.lose(Lost(f"no session of {sessions} is left for a client"))
+        if place is not None:
+            self.has.add(place.number)
+        if not self.tell("left", asked, place and astuple(place)) and place is not None:
+            self.has.discard(place.number)
+            self.live.give_back([place])
+
+    def take_overflow(self, asked):
+        self.tell("left", asked, astuple(self.live.unaudited_place()))
+
+    def take_back(self, place):
+        self.has.discard(place[0])
+        self.live.give_back([Place(*place)])
+
+    def take_leave(self, places):
+        """Its sessions are left for others."""
         self.has_left = True
-        with self.live.lock:
-            for session in self.sessions.values():
-                self.live.sessions.remove(session)
-                self.live.reserve -= self.most
-            self.live.left.extend(still_open)
+        self.live.give_back([Place(*place) for place in places])
 
-    # calls of sessions' methods, by a meeting
+    # calls of its group's methods
 
-    def ask(self, key, name, arguments):
-        """The call's number."""
-        self.asked += 1
-        if self.has_left or not self.tell("call", self.asked, key, name, arguments):
-            raise Ended("it has left")
-        return self.asked
+    def take_answer(self, asked, result, failure, is_missed, lent):
+        with self.changed:
+            places, is_late = self.lent.pop(asked, ((), False))
+            for place, now in zip(places, lent):
+                vars(place).update(vars(Place(*now)))
+            if asked in self.answers:
+                self.answers[asked] = (result, failure, is_missed)
+                self.changed.notify_all()
+        if is_late:
+            self.live.give_back(places)
 
-    def answer_to(self, asked, seconds):
-        """What the method gives, there, and how the session stands then. Answers come in the order of the calls."""
-        until, answer = time.monotonic() + seconds + PATIENCE, ()
-        while answer is not None and answer[:1] != (asked,):  # else it is one that came late, to a call for which nobody waits any more
-            if answer and answer[0] in self.lent:
-                self.give_back(self.lent.pop(answer[0]), answer[1])
-            try:
-                answer = self.answers.get(timeout=max(0.0, until - time.monotonic()))
-            except queue.Empty:
-                raise Ended(f"it hasn't answered for {PATIENCE} s") from None
+    def ask(self, name, *arguments, lent=()):
+        """Gives what waits for the answer, until then and a little longer."""
+        with self.changed:
+            self.asked += 1
+            asked = self.asked
+            self.answers[asked] = None
+            self.lent[asked] = (lent, False)
+        told = (*arguments, [astuple(place) for place in lent])
+        for place in lent:
+            place.is_lent = True  # until it is answered
+        if self.has_left or not self.tell("call", asked, name, told, seconds=PATIENCE):
+            raise Missed("a process has left")
+        return lambda ends: self.answer_to(asked, ends)
+
+    def answer_to(self, asked, ends):
+        seconds = max(0.0, ends - time.monotonic()) + min(PATIENCE, self.live.policy.wait)
+        with self.changed:
+            self.changed.wait_for(lambda: self.answers[asked] or self.has_left, seconds)
+            answer = self.answers.pop(asked)
+            if answer is None and asked in self.lent:
+                self.lent[asked] = (self.lent[asked][0], True)
         if answer is None:
-            self.answers.put(None)  # for who asks next
-            raise Ended("it has left")
-        return answer[1:]
-
-    def give_back(self, number, found):
-        """A session that was left, and whose fence was run here."""
-        if found and found[0] is not None:
-            self.live.left.append((number, found[0]))
-
-    def tell(self, *message):
-        """Whether it could be sent."""
-        try:
-            self.send(*message)
-        except (OSError, TypeError):  # the latter where it is closed meanwhile
-            return False  # who listens will find out why
-        return True
-
-    def tell_end(self):
-        if not self.has_left:
-            threading.Thread(target=self.tell, args=("over",), daemon=True).start()  # nobody waits for a process that is stuck
-
-
-class ElsewhereSession:
-    """A session in another process, as meetings use it."""
-
-    def __init__(self, process, key, number):
-        self.process, self.key, self.number = process, key, number
-        self.is_open, self.since_fence, self.used_at = True, 0, time.monotonic()
-
-    @property
-    def has_left(self):
-        return self.process.has_left
-
-    def call(self, name, *arguments, seconds=0.0):
-        return self.begin_call(name, *arguments)(seconds)
-
-    def begin_call(self, name, *arguments):
-        """Gives what waits for it, at most for so many seconds more than for any."""
-        asked = self.process.ask(self.key, name, arguments)
-        return lambda seconds=0.0: self.end_call(asked, seconds)
-
-    def end_call(self, asked, seconds):
-        try:
-            result, failure, state = self.process.answer_to(asked, seconds)
-        except Ended as error:
-            raise Ended(f"the process of session {self.number}: {error}") from None
-        self.number, self.is_open, self.since_fence, self.used_at = state
+            numbers = ", ".join(map(str, sorted(self.has)))
+            what = "has left" if self.has_left else f"hasn't answered for {seconds:.3g} s"
+            raise Missed(f"the process of the sessions {numbers} {what}")
+        result, failure, is_missed = answer
         if failure is not None:
-            raise failed(failure)
+            raise (Missed if is_missed else Elsewhere)(failure)
         return result
 
-    def enter(self, seconds):
-        seconds = max(0.0, seconds)
+    @property
+    def has_sessions(self):
+        return bool(self.has) and not self.has_left
+
+    def numbers(self):
+        return () if self.has_left else tuple(self.has)
+
+    def begin_gather(self, meeting, seconds, leads, places, idle):
+        wait = self.ask("gather", meeting, seconds, leads, idle, lent=places)
+
+        def gathered(ends):
+            flags, idle = wait(ends)
+            self.has.difference_update(place[0] for place in idle)
+            return flags, [Place(*place) for place in idle]
+
+        return gathered
+
+    def begin_lead(self, meeting, lists):
+        return self.ask("lead", meeting, lists)
+
+    def begin_pass_on(self, meeting, places):
+        return self.ask("pass_on", meeting, lent=places)
+
+    def release(self):
+        self.tell("call", 0, "release", ([],), seconds=PATIENCE)
+
+    def edges(self):
+        """None where it doesn't answer: then none of its sessions is audited."""
         try:
-            is_held, is_fenced, failure = self.call("enter", seconds, seconds=seconds)
-        except Ended:
-            self.let_go()  # it may be held later, when nobody waits for it
-            return False, False, None
-        return is_held, is_fenced, failed(failure)
+            return self.ask("edges")(time.monotonic() + PATIENCE)
+        except (Missed, Elsewhere):
+            return None
 
-    def let_go(self):
-        self.process.tell("call", 0, self.key, "let_go", ())
+    def reopen(self):
+        self.tell("call", 0, "reopen", ([],), seconds=PATIENCE)
 
-    def summon(self):
-        self.process.tell("call", 0, self.key, "summon", ())
-
-    def dismiss(self):
-        self.process.tell("call", 0, self.key, "dismiss", ())
-
-    def fence(self):
-        self.call("fence")
-
-    def read_all(self, keys):
-        self.call("read_all", keys)
-
-    def write_mark(self):
-        self.call("write_mark")
-
-    def read_mark(self):
-        return self.begin_call("read_mark")
-
-    def lend(self, number, begun):
-        """Where no answer comes in time, the session is left again once it has come."""
-        wait = self.begin_call("lend", number, begun)
-        self.process.lent[self.process.asked] = number
-        begun, failure = wait()
-        del self.process.lent[self.process.asked]
-        return begun, failed(failure)
-
-    def close(self):
-        self.call("close")
+    def tell_end(self):
+        if not self.has_left:  # nobody waits for a process that is stuck
+            threading.Thread(target=self.tell, args=("over",), daemon=True).start()
 
 
 class Elsewhere(Exception):
     """What failed in another process, in its words."""
 
 
-def failed(words):
-    return None if words is None else Elsewhere(words)
-
-
 class AuditClient(Messages):
-    """In place of a LiveAuditor, in a process of clients: theirs is behind the AuditServer at this path. `leave` ends it, once its sessions do nothing
-    more; a process that ends without it has the audit end, since nobody knows what it did last."""
+    """In place of a LiveAuditor, in a process of clients: theirs is behind the AuditServer at this path.
+    `leave` ends it, once its sessions do nothing more; a process that ends without it has the audit
+    end, since nobody knows what it did last. Raises OSError where nobody is there, and Ended where
+    nobody answers."""
 
     def __init__(self, path):
         super().__init__(Client(path, "AF_UNIX"))
-        _, self.run_name, self.most = self.receive()
-        self.sessions, self.held = [], set()
-        self.gate, self.is_meeting = threading.Lock(), False  # it is held while a meeting goes on
-        self.waiting, self.handing, self.sent, self.taken = queue.SimpleQueue(), threading.Lock(), 0, 0
-        self.answers, self.asking = queue.SimpleQueue(), threading.Lock()
-        self.calls = queue.SimpleQueue()  # of meetings; the thread that listens runs none, since a session may wait for what it hears
+        if not self.connection.poll(PATIENCE):
+            raise Ended(f"the auditor's process hasn't answered for {PATIENCE:g} s")
+        _, self.run_name, self.is_named, self.token, self.most, policy = self.receive()
+        self.policy = Policy(*policy)
+        self.group = Group()
+        self.waiting, self.handing = queue.SimpleQueue(), threading.Lock()
+        self.sent = self.taken = self.dropped = 0
+        self.wake = threading.Event()  # somebody waits for room
+        self.asking, self.places, self.joined = threading.Lock(), queue.SimpleQueue(), 0
+        self.calls = queue.SimpleQueue()  # of meetings, which a thread of their own runs
         self.is_over = self.is_gone = self.is_leaving = False
-        self.threads = [threading.Thread(target=target, daemon=True) for target in (self.listen, self.run_calls, self.hand_over)]
+        self.lost = self.told_lost = None
+        self.tried = 0.0  # when a session was asked for last, in place of one that had ended
+        targets = (self.listen, self.run_calls, self.hand_over)
+        self.threads = [threading.Thread(target=target, daemon=True) for target in targets]
         for thread in self.threads:
             thread.start()
 
+    @property
+    def sessions(self):
+        return self.group.sessions
+
     def session(self, store, **more):
-        """The session of a new client."""
-        made = Session(self, None, store, self.run_name, renew=lambda: self.renewed(made), **more)
-        made.gate = self.gate
-        with made.turn:  # no meeting holds it before it has its number
-            self.sessions.append(made)
-            left = self.next_left(self.sessions.index(made))
-            if left is None:
-                made.is_open = False
-                raise Ended("nothing more is audited") if self.is_over else ValueError("no session is left")
-            made.number, made.begun = left
+        """The session of a new client. Raises ValueError where none is left, and Ended where nothing
+        more is audited."""
+        place = self.ask_for_place("join", True, seconds=PATIENCE)
+        if place is None:
+            raise Ended("nothing more is audited") if self.is_over else ValueError("no session is left")
+        made = Session(self, place.number, store, self.run_name, renew=self.renew, **more)
+        made.place = place
+        self.group.add(made)
         return made
 
-    def renewed(self, session):
-        """A number for a session that has ended: its own, where nobody audits it any more."""
-        left = self.next_left()
-        return (session.number, session.begun) if left is None and self.is_gone else left
+    def renew(self, session):
+        """For a session that has ended: another one's place, or its own, and unaudited. At most once a
+        second somebody is asked."""
+        if session.place is not None and time.monotonic() < self.tried + 1:
+            return session.place
+        self.tried = time.monotonic()
+        wait = self.policy.wait / 2
+        place = self.ask_for_place("join", False, seconds=wait) or session.place
+        return place or self.ask_for_place("overflow", seconds=wait)
 
-    def next_left(self, key=None):
+    def ask_for_place(self, kind, *more, seconds):
         with self.asking:
             if self.is_gone:
                 return None
+            self.joined += 1
             try:
-                self.send("join", key)
+                self.send(kind, self.joined, *more, seconds=seconds)
             except OSError:
                 return None
-            return self.answers.get()
+            return self.answered_place(time.monotonic() + seconds)
+
+    def answered_place(self, ends):
+        while True:
+            try:
+                answer = self.places.get(timeout=max(0.001, ends - time.monotonic()))
+            except queue.Empty:
+                return None  # it comes back once it is there
+            if answer is None:
+                self.places.put(None)  # for who asks next
+                return None
+            asked, place = answer
+            if asked == self.joined:
+                return place and Place(*place)
+            if place is not None:
+                self.tell("back", place)
+
+    def leave_session(self, session):
+        """Its client does nothing more, and another one may have its place."""
+        if not session.turn.acquire(timeout=self.policy.wait):
+            raise ValueError(f"session {session.number} is in a transaction")
+        try:
+            self.group.remove(session)
+            place, session.place, session.renew = session.place, None, None
+            is_open, session.is_open = session.is_open, False
+            if is_open:
+                place.is_due = True
+                self.waiting.put(("back", astuple(place)))
+        finally:
+            session.turn.release()
 
     def leave(self):
-        """Hands over what is left, and gives its sessions back. Waits for a meeting that holds them. Where one is still in a transaction after half a minute,
-        the process is as lost as if it had ended."""
+        """Hands over what is left, and gives its sessions back; waits for a meeting that holds them.
+        Where one is still in a transaction after half a minute, the process is as lost as if it had
+        ended."""
         if self.is_leaving:
             return
         self.is_leaving, ends = True, time.monotonic() + LEAVING
-        taken = [session for session in self.sessions if session.turn.acquire(timeout=max(0.0, ends - time.monotonic()))]
-        for session in taken:
-            if session.is_open and session.since_fence:
-                try:
-                    session.fence()  # else what it did stands in front of no meeting's fence but the next one's but one
-                except Exception:
-                    pass  # the store's: it is as if it had left without
-        try:
-            self.hand_over_all()
-            if len(taken) == len(self.sessions):
-                self.send("leave", [(session.number, session.begun) for session in self.sessions if session.is_open])
-            else:
-                self.send("lose", "a session was in a transaction as it left")
-        except OSError:
-            pass  # the auditor's process is gone
+        taken = [it for it in self.sessions if it.turn.acquire(timeout=max(0, ends - time.monotonic()))]
+        self.hand_over_all()
+        if len(taken) == len(self.sessions):
+            places = [session.place for session in self.sessions if session.is_open]
+            self.tell("leave", [astuple(place) for place in places])
+        else:
+            self.tell("lose", "a session was in a transaction as it left")
         for session in self.sessions:
             session.is_open, session.renew = False, None
         for session in taken:
             session.turn.release()
         for thread in self.threads:
-            thread.join()
+            thread.join(PATIENCE)
+        self.group.end()
         self.connection.close()
 
     def __enter__(self):
@@ -376,36 +427,71 @@ class AuditClient(Messages):
 
     # what sessions call
 
-    def offer(self, session, number, logged):
+    def take(self, session, number, logged):
+        if self.lost is not None or self.is_gone:
+            self.dropped += 1
+            return
         try:
-            self.waiting.put((time.monotonic(), session, number, unseen(logged), as_bytes(logged)))
-        except ValueError as error:  # it ends the audit, and no client
-            self.waiting.put((f"transaction {number} of session {session} can't be handed over: {error}",))
+            packed = as_bytes(logged)
+        except ValueError as error:
+            self.dropped += 1
+            self.lose(f"transaction {number} of session {session} can't be handed over: {error}")
+            return
+        self.waiting.put((time.monotonic(), session, number, unseen(logged), packed))
         most = self.most * len(self.sessions)
         if self.waiting.qsize() > most // 2:
-            self.hand_over_all()
-        while self.waiting.qsize() + self.sent - self.taken > most and not (self.is_over or self.gate.locked()):
-            time.sleep(PAUSE / 8)  # but for a meeting, which wants the session's turn, and in which nothing is told of what was taken in
+            self.wake.set()
+        self.wait_for_room(most)
 
-    def close(self, session):
-        self.waiting.put((time.monotonic(), session))
+    def wait_for_room(self, most):
+        """As long as the policy says, and not in a meeting, which wants the session's turn, and in
+        which nothing is told of what was taken in."""
+        ends = time.monotonic() + self.policy.wait
+        while self.waiting.qsize() + self.sent - self.taken > most and not self.goes_on():
+            if time.monotonic() > ends:
+                self.lose(f"the auditor can't keep up: {self.sent - self.taken} transactions are on their way")
+            time.sleep(PAUSE / 8)
+
+    def goes_on(self):
+        return self.is_over or self.lost is not None or self.group.gate.locked()
+
+    def lose(self, why):
+        """Nothing more of this process is audited, until another audit begins."""
+        self.lost = why
+        self.wake.set()
+        logger.error("nothing more is audited: %s", why)
+
+    def take_close(self, session):
+        self.waiting.put((time.monotonic(), session, None, (), b""))
 
     # the threads
 
     def hand_over(self):
         while not (self.is_leaving or self.is_gone):
-            time.sleep(PAUSE)
+            self.wake.wait(PAUSE)
+            self.wake.clear()
             self.hand_over_all()
 
     def hand_over_all(self):
         with self.handing:  # so that what one session did is sent in its order
-            while not self.waiting.empty():
-                found = [self.waiting.get() for _ in range(min(self.waiting.qsize(), LONGEST))]
-                self.sent += len(found)
-                try:
-                    self.send("logged", found)
-                except OSError:
-                    self.is_over = True  # the auditor's process is gone: clients go on
+            try:
+                while not self.waiting.empty():
+                    found = [self.waiting.get() for _ in range(min(self.waiting.qsize(), LONGEST))]
+                    self.hand_over_these(found)
+                if self.lost is not None and self.told_lost is not self.lost:
+                    self.told_lost = self.lost
+                    self.send("lost", self.lost)
+            except OSError:
+                self.is_over = self.is_gone = True  # the auditor's process is gone: clients go on
+
+    def hand_over_these(self, found):
+        logged = [one for one in found if len(one) == 5]
+        dropped, self.dropped = self.dropped, 0
+        if logged or dropped:
+            self.sent += len(logged)
+            self.send("logged", logged, dropped)
+        for _, place in (one for one in found if len(one) == 2):
+            self.send("back", place)
 
     def listen(self):
         try:
@@ -416,7 +502,7 @@ class AuditClient(Messages):
             pass  # the auditor's process has closed it, or is gone
         finally:
             self.is_over = self.is_gone = True
-            self.answers.put(None)
+            self.places.put(None)
             self.calls.put(None)
 
     def run_calls(self):
@@ -425,15 +511,13 @@ class AuditClient(Messages):
                 self.run_call(*call)
             except OSError:
                 pass  # the auditor's process is gone
-        for session in list(self.held):
-            self.call_let_go(session)
-        self.call_dismiss(None)
+        self.group.release()
 
     def take_taken(self, count):
         self.taken += count
 
-    def take_left(self, left):
-        self.answers.put(left)
+    def take_left(self, *answer):
+        self.places.put(answer)
 
     def take_over(self):
         self.is_over = True
@@ -441,58 +525,39 @@ class AuditClient(Messages):
     def take_call(self, *call):
         self.calls.put(call)
 
-    def run_call(self, asked, key, name, arguments):
-        session, result, failure = self.sessions[key], None, None
+    def run_call(self, asked, name, arguments):
+        result = failure = None
+        is_missed, (*arguments, places) = False, arguments
+        places = [Place(*place) for place in places]
         try:
-            result = getattr(self, f"call_{name}")(session, *arguments)
+            result = getattr(self, f"call_{name}")(*arguments, places)
+        except Missed as error:
+            failure, is_missed = str(error), True
         except Exception as error:
-            failure = told(error)
-        if self.is_leaving and name == "enter" and not self.held:
-            return  # it leaves at once, which answers the call
+            failure = str(error).strip() or type(error).__name__
         if asked:
             self.hand_over_all()
-            self.send("answer", asked, result, failure, (session.number, session.is_open, session.since_fence, session.used_at))
+            lent = [astuple(place) for place in places]
+            self.send("answer", asked, result, failure, is_missed, lent)
 
-    def call_enter(self, session, seconds):
-        is_held, is_fenced, failure = session.enter(seconds)
-        if is_held:
-            self.held.add(session)
-        return is_held, is_fenced, told(failure)
+    def call_gather(self, meeting, seconds, leads, idle, places):
+        if self.is_leaving:
+            raise Missed("it leaves")
+        flags, idle = self.group.gather(meeting, seconds, leads, places, idle)
+        return flags, [astuple(place) for place in idle]
 
-    def call_let_go(self, session):
-        if session in self.held:
-            self.held.remove(session)
-            session.let_go()
+    def call_lead(self, meeting, lists, _):
+        self.group.lead(meeting, lists)
 
-    def call_summon(self, session):
-        if not self.is_meeting:
-            self.gate.acquire()
-            self.is_meeting = True
+    def call_pass_on(self, meeting, places):
+        self.group.pass_on(meeting, places)
 
-    def call_dismiss(self, session):
-        if self.is_meeting:
-            self.is_meeting = False
-            self.gate.release()
+    def call_release(self, _):
+        self.group.release()
 
-    def call_fence(self, session):
-        session.fence()
+    def call_edges(self, _):
+        self.lost = None  # what ends from here on is handed over; what has ended is known by its number
+        return self.group.edges()
 
-    def call_read_all(self, session, keys):
-        session.read_all(keys)
-
-    def call_write_mark(self, session):
-        session.write_mark()
-
-    def call_read_mark(self, session):
-        session.read_mark()
-
-    def call_close(self, session):
-        session.close()
-
-    def call_lend(self, session, number, begun):
-        begun, failure = session.lend(number, begun)
-        return begun, told(failure)
-
-
-def told(error):
-    return None if error is None else str(error).strip() or type(error).__name__
+    def call_reopen(self, _):
+        self.group.reopen()

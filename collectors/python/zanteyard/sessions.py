@@ -1,17 +1,29 @@
 """One client's transactions, numbered as they begin, and logged when their outcome is known.
 
-A store, as a session wants it, has six calls and may raise Aborted from all but the last. `begin()` and `rollback()`; `read(key)`, which gives
-(value, name), or None where the key isn't there, with the name that was written beside the value; `write(key, value, name)`, where the
-value None deletes the key and leaves the name behind; `commit()`, which raises OutcomeUnknown where no answer came; and `outcome()`, which says of
-the transaction whose commit was sent last, and which had written, whether it is "committed", "aborted" or "unknown". It may have
-`read_all(keys)`, which gives by key what `read` gives, for those that are there; `exchange(key, value, name)`, which writes as `write` does and gives
-what `read` gave before; and a `statement`, which is what it has run last, as who is told of a violation should see it.
+A store, as a session wants it, has six calls and may raise Aborted from all but the last. `begin()` and
+`rollback()`; `read(key)`, which gives (value, name), or None where the key isn't there, with the name
+that was written beside the value; `write(key, value, name)`, where the value None deletes the key and
+leaves the name behind; `commit()`, which raises OutcomeUnknown where no answer came; and `outcome()`,
+which says of the transaction whose commit was sent last, and which had written, whether it is
+"committed", "aborted" or "unknown".
+
+It may have more. `read_all(keys)` gives by key what `read` gives, for those that are there.
+`exchange(key, value, name)` writes as `write` does and gives what `read` gave of the version that it
+overwrites: nothing may come between the two, at whatever level the store runs. `begin_alone(seconds)`
+begins, in place of `begin`, transactions of one statement each, which end within so many seconds;
+these calls may then raise OutcomeUnknown themselves. `claim(run_name, token)` raises NameTaken where
+the store knows the name, but for a run with this token. `statement` is what it has run last, as who is
+told of a violation should see it.
 """
+import logging
 import threading
 import time
 from contextlib import contextmanager
+from dataclasses import dataclass
 
-from .auditor import FENCE, MARK, Logged
+from .auditor import FENCE, FLAG, MARK, Logged
+
+logger = logging.getLogger("zanteyard")
 
 
 class Aborted(Exception):
@@ -19,56 +31,114 @@ class Aborted(Exception):
 
 
 class OutcomeUnknown(Exception):
-    """Whether the transaction was committed can't be found out. Where it had written, its session has ended."""
+    """Whether the transaction was committed can't be found out. Where it had written, nothing more of
+    its session is audited, unless another one is left for it."""
+
+
+class NameTaken(ValueError):
+    """The store knows the name of this run from an earlier one: what that has written would be taken
+    for this one's."""
+
+
+@dataclass
+class Place:
+    """A session of the auditor, whoever has it: its number, how many transactions it has had, whether
+    any came after its last flag or mark, and whether its flag wasn't read since; whether it is audited
+    at all, has ended for this audit, or is lent to somebody who runs a flag for it."""
+
+    number: int
+    begun: int = 0
+    is_due: bool = False
+    has_flag: bool = False
+    is_audited: bool = True
+    is_ended: bool = False
+    is_lent: bool = False
 
 
 class Session:
-    """Runs one transaction at a time over a store's connection. `run_name` tells the names of this run of the auditor from those of
-    others; `patience` is for how many seconds the store is asked for an outcome. Where the session has ended, `renew`, if there is one,
-    gives the number of one that is left, and how many transactions it has had; or None."""
+    """Runs one transaction at a time over a store's connection; for one thread at a time.
 
-    def __init__(self, auditor, number, store, run_name="", patience=5.0, renew=None):
-        self.auditor, self.number, self.store, self.run_name, self.patience = auditor, number, store, run_name, patience
-        self.renew, self.begun, self.is_open = renew, 0, True
+    `run_name` tells the names of this run from those of others, and is the auditor's where none is
+    given; `patience` is for how many seconds the store is asked for an outcome. Where the session has
+    ended, `renew(self)`, if there is one, gives the Place of one that is left; where it gives None the
+    client goes on unaudited, and where there is no `renew` at all no transaction begins any more.
+
+    What the auditor does with the log never reaches who runs transactions: `failure` says why nothing
+    more of this session is audited, if that is so."""
+
+    def __init__(self, auditor, number, store, run_name=None, patience=5.0, renew=None):
+        self.auditor, self.store, self.patience, self.renew = auditor, store, patience, renew
+        its_name = getattr(auditor, "run_name", "")
+        self.run_name = run_name if run_name is not None else its_name
+        self.is_named = self.run_name != its_name or getattr(auditor, "is_named", True)
+        self.place, self.is_open, self.is_claimed = Place(number), True, False
+        self.wait = getattr(getattr(auditor, "policy", None), "wait", 30.0)
         self.turn = threading.Lock()  # held by a transaction from its begin to its end, and by a meeting
-        self.gate = threading.Lock()  # held while a meeting waits for the turn: else a busy client would take it again before the meeting gets it
-        self.current = None  # the transaction that holds it
-        self.since_fence, self.used_at, self.waited = 0, time.monotonic(), 0.0
+        # Held while a meeting waits for the turn: else a busy client would take it again before the
+        # meeting gets it.
+        self.gate = threading.Lock()
+        self.current = None  # the client's transaction that holds the turn
+        self.running = None  # the same, or the collector's own
+        self.used_at, self.waited, self.failure = time.monotonic(), 0.0, None
+
+    @property
+    def number(self):
+        """Of the auditor's session that this one has; None where it has none."""
+        return self.place.number if self.place is not None else None
+
+    @property
+    def begun(self):
+        """How many transactions that has had."""
+        return self.place.begun if self.place is not None else 0
 
     def begin(self):
+        """Raises what the store does where it can't be reached; then nothing has begun."""
         if self.current is not None:
             raise ValueError(f"session {self.number} is in a transaction: it runs one at a time")
-        came = time.monotonic()
-        if self.gate.locked():
-            with self.gate:
-                pass
-        self.turn.acquire()
-        self.waited += time.monotonic() - came
+        self.take_turn()
         try:
             self.go_on()
-            return self.start(holds=True)
+            self.claim_name()
+            return self.start(self.store.begin, holds=True)
         except BaseException:
-            if self.current is None:
-                self.turn.release()
+            self.turn.release()
             raise
+
+    def take_turn(self):
+        """Who holds it, and the gate, are meetings, which end within the policy's wait; but for a
+        statement of theirs that the store hasn't answered over this connection."""
+        came = time.monotonic()
+        if self.gate.locked() and self.gate.acquire(timeout=self.wait):
+            self.gate.release()
+        self.turn.acquire()
+        self.waited += time.monotonic() - came
 
     def go_on(self):
-        """Takes a new number where the session has ended."""
-        left = None if self.is_open or self.renew is None else self.renew()
-        if left is not None:
-            (self.number, self.begun), self.is_open = left, True
-        if not self.is_open:
+        """Takes another place where the session has ended."""
+        if self.is_open:
+            return
+        place = self.renew(self) if self.renew is not None else None
+        if place is not None:
+            self.place, self.is_open = place, place.is_audited
+        elif self.renew is None or self.place is None:
             raise ValueError(f"session {self.number} has ended")
 
-    def start(self, holds):
-        transaction = Transaction(self, self.begun, holds)
-        self.begun += 1  # also an attempt that aborts keeps its number
-        self.current = transaction if holds else self.current
-        try:
-            self.store.begin()
-        except BaseException:
-            transaction.give_up()
-            raise
+    def claim_name(self):
+        """Before the first transaction."""
+        if self.is_named and not self.is_claimed:
+            claim, token = getattr(self.store, "claim", None), getattr(self.auditor, "token", None)
+            if claim is not None and token is not None:
+                claim(self.run_name, token)
+        self.is_claimed = True
+
+    def start(self, begin, holds, *arguments):
+        """A transaction, which has its number once the store has begun it."""
+        begin(*arguments)
+        transaction = Transaction(self, self.place.begun, holds)
+        self.running = transaction
+        self.place.begun += 1  # also an attempt that aborts keeps its number
+        if holds:
+            self.current = transaction
         return transaction
 
     @contextmanager
@@ -77,75 +147,94 @@ class Session:
             yield transaction
 
     def run(self, body, attempts=10):
-        """Calls body(transaction) and commits, again where the store aborts; each attempt has a number of its own."""
+        """Calls body(transaction) and commits, again where the store aborts; each attempt has a number
+        of its own."""
         return attempted(self.begin, body, attempts)
 
     def close(self):
-        self.is_open = False
-        self.auditor.close(self.number)
+        """Nothing more of this session comes. Raises ValueError in the middle of a transaction."""
+        if self.current is not None:
+            raise ValueError(f"session {self.number} is in a transaction")
+        leave = getattr(self.auditor, "leave_session", None)
+        if leave is not None:
+            leave(self)
+        elif self.is_open:
+            self.end()
 
-    # what meetings call: all but the first for who holds the session's turn
+    def __enter__(self):
+        return self
 
-    has_left = False  # it can't be held any more
+    def __exit__(self, *_):
+        if self.current is not None:
+            self.current.rollback()
+        self.close()
 
-    def summon(self):
-        """As a meeting begins, which holds the gate: here no transaction begins any more."""
+    def end(self):
+        """No transaction may stand behind the last one."""
+        self.is_open, self.place.is_ended = False, True
+        self.tell(self.auditor.take_close, self.number)
 
-    def dismiss(self):
-        """As it has ended."""
-
-    def enter(self, seconds):
-        """Takes the turn as the transaction that has it ends, if that is within so many seconds, and runs a fence where anything was done since the
-        last one. Gives whether it was taken, whether the fence was run, and what failed. Where the store aborts it, it is run once nothing else is."""
-        if not self.turn.acquire(timeout=max(0, seconds)):
-            return False, False, None
+    def tell(self, call, *arguments):
+        """The auditor, whose fate is none of the client's business."""
         try:
-            is_due = self.is_open and self.since_fence > 0
-            if is_due:
-                self.fence(attempts=2)
-            return True, is_due, None
-        except Aborted:
-            return True, False, None
+            call(*arguments)
         except Exception as error:
-            return True, False, error
+            if self.failure is None:
+                self.failure = error
+                logger.error("nothing more of session %s is audited: %s", self.number, error)
 
-    def let_go(self):
-        self.turn.release()
+    # What meetings call, for who holds the session's turn. Each is a transaction of the collector's
+    # own, which the store has ended within so many seconds.
 
-    def run_held(self, body, attempts=10):
-        return attempted(lambda: self.start(holds=False), body, attempts)
+    def run_alone(self, body, seconds, attempts=3):
+        def begin():
+            alone = getattr(self.store, "begin_alone", None)
+            if alone is not None:
+                return self.start(alone, False, seconds)
+            return self.start(self.store.begin, False)
 
-    def fence(self, attempts=10):
-        self.run_held(lambda transaction: transaction.exchange(FENCE, ""), attempts)
-        self.since_fence = 0
+        return attempted(begin, body, attempts)
 
-    def read_all(self, keys):
-        self.run_held(lambda transaction: transaction.get_all(keys))
+    def fence(self, seconds=60.0):
+        self.run_alone(lambda transaction: transaction.exchange(FENCE, ""), seconds)
 
-    def write_mark(self):
-        self.run_held(lambda transaction: transaction.exchange(MARK, ""))
+    def flag(self, seconds=60.0):
+        """After it, all that this session did so far is behind one read of its flag away."""
+        key = f"{FLAG}{self.number}"
+        self.run_alone(lambda transaction: transaction.exchange(key, ""), seconds)
+        self.place.is_due, self.place.has_flag = False, True
 
-    def read_mark(self):
-        """Gives what waits until it is read, and is called once."""
-        self.run_held(lambda transaction: transaction.get(MARK))
-        return lambda: None
+    def read_all(self, keys, seconds=60.0):
+        self.run_alone(lambda transaction: transaction.get_all(keys), seconds)
 
-    def lend(self, number, begun):
-        """Runs the fence of a session that no client has over this one's connection. Gives how many transactions that one has had then, None
-        where it has ended; and what failed."""
-        one, failure = Session(self.auditor, number, self.store, self.run_name), None
-        one.begun = begun
+    def write_mark(self, seconds=60.0):
+        self.run_alone(lambda transaction: transaction.exchange(MARK, ""), seconds)
+        self.place.is_due = self.place.has_flag = False
+
+    def read_mark(self, seconds=60.0):
+        self.run_alone(lambda transaction: transaction.get(MARK), seconds)
+        self.place.is_due = self.place.has_flag = False
+
+    def lend(self, place, deed, seconds=60.0):
+        """Runs "flag" or "read_mark" of a session that no client has over this one's connection."""
+        one = Session(self.auditor, place.number, self.store, self.run_name)
+        one.place, place.is_lent = place, True
         try:
-            one.fence()
-        except Exception as error:
-            failure = error
-        return (one.begun if one.is_open else None), failure
+            getattr(one, deed)(seconds)
+        finally:
+            place.is_lent, place.is_ended = False, not one.is_open
 
 
 @contextmanager
 def whole(transaction):
     try:
         yield transaction
+    except OutcomeUnknown:
+        if transaction.is_committing:  # of a statement that is a transaction by itself
+            transaction.find_out()
+        else:
+            transaction.rollback()
+        raise
     except BaseException:
         transaction.rollback()
         raise
@@ -167,6 +256,7 @@ class Transaction:
     def __init__(self, session, number, holds=True):
         self.session, self.store, self.number, self.holds = session, session.store, number, holds
         self.reads, self.written, self.is_over = set(), {}, False
+        self.is_committing = not holds  # from here on the store may have what it writes
         self.sent = ()  # keys that were written and needn't be at the commit
         self.statements = {}  # of each deed, as Logged has them
 
@@ -177,7 +267,8 @@ class Transaction:
         return self.was_read(key, self.store.read(key), statement)
 
     def get_all(self, keys):
-        """The values of keys that weren't written here, by key; at once, where the store has a call for that."""
+        """The values of keys that weren't written here, by key; at once, where the store has a call
+        for that."""
         many = getattr(self.store, "read_all", None)
         found = many(keys) if many else {key: self.store.read(key) for key in keys}
         return {key: self.was_read(key, found.get(key)) for key in keys}
@@ -199,7 +290,8 @@ class Transaction:
         return (name[1], name[2])
 
     def put(self, key, value, statement=None):
-        self.written[key] = value  # goes to the store at the commit, once, so that no version is there to be read but the last
+        # It goes to the store at the commit, once, so that no version is there to be read but the last.
+        self.written[key] = value
         if statement:
             self.statements[(key,)] = statement
 
@@ -207,16 +299,18 @@ class Transaction:
         self.put(key, None, statement)
 
     def exchange(self, key, value):
-        """Reads the key and writes it: at once, where the store has a call for that. It has to be the last that is done with the key."""
+        """Reads the key and writes it: at once, where the store has a call for that. It has to be the
+        last that is done with the key."""
         both = getattr(self.store, "exchange", None)
         if both is None:
             self.get(key)
             self.put(key, value)
-        else:
-            self.was_read(key, both(key, value, self.name))
-            self.put(key, value)
-            self.was_run((key,))
-            self.sent = (*self.sent, key)
+            return
+        self.is_committing = True
+        self.written[key] = value
+        self.sent = (*self.sent, key)
+        self.was_read(key, both(key, value, self.name))
+        self.was_run((key,))
 
     @property
     def name(self):
@@ -224,6 +318,7 @@ class Transaction:
         return (self.session.run_name, self.session.number, self.number)
 
     def commit(self):
+        self.is_committing = True
         try:
             for key in sorted(self.written):
                 if key not in self.sent:
@@ -249,8 +344,9 @@ class Transaction:
         self.log((), (), "aborted")
 
     def find_out(self):
-        """Asks the store. Where it can't say, the transaction is logged with its writes alone, as the last of its session."""
-        until = time.monotonic() + self.session.patience
+        """Asks the store. Where it can't say, the transaction is logged with its writes alone, as the
+        last of its session."""
+        until = time.monotonic() + (self.session.patience if self.holds else 0.0)
         while self.written:
             outcome = self.store.outcome()
             if outcome == "committed":
@@ -265,18 +361,24 @@ class Transaction:
         raise OutcomeUnknown(f"{self.session.number}.{self.number}")
 
     def log(self, reads, writes, outcome, is_last=False):
+        """Hands in what is known; nothing that fails here comes back to the client."""
         session, self.is_over = self.session, True
+        session.place.is_due = True
+        # Nothing is known of a fence without its read: who reads from it waits for it then.
+        if not (is_last and FENCE in writes):
+            session.tell(self.hand_in, reads, writes, outcome)
+        if is_last:
+            session.end()
+        session.running = None
+        if self.holds:
+            session.used_at, session.current = time.monotonic(), None
+            session.turn.release()
+
+    def hand_in(self, reads, writes, outcome):
         statements = tuple(self.statements.items())
         if outcome != "committed":
             deeds = {*reads, *((key,) for key in writes)}
             statements = tuple(it for it in statements if it[0] in deeds)
         reads = sorted(reads, key=repr) if len(reads) > 1 else [*reads]
-        try:
-            session.auditor.offer(session.number, self.number, Logged(reads, sorted(writes), outcome, statements))
-            if is_last:
-                session.close()
-        finally:
-            session.since_fence += 1
-            if self.holds:
-                session.used_at, session.current = time.monotonic(), None
-                session.turn.release()
+        logged = Logged(reads, sorted(writes), outcome, statements)
+        self.session.auditor.take(self.session.number, self.number, logged)

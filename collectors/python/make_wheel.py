@@ -1,0 +1,218 @@
+"""Makes the wheel of the package, with the auditor inside; package.sh at the top calls this.
+
+It wants Python's setuptools and wheel, and asks no index. The auditor is what the prover built in
+this tree: it is built only where all is proved, and this asks it to see that nothing has changed
+since. `--built` takes what stands there, if it is newer than all sources: the gate has just made
+it. `--unproved` builds one without a proof for a first try, by the kit's `rt try`, or takes the
+one that is named; its version says so wherever it is told.
+"""
+
+from __future__ import annotations
+
+import argparse
+import contextlib
+import hashlib
+import json
+import os
+import shutil
+import signal
+import subprocess
+import sys
+import sysconfig
+import tempfile
+import time
+from typing import Iterator, List, Optional, Sequence
+
+HERE = os.path.dirname(os.path.abspath(__file__))
+TOP = os.path.normpath(os.path.join(HERE, "../.."))
+PROGRAMS = ("cobra_audit",)  # each a crate of this name; more are added here
+PATIENCE = 600  # seconds in which a build without proofs has to have come to its run
+
+
+class CantPackError(Exception):
+    """Why there is no wheel."""
+
+
+def built(name: str) -> str:
+    """Where the prover's build puts the program."""
+    return os.path.join(TOP, "crates", name, "out", name)
+
+
+def sources() -> Iterator[str]:
+    """Everything that a program is made of."""
+    yield os.path.join(TOP, "crates.txt")
+    for folder, folders, names in os.walk(os.path.join(TOP, "crates")):
+        folders[:] = [it for it in folders if it not in ("out", "must-fail", "data")]
+        yield from (os.path.join(folder, it) for it in names if it.endswith((".rt", ".antt")))
+
+
+def said(*words: str) -> str:
+    """What a command writes, or an empty text where it isn't there or fails."""
+    try:
+        ended = subprocess.run(words, cwd=TOP, stdout=subprocess.PIPE, stderr=subprocess.DEVNULL)
+    except OSError:
+        return ""
+    return ended.stdout.decode().strip() if ended.returncode == 0 else ""
+
+
+def proved(name: str, is_built: bool) -> str:
+    """The program, proved; raises CantPackError."""
+    path = built(name)
+    if not is_built:
+        print(f"{name}: asking the prover (this takes long where something has changed)")
+        words = ["rt", "run", name, "--", "--version"]
+        folder = os.path.join(TOP, "crates", name)
+        try:
+            ended = subprocess.run(words, cwd=folder, stdin=subprocess.DEVNULL)
+        except OSError as error:
+            raise CantPackError(f"the kit's command rt doesn't start: {error.strerror}") from error
+        if ended.returncode:
+            raise CantPackError(f"{name} isn't proved")
+    if not os.path.isfile(path):
+        raise CantPackError(f"{path} isn't built")
+    if is_built:
+        newer = [it for it in sources() if os.path.getmtime(it) > os.path.getmtime(path)]
+        if newer:
+            raise CantPackError(f"{newer[0]} is newer than {path}: leave out --built")
+    return path
+
+
+def unproved(name: str, folder: str) -> str:
+    """The program as `rt try` builds it. It keeps no file, so its own folder is looked into while
+    the program reads a script that takes it a while."""
+    script = os.path.join(folder, "script")
+    with open(script, "w", encoding="utf-8") as file:
+        file.write('["open",1,4096]\n')
+        file.writelines(f'["offer",0,{it},[[[],[{it + 1}]]]]\n' for it in range(4000))
+        file.write('["round",4096,0,1]\n' * 400)
+    words = ["rt", "try", name, "--steps", "1", "--seconds", "60"]
+    environment = {**os.environ, "TMPDIR": folder}
+    crate = os.path.join(TOP, "crates", name)
+    with open(script, "rb") as lines, open(os.devnull, "wb") as nowhere:
+        try:
+            trying = subprocess.Popen(
+                words,
+                cwd=crate,
+                stdin=lines,
+                stdout=nowhere,
+                stderr=nowhere,
+                env=environment,
+                start_new_session=True,
+            )
+        except OSError as error:
+            raise CantPackError(f"the kit's command rt doesn't start: {error.strerror}") from error
+    print(f"{name}: building without a proof (about a minute)")
+    try:
+        return taken_from(trying, name, folder)
+    finally:
+        with contextlib.suppress(ProcessLookupError):
+            os.killpg(trying.pid, signal.SIGTERM)
+        trying.wait()
+
+
+def taken_from(trying: "subprocess.Popen[bytes]", name: str, folder: str) -> str:
+    """A copy of the program that is being tried, once it has written a reply."""
+    until = time.monotonic() + PATIENCE
+    while time.monotonic() < until and trying.poll() is None:
+        for at, _, names in os.walk(folder):
+            has_replied = {"program", "stdout"} <= {*names} and os.path.getsize(f"{at}/stdout")
+            if has_replied:
+                return str(shutil.copy(f"{at}/program", os.path.join(folder, name)))
+        time.sleep(0.1)
+    raise CantPackError(f"rt try has built no {name}: run it by hand to see why")
+
+
+def sha256_of(path: str) -> str:
+    with open(path, "rb") as file:
+        return hashlib.sha256(file.read()).hexdigest()
+
+
+def write_note(folder: str, is_proved: bool) -> None:
+    """What is known of the programs of this folder, for who asks the package for its version."""
+    has_changes = " with changes" if said("git", "status", "--porcelain") else ""
+    note = {
+        "proved": is_proved,
+        "kit": said("rt", "version"),
+        "commit": said("git", "rev-parse", "--short=12", "HEAD") + has_changes,
+        "programs": {
+            name: {"sha256": sha256_of(os.path.join(folder, name)), "crate": f"crates/{name}"}
+            for name in sorted(os.listdir(folder))
+        },
+    }
+    with open(os.path.join(folder, "made.json"), "w", encoding="utf-8") as file:
+        json.dump(note, file, indent=2)
+        file.write("\n")
+
+
+def stage(folder: str, programs: Sequence[str], is_proved: bool) -> None:
+    """Puts all that the wheel is made of into the folder."""
+    package = os.path.join(folder, "zanteyard")
+    hidden = shutil.ignore_patterns("__pycache__", "programs")
+    shutil.copytree(os.path.join(HERE, "zanteyard"), package, ignore=hidden)
+    for name in ("pyproject.toml", "README.md"):
+        shutil.copy(os.path.join(HERE, name), folder)
+    shutil.copy(os.path.join(TOP, "LICENSE"), folder)
+    inside = os.path.join(package, "programs")
+    os.mkdir(inside)
+    for path in programs:
+        os.chmod(shutil.copy(path, inside), 0o755)
+    write_note(inside, is_proved)
+    platform = sysconfig.get_platform().replace("-", "_").replace(".", "_")
+    with open(os.path.join(folder, "setup.cfg"), "w", encoding="utf-8") as file:
+        file.write(f"[bdist_wheel]\nplat_name = {platform}\npython_tag = py3\n")
+        if not is_proved:  # in the file's name and in what pip tells
+            file.write("[egg_info]\ntag_build = +unproved\n")
+
+
+def wheel_of(folder: str, output: str) -> str:
+    """Builds the wheel by its backend alone, and gives its path."""
+    code = (
+        "import sys; from setuptools import build_meta; print(build_meta.build_wheel(sys.argv[1]))"
+    )
+    words = [sys.executable, "-c", code, output]
+    ended = subprocess.run(
+        words, cwd=folder, stdout=subprocess.PIPE, stderr=subprocess.STDOUT, text=True
+    )
+    if ended.returncode:
+        raise CantPackError(f"setuptools has failed:\n{ended.stdout}")
+    return os.path.join(output, ended.stdout.split()[-1])
+
+
+def arguments(words: Optional[Sequence[str]]) -> argparse.Namespace:
+    asked = argparse.ArgumentParser(prog="package.sh", description="Makes the wheel.")
+    asked.add_argument("--output", default=os.path.join(TOP, "out"), help="folder (out)")
+    how = asked.add_mutually_exclusive_group()
+    how.add_argument("--built", action="store_true", help="takes what the gate has just built")
+    how.add_argument(
+        "--unproved",
+        nargs="?",
+        const="",
+        metavar="PROGRAM",
+        help="builds without a proof, for a first try; or takes this program",
+    )
+    return asked.parse_args(words)
+
+
+def main(words: Optional[Sequence[str]] = None) -> int:
+    asked = arguments(words)
+    os.makedirs(asked.output, exist_ok=True)
+    try:
+        with tempfile.TemporaryDirectory() as made, tempfile.TemporaryDirectory() as staged:
+            programs: List[str] = []
+            for name in PROGRAMS:
+                if asked.unproved is None:
+                    programs.append(proved(name, asked.built))
+                elif asked.unproved:
+                    programs.append(shutil.copy(asked.unproved, os.path.join(made, name)))
+                else:
+                    programs.append(unproved(name, made))
+            stage(staged, programs, asked.unproved is None)
+            print(wheel_of(staged, os.path.abspath(asked.output)))
+    except CantPackError as error:
+        print(f"no wheel: {error}", file=sys.stderr)
+        return 1
+    return 0
+
+
+if __name__ == "__main__":
+    sys.exit(main())

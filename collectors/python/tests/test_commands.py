@@ -1,0 +1,234 @@
+"""The command `zanteyard`: its five statuses over five scripts, and what it tells."""
+import io
+import os
+import re
+import tempfile
+import unittest
+from contextlib import redirect_stderr, redirect_stdout
+
+from zanteyard import demo
+from zanteyard.auditor import PROGRAM
+from zanteyard.cluster import program
+from zanteyard.command_line import main
+from zanteyard.programs import Origin, find_program, program_path
+from zanteyard.version import VERSION
+
+TOP = os.path.normpath(os.path.join(os.path.dirname(os.path.abspath(__file__)), "../../.."))
+WORKED = os.path.join(TOP, "crates/cobra_examples/data")
+
+LOST = [
+    '["open",2,8]',
+    '["offer",0,0,[[[[5,"init"]],[5]]]]',
+    '["offer",1,0,[[[[5,"init"]],[5]]]]',
+]
+
+
+def run(*words):
+    out, err = io.StringIO(), io.StringIO()
+    with redirect_stdout(out), redirect_stderr(err):
+        try:
+            status = main(words)
+        except SystemExit as ended:
+            status = ended.code
+    return status, out.getvalue(), err.getvalue()
+
+
+@unittest.skipUnless(os.path.isfile(PROGRAM), f"{PROGRAM} is not built")
+class Commands(unittest.TestCase):
+    def setUp(self):
+        folder = tempfile.TemporaryDirectory()
+        self.addCleanup(folder.cleanup)
+        self.folder = folder.name
+
+    def script(self, *lines):
+        path = os.path.join(self.folder, "script.jsonl")
+        with open(path, "w", encoding="utf-8") as file:
+            file.write("".join(f"{line}\n" for line in lines))
+        return path
+
+    def check(self, *lines, command=("check",)):
+        return run(*command, self.script(*lines))
+
+    def test_five_statuses_over_five_scripts(self):
+        spent = ("check", "--nodes", "1")
+        begins = ('["open",2,8]', '["offer",0,0,[[[],[5]]]]')
+        rows = [
+            (0, "serial", ("check",), [*begins, '["round",32,0,1]']),
+            (1, "violated", ("check",), [*LOST, '["round",32,0,1]']),
+            (2, "BadLine", ("check",), [*begins, '["rouND",32,0,1]']),
+            (
+                3,
+                "pending",
+                ("check",),
+                [*begins, '["offer",1,0,[[[[5,0,7]],[]]]]', '["round",9,0,1]'],
+            ),
+            (4, "undecided", spent, [*self.worked("real_split")[:-1], '["round",1,0,1]']),
+        ]
+        for wanted, word, command, lines in rows:
+            with self.subTest(word=word):
+                status, out, err = self.check(*lines, command=command)
+                self.assertEqual(status, wanted, out + err)
+                self.assertIn(word, out + err)
+
+    def worked(self, name):
+        with open(os.path.join(WORKED, f"{name}.jsonl"), encoding="utf-8") as file:
+            return [
+                line for line in file.read().splitlines() if not line.startswith('["round"')
+            ] + [""]
+
+    def test_a_lost_update_in_words(self):
+        status, out, _ = self.check(*LOST, '["round",32,0,1]')
+        self.assertEqual(status, 1)
+        self.assertEqual(
+            out.splitlines(),
+            [
+                "line 4: violated: no order of these transactions explains what they read, "
+                "each session's own order kept",
+                "  lost update "
+                "(two transactions read one version of a key, and both overwrote it):",
+                "  0.0 and 1.0 both read key 5 as it was at first and both overwrote it: "
+                "one of the two updates is lost",
+                "    0.0 read key 5 as it was at first, wrote key 5",
+                "    1.0 read key 5 as it was at first, wrote key 5",
+                "because",
+                "    0.0 comes before 1.0: 0.0 read key 5 as it was at first, and 1.0 wrote it",
+                "    1.0 comes before 0.0: 1.0 read key 5 as it was at first, and 0.0 wrote it",
+                "    so none can come first of 0.0, 1.0",
+            ],
+        )
+
+    def test_a_round_is_put_at_the_end_where_the_script_asks_for_none(self):
+        status, out, _ = self.check(*LOST)
+        self.assertEqual((status, out.split(":")[0]), (1, "at the end"))
+        status, out, _ = self.check(LOST[0], LOST[1], '["round",32,0,1]', LOST[2])
+        self.assertEqual((status, len(re.findall("^(?:line|at the end)", out, re.M))), (1, 2))
+        status, out, _ = self.check(*LOST[:2], '["begin"]', LOST[2])
+        self.assertEqual((status, out.count("at the end")), (1, 2))  # the open round, and the rest
+
+    def test_a_spent_round_is_given_again_with_more(self):
+        lines = self.worked("real_split")
+        status, out, _ = self.check(*lines[:-1], '["round",1,0,1]')
+        self.assertEqual(status, 1)
+        self.assertIn("given 2 times, the last with 65,536 nodes: violated", out)
+
+    def test_mistakes_of_the_call(self):
+        missing = os.path.join(self.folder, "none.jsonl")
+        for words in (
+            (),
+            ("check",),
+            ("check", missing),
+            ("check", missing, "--nodes", "0"),
+            ("no",),
+        ):
+            with self.subTest(words=words):
+                self.assertEqual(run(*words)[0], 2)
+        self.assertEqual(self.check()[0], 2)  # an empty script
+        self.assertEqual(run("demo", "no-such-fault")[0], 2)
+
+    def test_limits_are_told(self):
+        for line in ('["open",65,8]', '["open",2,4097]'):
+            status, _, err = self.check(line)
+            self.assertEqual(status, 2)
+            self.assertIn("1 to 64 sessions, and at most 4,096 transactions", err)
+
+    def test_a_cut_that_is_not_found_is_no_mistake(self):
+        status, out, _ = self.check('["open",1,8]', '["round",9,0,1]', '["truncate"]')
+        self.assertEqual((status, out.splitlines()[-1][:22]), (0, "(nothing was settled, "))
+
+    def test_what_was_forgotten_is_told_as_the_cut(self):
+        status, out, _ = run("explain", os.path.join(WORKED, "gone_read.jsonl"))
+        self.assertEqual(status, 1)
+        self.assertIn("read zanteyard's fence from the cut", out)
+        self.assertIn("stale read", out)
+
+    def test_worked_scripts_of_each_fault_get_their_names(self):
+        for name, wanted in (
+            ("fault_lost_update", "lost update"),
+            ("write_skew", "write skew"),
+            ("aborted_attempt", "dirty read"),
+            ("three_rounds", "stale read"),
+        ):
+            with self.subTest(name=name):
+                self.assertIn(
+                    f"  {wanted} (", run("explain", os.path.join(WORKED, f"{name}.jsonl"))[1]
+                )
+
+    def test_each_demonstration(self):
+        names = {
+            "lost-update": "lost update",
+            "write-skew": "write skew",
+            "stale-read": "stale read",
+            "torn-read": "fractured read",
+            "dirty-read": "dirty read",
+            "lost-write": "stale read",
+            "reappearing": "stale read",
+        }
+        self.assertEqual({*names, demo.HONEST}, {*demo.NAMES})
+        for name, wanted in names.items():
+            with self.subTest(name=name):
+                page = os.path.join(self.folder, f"{name}.html")
+                status, out, err = run("demo", name, "--html", page)
+                self.assertEqual((status, err), (1, ""))
+                self.assertIn(f"  {wanted} (", out)
+                self.assertTrue(os.path.isfile(page))
+        status, out, _ = run("demo", demo.HONEST, "--no-html")
+        self.assertEqual(status, 0)
+        self.assertIn("one such order: 0.0 ", out)
+
+    def test_audit_postgres(self):
+        try:
+            import psycopg2  # noqa: F401
+        except ImportError:
+            self.skipTest("psycopg2 is not installed")
+        if not program("initdb"):
+            self.skipTest("PostgreSQL is not installed")
+        self.addCleanup(os.chdir, os.getcwd())
+        os.chdir(self.folder)
+        few = ("audit", "postgres", "--unaudited", "0", "--clients", "4", "--html", "page.html")
+        skewed = ("--level", "repeatable", "--workload", "skew", "--every", "128")
+        for wanted, kind, more in (
+            (1, "violated", (*skewed, "--seconds", "20")),
+            (0, "serial", ("--workload", "counter", "--seconds", "2")),
+        ):
+            with self.subTest(kind=kind):
+                status, out, err = run(*few, *more)
+                self.assertEqual(status, wanted, out + err)
+                self.assertRegex(out, f"(?m)^[a-z]+ at [a-z ]+: {kind}")
+                with open("page.html", encoding="utf-8") as file:
+                    page = file.read()
+                self.assertIn(f'<span class="verdict {kind}">', page)
+                self.assertIn('<svg class="chart"', page)
+        self.assertEqual(run("audit", "mysql")[0], 2)
+
+    def test_an_error_of_ours_never_looks_like_a_verdict(self):
+        told = demo.STORIES
+        demo.STORIES = {"lost-update": lambda sessions: 1 // 0}
+        self.addCleanup(setattr, demo, "STORIES", told)
+        status, _, err = run("demo", "--no-html")
+        self.assertEqual(status, 4)
+        self.assertIn("ZeroDivisionError", err)
+
+
+class Programs(unittest.TestCase):
+    def test_which_program_is_started(self):
+        self.assertEqual(program_path({"COBRA_AUDIT": "/no/such"}), "/no/such")
+        self.assertTrue(program_path({}).endswith("cobra_audit"))
+        with self.assertRaisesRegex(Exception, "/no/such isn't there"):
+            find_program({"COBRA_AUDIT": "/no/such"})
+
+    def test_its_origin_is_told(self):
+        self.assertEqual(Origin("p", True, "kit", "abc").sentence(), "p: proved by kit, commit abc")
+        self.assertIn("NOT PROVED", Origin("p", False).sentence())
+        self.assertIn("NOT THE FILE", Origin("p", True, is_as_noted=False).sentence())
+        self.assertIn("isn't noted", Origin("p", None).sentence())
+
+    def test_the_version(self):
+        with open(os.path.join(TOP, "VERSION"), encoding="utf-8") as file:
+            self.assertEqual(file.read().strip(), VERSION)
+        status, out, _ = run("--version")
+        self.assertEqual((status, out.splitlines()[0]), (0, f"zanteyard {VERSION}"))
+        self.assertEqual(len(out.splitlines()), 2)
+
+
+if __name__ == "__main__":
+    unittest.main()

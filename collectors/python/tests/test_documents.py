@@ -1,0 +1,195 @@
+"""The documents: every command that they show is run, and what it prints compared; no line is too
+long, and every file that they name is there."""
+import glob
+import os
+import re
+import shutil
+import subprocess
+import sys
+import tempfile
+import unittest
+
+from zanteyard.auditor import PROGRAM
+
+TOP = os.path.normpath(os.path.join(os.path.dirname(os.path.abspath(__file__)), "../../.."))
+NAMES = ("README.md", "CONTRIBUTING.md", "docs/*.md", "collectors/python/README.md")
+DOCUMENTS = sorted(
+    os.path.relpath(path, TOP) for name in NAMES for path in glob.glob(os.path.join(TOP, name))
+)
+COLUMNS, WORDS = 120, 900
+
+# Commands that aren't run here, and what runs them.
+ELSEWHERE = {
+    r"python3 -m venv venv": "test_package",
+    r"venv/bin/.*": "test_package",
+    r"\./test\.sh": "the gate, which has called this",
+    r"rt .*": "the gate, which runs the same program on the same script",
+    r"zanteyard audit postgres .*": "test_commands, with less time",
+    r"/usr/bin/python3 examples/postgres_\w+\.py .*": "test.sh and test_examples, with less time",
+}
+
+
+def text_of(name):
+    with open(os.path.join(TOP, name), encoding="utf-8") as file:
+        return file.read()
+
+
+def blocks(name):
+    """The fenced blocks of a document, each as its word, its lines, and the text behind it."""
+    parts = re.split(r"^```(.*)$", text_of(name), flags=re.MULTILINE)
+    for at in range(1, len(parts) - 1, 4):
+        yield parts[at], parts[at + 1].strip("\n").splitlines(), parts[at + 3]
+
+
+def sessions(name):
+    """Each command that a document shows at a prompt, with what it prints."""
+    for _, lines, _ in blocks(name):
+        command, printed = None, []
+        for line in lines:
+            if line.startswith("$ "):
+                if command is not None:
+                    yield command, printed
+                command, printed = line[2:], []
+            elif command is not None:
+                printed.append(line)
+        if command is not None:
+            yield command, printed
+
+
+def is_elsewhere(command):
+    return any(re.fullmatch(pattern, command) for pattern in ELSEWHERE)
+
+
+class Documents(unittest.TestCase):
+    def test_no_line_is_too_long(self):
+        long = [
+            f"{name}:{number}"
+            for name in DOCUMENTS
+            for number, line in enumerate(text_of(name).splitlines(), 1)
+            if len(line) > COLUMNS
+        ]
+        self.assertEqual(long, [])
+
+    def test_the_readme_is_short(self):
+        self.assertLessEqual(len(text_of("README.md").split()), WORDS)
+
+    def test_every_file_that_is_named_is_there(self):
+        places = r"`((?:docs|bench|examples|collectors|crates)/[\w./-]+)`"
+        for name in DOCUMENTS:
+            for path in re.findall(places, text_of(name)):
+                if "NAME" not in path and "/out/" not in path:
+                    with self.subTest(document=name, path=path):
+                        self.assertTrue(os.path.exists(os.path.join(TOP, path)))
+
+    def test_every_command_is_run_somewhere(self):
+        """One without a prompt stands in a block of commands alone."""
+        begins = ("rt ", "./", "python3 ", "/usr/bin/python3 ", "zanteyard ", "cd ", "apt-get ")
+        for name in DOCUMENTS:
+            for word, lines, _ in blocks(name):
+                for line in lines:
+                    if not word and line.startswith(begins):
+                        with self.subTest(document=name, command=line):
+                            self.assertTrue(is_elsewhere(line))
+
+
+@unittest.skipUnless(os.path.isfile(PROGRAM), f"{PROGRAM} is not built")
+class Shown(unittest.TestCase):
+    maxDiff = None
+
+    def setUp(self):
+        self.folder = tempfile.mkdtemp()
+        self.addCleanup(shutil.rmtree, self.folder, ignore_errors=True)
+        for name in ("examples", "crates", "collectors", "bench", "docs"):
+            os.symlink(os.path.join(TOP, name), os.path.join(self.folder, name))
+        commands = os.path.join(self.folder, "bin")
+        os.mkdir(commands)
+        self.command(commands, "zanteyard", f'exec "{sys.executable}" -m zanteyard "$@"')
+        self.command(commands, "python3", f'exec "{sys.executable}" "$@"')
+        self.command(commands, "cobra_audit", f'exec "{os.path.abspath(PROGRAM)}" "$@"')
+        self.environment = {
+            **os.environ,
+            "PATH": f"{commands}:{os.environ['PATH']}",
+            "PYTHONPATH": os.path.join(TOP, "collectors/python"),
+            "COBRA_AUDIT": os.path.abspath(PROGRAM),
+        }
+
+    @staticmethod
+    def command(folder, name, text):
+        path = os.path.join(folder, name)
+        with open(path, "w", encoding="utf-8") as file:
+            file.write(f"#!/bin/sh\n{text}\n")
+        os.chmod(path, 0o755)
+
+    def run_it(self, command, script=None):
+        ended = subprocess.run(
+            ["sh", "-c", command],
+            cwd=self.folder,
+            env=self.environment,
+            input=script,
+            stdout=subprocess.PIPE,
+            stderr=subprocess.STDOUT,
+            text=True,
+            timeout=120,
+        )
+        return ended.stdout.splitlines()
+
+    def save_scripts(self, name):
+        """The blocks of which the text behind them says under which name they are saved."""
+        for _, lines, behind in blocks(name):
+            saved = re.match(r"\s*Saved as `([\w.]+)`", behind)
+            if saved:
+                with open(os.path.join(self.folder, saved[1]), "w", encoding="utf-8") as file:
+                    file.write("".join(f"{line}\n" for line in lines))
+
+    def test_what_each_command_prints(self):
+        count = 0
+        for name in DOCUMENTS:
+            self.save_scripts(name)
+            for command, printed in sessions(name):
+                if not is_elsewhere(command):
+                    count += 1
+                    with self.subTest(document=name, command=command):
+                        self.assertEqual(self.run_it(command), printed)
+        self.assertGreaterEqual(count, 4)
+
+    def replies(self, lines):
+        return self.run_it("cobra_audit", "".join(f"{line}\n" for line in lines))
+
+    def test_lines_and_replies(self):
+        """Blocks in which `>` goes in and `<` comes out."""
+        count = 0
+        for name in DOCUMENTS:
+            for _, lines, _ in blocks(name):
+                said = [line[2:] for line in lines if line.startswith("> [")]
+                if said:
+                    count += 1
+                    wanted = [line[2:] for line in lines if line.startswith("< [")]
+                    with self.subTest(document=name, script=said[0]):
+                        self.assertEqual(self.replies(said), wanted)
+        self.assertGreaterEqual(count, 1)
+
+    def test_tables_of_lines_and_replies(self):
+        for name in DOCUMENTS:
+            rows = re.findall(r"^\| `(\[.*\])` \| `(\[.*\])` \|$", text_of(name), re.MULTILINE)
+            begins = [at for at, row in enumerate(rows) if row[0].startswith('["open"')]
+            for start, end in zip(begins, [*begins[1:], len(rows)]):
+                with self.subTest(document=name, script=rows[start]):
+                    lines, wanted = zip(*rows[start:end])
+                    self.assertEqual(self.replies(lines), list(wanted))
+
+    def test_three_lines_in_one_session_and_in_two(self):
+        (script,) = [
+            lines for _, lines, _ in blocks("docs/HISTORIES.md") if lines[0] == '["open",1,4096]'
+        ]
+        self.assertIn('"violated"', self.replies(script)[-1])
+        apart = [
+            '["open",2,8]',
+            '["offer",0,0,[[[],[5]]]]',
+            '["offer",1,0,[[[[5,"init"]],[]]]]',
+            script[-1],
+        ]
+        self.assertIn('"serial"', self.replies(apart)[-1])
+
+
+if __name__ == "__main__":
+    unittest.main()

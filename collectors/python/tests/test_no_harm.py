@@ -1,0 +1,447 @@
+"""What a collector must never do: make up a violation, lose one in silence, or change what clients see."""
+import json
+import logging
+import os
+import signal
+import subprocess
+import tempfile
+import threading
+import time
+import unittest
+
+import zanteyard
+from zanteyard import Aborted, Auditor, AuditorApart, LiveAuditor, Session
+from zanteyard.auditor import FENCE, PROGRAM
+from zanteyard.memory_store import MemoryStore
+
+from .test_live import add_one, set_to
+
+SOON = 60.0  # seconds, where other programs have the processors
+BOUND = 0.25  # seconds that a client waits for the audit at most
+SLACK = 2.0  # seconds more, where other programs have the processors
+
+
+@unittest.skipUnless(os.path.isfile(PROGRAM), f"{PROGRAM} is not built")
+class NoHarm(unittest.TestCase):
+    def setUp(self):
+        logging.getLogger("zanteyard").setLevel(logging.CRITICAL)
+        self.addCleanup(logging.getLogger("zanteyard").setLevel, logging.NOTSET)
+        self.told = []
+
+    def auditor(self, sessions=3, limit=4096, of=Auditor, **more):
+        made = of(sessions, limit, **more)
+        self.addCleanup(made.end)
+        return made
+
+    def live(self, auditor, **more):
+        return LiveAuditor(auditor, **{"seconds": 0.2, "tell": self.told.append, **more})
+
+    def wait_for(self, condition):
+        until = time.monotonic() + SOON
+        while not condition() and time.monotonic() < until:
+            time.sleep(0.01)
+        self.assertTrue(condition(), self.told[-3:])
+
+    def longest(self, call, seconds):
+        """The longest that one of the calls took, one after another for so many seconds."""
+        ends, longest = time.monotonic() + seconds, 0.0
+        while time.monotonic() < ends:
+            began = time.monotonic()
+            call()
+            longest = max(longest, time.monotonic() - began)
+        return longest
+
+
+class Unreachable:
+    """In place of a store that is down."""
+
+    def begin(self):
+        raise ConnectionError("the store is down")
+
+
+class Beginning(NoHarm):
+    def test_the_stores_error_is_told_and_the_turn_is_given_back_once(self):
+        session = Session(self.auditor(), 0, Unreachable())
+        with self.assertRaisesRegex(ConnectionError, "the store is down"):
+            session.begin()
+        self.assertFalse(session.turn.locked())
+
+    def test_a_meeting_keeps_the_turn_that_it_took_meanwhile(self):
+        """Whoever takes the turn as the store's error comes back has it."""
+        session = Session(self.auditor(), 0, Unreachable())
+        taken = []
+
+        class Turn:
+            """A lock that a meeting takes as soon as it is given back."""
+
+            def __init__(self, lock):
+                self.lock = lock
+
+            def acquire(self, *arguments, **more):
+                return self.lock.acquire(*arguments, **more)
+
+            def release(self):
+                self.lock.release()
+                if not taken:
+                    taken.append(self.lock.acquire(blocking=False))
+
+        session.turn = Turn(threading.Lock())
+        with self.assertRaises(ConnectionError):
+            session.begin()
+        self.assertEqual((taken, session.turn.lock.locked()), ([True], True))
+
+    def test_attempts_that_never_reached_the_store_take_no_room(self):
+        auditor = self.auditor()
+        session = Session(auditor, 0, Unreachable())
+        for _ in range(5000):
+            with self.assertRaises(ConnectionError):
+                session.run(add_one("x"))
+        self.assertEqual((session.begun, auditor.remaining), (0, 0))
+        session.store = MemoryStore().connect()
+        session.run(add_one("x"))
+        self.assertEqual(auditor.round().kind, "serial")
+
+
+class AfterTheCommit(NoHarm):
+    def debit(self, auditor, break_it):
+        """An application that tries again where it is told that something went wrong."""
+        store = MemoryStore()
+        session = Session(auditor, 0, store.connect())
+        session.run(set_to("balance", 100))
+        break_it()
+        for _ in range(3):
+            try:
+                session.run(lambda t: t.put("balance", t.get("balance") - 10))
+                break
+            except Aborted:
+                raise
+            except Exception:
+                continue
+        return session, store.versions["balance"][-1][0]
+
+    def breaking(self):
+        """Each with how the auditor's end is brought about."""
+
+        def kill(auditor):
+            auditor.program.kill()
+
+        def kill_apart(auditor):
+            auditor.process.kill()
+
+        def refuse(auditor):
+            auditor.ask(["close", 0])
+
+        def fill(auditor):
+            auditor.offer(1, 0, *[zanteyard.Logged((), ())] * (auditor.limit - 1))
+
+        return ((Auditor, kill), (AuditorApart, kill_apart), (Auditor, refuse), (Auditor, fill))
+
+    def test_a_client_debits_once_whatever_becomes_of_the_auditor(self):
+        for of, break_it in self.breaking():
+            with self.subTest(of=of.__name__, break_it=break_it.__name__):
+                auditor = self.auditor(3, 200, of)
+                session, balance = self.debit(auditor, lambda: break_it(auditor))
+                self.assertEqual(balance, 90)
+                outcome = auditor.outcome()
+                self.assertEqual((outcome.kind, outcome.handed_in), ("incomplete", 2))
+                self.assertIsNotNone(outcome.failure)
+                self.assertIs(auditor.failure, outcome.failure)
+                with self.assertRaises(type(outcome.failure)):
+                    auditor.round()
+
+    def test_it_is_told_to_the_log(self):
+        logging.getLogger("zanteyard").setLevel(logging.NOTSET)
+        auditor = self.auditor()
+        with self.assertLogs("zanteyard", "ERROR") as log:
+            self.debit(auditor, auditor.program.kill)
+        self.assertIn("nothing more is audited", log.output[0])
+
+    def test_an_auditor_of_somebody_elses_that_fails(self):
+        class Fails:
+            def take(self, *_):
+                raise RuntimeError("no such luck")
+
+        store = MemoryStore()
+        session = Session(Fails(), 0, store.connect())
+        session.run(add_one("x"))
+        self.assertEqual(str(session.failure), "no such luck")
+
+    def test_a_client_waits_no_longer_than_the_bound_for_one_that_stands_still(self):
+        auditor = self.auditor()
+        session = Session(auditor, 0, MemoryStore().connect())
+        os.kill(auditor.program.process.pid, signal.SIGSTOP)
+        self.assertLess(self.longest(lambda: session.run(add_one("x")), 1.0), BOUND + SLACK)
+        self.assertGreater(session.begun, 10)  # who comes next doesn't wait
+        os.kill(auditor.program.process.pid, signal.SIGCONT)
+        outcome = auditor.outcome()
+        self.assertEqual((outcome.kind, outcome.audited), ("serial", session.begun))
+
+    def test_one_that_stands_still_for_long_is_given_up(self):
+        self.addCleanup(setattr, zanteyard.auditor, "LATEST", zanteyard.auditor.LATEST)
+        zanteyard.auditor.LATEST = 0.5
+        for of in (Auditor, AuditorApart):
+            with self.subTest(of=of.__name__):
+                auditor = self.auditor(of=of)
+                session = Session(auditor, 0, MemoryStore().connect())
+                stands = auditor.process if of is AuditorApart else auditor.program.process
+                os.kill(stands.pid, signal.SIGSTOP)
+                self.assertLess(self.longest(lambda: session.run(add_one("x")), 1.0), BOUND + SLACK)
+                self.wait_for(lambda: session.run(add_one("x")) or auditor.failure)
+                os.kill(stands.pid, signal.SIGCONT)
+                self.assertEqual(auditor.outcome().kind, "incomplete")
+
+    def test_a_client_waits_no_longer_than_the_bound_for_a_round(self):
+        auditor = self.auditor()
+        session = Session(auditor, 0, MemoryStore().connect())
+        with auditor.lock:
+            others = threading.Thread(target=session.run, args=(add_one("x"),))
+            others.start()
+            others.join(BOUND + SLACK)
+            self.assertFalse(others.is_alive())
+        self.assertEqual((auditor.round().kind, auditor.taken_in), ("serial", 1))  # it wasn't lost
+
+
+class Names(NoHarm):
+    def test_each_run_has_a_name_of_its_own(self):
+        store = MemoryStore()
+        for _ in range(2):
+            auditor = self.auditor()
+            a, b = (Session(auditor, number, store.connect()) for number in range(2))
+            a.run(add_one("x"))
+            b.run(add_one("x"))
+            a.run(add_one("x"))
+            self.assertEqual(auditor.round().kind, "serial")
+
+    def test_a_name_that_the_store_knows_is_refused_at_the_start(self):
+        store = MemoryStore()
+        for wanted in ("serial", None):
+            auditor = self.auditor()
+            a, b = (Session(auditor, number, store.connect(), "monday") for number in range(2))
+            if wanted is None:
+                with self.assertRaisesRegex(zanteyard.NameTaken, "monday"):
+                    a.run(add_one("x"))
+                self.assertEqual((store.versions["x"][-1][0], auditor.remaining), (2, 0))
+            else:
+                a.run(add_one("x"))
+                b.run(add_one("x"))
+                self.assertEqual(auditor.round().kind, wanted)
+
+
+class Outcomes(NoHarm):
+    def test_not_serial_where_the_auditor_was_killed(self):
+        for of in (Auditor, AuditorApart):
+            with self.subTest(of=of.__name__):
+                auditor = self.auditor(of=of)
+                live = self.live(auditor)
+                session = live.session(MemoryStore().connect())
+                for _ in range(10):
+                    session.run(add_one("x"))
+                self.wait_for(lambda: live.rounds > 0)
+                getattr(auditor, "program", auditor.process if of is AuditorApart else None).kill()
+                for _ in range(10):
+                    session.run(add_one("x"))
+                outcome = live.stop()
+                self.assertNotEqual(outcome.kind, "serial")
+                whole = (outcome, *outcome.earlier)
+                self.assertTrue(any(one.failure for one in whole))
+                self.assertLess(outcome.audited, outcome.handed_in)
+
+    def test_what_is_still_pending_and_for_whom(self):
+        auditor = self.auditor()
+        live = self.live(auditor)
+        store = MemoryStore()
+        session = live.session(store.connect())
+        ghost = (live.run_name, 2, 7)  # of a client whose log was lost
+        store.versions["x"] = [(1, ghost, 0)]
+        session.run(lambda t: t.get("x"))
+        outcome = live.stop()
+        self.assertEqual(outcome.kind, "pending")
+        self.assertEqual(outcome.pending, (((0, 0), "x", (2, 7)),))
+        self.assertIn("0.0 read x from 2.7, which never came", str(outcome))
+
+    def test_serial_alone_where_all_was_audited(self):
+        live = self.live(self.auditor())
+        session = live.session(MemoryStore().connect())
+        for _ in range(10):
+            session.run(add_one("x"))
+        outcome = live.stop()
+        self.assertEqual((outcome.kind, outcome.audited, outcome.handed_in), ("serial", 10, 10))
+
+    def test_fences_that_the_store_mixes_up_are_the_collectors_own(self):
+        class Mixing:
+            """A store in which fences aren't atomic, and everything else is."""
+
+            def __init__(self, shared):
+                self.plain = shared.connect()
+                for name in ("begin", "write", "commit", "rollback", "outcome"):
+                    setattr(self, name, getattr(self.plain, name))
+
+            def read(self, key):
+                found = self.plain.read(key)
+                return None if key == FENCE else found
+
+        live, store = self.live(self.auditor(), every=4), MemoryStore()
+        session = live.session(Mixing(store))
+        ends = time.monotonic() + SOON
+        while not live.is_over and time.monotonic() < ends:
+            session.run(add_one("x"))
+        outcome = live.stop()
+        self.assertEqual(outcome.kind, "the collector's own violation")
+        self.assertTrue(outcome.is_violated)
+
+
+class Standing(NoHarm):
+    """Clients go on, whatever stands still."""
+
+    def test_one_client_that_hangs_in_a_transaction(self):
+        auditor = self.auditor(3, 400)
+        live, store = self.live(auditor, every=50), MemoryStore()
+        a, b = (live.session(store.connect()) for _ in range(2))
+        hung = b.begin()
+        hung.get("y")
+        longest = self.longest(lambda: a.run(add_one("x")), 3.0)
+        self.assertLess(longest, BOUND + SLACK)
+        self.wait_for(lambda: live.outcome.earlier)  # the audit ended full, and another one began
+        hung.put("y", 1)
+        hung.commit()
+        b.run(add_one("y"))
+        outcome = live.stop()
+        self.assertEqual(outcome.kind, "incomplete")
+        self.assertIn("took longer", str(outcome.earlier[0].failure))
+        self.assertTrue(all(one.kind == "incomplete" for one in outcome.earlier))
+
+    def test_an_auditor_that_stands_still(self):
+        auditor = self.auditor()
+        live, store = self.live(auditor, most=100), MemoryStore()
+        session = live.session(store.connect())
+        os.kill(auditor.program.process.pid, signal.SIGSTOP)
+        longest = self.longest(lambda: session.run(add_one("x")), 2.0)
+        os.kill(auditor.program.process.pid, signal.SIGCONT)
+        self.assertLess(longest, BOUND + SLACK)
+        self.wait_for(lambda: live.outcome.earlier)
+        self.assertIn("can't keep up", str(live.outcome.earlier[0].failure))
+        self.assertNotEqual(live.outcome.earlier[0].name, live.name)
+        live.stop()
+
+    def test_who_rather_waits_waits_and_nothing_is_lost(self):
+        auditor = self.auditor()
+        live = self.live(auditor, most=10, policy=zanteyard.RATHER_WAIT)
+        session = live.session(MemoryStore().connect())
+        os.kill(auditor.program.process.pid, signal.SIGSTOP)
+        threading.Timer(1.0, os.kill, (auditor.program.process.pid, signal.SIGCONT)).start()
+        longest = self.longest(lambda: session.run(add_one("x")), 1.5)
+        self.assertGreater(longest, 0.3)
+        self.assertEqual(live.stop().kind, "serial")
+
+    def test_a_violation_is_found_by_the_audit_that_began_anew(self):
+        auditor = self.auditor()
+        live, store = self.live(auditor), MemoryStore()
+        a, b = (live.session(store.connect()) for _ in range(2))
+        for _ in range(5):
+            a.run(add_one("x")), b.run(add_one("x"))
+        auditor.program.kill()
+
+        def has_begun():
+            a.run(add_one("x")), b.run(add_one("x"))
+            return live.outcome.earlier and live.report is not None
+
+        self.wait_for(has_begun)
+        self.assertEqual(live.report.kind, "serial")
+        store.fault = "lost-update"
+        one, other = a.begin(), b.begin()
+        add_one("x")(one), add_one("x")(other)
+        one.commit(), other.commit()
+        self.wait_for(lambda: live.is_over)
+        outcome = live.stop()
+        self.assertEqual((outcome.kind, len(outcome.earlier)), ("violated", 1))
+
+    def test_audits_that_begin_while_clients_run_make_nothing_up(self):
+        """Ended as often as they can be, at whatever moment that comes."""
+        policy = zanteyard.Policy(BOUND, True, 0.02)
+        live, store = self.live(self.auditor(5), every=100, policy=policy), MemoryStore()
+        ends, errors = time.monotonic() + 6.0, []
+
+        def client(session):
+            try:
+                while time.monotonic() < ends and not live.is_over:
+                    try:
+                        session.run(add_one("x"), attempts=1)
+                        session.run(lambda t: (t.get("x"), t.put("y", t.get("y"))), attempts=1)
+                        session.run(set_to("z", session.number), attempts=1)
+                    except Aborted:
+                        pass
+            except Exception as error:
+                errors.append(error)
+
+        threads = [threading.Thread(target=client, args=(live.session(store.connect()),)) for _ in range(4)]
+        for thread in threads:
+            thread.start()
+        while time.monotonic() < ends and not live.is_over:
+            time.sleep(0.15)
+            live.lose(RuntimeError("for the sake of it"))
+        for thread in threads:
+            thread.join()
+        outcome = live.stop()
+        self.assertEqual(errors, [])
+        self.assertEqual(outcome.kind, "incomplete", outcome)
+        self.assertGreater(len(outcome.earlier), 5)
+        self.assertGreater(outcome.audited, 0)
+
+
+class Lifetimes(NoHarm):
+    def test_a_session_that_is_left_is_given_back(self):
+        live, store = self.live(self.auditor(8), every=20), MemoryStore()
+        for _ in range(9):
+            sessions = [live.session(store.connect()) for _ in range(8)]
+            for session in sessions:
+                session.run(add_one("x"))
+            for session in sessions:
+                session.close()
+        with live.session(store.connect()) as session:
+            session.run(add_one("x"))
+        outcome = live.stop()
+        self.assertEqual((outcome.kind, outcome.audited), ("serial", outcome.handed_in))
+
+    def test_not_in_the_middle_of_a_transaction(self):
+        live = self.live(self.auditor(1))
+        session = live.session(MemoryStore().connect())
+        transaction = session.begin()
+        with self.assertRaisesRegex(ValueError, "in a transaction"):
+            session.close()
+        transaction.commit()
+        session.close()
+        self.assertEqual(live.stop().kind, "serial")
+
+
+class Scripts(NoHarm):
+    def given_again(self, path):
+        with open(path) as script:
+            ended = subprocess.run([PROGRAM], stdin=script, stdout=subprocess.PIPE, timeout=SOON, check=True)
+        return [json.loads(line) for line in ended.stdout.splitlines()]
+
+    def test_each_line_is_kept(self):
+        for of in (Auditor, AuditorApart):
+            with self.subTest(of=of.__name__), tempfile.TemporaryDirectory() as folder:
+                path = os.path.join(folder, "script.jsonl")
+                auditor = self.auditor(of=of, script=path)
+                live, store = self.live(auditor, every=10), MemoryStore()
+                session = live.session(store.connect())
+                for _ in range(40):
+                    session.run(add_one("x"))
+                self.wait_for(lambda: live.cuts)
+                outcome = live.stop()
+                replies = self.given_again(path)
+                self.assertEqual([it for it in replies if it[0] == "no"], [])
+                last = [it for it in replies if it[0] == "report"][-1]
+                self.assertEqual(last, ["report", *outcome.report])
+
+    def test_a_disk_that_is_full_harms_nobody(self):
+        auditor = self.auditor(script="/dev/full")
+        session = Session(auditor, 0, MemoryStore().connect())
+        session.run(add_one("x"))
+        self.assertEqual(auditor.round().kind, "serial")
+        self.assertIsInstance(auditor.script_failure, OSError)
+
+
+if __name__ == "__main__":
+    unittest.main()

@@ -1,0 +1,197 @@
+"""The page: one file with nothing from outside, looked at in a real browser where there is one."""
+import html.parser
+import os
+import re
+import shutil
+import subprocess
+import tempfile
+import unittest
+import zlib
+
+from zanteyard import Logged
+from zanteyard.shrinking import name
+from zanteyard.charts import RoundSeen
+from zanteyard.page import page_of
+from zanteyard.stories import Story, story_of
+
+BROWSER = shutil.which("chromium") or shutil.which("chromium-browser")
+STATEMENT = "SELECT value FROM t WHERE key = '<x>' & 1"
+
+
+def history():
+    first = Logged((), ("x",), "committed", ((("x",), "INSERT INTO t VALUES ('x', 1)"),))
+    read = ("x", (0, 0))
+    second = Logged((read,), ("x",), "committed", ((read, STATEMENT),))
+    return [[first, second], [second]]
+
+
+def page(**more):
+    return page_of(story_of(history(), name, '["open",2,3]\n'), "a bank", "proved", **more)
+
+
+class Tags(html.parser.HTMLParser):
+    """Which elements there are, that each is closed, and what is asked from outside."""
+
+    EMPTY = {"meta", "br"}
+
+    def __init__(self, text):
+        super().__init__()
+        self.open, self.seen, self.asked, self.wrong = [], [], [], []
+        self.feed(text)
+        self.close()
+
+    def handle_starttag(self, tag, attributes):
+        self.seen.append(tag)
+        self.asked += [
+            value
+            for key, value in attributes
+            if key in ("src", "href", "xlink:href", "srcset", "data", "action") and value
+        ]
+        if tag not in self.EMPTY:
+            self.open.append(tag)
+
+    def handle_startendtag(self, tag, attributes):
+        self.seen.append(tag)
+
+    def handle_endtag(self, tag):
+        if not self.open or self.open.pop() != tag:
+            self.wrong.append(tag)
+
+
+class Page(unittest.TestCase):
+    def test_it_is_whole_and_asks_for_nothing(self):
+        text = page(rounds=[RoundSeen(1.0, "serial", 9, 0.1), RoundSeen(2.0, "violated", 12, 0.2)])
+        tags = Tags(text)
+        self.assertEqual((tags.open, tags.wrong, tags.asked), ([], [], []))
+        self.assertEqual({"script", "link", "img", "iframe"} & {*tags.seen}, set())
+        self.assertEqual(re.findall(r"@import|url\((?!#)", text), [])
+        self.assertEqual({*re.findall(r"https?://[^\"' ]+", text)}, {"http://www.w3.org/2000/svg"})
+
+    def test_what_is_on_it(self):
+        text = page()
+        for wanted in (
+            "<strong>Lost update</strong>",
+            "0.1 and 1.0 both read x from 0.0 and both overwrote it",
+            "SELECT value FROM t WHERE key = &#x27;&lt;x&gt;&#x27; &amp; 1",
+            "0.1 → 1.0 → 0.1",
+            "session 0",
+            "[&quot;open&quot;,2,3]",
+            "1.0 comes before 0.1</strong>: 1.0 read x from 0.0, and 0.1, which wrote it too",
+        ):
+            self.assertIn(wanted, text)
+        self.assertNotIn("'<x>'", text)
+        arcs, boxes = text.count('<g class="arc'), text.count('<g class="transaction"')
+        self.assertEqual((arcs, boxes), (4, 3))
+        self.assertEqual(text.count('<g class="arc circle"'), 2)
+        self.assertEqual(text.count('<span class="mark">'), arcs)  # each arc's reason in words
+
+    def test_other_verdicts(self):
+        for kind, more, wanted in (
+            ("serial", {"order": ("0.0", "1.0")}, "0.0 1.0"),
+            ("pending", {"waiting": ("1.0 read x from 0.7, which hasn't come",)}, "from 0.7"),
+            ("spent", {}, "wasn't decided"),
+        ):
+            with self.subTest(kind=kind):
+                text = page_of(Story(kind, (1, 1), **more), "a bank", "proved")
+                self.assertIn(wanted, text.replace("&#x27;", "'"))
+                self.assertEqual((Tags(text).open, Tags(text).wrong), ([], []))
+
+    def test_rounds_of_a_live_run(self):
+        seen = [
+            RoundSeen(
+                2.0 * it, "serial", 9, 0.05, waiting=("1.0 read x from 0.7, which hasn't come",)
+            )
+            for it in range(1, 9)
+        ]
+        text = page(rounds=seen)
+        self.assertEqual(text.count('<svg class="chart"'), 2)
+        self.assertEqual(text.count('<circle class="serial"'), 2 * len(seen))
+        self.assertIn("8 rounds in 16.0 s", text)
+        self.assertIn("1.0 read x from 0.7", text)
+
+
+def pixels(path):
+    """Width, height and rows of a PNG of 8 bits a colour, each row a list of pixels."""
+    with open(path, "rb") as file:
+        data = file.read()
+    at, packed, width, height, kind = 8, b"", 0, 0, 0
+    while at < len(data):
+        length, name_ = int.from_bytes(data[at : at + 4], "big"), data[at + 4 : at + 8]
+        body = data[at + 8 : at + 8 + length]
+        if name_ == b"IHDR":
+            width, height, kind = (
+                int.from_bytes(body[:4], "big"),
+                int.from_bytes(body[4:8], "big"),
+                body[9],
+            )
+        packed += body if name_ == b"IDAT" else b""
+        at += 12 + length
+    size = {2: 3, 6: 4}[kind]
+    raw, rows, above = zlib.decompress(packed), [], [0] * (width * size)
+    for row in range(height):
+        start = row * (width * size + 1)
+        how, line = raw[start], [*raw[start + 1 : start + 1 + width * size]]
+        for i in range(len(line)):
+            left = line[i - size] if i >= size else 0
+            up, corner = above[i], above[i - size] if i >= size else 0
+            guess = left + up - corner
+            near = min((abs(guess - it), at_) for at_, it in enumerate((left, up, corner)))[1]
+            line[i] = (
+                line[i] + (0, left, up, (left + up) // 2, (left, up, corner)[near])[how]
+            ) % 256
+        rows.append([tuple(line[i : i + 3]) for i in range(0, len(line), size)])
+        above = line
+    return width, height, rows
+
+
+@unittest.skipUnless(BROWSER, "chromium is not installed")
+class InABrowser(unittest.TestCase):
+    def setUp(self):
+        self.folder = tempfile.mkdtemp()
+        self.addCleanup(shutil.rmtree, self.folder, ignore_errors=True)  # the browser may linger
+        self.path = os.path.join(self.folder, "page.html")
+        with open(self.path, "w", encoding="utf-8") as file:
+            file.write(page(rounds=[RoundSeen(1.0, "serial", 9, 0.1)]))
+
+    def browse(self, *words):
+        whole = [
+            BROWSER,
+            "--headless",
+            "--no-sandbox",
+            "--disable-gpu",
+            "--hide-scrollbars",
+            f"--user-data-dir={self.folder}/user",
+            *words,
+            f"file://{self.path}",
+        ]
+        ended = subprocess.run(
+            whole, stdout=subprocess.PIPE, stderr=subprocess.DEVNULL, timeout=120
+        )
+        self.assertEqual(ended.returncode, 0)
+        return ended.stdout.decode()
+
+    def test_it_is_seen(self):
+        picture = os.path.join(self.folder, "page.png")
+        self.browse("--window-size=1100,700", f"--screenshot={picture}")
+        width, height, rows = pixels(picture)
+        self.assertEqual((width, height), (1100, 700))
+        seen = [pixel for row in rows for pixel in row]
+        red = sum(pixel == (179, 38, 30) for pixel in seen)
+        white = sum(pixel == (255, 255, 255) for pixel in seen)
+        self.assertGreater(red, 400)  # the mark of the verdict, and arcs of the circle
+        self.assertGreater(white, len(seen) // 2)
+        lower = [pixel for row in rows[280:560] for pixel in row]
+        self.assertGreater(sum(pixel == (179, 38, 30) for pixel in lower), 100)  # the arcs
+        self.assertGreater(sum(pixel == (244, 247, 251) for pixel in lower), 9000)  # the boxes
+
+    def test_on_paper(self):
+        paper = os.path.join(self.folder, "page.pdf")
+        self.browse(f"--print-to-pdf={paper}")
+        with open(paper, "rb") as file:
+            data = file.read()
+        self.assertTrue(data.startswith(b"%PDF"))
+        self.assertLessEqual(len(re.findall(rb"/Type\s*/Page\b", data)), 3)
+
+
+if __name__ == "__main__":
+    unittest.main()

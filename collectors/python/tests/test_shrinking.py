@@ -1,0 +1,141 @@
+"""What is told of a violation is small, whole and there in time, at as many transactions as remain."""
+import os
+import random
+import sys
+import time
+import unittest
+
+from zanteyard import Aborted, Auditor, Logged, Session, audited, dot_text, smaller, tell_violation
+from zanteyard.auditor import PROGRAM
+from zanteyard.explain import explain_history
+from zanteyard.memory_store import MemoryStore
+from zanteyard.shrinking import Part, named
+
+from .test_examples import EXAMPLES
+
+MOST = 4096  # transactions
+SECONDS = 5.0
+SLOW = 3.0  # times as long, where other programs have the processors
+
+
+def workloads():
+    sys.path.insert(0, EXAMPLES)
+    try:
+        import postgres_live
+    finally:
+        sys.path.remove(EXAMPLES)
+    return postgres_live.WORKLOADS
+
+
+def history_of(workload, fault, honest, count=MOST, clients=8):
+    """So many transactions over a store in memory, several of them open at once; honest at first."""
+    random.seed(1)
+    store = MemoryStore()
+    with Auditor(clients, count) as auditor:
+        sessions = [Session(auditor, number, store.connect()) for number in range(clients)]
+        begun, running = 0, {}
+        while begun < count or running:
+            store.fault = fault if begun >= honest else None
+            session = random.choice(sessions)
+            if session in running:
+                try:
+                    running.pop(session).commit()
+                except Aborted:
+                    pass
+            elif begun < count:
+                begun += 1
+                running[session] = session.begin()
+                workload(running[session], session.number)
+        return auditor.history, auditor.outcome()
+
+
+def told_of(history):
+    """The transactions that do something."""
+    return [logged for txns in history for logged in txns if logged.reads or logged.writes]
+
+
+@unittest.skipUnless(os.path.isfile(PROGRAM), f"{PROGRAM} is not built")
+class Shrinking(unittest.TestCase):
+    OWED = {("write-skew", "skew"), ("write-skew", "mixed")} | {
+        ("lost-update", name) for name in ("counter", "skew", "mixed")
+    }
+
+    def test_each_workload_and_level_in_time(self):
+        for name, workload in workloads().items():
+            for fault in ("write-skew", "lost-update"):  # as at repeatable read, and at read committed
+                for honest in (0, MOST - 96):
+                    with self.subTest(workload=name, fault=fault, honest=honest):
+                        history, outcome = history_of(workload, fault, honest)
+                        owed = "violated" if (fault, name) in self.OWED else "serial"
+                        self.assertEqual(outcome.kind, owed)
+                        if owed == "violated":
+                            self.check(history)
+
+    def check(self, history):
+        began = time.monotonic()
+        small = smaller(history, seconds=SLOW * SECONDS)
+        explanation = explain_history(small)
+        self.assertLess(time.monotonic() - began, SLOW * SECONDS)
+        self.assertLessEqual(len(told_of(small)), 8)
+        self.assertEqual([it for it in told_of(small) if it.outcome == "aborted"], [])
+        self.assertLessEqual(len(explanation.lines), 20)
+        self.assertTrue(explanation.lines[-1].startswith("so none can come first of"))
+        self.check_least(small)
+        picture = dot_text(small, arcs=explanation.arcs)
+        self.assertEqual(picture.count("color=red"), len(explanation.arcs))
+
+    def check_least(self, small):
+        """Violated, and nothing that has one transaction less is."""
+        self.assertEqual(audited(small)[0].kind, "violated")
+        part = Part.of(small)
+        for id in part.txns:
+            self.assertIsNone(part.only(part.txns.keys() - {id}).report(PROGRAM), id)
+
+    def test_what_plays_no_part_is_left_out(self):
+        base, aborted = ("x", (0, 0)), Logged((), (), "aborted")
+        lost = Logged((base,), ("x",))
+        other = Logged((("y", "init"),), ("y",))
+        history = [[Logged((), ("x",)), aborted, other, lost], [aborted, lost], [aborted]]
+        self.assertEqual(
+            smaller(history),
+            [[Logged((), ("x",)), Logged((), ()), Logged((), ()), lost], [Logged((), ()), lost], []],
+        )
+
+    def test_a_dirty_read_is_told_with_what_aborted(self):
+        history = [[Logged((), (), "aborted")], [Logged((("x", (0, 0)), ("y", "init")), ("z",))]]
+        told = []
+        tell_violation(history, "/nowhere/x", tell=told.append)
+        self.assertEqual(told[1:3], ["  0.0 aborted", "  1.0 read x from 0.0"])
+        self.assertEqual(told[3:5], ["because", "  1.0 read x from 0.0, which aborted"])
+
+    def test_a_run_of_one_session_is_told_as_one(self):
+        txns = [
+            Logged((), ("x",)),
+            *(Logged((), (f"y{number}",)) for number in range(5)),
+            Logged((("x", "init"),), ()),
+        ]
+        explanation = explain_history([txns])
+        self.assertEqual(
+            explanation.lines,
+            (
+                "0.0 comes before 0.6: they are in one session",
+                "0.6 comes before 0.0: 0.6 read x as it was at first, and 0.0 wrote it",
+                "so none can come first of 0.0, 0.6",
+            ),
+        )
+        self.assertEqual(dot_text([txns], arcs=explanation.arcs).count("->"), 2)
+
+    def test_what_cant_be_written_is_told_behind_the_violation(self):
+        lost = Logged((("x", "init"),), ("x",))
+        told = []
+        tell_violation([[lost], [lost]], "/nowhere/violation", tell=told.append)
+        self.assertEqual(told[0].split(":")[0], "violated")
+        self.assertEqual([line.split(":")[0] for line in told[-2:]], ["(/nowhere/violation can't be written"] * 2)
+
+    def test_the_names_of_a_refutation(self):
+        report = audited([[Logged((("x", "init"),), ("x",))], [Logged((("x", "init"),), ("x",))]])[0]
+        self.assertEqual(named(report.certificate), {(0, 0), (1, 0)})
+
+
+if __name__ == "__main__":
+    unittest.main()

@@ -1,0 +1,7 @@
+"""`python3 -m zanteyard` is the command `zanteyard`."""
+
+import sys
+
+from .command_line import main
+
+sys.exit(main())

@@ -1,0 +1,73 @@
+"""What a live run has seen round by round, as plain SVG: how many transactions remain, how far the
+auditor is behind, and each round's verdict."""
+
+from __future__ import annotations
+
+from dataclasses import dataclass
+from html import escape
+from typing import Callable, List, Sequence, Tuple
+
+WIDTH, HEIGHT, LEFT, BOTTOM = 860.0, 150.0, 66.0, 34.0
+
+
+@dataclass(frozen=True)
+class RoundSeen:
+    """One round of a live audit."""
+
+    seconds: float  # since the audit began
+    kind: str  # the verdict
+    remaining: int  # transactions after it
+    behind: float  # seconds that the auditor was behind the clients
+    taken: int = 0  # transactions taken in since the audit began
+    waiting: Tuple[str, ...] = ()  # reads that wait for a transaction, and for whom
+
+
+def draw_rounds(rounds: Sequence[RoundSeen]) -> str:
+    """Two charts above one another; an empty text where there was no round."""
+    if not rounds:
+        return ""
+    return "\n".join(
+        [
+            _chart(rounds, "transactions that remain", lambda one: float(one.remaining), "{:,.0f}"),
+            _chart(rounds, "seconds behind the clients", lambda one: one.behind, "{:.2f}"),
+        ]
+    )
+
+
+def _chart(
+    rounds: Sequence[RoundSeen], title: str, value: Callable[[RoundSeen], float], shown: str
+) -> str:
+    most = max(max(map(value, rounds)), 1e-9)
+    last = max(max(one.seconds for one in rounds), 1e-9)
+    points = [
+        (
+            LEFT + one.seconds / last * (WIDTH - LEFT - 20),
+            HEIGHT - BOTTOM - value(one) / most * (HEIGHT - BOTTOM - 28),
+        )
+        for one in rounds
+    ]
+    dots: List[str] = []
+    for one, (x, y) in zip(rounds, points):
+        about = f"{one.seconds:.1f} s: {one.kind}, {shown.format(value(one))} {title}"
+        dots.append(
+            f'<circle class="{escape(one.kind)}" cx="{x:.1f}" cy="{y:.1f}" r="3.5">'
+            f"<title>{escape(about)}</title></circle>"
+        )
+    line = " ".join(f"{x:.1f},{y:.1f}" for x, y in points)
+    floor = HEIGHT - BOTTOM
+    return "\n".join(
+        [
+            f'<svg class="chart" role="img" viewBox="0 0 {WIDTH:.0f} {HEIGHT:.0f}" '
+            f'width="{WIDTH:.0f}" height="{HEIGHT:.0f}" xmlns="http://www.w3.org/2000/svg">',
+            f"<title>{escape(title)}, round by round</title>",
+            f'<text class="label" x="{LEFT:.0f}" y="15">{escape(title)}</text>',
+            f'<line class="axis" x1="{LEFT:.0f}" x2="{WIDTH - 20:.0f}" y1="{floor}" y2="{floor}"/>',
+            f'<text class="tick end" x="{LEFT - 8:.0f}" y="32">{shown.format(most)}</text>',
+            f'<text class="tick end" x="{LEFT - 8:.0f}" y="{floor + 4}">0</text>',
+            f'<text class="tick" x="{LEFT:.0f}" y="{floor + 18}">0 s</text>',
+            f'<text class="tick end" x="{WIDTH - 20:.0f}" y="{floor + 18}">{last:.0f} s</text>',
+            f'<polyline points="{line}"/>',
+            *dots,
+            "</svg>",
+        ]
+    )

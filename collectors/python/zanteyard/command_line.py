@@ -1,0 +1,234 @@
+"""The command `zanteyard`. Its exit status is that of the last verdict: 0 serial, 1 violated,
+2 a mistake in the script or the call, 3 pending, 4 undecided."""
+
+from __future__ import annotations
+
+import argparse
+import os
+import sys
+import traceback
+from typing import Any, Callable, Iterator, List, Mapping, Optional, Sequence
+
+from . import demo, postgres_audit
+from .auditor import Auditor
+from .errors import ProgramEndedError, ScriptMistakeError, ZanteyardError
+from .page import page_of
+from .pipes import Ended
+from .programs import find_program, origin_of, program_path
+from .scripts import MORE, ScriptRun, Verdict
+from .stories import EXPLAINED, Story, story_lines, verdict_story, violation_story
+from .version import VERSION
+
+MISTAKE, UNDECIDED = 2, 4
+STATUSES: Mapping[str, int] = {"serial": 0, "violated": 1, "pending": 3, "spent": UNDECIDED}
+STATUS_WORDS = (
+    "The exit status is that of the last verdict: 0 serial, 1 violated, "
+    "2 a mistake in the script or the call, 3 pending, 4 undecided."
+)
+
+
+def main(words: Optional[Sequence[str]] = None) -> int:
+    """Runs the command, and gives its exit status. Mistakes are told on standard error."""
+    asked = parser().parse_args(words)
+    try:
+        status: int = asked.run(asked)
+        return status
+    except (ProgramEndedError, Ended) as error:
+        print(f"undecided: {error}", file=sys.stderr)
+        return UNDECIDED
+    except (ZanteyardError, OSError) as error:
+        print(f"mistake: {error}", file=sys.stderr)
+        return MISTAKE
+    except KeyboardInterrupt:
+        print("undecided: it was interrupted", file=sys.stderr)
+        return UNDECIDED
+    except Exception:  # Python's own status would be 1, which says violated
+        traceback.print_exc()
+        return UNDECIDED
+
+
+class _Version(argparse.Action):
+    """Tells the version and which program would be started, and ends."""
+
+    def __call__(self, parser: argparse.ArgumentParser, *_: Any) -> None:
+        print(f"zanteyard {VERSION}")
+        print(f"auditor {origin_of(program_path()).sentence()}")
+        parser.exit()
+
+
+def parser() -> argparse.ArgumentParser:
+    """The command line."""
+    whole = argparse.ArgumentParser(
+        prog="zanteyard",
+        description="Checks whether a store's transactions were serializable, each session's "
+        "order kept.",
+        epilog=STATUS_WORDS,
+    )
+    whole.add_argument("--version", action=_Version, nargs=0, help="the version, and the auditor")
+    commands = whole.add_subparsers(metavar="COMMAND", required=True)
+
+    def command(name: str, run: Callable[[Any], int], about: str) -> argparse.ArgumentParser:
+        one = commands.add_parser(name, help=about, description=about, epilog=STATUS_WORDS)
+        one.set_defaults(run=run)
+        return one
+
+    check = command("check", _check, "tells each verdict of a script in words")
+    _add_script(check)
+    explain = command("explain", _explain, "tells why a script is violated, also on a page")
+    _add_script(explain)
+    explain.add_argument("--html", metavar="FILE", help="writes a page to look at")
+    shown = command("demo", _demo, "audits a store in memory that has a fault")
+    shown.add_argument(
+        "name",
+        nargs="?",
+        default="lost-update",
+        choices=demo.NAMES,
+        metavar="NAME",
+        help="one of " + ", ".join(demo.NAMES) + " (lost-update)",
+    )
+    shown.add_argument(
+        "--html", metavar="FILE", help="where the page is written (zanteyard-NAME.html)"
+    )
+    shown.add_argument("--no-html", action="store_true", help="writes no page")
+    audit = command("audit", _audit, "audits clients of a server while they run")
+    audit.add_argument("server", choices=("postgres",), help="which kind of server")
+    postgres_audit.add_arguments(audit)
+    return whole
+
+
+def _add_script(command: argparse.ArgumentParser) -> None:
+    command.add_argument(
+        "script", metavar="SCRIPT", help="a file of lines as docs/FORMATS.md has them; - for input"
+    )
+    command.add_argument(
+        "--nodes",
+        type=_nodes,
+        default=MORE[1][0],
+        metavar="N",
+        help="the greatest budget that a round is given again with, in nodes of the search "
+        f"({MORE[1][0]}; at most {MORE[-1][0]})",
+    )
+    command.add_argument(
+        "--seconds",
+        type=float,
+        default=EXPLAINED,
+        metavar="S",
+        help=f"how long making a violated history small may take ({EXPLAINED:.0f})",
+    )
+
+
+def _nodes(text: str) -> int:
+    found = int(text)
+    if not 1 <= found <= MORE[-1][0]:
+        raise argparse.ArgumentTypeError(f"1 to {MORE[-1][0]}")
+    return found
+
+
+def _lines(path: str) -> Iterator[bytes]:
+    if path == "-":
+        yield from sys.stdin.buffer
+    else:
+        with open(path, "rb") as file:
+            yield from file
+
+
+def _check(asked: Any) -> int:
+    is_told = False
+    with ScriptRun(find_program(), asked.nodes) as run:
+        for verdict in run.verdicts(_lines(asked.script)):
+            print(_where(verdict), end=" ")
+            if verdict.kind == "violated" and is_told:
+                print("violated, still")
+                continue
+            _tell(_story(verdict, run, asked.seconds))
+            is_told = verdict.kind == "violated"
+        _tell_no_cuts(run)
+    return _status(run)
+
+
+def _explain(asked: Any) -> int:
+    with ScriptRun(find_program(), asked.nodes) as run:
+        for verdict in run.verdicts(_lines(asked.script)):
+            if verdict.kind == "violated":
+                break  # violated is final
+        assert run.verdict is not None
+        story = _story(run.verdict, run, asked.seconds)
+        print(_where(run.verdict), end=" ")
+        _tell(story)
+    if asked.html:
+        about = os.path.basename(asked.script) if asked.script != "-" else "a script"
+        _write_page(story, about, asked.html)
+    return _status(run)
+
+
+def _demo(asked: Any) -> int:
+    program = find_program()
+    print(f"{asked.name}: {demo.about(asked.name)}.")
+    with Auditor(demo.SESSIONS, program=program) as auditor:
+        demo.run_demo(asked.name, auditor)
+        report = auditor.round()
+        if report.kind == "violated":
+            story = violation_story(auditor, program, report.counts)
+        else:
+            order = tuple(f"{session}.{number}" for session, number in report.certificate)
+            story = Story(report.kind, tuple(report.counts), order=order)
+    _tell(story)
+    if not asked.no_html:
+        _write_page(
+            story, f"a store in memory, {asked.name}", asked.html or f"zanteyard-{asked.name}.html"
+        )
+    return STATUSES[report.kind]
+
+
+def _audit(asked: Any) -> int:
+    ran = postgres_audit.run(asked)
+    for line in ran.lines():
+        print(line)
+    if asked.html:
+        _write(ran.page(_origin()), asked.html)
+    return STATUSES.get(ran.outcome.whole.kind, UNDECIDED)
+
+
+def _story(verdict: Verdict, run: ScriptRun, seconds: float) -> Story:
+    if verdict.kind == "violated":
+        return violation_story(run.history, find_program(), verdict.counts, seconds)
+    return verdict_story(verdict, run.history)
+
+
+def _where(verdict: Verdict) -> str:
+    """Which round it is that says so."""
+    line = f"line {verdict.line_number}" if verdict.line_number else "at the end"
+    again = f", given {verdict.rounds} times, the last with {verdict.nodes:,} nodes"
+    return f"{line}{again if verdict.rounds > 1 else ''}:"
+
+
+def _tell(story: Story) -> None:
+    for line in story_lines(story):
+        print(line)
+
+
+def _tell_no_cuts(run: ScriptRun) -> None:
+    if run.no_cut_lines:
+        lines: List[str] = [str(number) for number in run.no_cut_lines[:8]]
+        more = " and more" if len(run.no_cut_lines) > 8 else ""
+        print(f"(nothing was settled, so nothing forgotten, at line {', '.join(lines)}{more})")
+
+
+def _write_page(story: Story, about: str, path: str) -> None:
+    _write(page_of(story, about, _origin()), path)
+
+
+def _write(page: str, path: str) -> None:
+    with open(path, "w", encoding="utf-8") as file:
+        file.write(page)
+    print(f"(to look at: {path})")
+
+
+def _origin() -> str:
+    return origin_of(find_program()).sentence()
+
+
+def _status(run: ScriptRun) -> int:
+    if run.verdict is None:
+        raise ScriptMistakeError(0, "nothing")
+    return STATUSES[run.verdict.kind]

@@ -1,0 +1,60 @@
+"""Which of the sessions' transactions an audit is about, where it began while clients went on.
+
+What was answered before the audit began is the state that it begins with: no version that is written
+later can stand before it. What was on its way in that moment may stand before or after any of it, so
+that nothing is said of who read from it. What was sent to the store later is audited, under a number
+that counts from there.
+"""
+from dataclasses import dataclass, field
+from typing import List, Optional, Tuple
+
+SKIPPED = 1 << 32  # numbers that may have been given unseen, by a process that ended without a word
+
+
+@dataclass
+class Coverage:
+    """Of each session: `early`, below which all had been answered; `first`, from which on all are
+    audited, or None where none is; `last`, up to which they are, or None where there is no end."""
+
+    early: List[int]
+    first: List[Optional[int]]
+    last: List[Optional[int]] = field(default_factory=list)
+
+    def __post_init__(self):
+        self.last = self.last or [None] * len(self.early)
+
+    @classmethod
+    def of_all(cls, sessions: int) -> "Coverage":
+        return cls([0] * sessions, [0] * sessions)
+
+    def number(self, session: int, number: int) -> Optional[int]:
+        """The transaction's number in the audit; None where it isn't audited."""
+        first, last = self.first[session], self.last[session]
+        if first is None or number < first or (last is not None and number > last):
+            return None
+        return number - first
+
+    def source(self, session: int, number: int):
+        """Where a read of this transaction's write was from, as the audit sees it: (session, number)
+        or "init"; None where it can't be said, so that the read is to be left out."""
+        if session >= len(self.early):
+            return None  # it is one that isn't audited, since there were more clients than sessions
+        found = self.number(session, number)
+        if found is not None:
+            return (session, found)
+        return "init" if number < self.early[session] else None
+
+    def moved(self, logged) -> Tuple[object, int]:
+        """What was logged, and how many of its reads were left out."""
+        reads = [(key, "init" if it == "init" else self.source(*it)) for key, it in logged.reads]
+        kept = [(key, source) for key, source in reads if source is not None]
+        if kept == list(logged.reads):
+            return logged, 0
+        new = dict(zip(logged.reads, reads))
+        statements = [
+            (new.get(deed, deed), statement)
+            for deed, statement in logged.statements
+            if new.get(deed, deed)[-1] is not None
+        ]
+        kept = sorted(set(kept), key=repr)
+        return logged._replace(reads=kept, statements=tuple(statements)), len(reads) - len(kept)

@@ -1,0 +1,195 @@
+"""The sessions of one process, as meetings use them.
+
+At a meeting each session is held as its transaction ends. It then writes its flag, a key of its own,
+while one of them, the leader, writes the mark over; the leader reads all flags, and with them the keys
+that were written unseen; it runs a fence, and writes the mark again, which all others read before they
+go on. So every transaction of before comes before the fence, every one of later after it, and of each
+key it is known who wrote it last. A session that has done nothing since it read the mark needs no flag:
+whoever overwrites what it read comes after it. Flags are written side by side, and marks are read so:
+what is done one after another is five statements, however many sessions there are.
+"""
+import threading
+import time
+from concurrent.futures import Future, ThreadPoolExecutor, wait
+
+
+class Missed(Exception):
+    """The meeting can't be had, and why."""
+
+
+def none_running():
+    done = Future()
+    done.set_result(None)
+    return done
+
+
+class Group:
+    """All of it but `sessions` is for one thread at a time, and is called in this order: `gather`,
+    `lead` in one group alone, `pass_on`, `release`. Who isn't called on in time releases its sessions
+    by itself, and raises Missed from then on."""
+
+    is_here = True
+
+    def __init__(self):
+        self.sessions = []
+        self.gate = threading.Lock()  # held while a meeting goes on: no transaction begins
+        self.lock = threading.Lock()  # around what follows, since a timer may release
+        self.meeting, self.held, self.leader, self.timer = None, {}, None, None
+        self.pool = ThreadPoolExecutor(64, "zanteyard-meeting")  # threads are made as they are used
+
+    def add(self, session):
+        session.gate = self.gate
+        self.sessions.append(session)
+
+    def remove(self, session):
+        if session in self.sessions:
+            self.sessions.remove(session)
+
+    @property
+    def has_sessions(self):
+        return any(session.is_open for session in self.sessions)
+
+    def gather(self, meeting, seconds, leads, places, idle):
+        """Holds all sessions, and has flags written: of those, and of these places that are lent. Gives
+        the numbers of those that have flags, and the places of sessions that were idle for so long."""
+        self.ends = time.monotonic() + seconds
+        if not self.gate.acquire(timeout=seconds):
+            raise Missed("the meeting before this one still goes on")
+        with self.lock:
+            self.meeting, self.held = meeting, {}
+            self.timer = threading.Timer(seconds, self.release, (meeting,))
+            self.timer.daemon = True
+            self.timer.start()
+        summoned = [session for session in self.sessions if session.is_open]
+        if leads and not summoned:
+            raise Missed("no client has a session")
+        self.leader = max(summoned, key=lambda session: session.used_at) if leads else None
+        for session in sorted(summoned, key=lambda session: session.current is not None):
+            self.hold(session, meeting, seconds)
+            if session.is_open and session is self.leader:
+                self.begin(meeting, session, "write_mark")
+            elif session.is_open and session.place.is_due:
+                self.begin(meeting, session, "flag")
+        self.end_all()
+        self.share(meeting, places, "flag")
+        flags = [one.number for one in self.held if one.is_open and one.place.has_flag]
+        flags += [place.number for place in places if place.has_flag]
+        return flags, self.given_back(idle)
+
+    def begin_gather(self, *arguments):
+        """What is begun gives what waits for its end, which other processes work towards meanwhile."""
+        found = self.gather(*arguments)
+        return lambda ends: found
+
+    def begin_lead(self, *arguments):
+        self.lead(*arguments)
+        return lambda ends: None
+
+    def begin_pass_on(self, *arguments):
+        self.pass_on(*arguments)
+        return lambda ends: None
+
+    def hold(self, session, meeting, seconds):
+        if not session.turn.acquire(timeout=self.left()):
+            raise Missed(f"a transaction of session {session.number} took longer than {seconds:g} s")
+        with self.lock:
+            if self.meeting != meeting:
+                session.turn.release()
+                raise Missed("the meeting took too long")
+            self.held[session] = none_running()
+
+    def given_back(self, idle):
+        """Whose client does nothing goes without a session, until it comes back."""
+        places = []
+        for session in list(self.held):
+            is_idle = time.monotonic() - session.used_at > idle
+            if is_idle and session is not self.leader and session.is_open:
+                places.append(session.place)
+                session.is_open, session.place = False, None
+        return places
+
+    def lead(self, meeting, lists):
+        """Has the leader read these keys, and put its fence and the mark behind them."""
+        for keys in lists:
+            self.begin(meeting, self.leader, "read_all", keys)
+            self.end_all()
+        for deed in ("fence", "write_mark"):
+            self.begin(meeting, self.leader, deed)
+            self.end_all()
+
+    def pass_on(self, meeting, places):
+        """Has all others read the mark, those that are lent too."""
+        for session in self.held:
+            if session is not self.leader and session.is_open:
+                self.begin(meeting, session, "read_mark")
+        self.end_all()
+        self.share(meeting, places, "read_mark")
+
+    def share(self, meeting, places, deed):
+        """Runs what these places need over the sessions' connections."""
+        lenders = [session for session in self.held if session.is_open] if places else []
+        for start in range(0, len(places) if lenders else 0, max(1, len(lenders))):
+            for place, session in zip(places[start : start + len(lenders)], lenders):
+                self.begin(meeting, session, "lend", place, deed)
+            self.end_all()
+
+    def begin(self, meeting, session, deed, *arguments):
+        with self.lock:
+            if self.meeting != meeting:
+                raise Missed("the meeting took too long")
+            run = getattr(session, deed)
+            self.held[session] = self.pool.submit(run, *arguments, max(0.001, self.left()))
+
+    def end_all(self):
+        """Waits for what was begun; raises what failed."""
+        running = list(self.held.values())
+        _, late = wait(running, self.left())
+        if late:
+            raise Missed("the store took too long")
+        for one in running:
+            one.result()
+
+    def left(self):
+        return max(0.0, self.ends - time.monotonic())
+
+    def release(self, meeting=None):
+        """Lets all go on, but for whose connection is still in use; at once where it has been done."""
+        with self.lock:
+            if self.meeting is None or meeting not in (None, self.meeting):
+                return
+            self.timer.cancel()
+            self.meeting, held, self.held = None, self.held, {}
+        for session, running in held.items():
+            running.add_done_callback(lambda _, turn=session.turn: turn.release())
+        self.gate.release()
+
+    def edges(self):
+        """Of each session's number, how many of its transactions have been answered, and from which on
+        none has been sent. To be called twice: all that was answered as the first call ended had been
+        answered when whatever hadn't been sent in the second call was sent."""
+        found = []
+        for session in list(self.sessions):
+            if session.place is None:
+                continue
+            begun = session.begun  # before it is seen what runs: all below have ended, if nothing does
+            running = session.running
+            if running is None:
+                found.append((session.number, begun, begun))
+            else:
+                first = running.number + 1 if running.is_committing else running.number
+                found.append((session.number, running.number, first))
+        return found
+
+    def reopen(self):
+        """Another audit begins, in which every place may be used again."""
+        for session in list(self.sessions):
+            place = session.place
+            if place is not None:
+                session.is_open, place.is_due = place.is_audited, True
+
+    def numbers(self):
+        """Of the sessions' places."""
+        return [session.number for session in self.sessions if session.place is not None]
+
+    def end(self):
+        self.pool.shutdown(wait=False)

@@ -1,0 +1,217 @@
+"""Audits a PostgreSQL while clients run on it at the same time: a line a round, and what can't be at a
+violation. `zanteyard audit postgres` and `examples/postgres_live.py` are this."""
+
+from __future__ import annotations
+
+import argparse
+import tempfile
+import time
+from dataclasses import dataclass
+from typing import Any, Callable, List, Optional, Tuple
+
+from .apart import AuditorApart
+from .charts import RoundSeen
+from .cluster import Cluster, ended_by_signals, program
+from .errors import ZanteyardError
+from .live import LiveAuditor
+from .outcome import RATHER_LOSE_THE_AUDIT, RATHER_WAIT, Outcome
+from .page import page_of
+from .processes import AuditServer
+from .sessions import Session
+from .shrinking import from_start
+from .stories import Story, story_of
+from .telling import tell_violation
+from .workloads import LEVELS, WORKLOADS, ClientProcesses, Clients, Nothing
+
+PAGE_SECONDS = 5.0  # that finding the reasons for the page may take
+MakesStore = Callable[[], Any]
+
+
+class CantAuditError(ZanteyardError):
+    """What is wanted for an audit of PostgreSQL and isn't there."""
+
+
+class MakeStore:
+    """Makes a client's store, here or in another process."""
+
+    def __init__(self, server: Any, level: str) -> None:
+        self.arguments = (server.dsn, LEVELS[level], server.table)
+
+    def __call__(self) -> Any:
+        from .postgres_store import PostgresStore
+
+        return PostgresStore(*self.arguments)
+
+
+@dataclass(frozen=True)
+class LiveRun:
+    """What came of a run. `alone` are the clients without an auditor, if they ran so; `story` tells a
+    violation where there was one, and `seen` the rounds."""
+
+    asked: argparse.Namespace
+    live: LiveAuditor
+    outcome: Outcome
+    clients: Clients
+    alone: Optional[Clients]
+    story: Optional[Story]
+    seen: Tuple[RoundSeen, ...]
+
+    def lines(self) -> List[str]:
+        """The three lines that end a run."""
+        at = f"{self.asked.workload} at {LEVELS[self.asked.level]}"
+        compared = f", {self.alone.rate():.0f} without the auditor" if self.alone else ""
+        return [
+            f"{at}: {self.outcome}; {self.live.cuts} cuts in {self.live.rounds} rounds",
+            f"{self.clients.rate():.0f} transactions a second were committed by "
+            f"{self.asked.clients} clients{compared}; {self.clients.aborted} aborted",
+            f"clients waited {100 * self.clients.waited:.1f}% of their time for meetings, and "
+            f"{self.clients.longest:.2f} s at most for a transaction; the auditor was at most "
+            f"{self.live.lag:.2f} s behind",
+        ]
+
+    def page(self, origin: str) -> str:
+        """The run on a page."""
+        about = f"PostgreSQL, {self.asked.workload} at {LEVELS[self.asked.level]}"
+        return page_of(self.story or self._other_story(), about, origin, self.seen)
+
+    def _other_story(self) -> Story:
+        whole = self.outcome.whole
+        kind = whole.kind if whole.kind in ("serial", "pending") else "spent"
+        waiting = tuple(
+            f"{one.reader[0]}.{one.reader[1]} read {one.key} from "
+            f"{one.source[0]}.{one.source[1]}, which never came"
+            for one in whole.pending
+        )
+        return Story(kind, tuple(whole.counts or ()), waiting=waiting)
+
+
+def unaudited_run(asked: Any, make_store: MakesStore) -> Clients:
+    """The clients without the auditor, to compare with."""
+    if asked.processes:
+        more = (asked.clients, asked.workload, asked.unaudited, asked.rate)
+        return ClientProcesses(None, make_store, *more)
+    sessions = [
+        Session(Nothing(), number, make_store(), "unaudited") for number in range(asked.clients)
+    ]
+    return Clients(sessions, WORKLOADS[asked.workload], asked.unaudited, lambda: False, asked.rate)
+
+
+def _beside(asked: Any, make_store: MakesStore, live: LiveAuditor) -> Clients:
+    """The clients of a live audit."""
+    if not asked.processes:
+        sessions = [live.session(make_store()) for _ in range(asked.clients)]
+        more = (asked.seconds, lambda: live.is_over, asked.rate)
+        return Clients(sessions, WORKLOADS[asked.workload], *more)
+    with tempfile.TemporaryDirectory(prefix="zanteyard-") as folder:
+        with AuditServer(live, f"{folder}/audit") as server:
+            those = (asked.clients, asked.workload, asked.seconds, asked.rate)
+            clients = ClientProcesses(server.path, make_store, *those)
+    return clients
+
+
+class _Rounds:
+    """Tells each round, and keeps what was seen of it."""
+
+    def __init__(self) -> None:
+        self.live: Optional[LiveAuditor] = None
+        self.began, self.seen = time.monotonic(), []  # type: ignore[var-annotated]
+
+    def tell(self, line: str) -> None:
+        print(line, flush=True)
+        live = self.live
+        if live is not None and live.report is not None and line.startswith("round"):
+            at = time.monotonic() - self.began
+            remaining, behind = live.auditor.remaining, getattr(live, "told_behind", live.lag)
+            self.seen.append(RoundSeen(at, live.report.kind, remaining, behind, live.taken_in))
+
+
+def audited_run(
+    asked: Any, make_store: MakesStore
+) -> Tuple[LiveAuditor, Outcome, Clients, Optional[Story], Tuple[RoundSeen, ...]]:
+    """The clients beside the auditor, and what became of the audit."""
+    policy = RATHER_WAIT if asked.rather_wait else RATHER_LOSE_THE_AUDIT
+    rounds, story = _Rounds(), None
+    with AuditorApart(asked.clients) as auditor:
+        live = LiveAuditor(auditor, every=asked.every, policy=policy, tell=rounds.tell)
+        rounds.live = live
+        clients = _beside(asked, make_store, live)
+        outcome = live.stop()
+        if live.is_violated:
+            history, called = from_start(auditor)
+            small = tell_violation(history, "violation", called)
+            if asked.html:
+                story = story_of(small, called, _script(), outcome.counts or (), PAGE_SECONDS)
+        return live, outcome, clients, story, tuple(rounds.seen)
+
+
+def _script() -> str:
+    """What was written of the violation."""
+    try:
+        with open("violation.jsonl", encoding="utf-8") as file:
+            return file.read()
+    except OSError:
+        return ""
+
+
+def count_of_clients(text: str) -> int:
+    """2 to 64."""
+    count = int(text)
+    if not 2 <= count <= 64:
+        raise argparse.ArgumentTypeError(f"{count} is not from 2 to 64")
+    return count
+
+
+def add_arguments(asked: argparse.ArgumentParser) -> None:
+    """What may be asked of a run."""
+    asked.add_argument("--level", choices=LEVELS, default="serializable")
+    asked.add_argument("--workload", choices=WORKLOADS, default="mixed")
+    asked.add_argument("--seconds", type=float, default=10.0)
+    told = "seconds without the auditor, to compare with; 0 for none"
+    asked.add_argument("--unaudited", type=float, default=3.0, help=told)
+    asked.add_argument("--clients", type=count_of_clients, default=8, help="2 to 64")
+    told = "transactions a second that all clients together begin at most; else as many as they can"
+    asked.add_argument("--rate", type=float, help=told)
+    told = "transactions from one meeting to the next"
+    asked.add_argument("--every", type=int, default=LiveAuditor.EVERY, help=told)
+    told = "each client in a process of its own, in place of a thread"
+    asked.add_argument("--processes", action="store_true", help=told)
+    told = "clients wait where the auditor can't keep up; else that audit ends, and another begins"
+    asked.add_argument("--rather-wait", action="store_true", help=told)
+    told = (
+        "a server that is there, in a schema of this program's own; without a value, the one that "
+        "PGHOST, PGDATABASE and the like name"
+    )
+    asked.add_argument("--dsn", nargs="?", const="", help=told)
+    asked.add_argument("--html", metavar="FILE", help="writes a page to look at")
+
+
+def server(asked: Any) -> Any:
+    """What is audited: with `dsn` and `table`, and cleaned up at the end of the `with`. Raises
+    CantAuditError."""
+    try:
+        import psycopg2  # noqa: F401
+    except ImportError as error:
+        raise CantAuditError(
+            "psycopg2 is wanted: apt-get install python3-psycopg2, and run this by the Python that "
+            "it is for (/usr/bin/python3), or pip install psycopg2"
+        ) from error
+    if asked.dsn is not None:
+        from .guest import Guest
+
+        return Guest(asked.dsn)
+    if not program("initdb"):
+        raise CantAuditError("PostgreSQL is wanted: apt-get install postgresql")
+    return Cluster()
+
+
+def run(asked: Any) -> LiveRun:
+    """Runs the clients as asked, and tells each round. Raises CantAuditError."""
+    with ended_by_signals(), server(asked) as used:
+        if asked.dsn is None:
+            from .postgres_store import prepare
+
+            prepare(used.dsn)
+        make_store = MakeStore(used, asked.level)
+        alone = unaudited_run(asked, make_store) if asked.unaudited else None
+        live, outcome, clients, story, seen = audited_run(asked, make_store)
+    return LiveRun(asked, live, outcome, clients, alone, story, seen)

@@ -1,0 +1,85 @@
+"""Where the auditor's program is, and what is known of how it was made.
+
+A wheel has the program inside, in the folder `programs` of this package, beside a note of what was
+proved (`made.json`, which package.sh writes). In a clone it is where the prover's build puts it.
+"""
+
+from __future__ import annotations
+
+import hashlib
+import json
+import os
+from dataclasses import dataclass
+from typing import Any, Mapping, Optional
+
+from .errors import ProgramMissingError
+
+AUDITOR = "cobra_audit"
+ENVIRONMENT = "COBRA_AUDIT"  # the environment's name for a program that comes before all others
+PACKAGE = os.path.dirname(os.path.abspath(__file__))
+PACKED = os.path.join(PACKAGE, "programs")
+NOTE = os.path.join(PACKED, "made.json")
+BUILT = os.path.normpath(os.path.join(PACKAGE, f"../../../crates/{AUDITOR}/out/{AUDITOR}"))
+
+
+@dataclass(frozen=True)
+class Origin:
+    """How a program was made. `is_proved` is None where nobody noted it."""
+
+    path: str
+    is_proved: Optional[bool]
+    kit: str = ""
+    commit: str = ""
+    is_as_noted: bool = True  # whether the file has the sum that the note says
+
+    def sentence(self) -> str:
+        """In words, for `--version`."""
+        if self.is_proved is None:
+            return f"{self.path}: whether it was proved isn't noted here"
+        if not self.is_as_noted:
+            return f"{self.path}: NOT THE FILE THAT WAS PACKED (its sha256 is another one)"
+        if not self.is_proved:
+            return f"{self.path}: NOT PROVED, built for a first try"
+        return f"{self.path}: proved by {self.kit}, commit {self.commit}"
+
+
+def program_path(environment: Mapping[str, str] = os.environ) -> str:
+    """The program that would be started, whether or not it is there: the one that the environment
+    names, else the one that came with the package, else the one that a clone has built."""
+    named = environment.get(ENVIRONMENT)
+    if named:
+        return named
+    packed = os.path.join(PACKED, AUDITOR)
+    return packed if os.path.isfile(packed) else BUILT
+
+
+def find_program(environment: Mapping[str, str] = os.environ) -> str:
+    """The same; raises ProgramMissingError where there is none that can be started."""
+    path = program_path(environment)
+    if not os.path.isfile(path):
+        raise ProgramMissingError(
+            f"{path} isn't there: install the wheel, build the auditor (README.md says how), "
+            f"or name it by {ENVIRONMENT}"
+        )
+    if not os.access(path, os.X_OK):
+        raise ProgramMissingError(f"{path} can't be executed")
+    return path
+
+
+def origin_of(path: str) -> Origin:
+    """What is known of this program."""
+    if os.path.dirname(path) != PACKED or not os.path.isfile(NOTE):
+        return Origin(path, None)
+    with open(NOTE, encoding="utf-8") as file:
+        note: Mapping[str, Any] = json.load(file)
+    noted = note["programs"].get(os.path.basename(path), {}).get("sha256")
+    return Origin(path, bool(note["proved"]), note["kit"], note["commit"], noted == sha256_of(path))
+
+
+def sha256_of(path: str) -> str:
+    """The file's SHA-256 in hexadecimal."""
+    found = hashlib.sha256()
+    with open(path, "rb") as file:
+        for block in iter(lambda: file.read(1 << 16), b""):
+            found.update(block)
+    return found.hexdigest()

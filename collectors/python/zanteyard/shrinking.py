@@ -1,0 +1,297 @@
+"""What is told of a violated history: a small part of it that is violated too, in words and as a script."""
+import time
+
+from .auditor import FENCE, LONGEST, PLAIN_FENCE, PROGRAM, Auditor, Logged, is_own, written
+from .outcome import VIOLATED
+
+TOLD = 240  # characters of a statement, at most
+SECONDS = 5.0  # to make a history smaller
+START = "everything before the cut"  # a key that the first transaction of a history with a cut writes
+
+
+def audited(history, program=PROGRAM):
+    """The report of an auditor of its own, and the script that gives it."""
+    limit = max(1, sum(map(len, history)))
+    with Auditor(len(history), limit, program) as auditor:
+        script, fragments = [["open", len(history), limit]], []
+        for session, txns in enumerate(history):
+            for first in range(0, len(txns), LONGEST):
+                fragment = txns[first : first + LONGEST]
+                fragments.append((session, first, fragment))
+                script.append(["offer", session, first, [*map(auditor.txn, fragment)]])
+        for fragment in fragments:
+            auditor.offer(*fragment[:2], *fragment[2])
+        report = auditor.last_round()
+        script.append(["round", *auditor.effort])
+        return report, "".join(written(line) + "\n" for line in script)
+
+
+def is_violated(history, program=PROGRAM):
+    return audited(history, program)[0].kind == VIOLATED
+
+
+def from_start(auditor):
+    """What remains as a history without a cut and without fences' own key, and the names of its
+    transactions. Where something is forgotten, a first transaction stands for it: it writes the last
+    version of each key, and every session begins with one that reads from it."""
+    marks, base, history = auditor.marks, auditor.base, auditor.history
+    gone, some_gone = (0, 0), any(marks)
+
+    def moved(key, source):
+        if source == "init" or not some_gone:
+            return source
+        if source[1] >= marks[source[0]]:
+            return (source[0], source[1] - marks[source[0]] + 1)
+        # an older one than the last is as wrong as the initial state
+        return "init" if base.get(key, source) != source else gone
+
+    def plain(key):
+        return PLAIN_FENCE if key == FENCE else key
+
+    def plain_deed(key, *source):
+        return (plain(key), *(moved(key, it) for it in source))
+
+    def without_cut(one):
+        return one._replace(
+            reads=[plain_deed(*read) for read in one.reads],
+            writes=[*map(plain, one.writes)],
+            statements=[(plain_deed(*deed), statement) for deed, statement in one.statements],
+        )
+
+    history = [[without_cut(one) for one in txns] for txns in history]
+    if not some_gone:
+        return history, name
+    first = Logged((), (START, *sorted(map(plain, base))), "forgotten")
+    after = Logged(((START, gone),), (), "forgotten")
+
+    def renamed(id):
+        if id[1]:
+            return f"{id[0]}.{id[1] - 1 + marks[id[0]]}"
+        return "the cut" if id == gone else f"the cut in {id[0]}"
+
+    renamed.older = {plain(key): "in a version older than that at the cut" for key in base}
+    return [[after if session else first, *txns] for session, txns in enumerate(history)], renamed
+
+
+def is_collectors_own(auditor, program=PROGRAM):
+    """Whether the collector's own transactions have no order by themselves, and the clients' have one:
+    then it isn't they who are to look for what went wrong."""
+    history = from_start(auditor)[0]
+    return is_violated(only_keys(history, is_own), program) and not is_violated(
+        only_keys(history, lambda key: not is_own(key)), program
+    )
+
+
+def only_keys(history, is_kept):
+    """The same, where nothing was done with any other key."""
+
+    def part(logged):
+        reads = [(key, source) for key, source in logged.reads if key == START or is_kept(key)]
+        return logged._replace(
+            reads=reads, writes=[key for key in logged.writes if key == START or is_kept(key)]
+        )
+
+    return [[*map(part, txns)] for txns in history]
+
+
+def name(id):
+    return f"{id[0]}.{id[1]}"
+
+
+def named(items):
+    """The transactions that the items of a refutation name."""
+    found = set()
+    for kind, first, *rest in items:
+        if kind in ("nowrite", "gone"):
+            found.add((first, rest[0]))
+        if kind in ("force", "split"):
+            found.update([(first[0], first[1]), (first[3], first[4]), (first[5], first[6])])
+        for arc in {"force": rest[-1:], "cycle": [first]}.get(kind, [[]])[0]:
+            found.update([tuple(arc[-4:-2]), tuple(arc[-2:])])
+    return found
+
+
+class Part:
+    """Some transactions of a history, by (session, number). It is true of the store too: a read is left
+    out where its source is, and a write only where no read of it is left."""
+
+    def __init__(self, txns):
+        self.txns = txns
+
+    @classmethod
+    def of(cls, history):
+        return cls(
+            {
+                (session, number): logged
+                for session, txns in enumerate(history)
+                for number, logged in enumerate(txns)
+                if logged.reads or logged.writes
+            }
+            | wrong_sources(history)
+        )
+
+    def only(self, ids):
+        """The part that these are, with those from which one has read what they didn't write: that is
+        what is wrong."""
+        kept = {id for id in ids if id in self.txns}
+        for id in [*kept]:
+            kept.update(source for _, source in self.wrong_reads(self.txns[id]))
+        return Part({id: self.less_reads(logged, kept) for id, logged in self.txns.items() if id in kept})
+
+    def wrong_reads(self, logged):
+        for key, source in logged.reads:
+            if source in self.txns and key not in self.txns[source].writes:
+                yield key, source
+
+    @staticmethod
+    def less_reads(logged, kept):
+        reads = [(key, source) for key, source in logged.reads if source == "init" or source in kept]
+        return logged if len(reads) == len(logged.reads) else logged._replace(reads=reads)
+
+    def report(self, program):
+        """Of these alone, under numbers without holes: what its refutation names, or None."""
+        old, sessions = [], {}
+        for session, number in sorted(self.txns):
+            its = sessions.setdefault(session, len(sessions))
+            if its == len(old):
+                old.append([])
+            old[its].append((session, number))
+        new = {id: (at, number) for at, ids in enumerate(old) for number, id in enumerate(ids)}
+        history = [[self.moved(self.txns[id], new) for id in ids] for ids in old]
+        report = audited(history, program)[0] if history else None
+        if report is None or report.kind != VIOLATED:
+            return None
+        return {old[session][number] for session, number in named(report.certificate)}
+
+    @staticmethod
+    def moved(logged, new):
+        reads = [
+            (key, "init" if source == "init" else new[source])
+            for key, source in logged.reads
+            if source == "init" or source in new
+        ]
+        return logged._replace(reads=reads, statements=())
+
+    def lesser(self):
+        """The same without some transactions, the last first, and fewer and fewer; then without one
+        read, or without a write that nobody has read; each behind what is left out."""
+        ids = sorted(self.txns, key=lambda id: (-id[1], id[0]))
+        size = max(1, len(ids) // 2)
+        while size:
+            for start in range(0, len(ids), size):
+                out = frozenset(ids[start : start + size])
+                part = self.only(self.txns.keys() - out)
+                if len(part.txns) < len(self.txns):
+                    yield out, part
+            size //= 2
+        read = {(source, key) for logged in self.txns.values() for key, source in logged.reads}
+        for id, logged in self.txns.items():
+            for deed in logged.reads:
+                reads = [other for other in logged.reads if other != deed]
+                yield (id, deed), Part({**self.txns, id: logged._replace(reads=reads)})
+            for key in logged.writes:
+                if (id, key) not in read:
+                    writes = [other for other in logged.writes if other != key]
+                    yield (id, (key,)), Part({**self.txns, id: logged._replace(writes=writes)})
+
+    def history(self, sessions):
+        """With all in their places, and nothing done in between."""
+        found = [[] for _ in range(sessions)]
+        for (session, number), logged in sorted(self.txns.items(), key=lambda it: it[0]):
+            found[session] += [Logged((), ())] * (number - len(found[session])) + [logged]
+        return found
+
+
+def wrong_sources(history):
+    """Transactions that did nothing, and from which one is said to have read."""
+    return {
+        source: history[source[0]][source[1]]
+        for txns in history
+        for logged in txns
+        for key, source in logged.reads
+        if source != "init"
+        and source[0] < len(history)
+        and source[1] < len(history[source[0]])
+        and key not in history[source[0]][source[1]].writes
+    }
+
+
+def smaller(history, program=PROGRAM, seconds=SECONDS):
+    """A part of a violated history that is violated too, while nothing that has one thing less is; or as
+    small as it got in so many seconds. What a refutation names is kept, as long as that leaves something
+    out; then one thing after another is left out. The history itself, where it isn't violated."""
+    ends = time.monotonic() + seconds
+    part = Part.of(history)
+    ids = part.report(program)
+    if ids is None:
+        return history
+    part = by_names(part, ids, program)
+    needed = set()  # what can't be left out of a part can't be left out of a smaller one
+    while time.monotonic() < ends:
+        found = next_smaller(part, needed, program, ends)
+        if found is None:
+            break
+        part = by_names(*found, program)
+    return part.history(len(history))
+
+
+def by_names(part, ids, program):
+    """What refutations name, again and again until nothing changes."""
+    while True:
+        fewer = part.only(ids)
+        if len(fewer.txns) >= len(part.txns):
+            return part
+        ids = fewer.report(program)
+        if ids is None:
+            return part
+        part = fewer
+
+
+def next_smaller(part, needed, program, ends):
+    """One that has one thing less, and what its refutation names; None where each thing is needed, or
+    the time is up."""
+    for what, candidate in part.lesser():
+        if time.monotonic() > ends:
+            return None
+        if what not in needed:
+            ids = candidate.report(program)
+            if ids is not None:
+                return candidate, ids
+            needed.add(what)
+    return None
+
+
+def version(key, source, name):
+    """Which version of the key was read."""
+    if source != "init":
+        return f"from {name(source)}"
+    return getattr(name, "older", {}).get(key, "as it was at first")
+
+
+def deeds(logged, name):
+    """What a transaction did."""
+    if logged.outcome == "aborted":
+        return ["aborted"]
+    reads = [f"read {key} {version(key, source, name)}" for key, source in logged.reads]
+    return reads + [f"wrote {key}" for key in logged.writes]
+
+
+def statements_of(logged):
+    """Lines that tell what was run for what the transaction did, where that is known."""
+    left, told = dict(logged.statements), {}
+    for deed in (*logged.reads, *((key,) for key in logged.writes)):
+        if deed in left:
+            did = ("wrote" if len(deed) == 1 else "read") + f" {deed[0]}"
+            told.setdefault(" ".join(left[deed].split()), []).append(did)
+    for statement, its in told.items():
+        short = statement if len(statement) <= TOLD else statement[:TOLD] + " .."
+        yield f"{', '.join(its)}: {short}"
+
+
+def words(history, name=name):
+    """A line for each transaction, with its statements behind it."""
+    for session, txns in enumerate(history):
+        for number, logged in enumerate(txns):
+            if deeds(logged, name):  # else it is there for its number alone
+                yield f"{name((session, number))} {', '.join(deeds(logged, name))}"
+                yield from (f"    {line}" for line in statements_of(logged))

@@ -1,0 +1,38 @@
+"""A violation, told to a person."""
+import time
+
+from .auditor import PROGRAM
+from .explain import explain_history
+from .picture import draw
+from .shrinking import SECONDS, audited, name, smaller, words
+
+
+def tell_violation(history, path, called=name, tell=print, seconds=SECONDS, program=PROGRAM):
+    """Tells what is left of a violated history without what it is violated without, and why no order
+    explains it; then writes that as path.jsonl for cobra_audit, and draws it. What can't be written is
+    told as well, when everything else has been. Gives the small history."""
+    ends = time.monotonic() + seconds
+    small = smaller(history, program, max(0.0, ends - time.monotonic()))
+    tell("violated: of what was logged, no order explains this part, each client's own order kept:")
+    for line in words(small, called):
+        tell(f"  {line}")
+    explanation = explain_history(small, called, max(0.5, ends - time.monotonic()))
+    tell("because")
+    for line in explanation.lines:
+        tell(f"  {line}")
+    for write in (write_script, draw_picture):
+        try:
+            tell(write(small, path, called, explanation, program))
+        except Exception as error:  # as where the disk is full: what was found has been told
+            tell(f"({path} can't be written: {error})")
+    return small
+
+
+def write_script(small, path, called, explanation, program):
+    with open(f"{path}.jsonl", "w", encoding="utf-8") as file:
+        file.write(audited(small, program)[1])
+    return f"(cobra_audit < {path}.jsonl says so again)"
+
+
+def draw_picture(small, path, called, explanation, program):
+    return f"(drawn: {', '.join(draw(small, path, called, explanation.arcs))})"

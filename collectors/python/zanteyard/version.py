@@ -1,0 +1,3 @@
+"""The version of the package, the same as that of the programs beside it."""
+
+VERSION = "0.1.0"
