@@ -1,6 +1,6 @@
 -- Right replies are legal: they are so by the engine alone, and what they say is true of whole histories that it stands for.
-use Rattle.std.proofs.Common.{◌≡◌, ℕ, ◌+◌, ◌⊎◌, ⊎_elim, List, Option, Some, None, refl, sym, ap, ◌∙◌, subst}
-use Rattle.std.specs.Prelude.{IfSome, IsSomeAnd}
+use Rattle.std.proofs.Common.{◌≡◌, ℕ, ◌+◌, List, Option, Some, None, refl, sym, ap, ◌∙◌, subst}
+use Rattle.std.specs.Prelude.{Result, Ok, Err, IfOk, IfErr, IfSome, IsSomeAnd, MatchResult}
 use Rattle.txn.specs.History.{History}
 use Rattle.txn.specs.declared.transactions.TxnId.{TxnId}
 use Rattle.txn.specs.declared.refusals.Refusal.{Refusal}
@@ -95,10 +95,13 @@ finish_refused old budget depth answer refusals.NoMemory lawful said = said
 finish_refused old budget depth answer refusals.BadCertificate lawful said = absurd (none_wrong old.asked budget depth answer lawful said)
 finish_refused old budget depth answer refusal lawful said = absurd said
 
--- a finish is replied to by a report or a refusal
-pub other_than_told : (old new : EngineState) (budget depth workers : ℕ) (said : StepReply) → StepsTo old (Finish budget depth workers) said new → (said ≡ reply.Done) ⊎ ((cut : Cut) × (said ≡ reply.Cut cut)) → ⊥
-other_than_told old new budget depth workers said right is =
-    ⊎_elim (λ (e : said ≡ reply.Done). subst (λ (s : StepReply). StepsTo old (Finish budget depth workers) s new) e right) (λ (some : (cut : Cut) × (said ≡ reply.Cut cut)). subst (λ (s : StepReply). StepsTo old (Finish budget depth workers) s new) some.1 right) is
+-- a finish by a lawful answer is right
+pub finish_right : (old new : EngineState) (budget depth workers : ℕ) (answer : Answer) (said : Result Report Refusal) → RefutedHasNoOrder → HasGoodSnapshot old.asked → IfSome old.asked (λ p. IsLawful p budget depth answer)
+    → IfOk said (λ report. IsSomeAnd old.asked (λ parts. IsReportOn parts (old.rounds + 1) answer report × IsHeldAfter parts report.kind old.held new.held) × IsFinished old new)
+    → IfErr said (λ refusal. IsFinishRefusal old answer refusal × (new ≡ old))
+    → MatchResult said (λ report. StepsTo old (Finish budget depth workers) (reply.Report report) new) (λ refusal. StepsTo old (Finish budget depth workers) (reply.Refused refusal) new)
+finish_right old new budget depth workers answer (Ok report) law good lawful ok err = finish_reported old new budget depth workers answer report law good lawful ok.0 ok.1
+finish_right old new budget depth workers answer (Err refusal) law good lawful ok err = (finish_refused old budget depth answer refusal lawful err.0, err.1)
 
 -- Whole histories.
 

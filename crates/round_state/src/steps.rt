@@ -1,4 +1,4 @@
-ghost use Rattle.std.specs.Prelude.{◌≡◌, ℕ, ◌<◌, ◌≤◌, [], ◌∷◌, ◌++◌, All, IfOk, IfSome, OnErr, vec_len, vec_capacity};
+ghost use Rattle.std.specs.Prelude.{◌≡◌, ℕ, ◌<◌, ◌≤◌, [], ◌∷◌, ◌++◌, All, IfOk, IfSome, OnErr, MatchResult, vec_len, vec_capacity};
 ghost use Rattle.order_check.specs.Effort.{IsEffort};
 ghost use Rattle.polygraph.specs.Solving.{IsLawful};
 ghost use Rattle.round_state.specs.EngineState.{EngineState, parts_asked};
@@ -108,27 +108,23 @@ impl Engine {
         };
         let answer = solver.solve(alloc, problem, budget, depth, workers);
         match self.finish_lawfully(alloc, answer) {
-            StepReply::Report(report) => {
+            Ok(report) => {
                 *kept = None;
                 StepReply::Report(report)
             }
-            StepReply::Refused(refusal) => StepReply::Refused(refusal),
-            StepReply::Done | StepReply::Cut(_) => unreachable!(),
+            Err(refusal) => StepReply::Refused(refusal),
         }
     }
 
-    /// Finishes the open round by an answer, which is checked here. Where it is what a search of this budget and depth may answer for the
-    /// round's snapshot, the reply is right for a finish by such a search, whatever workers share it; it is then refused only for want of
-    /// memory, or because no round is open.
-    pub fn finish_lawfully(&mut self, alloc: Global, answer: Answer) -> StepReply
-        ensures { (budget depth workers : ℕ) → IfSome self.old.asked (λ parts. IsLawful parts budget depth answer) → StepsTo self.old (Step.Finish budget depth workers) result self.new }
+    /// Finishes the open round as `finish` does. Where the answer is what a search of this budget and depth may answer for the round's
+    /// snapshot, the report or the refusal is right for a finish by such a search, whatever workers share it: it is then refused only for
+    /// want of memory, or because no round is open.
+    pub fn finish_lawfully(&mut self, alloc: Global, answer: Answer) -> Result<Report, Refusal>
+        ensures { (budget depth workers : ℕ) → IfSome self.old.asked (λ parts. IsLawful parts budget depth answer) → MatchResult result (λ report. StepsTo self.old (Step.Finish budget depth workers) (StepReply.Report report) self.new) (λ refusal. StepsTo self.old (Step.Finish budget depth workers) (StepReply.Refused refusal) self.new) }
     {
         refuted_has_no_order();
         self.has_good_snapshot();
-        match self.finish(alloc, answer) {
-            Ok(report) => StepReply::Report(report),
-            Err(refusal) => StepReply::Refused(refusal),
-        }
+        self.finish(alloc, answer)
     }
 
     fn reply_to_abandon(&mut self, kept: &mut Option<Problem>) -> StepReply
