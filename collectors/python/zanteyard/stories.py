@@ -10,14 +10,11 @@ from typing import Any, Callable, Dict, Iterable, Iterator, List, Mapping, Optio
 from typing import Sequence, Tuple
 
 from .anomalies import MEANINGS, Anomaly, find_anomaly
-from .auditor import Logged
 from .explain import SESSION, Explanation, below, explain_history
-from .scripts import History, Verdict
+from .records import History, Logged, Names, TransactionId
+from .scripts import ScriptHistory, Verdict
 from .shrinking import SECONDS, audited, from_start, smaller, words
 from .shrinking import version as version_text
-
-TransactionId = Tuple[int, int]
-Names = Callable[[TransactionId], str]
 
 SENTENCES: Mapping[str, str] = {
     "serial": "some order of these transactions explains every read, each session's own order kept",
@@ -94,7 +91,7 @@ class Story:
         return (*(names[link.start] for link in around), names[around[0].start]) if around else ()
 
 
-def verdict_story(verdict: Verdict, history: History) -> Story:
+def verdict_story(verdict: Verdict, history: ScriptHistory) -> Story:
     """Of a verdict that isn't violated."""
     order: Tuple[str, ...] = ()
     if verdict.kind in ("serial", "pending"):
@@ -118,7 +115,7 @@ def violation_story(
 
 
 def story_of(
-    history: Sequence[Sequence[Logged]],
+    history: History,
     names: Names,
     script: str = "",
     counts: Sequence[int] = (),
@@ -142,7 +139,7 @@ def story_of(
 
 
 def _steps(
-    history: Sequence[Sequence[Logged]], names: Names, told: Iterable[TransactionId]
+    history: History, names: Names, told: Iterable[TransactionId]
 ) -> Iterator[Step]:
     """The transactions that did something, and those that a link names."""
     told = set(told)
