@@ -79,7 +79,9 @@ class Session:
         self.gate = threading.Lock()
         self.current = None  # the client's transaction that holds the turn
         self.running = None  # the same, or the collector's own
-        self.used_at, self.waited, self.failure = time.monotonic(), 0.0, None
+        self.used_at, self.failure = time.monotonic(), None
+        # For how many seconds this client waited for the audit: in all, and at most at a time.
+        self.waited = self.longest = 0.0
 
     @property
     def number(self):
@@ -111,7 +113,11 @@ class Session:
         if self.gate.locked() and self.gate.acquire(timeout=self.wait):
             self.gate.release()
         self.turn.acquire()
-        self.waited += time.monotonic() - came
+        self.has_waited(came)
+
+    def has_waited(self, since):
+        waited = time.monotonic() - since
+        self.waited, self.longest = self.waited + waited, max(self.longest, waited)
 
     def go_on(self):
         """Takes another place where the session has ended."""
@@ -176,12 +182,14 @@ class Session:
 
     def tell(self, call, *arguments):
         """The auditor, whose fate is none of the client's business."""
+        came = time.monotonic()
         try:
             call(*arguments)
         except Exception as error:
             if self.failure is None:
                 self.failure = error
                 logger.error("nothing more of session %s is audited: %s", self.number, error)
+        self.has_waited(came)
 
     # What meetings call, for who holds the session's turn. Each is a transaction of the collector's
     # own, which the store has ended within so many seconds.
