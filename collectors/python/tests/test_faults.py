@@ -226,9 +226,13 @@ class Faults(unittest.TestCase):
         transaction = hung.begin()
         transaction.get("y")
         application = Application(sessions)
+        self.addCleanup(application.end)
         self.wait_for(self.began_anew)
         transaction.put("y", "1")
-        transaction.commit()
+        try:
+            transaction.commit()
+        except Aborted:
+            pass  # the store's own
         hung.run(lambda t: t.get("y"))
         outcome = self.ended(application, "a client hangs in a transaction")
         self.assertIn("took longer", str(outcome.earlier[0].failure))
@@ -338,6 +342,7 @@ with AuditorApart(4) as auditor, LiveAuditor(auditor, tell=lambda line: None) as
         call = [sys.executable, "-c", CLIENT, PLACE, path, self.cluster.dsn, "3"]
         client = subprocess.Popen(call, stdout=subprocess.PIPE, text=True)
         self.addCleanup(client.stdout.close)
+        self.addCleanup(client.kill)
         self.assertEqual(client.stdout.readline(), "begun\n")
         time.sleep(1.0)
         server.kill()
