@@ -40,7 +40,7 @@ class LiveAuditor:
     run, `run_name`, is the auditor's where none is given. `outcome` tells at each time what came of it.
     """
 
-    EVERY = 2048
+    EVERY = 2560  # where one meeting fails there is room for two more
 
     def __init__(
         self,

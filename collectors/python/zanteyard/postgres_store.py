@@ -27,6 +27,8 @@ OVERWRITE = f"""UPDATE {{table}} AS now SET value = %s, run = %s, session = %s, 
     FROM (SELECT * FROM {{table}} WHERE key = %s FOR UPDATE) AS before WHERE now.key = before.key
     {TRANSACTION}, before.value, before.run, before.session, before.number"""
 FIRST = f"INSERT INTO {{table}} VALUES (%s, %s, %s, %s, %s) ON CONFLICT (key) DO NOTHING {TRANSACTION}"
+STATUS = """SELECT pg_xact_status(%s::text::xid8), EXISTS (SELECT 1 FROM {table}
+    WHERE key = %s AND run = %s AND session = %s AND number = %s)"""
 KNOWS = "SELECT EXISTS (SELECT 1 FROM {table} WHERE run = %s)"
 CONFLICTS = (errors.SerializationFailure, errors.DeadlockDetected)
 ATTEMPTS = 10  # at the first row of a key: each fails only where another client has just made it
@@ -64,6 +66,7 @@ class PostgresStore:
         self.dsn, self.level, self.table = dsn, level, quoted(table)
         self.connection: Any = None
         self.transaction_id: Optional[str] = None
+        self.written: Tuple[Any, ...] = ()  # the key that was written last, and the name beside it
         self.statement: Optional[str] = None  # what was run last, as the server got it
         self.before = ""  # what the transaction's first statement is sent behind
         self.is_alone = False
@@ -113,9 +116,11 @@ class PostgresStore:
         return {row[0]: (row[1], row[2:]) for row in self.ask(READ_ALL, (keys,))}
 
     def write(self, key: str, value: Any, name: Name) -> None:
+        self.written = (key, *name)
         (self.transaction_id,) = self.ask(WRITE, (key, value, *name)).fetchone()
 
     def exchange(self, key: str, value: Any, name: Name) -> Optional[Found]:
+        self.written = (key, *name)
         for _ in range(ATTEMPTS):
             row = self.ask(OVERWRITE, (value, *name, key)).fetchone()
             if row is not None:
@@ -158,20 +163,25 @@ class PostgresStore:
             self.connection.close()
 
     def outcome(self) -> str:
-        """By a connection of its own, since the one at hand may be broken."""
+        """By a connection of its own, since the one at hand may be broken. A server that crashed gives
+        the number of a transaction that was lost to another one, so that it alone doesn't say what
+        was committed: the row has to be there, too."""
         if self.transaction_id is None:
             return "unknown"
         try:
             connection = psycopg2.connect(self.dsn)
             try:
                 cursor = connection.cursor()
-                cursor.execute("SELECT pg_xact_status(%s::text::xid8)", (self.transaction_id,))
-                (status,) = cursor.fetchone() or (None,)
+                values = (self.transaction_id, *self.written)
+                cursor.execute(STATUS.format(table=self.table), values)
+                status, is_there = cursor.fetchone() or (None, False)
             finally:
                 connection.close()
         except psycopg2.Error:
             return "unknown"
-        return str(status) if status in ("committed", "aborted") else "unknown"
+        if status == "aborted" or (status == "committed" and is_there):
+            return str(status)
+        return "unknown"
 
     def claim(self, run_name: str, token: str) -> None:
         """Makes the name that of one run, or raises NameTaken where it is another's."""

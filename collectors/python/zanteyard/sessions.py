@@ -94,8 +94,10 @@ class Session:
         self.gate = threading.Lock()
         self.current: Optional[Transaction] = None  # the client's transaction that holds the turn
         self.running: Optional[Transaction] = None  # the same, or the collector's own
-        self.used_at, self.waited = time.monotonic(), 0.0
+        self.used_at = time.monotonic()
         self.failure: Optional[Exception] = None
+        # For how many seconds this client waited for the audit: in all, and at most at a time.
+        self.waited = self.longest = 0.0
 
     @property
     def number(self) -> Optional[int]:
@@ -127,7 +129,11 @@ class Session:
         if self.gate.locked() and self.gate.acquire(timeout=self.wait):
             self.gate.release()
         self.turn.acquire()
-        self.waited += time.monotonic() - came
+        self.has_waited(came)
+
+    def has_waited(self, since: float) -> None:
+        waited = time.monotonic() - since
+        self.waited, self.longest = self.waited + waited, max(self.longest, waited)
 
     def go_on(self) -> None:
         """Takes another place where the session has ended."""
@@ -192,12 +198,14 @@ class Session:
 
     def tell(self, call: Callable[..., Any], *arguments: Any) -> None:
         """The auditor, whose fate is none of the client's business."""
+        came = time.monotonic()
         try:
             call(*arguments)
         except Exception as error:
             if self.failure is None:
                 self.failure = error
                 logger.error("nothing more of session %s is audited: %s", self.number, error)
+        self.has_waited(came)
 
     # What meetings call, for who holds the session's turn. Each is a transaction of the collector's
     # own, which the store has ended within so many seconds.
