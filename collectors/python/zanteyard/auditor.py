@@ -15,10 +15,10 @@ from typing import Type
 from .coverage import Coverage
 from .outcome import RATHER_LOSE_THE_AUDIT, Outcome, Policy, kind_of
 from .pipes import Ended, Late, Pipes
+from .programs import program_path
 from .records import Cut, History, Logged, Pending, Report, TransactionId
 
-BUILT = os.path.join(os.path.dirname(__file__), "../../../crates/cobra_audit/out/cobra_audit")
-PROGRAM = os.environ.get("COBRA_AUDIT", os.path.normpath(BUILT))
+PROGRAM = program_path()
 
 LIMIT = 4096  # the most transactions that may remain
 LONGEST = 256  # transactions of one line

@@ -23,9 +23,10 @@ import threading
 import time
 from contextlib import contextmanager
 from dataclasses import dataclass
-from typing import Any, Callable, Dict, Iterable, Iterator, Optional, Sequence, Set, Tuple, TypeVar
+from typing import Any, Callable, Dict, Iterable, Iterator, List, Optional, Sequence, Set, Tuple, TypeVar
 
 from .auditor import FENCE, FLAG, MARK
+from .circumstances import brief, caller
 from .records import Deed, Found, Logged, Name, Read, Source, Store
 
 logger = logging.getLogger("zanteyard")
@@ -288,6 +289,9 @@ class Transaction:
         self.written: Dict[str, Any] = {}
         self.is_over = False
         self.is_committing = not holds  # from here on the store may have what it writes
+        # For who is told of a violation; the collector's own transactions have none of it.
+        self.values: List[Tuple[str, str, str]] = []
+        self.began, self.caller = (time.time(), caller()) if holds else (0.0, "")
         self.sent: Tuple[str, ...] = ()  # keys that were written and needn't be at the commit
         self.statements: Dict[Deed, str] = {}  # of each deed, as Logged has them
 
@@ -310,6 +314,8 @@ class Transaction:
         read = (key, "init" if found is None else self.source(found[1]))
         self.reads.add(read)
         self.was_run(read, statement)
+        if self.holds:
+            self.values.append(("read", key, brief(None if found is None else found[0])))
         return None if found is None else found[0]
 
     def was_run(self, deed: Deed, statement: Optional[str] = None) -> None:
@@ -417,5 +423,11 @@ class Transaction:
         reads = [*reads]
         if len(reads) > 1:
             reads.sort(key=repr)
-        logged = Logged(reads, sorted(writes), outcome, statements)
+        writes = sorted(writes)
+        values = tuple(self.values)
+        if self.holds:
+            values += tuple(("wrote", key, brief(self.written.get(key))) for key in writes)
+        if not reads:  # it isn't known, or doesn't matter, what was read
+            values = tuple(it for it in values if it[0] == "wrote")
+        logged = Logged(reads, writes, outcome, statements, values, self.began, self.caller)
         self.session.auditor.take(self.session.number, self.number, logged)

@@ -6,10 +6,11 @@ A story is plain data, so that it can be told as lines and drawn on a page alike
 from __future__ import annotations
 
 from dataclasses import dataclass
-from typing import Any, Callable, Dict, Iterable, Iterator, List, Mapping, Optional
+from typing import Any, Dict, Iterable, Iterator, List, Mapping, Optional
 from typing import Sequence, Tuple
 
 from .anomalies import MEANINGS, Anomaly, find_anomaly
+from .circumstances import caller_of, clock_of, values_of
 from .explain import SESSION, Explanation, below, explain_history
 from .records import History, Logged, Names, TransactionId
 from .scripts import ScriptHistory, Verdict
@@ -138,9 +139,7 @@ def story_of(
     )
 
 
-def _steps(
-    history: History, names: Names, told: Iterable[TransactionId]
-) -> Iterator[Step]:
+def _steps(history: History, names: Names, told: Iterable[TransactionId]) -> Iterator[Step]:
     """The transactions that did something, and those that a link names."""
     told = set(told)
     for session, transactions in enumerate(history):
@@ -148,18 +147,25 @@ def _steps(
             one = (session, number)
             if logged.reads or logged.writes or logged.outcome == "aborted" or one in told:
                 sources = tuple(source for _, source in logged.reads if source != "init")
-                yield Step(one, names(one), logged.outcome, tuple(_deeds(logged, names)), sources)
+                yield Step(
+                    one,
+                    names(one),
+                    logged.outcome,
+                    tuple(_deeds(logged, names)),
+                    sources,
+                    clock_of(logged),
+                    caller_of(logged),
+                )
 
 
 def _deeds(logged: Logged, names: Names) -> Iterator[Deed]:
     statements: Dict[Any, str] = dict(logged.statements)
-    returned: Dict[Any, str] = dict(getattr(logged, "values", ()))
+    values = values_of(logged)
     for key, source in logged.reads:
-        deed = (key, source)
         text = f"read {key} {version_text(key, source, names)}"
-        yield Deed(text, statements.get(deed, ""), returned.get(deed, ""))
+        yield Deed(text, statements.get((key, source), ""), values.get(("read", key), ""))
     for key in logged.writes:
-        yield Deed(f"wrote {key}", statements.get((key,), ""), returned.get((key,), ""))
+        yield Deed(f"wrote {key}", statements.get((key,), ""), values.get(("wrote", key), ""))
 
 
 def _links(explanation: Explanation) -> Iterator[Link]:

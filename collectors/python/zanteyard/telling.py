@@ -6,6 +6,7 @@ import time
 from typing import Callable
 
 from .auditor import PROGRAM
+from .circumstances import circumstances
 from .explain import Explanation, explain_history
 from .picture import draw
 from .records import History, Names
@@ -27,6 +28,11 @@ def tell_violation(
     small = smaller(history, program, max(0.0, ends - time.monotonic()))
     tell("violated: of what was logged, no order explains this part, each client's own order kept:")
     for line in words(small, called):
+        tell(f"  {line}")
+    known = [*circumstances(small, called)]
+    if known:
+        tell("as the clients saw it")
+    for line in known:
         tell(f"  {line}")
     explanation = explain_history(small, called, max(0.5, ends - time.monotonic()))
     tell("because")
