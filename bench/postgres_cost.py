@@ -1,12 +1,16 @@
-"""What an audit costs the clients of a PostgreSQL: transactions a second with and without the auditor, in turns.
+"""What an audit costs the clients of a PostgreSQL: transactions a second with and without it, in turns.
 
-    python3 bench/postgres_cost.py [--seconds N] [--times N] [--clients N] [--every N] [--workload NAME ..] [--processes]
+    python3 bench/postgres_cost.py [--seconds N] [--times N] [--clients N] [--every N] [--delay N]
+        [--workload NAME ..] [--processes]
 
-Rates are means, and how much less stands with its standard error: runs differ by a fifth and more where processors are idle now and then, so that
-many short runs tell more than few long ones. Beside them, as medians: processor time for each transaction begun, of the clients and what hands
-their log over, and of what audits it; how much of their time clients waited for meetings, and how far the auditor was behind at most. The clients are threads of
-one process, or processes of their own; the same sessions run over the same store without the auditor, but nobody takes their log. TMPDIR=/dev/shm
-has the server's folder in memory, where a disk would be what is measured.
+Rates are means, and how much less stands with its standard error: runs differ by a fifth and more where
+processors are idle now and then, so that many short runs tell more than few long ones. Beside them, as
+medians: processor time for each transaction begun, of the clients and what hands their log over, and of
+what audits it; how much of their time clients waited for meetings, and how long at most; how far the
+auditor was behind at most. The clients are threads of one process, or processes of their own; the same
+sessions run over the same store without the auditor, but nobody takes their log. With a delay, in
+milliseconds, each statement takes that much longer, as over a network. TMPDIR=/dev/shm has the server's
+folder in memory, where a disk would be what is measured.
 """
 import argparse
 import os
@@ -23,8 +27,29 @@ TOP = os.path.join(os.path.dirname(os.path.abspath(__file__)), "..")
 sys.path[:0] = [os.path.join(TOP, "examples"), os.path.join(TOP, "collectors/python")]
 from postgres_live import LEVELS, WORKLOADS, ClientProcesses, Clients, Nothing
 from zanteyard import AuditorApart, AuditServer, LiveAuditor, Session
-from zanteyard.cluster import Cluster
+from zanteyard.cluster import Cluster, ended_by_signals
 from zanteyard.postgres_store import PostgresStore, prepare
+
+
+class FarStore(PostgresStore):
+    """Each statement takes so many seconds more."""
+
+    def __init__(self, dsn, delay):
+        super().__init__(dsn, LEVELS["serializable"])
+        self.delay = delay
+
+    def send(self, text, values=()):
+        if self.delay:
+            time.sleep(self.delay)
+        return super().send(text, values)
+
+
+class MakeStore:
+    def __init__(self, dsn, delay):
+        self.arguments = dsn, delay
+
+    def __call__(self):
+        return FarStore(*self.arguments)
 
 
 def empty(dsn):
@@ -42,83 +67,104 @@ def of_children():
 
 
 class Run:
-    def __init__(self, cluster, asked, workload, name, is_audited):
-        self.cluster, self.asked, self.workload, self.name = cluster, asked, workload, name
+    def __init__(self, cluster, asked, workload, is_audited):
+        self.asked, self.workload = asked, workload
+        self.make_store = MakeStore(cluster.dsn, asked.delay / 1000)
         empty(cluster.dsn)
         children, own = of_children(), time.process_time()
         clients = self.audited() if is_audited else self.clients(None)
         children, own = of_children() - children, time.process_time() - own
-        used, beside = (clients.used, own + children - clients.whole) if asked.processes else (own, children)
+        used, beside = (children, own)[::-1]
+        if asked.processes:
+            used, beside = clients.used, own + children - clients.whole
         begun = clients.committed + clients.aborted
-        self.rate, self.waited, self.each, self.beside = clients.rate(), 100 * clients.waited, 1e6 * used / begun, 1e6 * beside / begun
+        self.rate, self.waited, self.longest = clients.rate(), 100 * clients.waited, clients.longest
+        self.each, self.beside = 1e6 * used / begun, 1e6 * beside / begun
 
     def clients(self, live):
         """They run beside that audit; None for none."""
-        asked, dsn = self.asked, self.cluster.dsn
-        if asked.processes:
+        if self.asked.processes:
             return self.processes(live)
-        stores = [PostgresStore(dsn, LEVELS["serializable"]) for _ in range(asked.clients)]
-        sessions = [live.session(store) if live else Session(Nothing(), number, store, self.name) for number, store in enumerate(stores)]
-        clients = Clients(sessions, WORKLOADS[self.workload], asked.seconds, lambda: live is not None and live.is_over)
+        stores = [self.make_store() for _ in range(self.asked.clients)]
+        sessions = [
+            live.session(store) if live else Session(Nothing(), number, store, "unaudited")
+            for number, store in enumerate(stores)
+        ]
+        is_over = lambda: live is not None and live.is_over
+        clients = Clients(sessions, WORKLOADS[self.workload], self.asked.seconds, is_over)
         for store in stores:
-            store.connection.close()
+            store.close()
         return clients
 
     def processes(self, live):
+        more = (self.asked.clients, self.workload, self.asked.seconds)
+        if not live:
+            return ClientProcesses(None, self.make_store, *more)
         with tempfile.TemporaryDirectory(prefix="zanteyard-") as folder:
-            server = live and AuditServer(live, f"{folder}/audit")
-            asked = self.asked
-            clients = ClientProcesses(server and server.path, self.cluster.dsn, "serializable", asked.clients, self.workload, asked.seconds)
-            if server:
-                server.close()
-            return clients
+            with AuditServer(live, f"{folder}/audit") as server:
+                return ClientProcesses(server.path, self.make_store, *more)
 
     def audited(self):
         with AuditorApart(self.asked.clients) as auditor:
-            live = LiveAuditor(auditor, self.name, self.asked.every, tell=lambda line: None)
-            clients = self.clients(live)
-            live.stop()
-            if live.failure:
-                raise live.failure
-            self.kind, self.lag, self.rounds, self.cuts = live.report.kind, live.lag, live.rounds, live.cuts
+            with LiveAuditor(auditor, every=self.asked.every, tell=lambda line: None) as live:
+                clients = self.clients(live)
+                outcome = live.stop()
+            self.kind, self.lag, self.meetings = outcome.kind, live.lag, live.meetings
+            self.rounds, self.cuts = live.rounds, live.cuts
             return clients
 
 
-def main():
+def arguments():
     asked = argparse.ArgumentParser(description=__doc__.splitlines()[0])
     asked.add_argument("--seconds", type=float, default=3.0)
     asked.add_argument("--times", type=int, default=12)
     asked.add_argument("--clients", type=int, default=8)
     asked.add_argument("--every", type=int, default=LiveAuditor.EVERY)
+    asked.add_argument("--delay", type=float, default=0.0, help="milliseconds more a statement")
     asked.add_argument("--workload", nargs="+", choices=WORKLOADS, default=[*WORKLOADS])
     asked.add_argument("--processes", action="store_true")
-    asked = asked.parse_args()
-    print("workload, without and with a second, less and its error, us each without and with, beside, waited, behind at most, verdicts, cuts of rounds", flush=True)
-    with Cluster() as cluster:
+    return asked.parse_args()
+
+
+def main():
+    asked = arguments()
+    print(
+        "workload, without and with a second, less and its error, us each without and with, beside, "
+        "waited, longest without and with, behind at most, verdicts, cuts of rounds",
+        flush=True,
+    )
+    with ended_by_signals(), Cluster() as cluster:
         prepare(cluster.dsn)
         for workload in asked.workload:
             runs = {False: [], True: []}
-            for turn in range(asked.times):
+            for _ in range(asked.times):
                 for is_audited in random.sample((False, True), 2):
-                    runs[is_audited].append(Run(cluster, asked, workload, f"{workload} {turn} {is_audited}", is_audited))
+                    runs[is_audited].append(Run(cluster, asked, workload, is_audited))
             tell(workload, runs[False], runs[True])
 
 
 def mean_with_error(rates):
     """The mean, and its standard error."""
-    return statistics.mean(rates), statistics.stdev(rates) / len(rates) ** 0.5 if len(rates) > 1 else 0.0
+    error = statistics.stdev(rates) / len(rates) ** 0.5 if len(rates) > 1 else 0.0
+    return statistics.mean(rates), error
 
 
 def tell(workload, alone, audited):
     median = lambda runs, name: statistics.median(getattr(run, name) for run in runs)
-    (rate_alone, error_alone), (rate, error) = (mean_with_error([run.rate for run in runs]) for runs in (alone, audited))
-    less, less_error = 1 - rate / rate_alone, (error**2 + (rate / rate_alone * error_alone) ** 2) ** 0.5 / rate_alone
+    longest = [max(run.longest for run in runs) for runs in (alone, audited)]
+    rate_alone, error_alone = mean_with_error([run.rate for run in alone])
+    rate, error = mean_with_error([run.rate for run in audited])
+    less = 1 - rate / rate_alone
+    less_error = (error**2 + (rate / rate_alone * error_alone) ** 2) ** 0.5 / rate_alone
     each = [median(runs, "each") for runs in (alone, audited)]
     beside = median(audited, "beside") - median(alone, "beside")
     kinds = ", ".join(sorted({run.kind for run in audited}))
+    cuts = f"{sum(run.cuts for run in audited)} of {sum(run.rounds for run in audited)}"
     print(
-        f"{workload:8} {rate_alone:6.0f} {rate:6.0f} {100 * less:5.1f}% +- {100 * less_error:3.1f}  {each[0]:5.0f} {each[1]:5.0f} {beside:5.0f}"
-        f"  {median(audited, 'waited'):4.1f}%  {max(run.lag for run in audited):5.2f} s  {kinds}  {sum(run.cuts for run in audited)} of {sum(run.rounds for run in audited)}",
+        f"{workload:8} {rate_alone:6.0f} {rate:6.0f} {100 * less:5.1f}% +- {100 * less_error:3.1f}  "
+        f"{each[0]:5.0f} {each[1]:5.0f} {beside:5.0f}  {median(audited, 'waited'):4.1f}%  "
+        f"{longest[0]:4.2f} {longest[1]:4.2f} s  {max(run.lag for run in audited):5.2f} s  "
+        f"{kinds}  {cuts}",
         flush=True,
     )
 

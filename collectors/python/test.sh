@@ -35,7 +35,7 @@ limited() { # a Python program, for at most so many seconds: at their end it say
     (ulimit -c 0; exec timeout --foreground -s ABRT -k 10 "$seconds" "$python" -X faulthandler "$@")
 }
 
-limited 600 -m unittest
+limited 720 -m unittest
 if ! "$python" -c "import psycopg2" 2> /dev/null || ! "$python" -c "import sys; from zanteyard.cluster import program; sys.exit(not program('initdb'))"; then
     echo "skipped: what needs PostgreSQL and psycopg2, which aren't both installed (nothing was audited live)"
     exit 0
@@ -50,10 +50,11 @@ wanted() { # what is told at the end, and then how to run it
     grep -q "^[a-z]* at [a-z ]*: $wanted" told || { cat told; echo "wanted: $wanted"; exit 1; }
 }
 for workload in counter skew mixed blind; do
-    wanted "serial; [1-9][0-9]* cuts in" --level serializable --workload $workload
+    wanted "serial: .*; [1-9][0-9]* cuts in" --rather-wait --every 512 --workload $workload
 done
-wanted "serial; [1-9][0-9]* cuts in" --level serializable --workload blind --processes
-wanted "violated;" --level repeatable --workload skew --every 256
-wanted "violated;" --level repeatable --workload skew --every 256 --processes
-wanted "violated;" --level committed --workload counter --every 256
+wanted "serial: .*; [1-9][0-9]* cuts in" --rather-wait --every 512 --workload blind --processes
+wanted "serial: " --rather-wait --level committed --workload blind --processes
+wanted "violated: " --level repeatable --workload skew
+wanted "violated: " --level repeatable --workload skew --processes
+wanted "violated: " --level committed --workload counter
 echo "the collectors' tests passed"

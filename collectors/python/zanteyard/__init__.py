@@ -1,13 +1,14 @@
 """Audits the transactions of a store's clients with cobra_audit. docs/COLLECTORS.md says what is logged,
 and why."""
 from .apart import AuditorApart
-from .auditor import FENCE, Auditor, Cut, Full, Logged, NoCut, NoMemory, Refused
+from .auditor import FENCE, Auditor, Full, NoCut, NoMemory, Refused
 from .explain import Explanation, explain_history, reasons
 from .live import LiveAuditor, Lost
-from .outcome import RATHER_LOSE_THE_AUDIT, RATHER_WAIT, Outcome, Pending, Policy, Report
+from .outcome import RATHER_LOSE_THE_AUDIT, RATHER_WAIT, Outcome, Policy
 from .picture import dot_text, draw
 from .pipes import Ended
 from .processes import AuditClient, AuditServer
+from .records import Cut, Logged, Pending, Report, Store
 from .sessions import Aborted, NameTaken, OutcomeUnknown, Session, Transaction
 from .shrinking import audited, from_start, smaller, words
 from .telling import tell_violation
@@ -16,6 +17,6 @@ __all__ = [
     *("Aborted", "AuditClient", "AuditServer", "Auditor", "AuditorApart", "Cut", "Ended", "FENCE"),
     *("Explanation", "Full", "LiveAuditor", "Logged", "Lost", "NameTaken", "NoCut", "NoMemory", "Outcome"),
     *("OutcomeUnknown", "Pending", "Policy", "RATHER_LOSE_THE_AUDIT", "RATHER_WAIT", "Refused"),
-    *("Report", "Session", "Transaction", "audited", "dot_text", "draw", "explain_history"),
+    *("Report", "Session", "Store", "Transaction", "audited", "dot_text", "draw", "explain_history"),
     *("from_start", "reasons", "smaller", "tell_violation", "words"),
 ]

@@ -9,15 +9,13 @@ found is why it is violated. This is an aid; the verdict rests on none of it.
 from __future__ import annotations
 
 from dataclasses import dataclass
-from typing import Callable, Dict, Iterator, List, Mapping, Optional, Sequence, Set, Tuple, Union
+from typing import Dict, Iterator, List, Mapping, Optional, Sequence, Set, Tuple
 
-from .auditor import FENCE, PLAIN_FENCE, Logged
+from .auditor import FENCE, PLAIN_FENCE
+from .records import Logged, Names, Source, TransactionId
 from .shrinking import name as plain_name
 from .shrinking import version
 
-TransactionId = Tuple[int, int]
-Source = Union[str, TransactionId]
-Names = Callable[[TransactionId], str]
 Table = Mapping[TransactionId, Logged]
 Arc = Tuple[TransactionId, TransactionId]
 

@@ -1,17 +1,24 @@
 """The program cobra_audit, started with pipes on both ends, and what was given to it."""
+
+from __future__ import annotations
+
 import json
 import logging
 import os
 import secrets
 import threading
 import time
-from collections import Counter, deque, namedtuple
+from collections import Counter, deque
+from typing import Any, Deque, Dict, Iterator, List, Mapping, Optional, Sequence, Tuple
+from typing import Type
 
-from .outcome import RATHER_LOSE_THE_AUDIT, Outcome, Pending, Report, kind_of
+from .coverage import Coverage
+from .outcome import RATHER_LOSE_THE_AUDIT, Outcome, Policy, kind_of
 from .pipes import Ended, Late, Pipes
+from .programs import program_path
+from .records import Cut, History, Logged, Pending, Report, TransactionId
 
-BUILT = os.path.join(os.path.dirname(__file__), "../../../crates/cobra_audit/out/cobra_audit")
-PROGRAM = os.environ.get("COBRA_AUDIT", os.path.normpath(BUILT))
+PROGRAM = program_path()
 
 LIMIT = 4096  # the most transactions that may remain
 LONGEST = 256  # transactions of one line
@@ -27,12 +34,8 @@ FLAG = "zanteyard flag "  # and a session's number: a key that this session alon
 PLAIN_FENCE = "zanteyard's fence"  # the key of fences, where what is left of one may be none
 OWN = (FENCE, MARK, FLAG, PLAIN_FENCE)  # what the keys of the collector's own transactions begin with
 logger = logging.getLogger("zanteyard")
-# What one transaction did: reads are pairs of a key's name and a source, which is "init" or (session,
-# number); writes are names of keys. Statements are for who is told of a violation: pairs of a deed,
-# which is a read or (key,) for a write, and what was run for it.
-Logged = namedtuple("Logged", "reads writes outcome statements", defaults=("committed", ()))
-# The fence up to which the auditor has forgotten, and how many transactions that were.
-Cut = namedtuple("Cut", "fence gone")
+Effort = Tuple[int, int, int]  # nodes, depth, workers
+Fragment = Tuple[int, int, Sequence[Any]]  # session, number of the first, transactions
 
 
 class Refused(Exception):
@@ -53,15 +56,15 @@ class NoCut(Refused):
     command."""
 
 
-KINDS = {"Backlog": Full, "NoCut": NoCut, "NoMemory": NoMemory}
+KINDS: Mapping[str, Type[Refused]] = {"Backlog": Full, "NoCut": NoCut, "NoMemory": NoMemory}
 
 
-def fresh_name():
+def fresh_name() -> str:
     """A run's name that no other run has."""
     return f"{time.strftime('%Y-%m-%d %H:%M:%S')} {secrets.token_hex(6)}"
 
 
-def is_own(key):
+def is_own(key: object) -> bool:
     """Whether it is a key of the collector's own transactions."""
     return isinstance(key, str) and key.startswith(OWN)
 
@@ -70,25 +73,42 @@ class Takes:
     """What sessions hand in when the store has answered: it never raises, and waits no longer than the
     policy says. What can't be taken in ends the audit, which `failure` and the log tell."""
 
-    def hand_in_to(self, policy, run_name):
+    # what an auditor has besides
+
+    history: History
+
+    def begin_take(self, kind: str, session: int, *offered: Any) -> Any:
+        raise NotImplementedError
+
+    def end_take(self, kind: str, asked: Any, seconds: float) -> None:
+        raise NotImplementedError
+
+    def give_up(self) -> None:
+        raise NotImplementedError
+
+    def last_round(self) -> Report:
+        raise NotImplementedError
+
+    def hand_in_to(self, policy: Policy, run_name: Optional[str]) -> None:
         self.policy, self.is_named = policy, run_name is not None
-        self.run_name = run_name if self.is_named else fresh_name()
+        self.run_name: str = run_name if run_name is not None else fresh_name()
         self.token = secrets.token_hex(12)  # of this run alone, also where its name isn't
-        self.failure, self.handed_in, self.taken_in = None, 0, 0
-        self.waiting = deque()
+        self.failure: Optional[Exception] = None
+        self.handed_in, self.taken_in = 0, 0
+        self.waiting: Deque[Tuple[Any, ...]] = deque()
         self.is_ended = False  # by who has made it
-        self.late = None  # what was asked for a session and isn't answered yet, and since when
+        self.late: Any = None  # what was asked for a session and isn't answered yet, and since when
         self.lock = threading.RLock()  # so that what is kept here follows the replies in their order
 
-    def take(self, session, number, logged):
+    def take(self, session: int, number: int, logged: Logged) -> None:
         self.hand_in(("offer", session, number, logged))
         self.handed_in += 1
 
-    def take_close(self, session):
+    def take_close(self, session: int) -> None:
         """Nothing more of this session comes."""
         self.hand_in(("close", session))
 
-    def hand_in(self, what):
+    def hand_in(self, what: Tuple[Any, ...]) -> None:
         self.waiting.append(what)
         ends = time.monotonic() + self.policy.wait
         if self.lock.acquire(timeout=self.policy.wait):  # else who has it takes it in
@@ -97,7 +117,7 @@ class Takes:
             finally:
                 self.lock.release()
 
-    def take_in(self, ends=None):
+    def take_in(self, ends: Optional[float] = None) -> None:
         """All that waits; until then. What isn't answered by then is asked for by who comes next, and
         those don't wait."""
         with self.lock:
@@ -117,11 +137,11 @@ class Takes:
                 except Exception as error:
                     self.lose(error)
 
-    def check_end(self):
+    def check_end(self) -> None:
         if self.is_ended:
             raise Ended("the auditor has been ended")
 
-    def end_late(self, seconds):
+    def end_late(self, seconds: float) -> None:
         """The answer to what was asked for a session; raises Late, and may then be called again."""
         (kind, *_), asked, _ = self.late
         self.end_take(kind, asked, seconds)
@@ -129,7 +149,7 @@ class Takes:
         if kind == "offer":
             self.taken_in += 1
 
-    def lose(self, error):
+    def lose(self, error: Exception) -> None:
         """Nothing more is audited but what was taken in by now."""
         self.late = None
         self.waiting.clear()
@@ -137,7 +157,7 @@ class Takes:
             self.failure = error
             logger.error("nothing more is audited: %s", error)
 
-    def outcome(self):
+    def outcome(self) -> Outcome:
         """After a round over all that was handed in. Raises nothing."""
         report = None
         try:
@@ -152,7 +172,9 @@ class Takes:
         return Outcome(kind, self.taken_in, handed_in, self.failure, pending, report, self.run_name)
 
 
-def never_came(history, marks=None):
+def never_came(
+    history: History, marks: Optional[Sequence[int]] = None
+) -> Iterator[Pending]:
     """The reads of a history that name transactions which aren't in it, each a Pending."""
     marks = marks or [0] * len(history)
     for session, txns in enumerate(history):
@@ -174,29 +196,31 @@ class Auditor(Takes):
 
     def __init__(
         self,
-        sessions,
-        limit=LIMIT,
-        program=PROGRAM,
-        run_name=None,
-        script=None,
-        policy=RATHER_LOSE_THE_AUDIT,
-    ):
+        sessions: int,
+        limit: int = LIMIT,
+        program: str = PROGRAM,
+        run_name: Optional[str] = None,
+        script: Optional[str] = None,
+        policy: Policy = RATHER_LOSE_THE_AUDIT,
+    ) -> None:
         self.sessions, self.limit, self.path = sessions, limit, program
         self.hand_in_to(policy, run_name)
-        self.script_path, self.script, self.audits = script, None, 0
-        self.program = None
+        self.script_path, self.audits = script, 0
+        self.script: Any = None  # a raw file, whose `write` tells how much it took
+        self.program: Optional[Pipes] = None
         self.start(None)
 
-    def start(self, coverage):
+    def start(self, coverage: Optional[Coverage]) -> None:
         self.coverage, self.left_out = coverage, 0  # reads whose source the audit isn't about
-        self.numbers, self.names = {FENCE: 0}, [FENCE]  # of each key, by its name; and the other way
+        self.numbers: Dict[str, int] = {FENCE: 0}
+        self.names = [FENCE]  # of each key, by its name; and the other way
         self.history = [[] for _ in range(self.sessions)]  # what was taken in and isn't forgotten
         self.marks = [0] * self.sessions  # how many of each session are forgotten
-        self.base = {}  # of each key that a forgotten transaction wrote, the last that did
+        self.base: Dict[str, TransactionId] = {}  # of each key that a forgotten transaction wrote, the last that did
         self.can_cut = True  # until the program says that it doesn't know the command
         self.effort = EFFORTS[0]  # of the last round
         self.audits += 1
-        self.script_failure = None
+        self.script_failure: Optional[OSError] = None
         try:
             self.open_script()
             self.program = Pipes(self.path)
@@ -205,13 +229,13 @@ class Auditor(Takes):
             self.end_program()
             raise
 
-    def open_script(self):
+    def open_script(self) -> None:
         """Of a second audit the script is beside the first one's, with its number behind the name."""
         if self.script_path is not None:
             behind = f".{self.audits}" if self.audits > 1 else ""
             self.script = open(f"{self.script_path}{behind}", "wb", buffering=0)
 
-    def start_anew(self, coverage=None):
+    def start_anew(self, coverage: Optional[Coverage] = None) -> None:
         """Another program, which knows nothing of what the one before it was given. By a Coverage,
         numbers count from where the audit begins. Raises Ended behind `end`."""
         with self.lock:
@@ -221,14 +245,15 @@ class Auditor(Takes):
             self.start(coverage)
 
     @property
-    def remaining(self):
+    def remaining(self) -> int:
         return sum(map(len, self.history))
 
-    def ask(self, line):
+    def ask(self, line: Sequence[Any]) -> List[Any]:
         text = written(line)
-        return self.settled(text, *self.replies_to([text]))
+        (reply,) = self.replies_to([text])
+        return self.settled(text, reply)
 
-    def settled(self, text, reply, seconds=SECONDS):
+    def settled(self, text: str, reply: List[Any], seconds: float = SECONDS) -> List[Any]:
         """The reply, where the line isn't refused for good."""
         for wait in WAITS:
             if reply[0] != "no" or reply[2] != "NoMemory" or wait > seconds:
@@ -239,23 +264,25 @@ class Auditor(Takes):
             raise KINDS.get(reply[2], Refused)(f"{text} was answered {reply[2]}")
         return reply
 
-    def replies_to(self, texts):
+    def replies_to(self, texts: Sequence[str]) -> List[List[Any]]:
         """Of lines that are given one behind the other; raises Late where that takes too long."""
         with self.lock:
             if self.late is not None and self.late[1][0] not in texts:  # else it is given again
                 self.end_late(SECONDS)
             self.give(texts)
             try:
+                assert self.program is not None
                 return [json.loads(answer) for answer in self.program.answers(len(texts), SECONDS)]
             except Late:
                 self.give_up()
                 raise
 
-    def give_up(self):
+    def give_up(self) -> None:
         """It would answer later what nobody asks any more."""
+        assert self.program is not None
         self.program.kill()
 
-    def give(self, texts):
+    def give(self, texts: Sequence[str]) -> None:
         if self.program is None:
             raise Ended("cobra_audit has been ended")
         lines = [text.encode() for text in texts]
@@ -264,7 +291,7 @@ class Auditor(Takes):
 
     # a line for a session, and its answer
 
-    def begin_take(self, kind, session, *offered):
+    def begin_take(self, kind: str, session: int, *offered: Any) -> Tuple[str, Any]:
         if kind == "close":
             text, fragment = written(["close", session]), None
         else:
@@ -274,8 +301,9 @@ class Auditor(Takes):
         self.give([text])
         return text, fragment
 
-    def end_take(self, kind, asked, seconds):
+    def end_take(self, kind: str, asked: Tuple[str, Any], seconds: float) -> None:
         text, fragment = asked
+        assert self.program is not None
         (answer,) = self.program.answers(1, seconds)
         try:
             self.settled(text, json.loads(answer), seconds)
@@ -285,16 +313,16 @@ class Auditor(Takes):
         if kind == "offer":
             self.keep_history(fragment)
 
-    def offer_of(self, fragment):
+    def offer_of(self, fragment: Tuple[Any, ...]) -> str:
         session, first, txns, _ = fragment
         return written(["offer", session, first, [*map(self.txn, txns)]])
 
-    def keep_history(self, fragment):
+    def keep_history(self, fragment: Tuple[Any, ...]) -> None:
         session, _, txns, left_out = fragment
         self.history[session] += txns
         self.left_out += left_out
 
-    def keep(self, lines):
+    def keep(self, lines: Sequence[bytes]) -> None:
         """In the script; a file that can't be written harms nobody but who wants to read it."""
         if self.script is not None and self.script_failure is None:
             try:
@@ -305,13 +333,13 @@ class Auditor(Takes):
                 self.script_failure = error
                 logger.error("%s lacks lines: %s", self.script.name, error)
 
-    def offer(self, session, number, *logged):
+    def offer(self, session: int, number: int, *logged: Any) -> None:
         """Transactions that follow one another, the first of this number. Raises Full where there is
         no room."""
         if self.offer_all([(session, number, logged)]):
             raise Full(f"there is no room for transaction {number} of session {session}")
 
-    def offer_all(self, fragments):
+    def offer_all(self, fragments: Sequence[Fragment]) -> List[Fragment]:
         """The same of several fragments, each (session, number of the first, transactions): gives
         those for which there was no room."""
         refused = []
@@ -327,7 +355,7 @@ class Auditor(Takes):
                     refused.append(fragment)
         return refused
 
-    def covered(self, fragment):
+    def covered(self, fragment: Fragment) -> Tuple[Any, ...]:
         """The fragment as the audit sees it, and how many reads were left out."""
         session, first, txns = fragment
         if self.coverage is None:
@@ -335,10 +363,11 @@ class Auditor(Takes):
         moved = [self.moved(logged) for logged in txns]
         return session, first, [logged for logged, _ in moved], sum(count for _, count in moved)
 
-    def moved(self, logged):
+    def moved(self, logged: Any) -> Tuple[Any, int]:
+        assert self.coverage is not None
         return self.coverage.moved(logged)
 
-    def txn(self, logged):
+    def txn(self, logged: Any) -> List[Any]:
         """As lines have it."""
         reads = sorted(
             (self.key_number(key), *(() if source == "init" else source))
@@ -348,7 +377,7 @@ class Auditor(Takes):
         texts = [read if len(read) > 1 else (*read, "init") for read in reads]
         return [texts, sorted(map(self.key_number, logged.writes))]
 
-    def key_number(self, key):
+    def key_number(self, key: str) -> int:
         found = self.numbers.get(key)
         if found is not None:
             return found
@@ -358,10 +387,10 @@ class Auditor(Takes):
                 self.names.append(key)
             return self.numbers[key]
 
-    def close(self, session):
+    def close(self, session: int) -> None:
         self.ask(["close", session])
 
-    def round(self, efforts=EFFORTS):
+    def round(self, efforts: Sequence[Effort] = EFFORTS) -> Report:
         """The report of a round over all that sessions have handed in. One that ends spent is given
         again with the next effort: then it tells of the last. Raises why, where something that
         sessions did was lost: `outcome` tells what is known all the same."""
@@ -370,7 +399,7 @@ class Auditor(Takes):
             raise self.failure
         return self.last_round(efforts)
 
-    def last_round(self, efforts=EFFORTS):
+    def last_round(self, efforts: Sequence[Effort] = EFFORTS) -> Report:
         """The same of what was taken in, whatever was lost."""
         for self.effort in efforts:
             report = Report(*self.ask(["round", *self.effort])[1:])
@@ -378,7 +407,7 @@ class Auditor(Takes):
                 break
         return report
 
-    def truncate(self):
+    def truncate(self) -> Cut:
         """Has the auditor forget what the last round found settled. The lines keep in which order what
         remains stands to it. Raises NoCut where nothing is."""
         with self.lock:
@@ -395,26 +424,26 @@ class Auditor(Takes):
             for session, count in Counter(session for session, _ in gone).items():
                 del self.history[session][:count]
                 self.marks[session] += count
-            return Cut(tuple(fence), len(gone))
+            return Cut((fence[0], fence[1]), len(gone))
 
-    def end(self):
+    def end(self) -> Optional[int]:
         """Ends the program, and gives its status; may be called again."""
         self.is_ended = True
         with self.lock:
             return self.end_program()
 
-    def end_program(self):
+    def end_program(self) -> Optional[int]:
         if self.script is not None:
             self.script.close()
             self.script = None
         return self.program.end() if self.program is not None else None
 
-    def __enter__(self):
+    def __enter__(self) -> Auditor:
         return self
 
-    def __exit__(self, *_):
+    def __exit__(self, *_: object) -> None:
         self.end()
 
 
-def written(line):
+def written(line: Sequence[Any]) -> str:
     return json.dumps(line, separators=(",", ":"))

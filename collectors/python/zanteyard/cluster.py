@@ -1,4 +1,7 @@
 """A PostgreSQL server of its own, in a folder that is thrown away."""
+
+from __future__ import annotations
+
 import glob
 import os
 import shutil
@@ -8,12 +11,13 @@ import sys
 import tempfile
 import time
 from contextlib import contextmanager
+from typing import Any, Dict, Iterator, Optional
 
 STOPPING = 20  # seconds for a server to stop
 TRIES = 50  # to remove its folder
 
 
-def program(name):
+def program(name: str) -> Optional[str]:
     """Where PostgreSQL's program of this name is; None where it isn't installed."""
     places = glob.glob(f"/usr/lib/postgresql/*/bin/{name}")
     places.sort(key=lambda path: int(path.split("/")[4]))
@@ -21,11 +25,11 @@ def program(name):
 
 
 @contextmanager
-def ended_by_signals():
+def ended_by_signals() -> Iterator[None]:
     """In here SIGTERM, which `timeout` and systemd send, ends the program as an exception does: what it
     has begun is cleaned up. For the main thread."""
 
-    def end(number, _):
+    def end(number: int, _: object) -> None:
         signal.signal(number, signal.SIG_IGN)  # once is enough
         sys.exit(128 + number)
 
@@ -42,15 +46,15 @@ class Cluster:
 
     table = "zanteyard"
 
-    def __init__(self):
-        self.user = {"user": "postgres", "group": "postgres"} if os.geteuid() == 0 else {}
+    def __init__(self) -> None:
+        self.user: Dict[str, Any] = {"user": "postgres", "group": "postgres"} if os.geteuid() == 0 else {}
 
-    def run(self, name, *arguments, **more):
-        call = [program(name), *arguments]
-        quiet = {"stdin": subprocess.DEVNULL, "stdout": subprocess.DEVNULL}
+    def run(self, name: str, *arguments: str, **more: Any) -> None:
+        call = [program(name) or name, *arguments]
+        quiet: Dict[str, Any] = {"stdin": subprocess.DEVNULL, "stdout": subprocess.DEVNULL}
         subprocess.run(call, check=True, cwd=self.folder, **quiet, **self.user, **more)
 
-    def __enter__(self):
+    def __enter__(self) -> Cluster:
         self.folder = tempfile.mkdtemp(prefix="zanteyard-")
         self.data = f"{self.folder}/data"
         self.dsn = f"host={self.folder} user=postgres dbname=postgres"
@@ -64,12 +68,12 @@ class Cluster:
             raise
         return self
 
-    def start(self):
+    def start(self) -> None:
         """Again, where it was stopped."""
         options = f"-c listen_addresses='' -c unix_socket_directories={self.folder} -c fsync=off"
         self.run("pg_ctl", "-D", self.data, "-l", f"{self.folder}/log", "-o", options, "-w", "start")
 
-    def stop(self):
+    def stop(self) -> None:
         """At once, as if it were killed; does nothing where it doesn't run."""
         ends = time.monotonic() + STOPPING
         pid = self.runs()
@@ -82,7 +86,7 @@ class Cluster:
             time.sleep(0.05)
             pid = self.runs()
 
-    def runs(self):
+    def runs(self) -> Optional[int]:
         """The number of the server's process, or None."""
         try:
             with open(f"{self.data}/postmaster.pid", encoding="ascii") as file:
@@ -92,9 +96,9 @@ class Cluster:
         except (OSError, ValueError, IndexError):
             return None
 
-    def __exit__(self, *_):
+    def __exit__(self, *_: object) -> None:
         self.stop()
-        for _ in range(TRIES):  # what initdb has begun may still make files
+        for _try in range(TRIES):  # what initdb has begun may still make files
             shutil.rmtree(self.folder, ignore_errors=True)
             if not os.path.exists(self.folder):
                 break

@@ -5,8 +5,13 @@ later can stand before it. What was on its way in that moment may stand before o
 that nothing is said of who read from it. What was sent to the store later is audited, under a number
 that counts from there.
 """
+
+from __future__ import annotations
+
 from dataclasses import dataclass, field
-from typing import List, Optional, Tuple
+from typing import Any, Dict, List, Optional, Tuple
+
+from .records import Logged, Source
 
 SKIPPED = 1 << 32  # numbers that may have been given unseen, by a process that ended without a word
 
@@ -20,7 +25,7 @@ class Coverage:
     first: List[Optional[int]]
     last: List[Optional[int]] = field(default_factory=list)
 
-    def __post_init__(self):
+    def __post_init__(self) -> None:
         self.last = self.last or [None] * len(self.early)
 
     @classmethod
@@ -34,7 +39,7 @@ class Coverage:
             return None
         return number - first
 
-    def source(self, session: int, number: int):
+    def source(self, session: int, number: int) -> Optional[Source]:
         """Where a read of this transaction's write was from, as the audit sees it: (session, number)
         or "init"; None where it can't be said, so that the read is to be left out."""
         if session >= len(self.early):
@@ -44,13 +49,13 @@ class Coverage:
             return (session, found)
         return "init" if number < self.early[session] else None
 
-    def moved(self, logged) -> Tuple[object, int]:
+    def moved(self, logged: Logged) -> Tuple[Logged, int]:
         """What was logged, and how many of its reads were left out."""
-        reads = [(key, "init" if it == "init" else self.source(*it)) for key, it in logged.reads]
+        reads = [(key, it if isinstance(it, str) else self.source(*it)) for key, it in logged.reads]
         kept = [(key, source) for key, source in reads if source is not None]
         if kept == list(logged.reads):
             return logged, 0
-        new = dict(zip(logged.reads, reads))
+        new: Dict[Any, Any] = dict(zip(logged.reads, reads))
         statements = [
             (new.get(deed, deed), statement)
             for deed, statement in logged.statements

@@ -7,7 +7,8 @@ from dataclasses import dataclass
 from html import escape
 from typing import Dict, List, Mapping, Sequence, Tuple
 
-from .stories import IN_ONE_SESSION, Link, Step, Story, TransactionId
+from .records import TransactionId
+from .stories import IN_ONE_SESSION, Link, Step, Story
 
 WIDTH, GAP, LANE_GAP = 210.0, 130.0, 76.0  # of a box, and between boxes, in the picture's units
 LINE, PADDING, LEFT = 18.0, 8.0, 100.0

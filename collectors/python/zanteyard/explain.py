@@ -5,14 +5,28 @@ What must come before what follows from sessions, from reads, and from other wri
 which stand before the writer or after the reader. Where that goes round in a circle no order is left;
 where none does, it takes a trial of all orders to see it.
 """
-import time
-from collections import namedtuple
-from dataclasses import dataclass
-from typing import Tuple
 
+from __future__ import annotations
+
+import time
+from dataclasses import dataclass
+from typing import Any, Dict, Iterable, Iterator, List, NamedTuple, Optional, Tuple
+
+from .records import History, Logged, Names, TransactionId
 from .shrinking import SECONDS, name, version
 
-Arc = namedtuple("Arc", "start end why needs")  # `needs` are the arcs from which this one follows
+
+class Arc(NamedTuple):
+    """That one transaction comes before another; `needs` are the arcs from which this one follows."""
+
+    start: TransactionId
+    end: TransactionId
+    why: str
+    needs: Tuple[Any, ...]  # of Arc, which this Python's types can't name here
+
+
+Table = Dict[TransactionId, Logged]
+ArcsFrom = Dict[TransactionId, List[Arc]]
 SESSION = "they are in one session"
 
 
@@ -25,7 +39,7 @@ class Explanation:
     arcs: Tuple[Arc, ...] = ()
 
 
-def table(history):
+def table(history: History) -> Table:
     return {
         (session, number): logged
         for session, txns in enumerate(history)
@@ -33,7 +47,7 @@ def table(history):
     }
 
 
-def wrong_reads(history, name=name):
+def wrong_reads(history: History, name: Names = name) -> Iterator[str]:
     """Reads from a transaction that didn't write the key."""
     txns = table(history)
     for reader, logged in txns.items():
@@ -43,17 +57,17 @@ def wrong_reads(history, name=name):
                 yield f"{name(reader)} read {key} from {name(source)}, which {why}"
 
 
-def session_arcs(txns):
+def session_arcs(txns: Table) -> Iterator[Arc]:
     """From each transaction that did something to the next one of its session that did."""
-    last = {}
+    last: Dict[int, TransactionId] = {}
     for id in sorted(id for id, logged in txns.items() if logged.reads or logged.writes):
         if id[0] in last:
             yield Arc(last[id[0]], id, SESSION, ())
         last[id[0]] = id
 
 
-def read_arcs(txns, name=name):
-    writers = {}
+def read_arcs(txns: Table, name: Names = name) -> Iterator[Arc]:
+    writers: Dict[str, List[TransactionId]] = {}
     for id, logged in txns.items():
         for key in logged.writes:
             writers.setdefault(key, []).append(id)
@@ -68,9 +82,9 @@ def read_arcs(txns, name=name):
                 yield Arc(source, id, f"{name(id)} read {key} from {name(source)}", ())
 
 
-def merged(way):
+def merged(way: Iterable[Arc]) -> List[Arc]:
     """The same way, where a run of transactions of one session is one arc."""
-    found = []
+    found: List[Arc] = []
     for arc in way:
         if found and found[-1].why == arc.why == SESSION:
             arc = Arc(found.pop().start, arc.end, SESSION, ())
@@ -78,9 +92,12 @@ def merged(way):
     return found
 
 
-def path(arcs_from, start, end):
+def path(
+    arcs_from: ArcsFrom, start: TransactionId, end: TransactionId
+) -> Optional[List[Arc]]:
     """The fewest arcs that lead from the one to the other, at least one; or None."""
-    found, queue = {}, [start]
+    found: Dict[TransactionId, Arc] = {}
+    queue = [start]
     for at in queue:
         for arc in arcs_from.get(at, ()):
             if arc.end not in found:
@@ -98,19 +115,21 @@ class TooLong(Exception):
     """The time is up."""
 
 
-def check(ends):
+def check(ends: float) -> None:
     if time.monotonic() > ends:
         raise TooLong
 
 
-def by_start(arcs):
-    found = {}
+def by_start(arcs: Iterable[Arc]) -> ArcsFrom:
+    found: ArcsFrom = {}
     for arc in arcs:
         found.setdefault(arc.start, []).append(arc)
     return found
 
 
-def forced_arcs(txns, arcs, name, ends):
+def forced_arcs(
+    txns: Table, arcs: Iterable[Arc], name: Names, ends: float
+) -> Iterator[Arc]:
     """What follows of other writers."""
     arcs_from = by_start(arcs)
     for reader, logged in txns.items():
@@ -129,7 +148,7 @@ def forced_arcs(txns, arcs, name, ends):
                     yield Arc(other, writer, f"{read} before {name(reader)}", tuple(merged(before)))
 
 
-def circles_of(txns, arcs, ends):
+def circles_of(txns: Table, arcs: Iterable[Arc], ends: float) -> Iterator[List[Arc]]:
     arcs_from = by_start(arcs)
     for id in txns:
         check(ends)
@@ -140,7 +159,9 @@ def circles_of(txns, arcs, ends):
             yield merged(way)
 
 
-def circle(history, name=name, seconds=SECONDS):
+def circle(
+    history: History, name: Names = name, seconds: float = SECONDS
+) -> Optional[List[Arc]]:
     """Arcs that lead from a transaction back to itself, or None; raises TooLong."""
     ends = time.monotonic() + seconds
     txns = table(history)
@@ -157,9 +178,9 @@ def circle(history, name=name, seconds=SECONDS):
         arcs += more
 
 
-def below(arcs):
+def below(arcs: Iterable[Arc]) -> List[Arc]:
     """The arcs, each behind those from which it follows."""
-    found = []
+    found: List[Arc] = []
     for arc in arcs:
         for one in (*below(arc.needs), arc):
             if one not in found:
@@ -167,7 +188,9 @@ def below(arcs):
     return found
 
 
-def explain_history(history, name=name, seconds=SECONDS):
+def explain_history(
+    history: History, name: Names = name, seconds: float = SECONDS
+) -> Explanation:
     """The Explanation of a violated history; it says so where it takes longer."""
     wrong = tuple(wrong_reads(history, name))
     if wrong:
@@ -184,6 +207,8 @@ def explain_history(history, name=name, seconds=SECONDS):
     return Explanation((*lines, last), tuple(around))
 
 
-def reasons(history, name=name, seconds=SECONDS):
+def reasons(
+    history: History, name: Names = name, seconds: float = SECONDS
+) -> List[str]:
     """The lines of its explanation."""
     return [*explain_history(history, name, seconds).lines]

@@ -1,5 +1,9 @@
 """A schema of one's own in a PostgreSQL that is somebody else's."""
+
+from __future__ import annotations
+
 import secrets
+from typing import Callable
 
 import psycopg2
 from psycopg2 import errors
@@ -14,12 +18,12 @@ class Guest:
     the end. Where the user may make no schema, it is a table beside what is there, under a name that
     nothing else has. What `dsn` doesn't say the environment does, as PGHOST and PGDATABASE."""
 
-    def __init__(self, dsn, tell=print):
+    def __init__(self, dsn: str, tell: Callable[[str], object] = print) -> None:
         self.dsn, self.tell = dsn, tell
         self.name = f"zanteyard_{secrets.token_hex(6)}"
         self.table, self.drop = f"{self.name}.zanteyard", f"DROP SCHEMA IF EXISTS {self.name} CASCADE"
 
-    def run(self, statement):
+    def run(self, statement: str) -> None:
         connection = psycopg2.connect(self.dsn)
         try:
             connection.autocommit = True
@@ -29,7 +33,7 @@ class Guest:
         finally:
             connection.close()
 
-    def where(self):
+    def where(self) -> str:
         connection = psycopg2.connect(self.dsn)
         try:
             info = connection.info
@@ -37,7 +41,7 @@ class Guest:
         finally:
             connection.close()
 
-    def __enter__(self):
+    def __enter__(self) -> Guest:
         """Raises psycopg2's errors where the server can't be reached, or allows no table either."""
         self.tell(f"in the {self.where()}: makes the schema {self.name} and a table in it, and drops both")
         try:
@@ -52,7 +56,7 @@ class Guest:
             raise
         return self
 
-    def __exit__(self, *_):
+    def __exit__(self, *_: object) -> None:
         try:
             self.run(self.drop)
         except psycopg2.Error as error:

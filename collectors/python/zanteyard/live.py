@@ -40,7 +40,7 @@ class LiveAuditor:
     run, `run_name`, is the auditor's where none is given. `outcome` tells at each time what came of it.
     """
 
-    EVERY = 2048
+    EVERY = 2560  # where one meeting fails there is room for two more
 
     def __init__(
         self,
@@ -78,7 +78,7 @@ class LiveAuditor:
         self.meetings, self.is_meeting = 0, False
         self.taken_in, self.rounds, self.cuts, self.left_out = 0, 0, 0, 0
         # For how many seconds a transaction waited to be taken in, at most: ever, and since a round.
-        self.lag = self.behind = 0.0
+        self.lag = self.behind = self.told_behind = 0.0
         self.told_at, self.told_of = time.monotonic(), 0
         self.report, self.is_stopping, self.is_fences_alone = None, False, False
         self.lost = None  # why no more is audited, or none until another audit begins
@@ -461,6 +461,7 @@ class LiveAuditor:
         rate = (self.taken_in - self.told_of) / max(now - self.told_at, 0.001)
         self.told_at, self.told_of = now, self.taken_in
         self.lag, behind, self.behind = max(self.lag, self.behind), self.behind, 0.0
+        self.told_behind = behind
         self.tell(
             f"round {self.report.number}: {self.report.kind}; {self.taken_in} transactions, "
             f"{rate:.0f} a second, {behind:.2f} s behind; {self.auditor.remaining} remain; {cut}"

@@ -1,37 +1,48 @@
-"""A store in memory, whose faults can be switched on. Honest, it lets a transaction commit only where all that it read is still the newest."""
-import threading
+"""A store in memory, whose faults can be switched on. Honest, it lets a transaction commit only where
+all that it read is still the newest."""
 
+from __future__ import annotations
+
+import threading
+from typing import Any, Dict, List, Optional, Tuple
+
+from .records import Found, Name
 from .sessions import Aborted, NameTaken, OutcomeUnknown
 
 FAULTS = ("stale-read", "lost-update", "write-skew", "torn-read", "dirty-read", "lost-write", "reappearing")
 
 
 class MemoryStore:
-    """What is shared by all connections: of each key its versions, oldest first, as (value, name, moment)."""
+    """What is shared by all connections: of each key its versions, oldest first, as (value, name,
+    moment)."""
 
-    def __init__(self, fault=None):
+    def __init__(self, fault: Optional[str] = None) -> None:
         assert fault is None or fault in FAULTS, fault
-        self.fault, self.versions, self.moment, self.lock = fault, {}, 0, threading.RLock()
-        self.runs = {}  # of each run's name, its token
+        self.fault, self.moment, self.lock = fault, 0, threading.RLock()
+        self.versions: Dict[str, List[Tuple[Any, Name, int]]] = {}
+        self.runs: Dict[str, str] = {}  # of each run's name, its token
 
-    def connect(self):
+    def connect(self) -> Connection:
         return Connection(self)
 
-    def newest(self, key, moment):
+    def newest(self, key: str, moment: int) -> int:
         """The index of the key's newest version of this moment, or -1."""
         versions = self.versions.get(key, [])
         return max((i for i, version in enumerate(versions) if version[2] <= moment), default=-1)
 
 
 class Connection:
-    def __init__(self, shared):
-        self.shared, self.lost, self.known = shared, None, True
+    def __init__(self, shared: MemoryStore) -> None:
+        self.shared, self.known = shared, True
+        self.lost: Optional[str] = None
+        self.seen: Dict[str, int] = {}
+        self.writes: Dict[str, Found] = {}
         self.last_outcome = "unknown"
 
-    def begin(self):
+    def begin(self) -> None:
         self.began, self.seen, self.writes = self.shared.moment, {}, {}
 
-    def read(self, key):
+    def read(self, key: str) -> Optional[Found]:
         shared = self.shared
         at = shared.newest(key, shared.moment if shared.fault == "torn-read" else self.began)
         self.seen[key] = at
@@ -44,14 +55,14 @@ class Connection:
             value, name, _ = shared.versions[key][at - 1]
         return value, name
 
-    def write(self, key, value, name):
+    def write(self, key: str, value: Any, name: Name) -> None:
         self.writes[key] = (value, name)
 
-    def commit(self):
+    def commit(self) -> None:
         with self.shared.lock:
             self.decide()
 
-    def decide(self):
+    def decide(self) -> None:
         shared = self.shared
         changed = {key for key, at in self.seen.items() if at != shared.newest(key, shared.moment)}
         if shared.fault in ("lost-update", "torn-read"):
@@ -65,27 +76,28 @@ class Connection:
         if self.lost is not None:
             raise OutcomeUnknown("no answer")
 
-    def rollback(self):
+    def rollback(self) -> None:
         if self.shared.fault == "dirty-read" and self.writes:
             self.install()
         self.writes = {}
 
-    def end(self, outcome):
-        """`lost`, which tests set, has the commit take effect ("committed") or not ("aborted") without an answer."""
+    def end(self, outcome: str) -> None:
+        """`lost`, which tests set, has the commit take effect ("committed") or not ("aborted") without
+        an answer."""
         self.last_outcome = self.lost or outcome
         if self.last_outcome == "committed" and self.shared.fault != "lost-write":
             self.install()
 
-    def install(self):
+    def install(self) -> None:
         with self.shared.lock:
             for key, (value, name) in self.writes.items():
                 self.shared.versions.setdefault(key, []).append((value, name, self.shared.moment + 1))
             self.shared.moment += 1
 
-    def claim(self, run_name, token):
+    def claim(self, run_name: str, token: str) -> None:
         with self.shared.lock:
             if self.shared.runs.setdefault(run_name, token) != token:
                 raise NameTaken(f"the store knows the name {run_name}: an earlier run had it")
 
-    def outcome(self):
+    def outcome(self) -> str:
         return self.last_outcome if self.known else "unknown"

@@ -1,15 +1,10 @@
 """What came of an audit, and what gives way where an audit can't keep up with the clients."""
 from __future__ import annotations
 
-from collections import namedtuple
 from dataclasses import dataclass, replace
-from typing import Optional, Tuple
+from typing import Any, Optional, Sequence, Tuple
 
-# What the program says of a round. The certificate is an order where the kind is serial or pending,
-# and the items of a refutation where it is violated.
-Report = namedtuple("Report", "number kind counts certificate", defaults=(None,))
-# A read that names a transaction which never came: (session, number) of the reader and of the source.
-Pending = namedtuple("Pending", "reader key source")
+from .records import Pending, Report
 
 SERIAL, PENDING, VIOLATED, UNDECIDED = "serial", "pending", "violated", "undecided"
 INCOMPLETE = "incomplete"  # something that clients did wasn't audited
@@ -61,14 +56,14 @@ class Outcome:
         return self.kind in (VIOLATED, COLLECTOR)
 
     @property
-    def counts(self):
+    def counts(self) -> Optional[Sequence[int]]:
         """Of the last round: how many transactions of each session it was about; None without one."""
-        return self.report and self.report.counts
+        return self.report.counts if self.report else None
 
     @property
-    def certificate(self):
+    def certificate(self) -> Any:
         """Of the last round: its order or its refutation; None without one."""
-        return self.report and self.report.certificate
+        return self.report.certificate if self.report else None
 
     @property
     def whole(self) -> "Outcome":
@@ -83,7 +78,7 @@ class Outcome:
             sum(one.audited for one in every),
             sum(one.handed_in for one in every),
             next((one.failure for one in reversed(every) if one.failure), None),
-            sum((one.pending for one in every), ()),
+            tuple(it for one in every for it in one.pending),
             self.report,
             self.name,
             sum(one.left_out for one in every),

@@ -176,7 +176,7 @@ def _reasons(story: Story) -> Iterable[str]:
         )
     yield "</ol>"
     around = " → ".join(escape(one) for one in story.circle)
-    yield f'<p>That goes round in a circle, so none of them can come first:</p><p class="around">'
+    yield '<p>That goes round in a circle, so none of them can come first:</p><p class="around">'
     yield f"{around}</p>"
 
 
@@ -188,7 +188,7 @@ def _table(steps: Sequence[Step]) -> Iterable[str]:
     has_places = any(step.clock or step.caller for step in steps)
     yield "<h2>What each transaction did</h2>"
     yield "<table><thead><tr><th>Transaction</th><th>Did</th>"
-    yield "<th>Returned</th>" * has_returned + "<th>Statement</th>" * has_statements
+    yield "<th>Value</th>" * has_returned + "<th>Statement</th>" * has_statements
     yield "<th>When and where</th>" * has_places + "</tr></thead><tbody>"
     for step in steps:
         deeds = step.deeds

@@ -1,19 +1,26 @@
 """A picture of why no order explains a history: Graphviz text, and SVG where `dot` is installed."""
+
+from __future__ import annotations
+
 import shutil
 import subprocess
+from typing import List, Optional, Sequence
 
-from .explain import below, explain_history
+from .explain import Arc, below, explain_history
+from .records import History, Names
 from .shrinking import deeds, name, statements_of
 
 DRAWING = 20.0  # seconds for `dot`
 
 
-def quoted(*lines):
+def quoted(*lines: str) -> str:
     escaped = (line.replace("\\", "\\\\").replace('"', '\\"') for line in lines)
     return '"' + "\\n".join(escaped) + '"'
 
 
-def dot_text(history, name=name, arcs=None):
+def dot_text(
+    history: History, name: Names = name, arcs: Optional[Sequence[Arc]] = None
+) -> str:
     """Each transaction with what it did, a column for each session. The arcs are an explanation's,
     which is made where none are given. They are bold and red, those from which they follow are grey; an
     arc goes from what comes before to what comes after."""
@@ -37,7 +44,9 @@ def dot_text(history, name=name, arcs=None):
     return "\n".join([*lines, "}", ""])
 
 
-def draw(history, path, name=name, arcs=None):
+def draw(
+    history: History, path: str, name: Names = name, arcs: Optional[Sequence[Arc]] = None
+) -> List[str]:
     """Writes path.dot, and path.svg where `dot` is installed and makes one; gives the names of the
     files. Raises OSError where they can't be written."""
     with open(f"{path}.dot", "w", encoding="utf-8") as file:

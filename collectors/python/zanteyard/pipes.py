@@ -1,8 +1,12 @@
 """A program that answers line by line over pipes, and that nobody waits for longer than was said."""
+
+from __future__ import annotations
+
 import os
 import select
 import subprocess
 import time
+from typing import Iterable, List, NoReturn
 
 ENDING = 5.0  # seconds for a program to end by itself, once its input has ended
 
@@ -18,26 +22,30 @@ class Late(Ended):
 class Pipes:
     """For one thread at a time."""
 
-    def __init__(self, path):
+    def __init__(self, path: str) -> None:
         pipe = subprocess.PIPE
         try:
             self.process = subprocess.Popen([path], stdin=pipe, stdout=pipe, stderr=pipe, bufsize=0)
         except OSError as error:
             told = f"{path} can't be started ({error}); README.md says how it is built"
             raise Ended(told) from error
+        assert self.process.stdin and self.process.stdout and self.process.stderr
+        self.input, self.output = self.process.stdin, self.process.stdout
+        self.errors = self.process.stderr
         self.rest = b""  # what was read behind the last whole line
-        self.unsent, self.found = memoryview(b""), []  # of lines, and answers that nobody has yet
+        self.unsent = memoryview(b"")  # of lines
+        self.found: List[bytes] = []  # answers that nobody has yet
         self.waits = select.poll()
-        self.waits.register(self.process.stdout, select.POLLIN | select.POLLHUP)
+        self.waits.register(self.output, select.POLLIN | select.POLLHUP)
         self.takes = select.poll()
-        self.takes.register(self.process.stdin, select.POLLOUT)
-        os.set_blocking(self.process.stdin.fileno(), False)
+        self.takes.register(self.input, select.POLLOUT)
+        os.set_blocking(self.input.fileno(), False)
 
-    def ask(self, lines):
+    def ask(self, lines: Iterable[bytes]) -> None:
         """Bytes without their ends, each of which is answered once."""
         self.unsent = memoryview(bytes(self.unsent) + b"".join(line + b"\n" for line in lines))
 
-    def answers(self, count, seconds):
+    def answers(self, count: int, seconds: float) -> List[bytes]:
         """So many, in the order in which was asked. Raises Ended; or Late after so many seconds, and
         may then be called again."""
         until = time.monotonic() + seconds
@@ -53,41 +61,41 @@ class Pipes:
         answers, self.found = self.found[:count], self.found[count:]
         return answers
 
-    def write(self, until):
+    def write(self, until: float) -> None:
         """What the program takes, unless answers have to be read first."""
         try:
-            self.unsent = self.unsent[os.write(self.process.stdin.fileno(), self.unsent[:65536]) :]
+            self.unsent = self.unsent[os.write(self.input.fileno(), self.unsent[:65536]) :]
         except BlockingIOError:
             if not self.waits.poll(0) and not self.takes.poll(self.left(until)):
                 raise Late("cobra_audit hasn't answered in time") from None
 
-    def read(self, until, is_blocking):
+    def read(self, until: float, is_blocking: bool) -> None:
         if not self.waits.poll(self.left(until) if is_blocking else 0):
             if is_blocking:
                 raise Late("cobra_audit hasn't answered in time")
             return
-        got = os.read(self.process.stdout.fileno(), 1 << 20)
+        got = os.read(self.output.fileno(), 1 << 20)
         if not got:
             self.tell_end()
         *lines, self.rest = (self.rest + got).split(b"\n")
         self.found += lines
 
-    def left(self, until):
+    def left(self, until: float) -> int:
         """Milliseconds, as `poll` wants them."""
         return max(0, int(1000 * (until - time.monotonic())))
 
-    def tell_end(self):
+    def tell_end(self) -> NoReturn:
         status, error = self.end(), self.error
         raise Ended(f"cobra_audit ended with status {status}: {error}")
 
     error = ""  # what it told as it ended
 
-    def kill(self):
+    def kill(self) -> None:
         self.process.kill()
 
-    def end(self):
+    def end(self) -> int:
         """Ends the program, and gives its status; may be called again."""
-        for pipe in (self.process.stdin, self.process.stdout):
+        for pipe in (self.input, self.output):
             try:
                 pipe.close()
             except OSError:
@@ -96,7 +104,7 @@ class Pipes:
             self.process.wait(ENDING)
         except subprocess.TimeoutExpired:
             self.process.kill()
-        if not self.process.stderr.closed:
-            self.error = self.process.stderr.read().decode(errors="replace").strip()
-            self.process.stderr.close()
+        if not self.errors.closed:
+            self.error = self.errors.read().decode(errors="replace").strip()
+            self.errors.close()
         return self.process.wait()

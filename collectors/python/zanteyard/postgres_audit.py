@@ -121,7 +121,7 @@ class _Rounds:
         live = self.live
         if live is not None and live.report is not None and line.startswith("round"):
             at = time.monotonic() - self.began
-            remaining, behind = live.auditor.remaining, getattr(live, "told_behind", live.lag)
+            remaining, behind = live.auditor.remaining, live.told_behind
             self.seen.append(RoundSeen(at, live.report.kind, remaining, behind, live.taken_in))
 
 

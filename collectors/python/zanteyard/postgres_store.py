@@ -1,10 +1,15 @@
 """A table of PostgreSQL as a store. Each row has its writer's name beside the value; the value NULL
 marks a deleted key."""
+
+from __future__ import annotations
+
 import re
+from typing import Any, Dict, Optional, Sequence, Tuple
 
 import psycopg2
 from psycopg2 import errors
 
+from .records import Found, Name
 from .sessions import Aborted, NameTaken, OutcomeUnknown
 
 LEVELS = ("serializable", "repeatable read", "read committed")
@@ -22,13 +27,15 @@ OVERWRITE = f"""UPDATE {{table}} AS now SET value = %s, run = %s, session = %s, 
     FROM (SELECT * FROM {{table}} WHERE key = %s FOR UPDATE) AS before WHERE now.key = before.key
     {TRANSACTION}, before.value, before.run, before.session, before.number"""
 FIRST = f"INSERT INTO {{table}} VALUES (%s, %s, %s, %s, %s) ON CONFLICT (key) DO NOTHING {TRANSACTION}"
+STATUS = """SELECT pg_xact_status(%s::text::xid8), EXISTS (SELECT 1 FROM {table}
+    WHERE key = %s AND run = %s AND session = %s AND number = %s)"""
 KNOWS = "SELECT EXISTS (SELECT 1 FROM {table} WHERE run = %s)"
 CONFLICTS = (errors.SerializationFailure, errors.DeadlockDetected)
 ATTEMPTS = 10  # at the first row of a key: each fails only where another client has just made it
 RUN = "zanteyard run "  # before a run's name: the key of the row that says whose it is
 
 
-def quoted(table):
+def quoted(table: str) -> str:
     """The table's name, or "schema.table", as statements have it."""
     parts = [
         part if re.fullmatch("[a-z_][a-z0-9_]*", part) else '"' + part.replace('"', '""') + '"'
@@ -37,7 +44,7 @@ def quoted(table):
     return ".".join(parts)
 
 
-def prepare(dsn, table="zanteyard"):
+def prepare(dsn: str, table: str = "zanteyard") -> None:
     """Makes the table, where it isn't there."""
     connection = psycopg2.connect(dsn)
     try:
@@ -51,27 +58,31 @@ class PostgresStore:
     """One connection, for one thread at a time. `level` is "serializable", "repeatable read" or "read
     committed"; `table` may be "schema.table"."""
 
-    def __init__(self, dsn, level="serializable", table="zanteyard"):
+    def __init__(
+        self, dsn: str, level: str = "serializable", table: str = "zanteyard"
+    ) -> None:
         if level not in LEVELS:
             raise ValueError(f"{level} is none of {', '.join(LEVELS)}")
         self.dsn, self.level, self.table = dsn, level, quoted(table)
-        self.connection, self.transaction_id = None, None
-        self.statement = None  # what was run last, as the server got it
+        self.connection: Any = None
+        self.transaction_id: Optional[str] = None
+        self.written: Tuple[Any, ...] = ()  # the key that was written last, and the name beside it
+        self.statement: Optional[str] = None  # what was run last, as the server got it
         self.before = ""  # what the transaction's first statement is sent behind
         self.is_alone = False
 
-    def connect(self):
+    def connect(self) -> None:
         """Opens the connection, and raises psycopg2's errors where it can't."""
         self.connection = psycopg2.connect(self.dsn)
         self.connection.autocommit = True  # transactions are begun here, on the way of a statement
 
-    def send(self, text, values=()):
+    def send(self, text: str, values: Sequence[Any] = ()) -> Any:
         """All that is sent to the server goes through here: one call is one way there and back."""
         cursor = self.connection.cursor()
         cursor.execute(text, values)
         return cursor
 
-    def ask(self, text, values=()):
+    def ask(self, text: str, values: Sequence[Any] = ()) -> Any:
         before, self.before = self.before, "" if not self.is_alone else self.before
         try:
             cursor = self.send(before + text.format(table=self.table), values)
@@ -84,30 +95,32 @@ class PostgresStore:
         self.statement = cursor.query.decode(errors="replace")[len(before) :]
         return cursor
 
-    def begin(self):
+    def begin(self) -> None:
         if self.connection is None or self.connection.closed:
             self.connect()
         self.transaction_id, self.is_alone = None, False
         self.before = f"BEGIN ISOLATION LEVEL {self.level.upper()}; "
 
-    def begin_alone(self, seconds):
+    def begin_alone(self, seconds: float) -> None:
         """Instead of `begin`, where what follows are statements that need no other one: each is a
         transaction by itself, is done or not after so many seconds, and holds no lock behind it."""
         self.begin()
         self.is_alone = True
         self.before = f"SET LOCAL statement_timeout = {max(1, int(1000 * seconds))}; "
 
-    def read(self, key):
+    def read(self, key: str) -> Optional[Found]:
         row = self.ask(READ, (key,)).fetchone()
         return None if row is None else (row[0], row[1:])
 
-    def read_all(self, keys):
+    def read_all(self, keys: Sequence[str]) -> Dict[str, Found]:
         return {row[0]: (row[1], row[2:]) for row in self.ask(READ_ALL, (keys,))}
 
-    def write(self, key, value, name):
+    def write(self, key: str, value: Any, name: Name) -> None:
+        self.written = (key, *name)
         (self.transaction_id,) = self.ask(WRITE, (key, value, *name)).fetchone()
 
-    def exchange(self, key, value, name):
+    def exchange(self, key: str, value: Any, name: Name) -> Optional[Found]:
+        self.written = (key, *name)
         for _ in range(ATTEMPTS):
             row = self.ask(OVERWRITE, (value, *name, key)).fetchone()
             if row is not None:
@@ -119,7 +132,7 @@ class PostgresStore:
                 return None
         raise Aborted(f"{key} came and went {ATTEMPTS} times")
 
-    def commit(self):
+    def commit(self) -> None:
         try:
             self.send_commit()
         except CONFLICTS as error:
@@ -129,13 +142,13 @@ class PostgresStore:
                 raise OutcomeUnknown(str(error).strip()) from error
             raise  # the server has answered: it is aborted
 
-    def send_commit(self):
+    def send_commit(self) -> None:
         if self.is_alone or self.before:
             return  # nothing is open
         if self.send("COMMIT").statusmessage != "COMMIT":  # a statement of it has failed
             raise Aborted("the transaction had failed before its commit")
 
-    def rollback(self):
+    def rollback(self) -> None:
         """Where the server can't be told, the connection is closed: then it finds out by itself."""
         if self.connection is None or self.connection.closed or self.is_alone or self.before:
             return
@@ -144,30 +157,35 @@ class PostgresStore:
         except psycopg2.Error:
             self.close()
 
-    def close(self):
+    def close(self) -> None:
         """Closes the connection; the next transaction opens another one. May be called twice."""
         if self.connection is not None:
             self.connection.close()
 
-    def outcome(self):
-        """By a connection of its own, since the one at hand may be broken."""
+    def outcome(self) -> str:
+        """By a connection of its own, since the one at hand may be broken. A server that crashed gives
+        the number of a transaction that was lost to another one, so that it alone doesn't say what
+        was committed: the row has to be there, too."""
         if self.transaction_id is None:
             return "unknown"
         try:
             connection = psycopg2.connect(self.dsn)
             try:
                 cursor = connection.cursor()
-                cursor.execute("SELECT pg_xact_status(%s::text::xid8)", (self.transaction_id,))
-                status = cursor.fetchone()[0]
+                values = (self.transaction_id, *self.written)
+                cursor.execute(STATUS.format(table=self.table), values)
+                status, is_there = cursor.fetchone() or (None, False)
             finally:
                 connection.close()
         except psycopg2.Error:
             return "unknown"
-        return status if status in ("committed", "aborted") else "unknown"
+        if status == "aborted" or (status == "committed" and is_there):
+            return str(status)
+        return "unknown"
 
-    def claim(self, run_name, token):
+    def claim(self, run_name: str, token: str) -> None:
         """Makes the name that of one run, or raises NameTaken where it is another's."""
-        name = (RUN + run_name, token, run_name, -1, 0)
+        name: Tuple[Any, ...] = (RUN + run_name, token, run_name, -1, 0)
         self.begin_alone(60)
         row = self.ask(READ, name[:1]).fetchone()
         if row is None:

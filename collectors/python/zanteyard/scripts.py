@@ -8,14 +8,11 @@ import subprocess
 import time
 from collections import Counter
 from dataclasses import dataclass, field
-from typing import Any, Dict, Iterable, Iterator, List, Mapping, Sequence, Tuple, Union
+from typing import Any, Dict, Iterable, Iterator, List, Mapping, Sequence
 
-from .auditor import FENCE, Logged, never_came
+from .auditor import FENCE, never_came
 from .errors import ProgramEndedError, ScriptMistakeError
-from .outcome import Pending
-
-TransactionId = Tuple[int, int]  # session and number
-Source = Union[str, TransactionId]  # "init" for the initial state
+from .records import Logged, Pending, TransactionId
 
 # What a spent round is given again with: nodes of the search, depth, workers.
 WORKERS = max(1, min(16, os.cpu_count() or 1))
@@ -55,7 +52,7 @@ class Verdict:
 
 
 @dataclass
-class History:
+class ScriptHistory:
     """What a script has offered, and what of it remains. Keys are told as `key 5`."""
 
     history: List[List[Logged]] = field(default_factory=list)
@@ -106,7 +103,7 @@ class ScriptRun:
     def __init__(self, program: str, most_nodes: int = MORE[1][0]) -> None:
         """`most_nodes` is the greatest budget that a spent round is given again with."""
         self.most_nodes = most_nodes
-        self.history = History()
+        self.history = ScriptHistory()
         self.verdict: Verdict | None = None  # the last one
         self.no_cut_lines: List[int] = []  # where `truncate` found nothing to forget
         self._is_open = False

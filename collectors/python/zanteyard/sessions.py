@@ -15,15 +15,22 @@ these calls may then raise OutcomeUnknown themselves. `claim(run_name, token)` r
 the store knows the name, but for a run with this token. `statement` is what it has run last, as who is
 told of a violation should see it.
 """
+
+from __future__ import annotations
+
 import logging
 import threading
 import time
 from contextlib import contextmanager
 from dataclasses import dataclass
+from typing import Any, Callable, Dict, Iterable, Iterator, List, Optional, Sequence, Set, Tuple, TypeVar
 
-from .auditor import FENCE, FLAG, MARK, Logged
+from .auditor import FENCE, FLAG, MARK
+from .circumstances import brief, caller
+from .records import Deed, Found, Logged, Name, Read, Source, Store
 
 logger = logging.getLogger("zanteyard")
+Result = TypeVar("Result")
 
 
 class Aborted(Exception):
@@ -66,32 +73,44 @@ class Session:
     What the auditor does with the log never reaches who runs transactions: `failure` says why nothing
     more of this session is audited, if that is so."""
 
-    def __init__(self, auditor, number, store, run_name=None, patience=5.0, renew=None):
+    def __init__(
+        self,
+        auditor: Any,
+        number: int,
+        store: Store,
+        run_name: Optional[str] = None,
+        patience: float = 5.0,
+        renew: Optional[Callable[[Session], Optional[Place]]] = None,
+    ) -> None:
         self.auditor, self.store, self.patience, self.renew = auditor, store, patience, renew
         its_name = getattr(auditor, "run_name", "")
         self.run_name = run_name if run_name is not None else its_name
         self.is_named = self.run_name != its_name or getattr(auditor, "is_named", True)
-        self.place, self.is_open, self.is_claimed = Place(number), True, False
+        self.place: Any = Place(number)  # None where no place is left for it
+        self.is_open, self.is_claimed = True, False
         self.wait = getattr(getattr(auditor, "policy", None), "wait", 30.0)
         self.turn = threading.Lock()  # held by a transaction from its begin to its end, and by a meeting
         # Held while a meeting waits for the turn: else a busy client would take it again before the
         # meeting gets it.
         self.gate = threading.Lock()
-        self.current = None  # the client's transaction that holds the turn
-        self.running = None  # the same, or the collector's own
-        self.used_at, self.waited, self.failure = time.monotonic(), 0.0, None
+        self.current: Optional[Transaction] = None  # the client's transaction that holds the turn
+        self.running: Optional[Transaction] = None  # the same, or the collector's own
+        self.used_at = time.monotonic()
+        self.failure: Optional[Exception] = None
+        # For how many seconds this client waited for the audit: in all, and at most at a time.
+        self.waited = self.longest = 0.0
 
     @property
-    def number(self):
+    def number(self) -> Optional[int]:
         """Of the auditor's session that this one has; None where it has none."""
         return self.place.number if self.place is not None else None
 
     @property
-    def begun(self):
+    def begun(self) -> int:
         """How many transactions that has had."""
-        return self.place.begun if self.place is not None else 0
+        return int(self.place.begun) if self.place is not None else 0
 
-    def begin(self):
+    def begin(self) -> Transaction:
         """Raises what the store does where it can't be reached; then nothing has begun."""
         if self.current is not None:
             raise ValueError(f"session {self.number} is in a transaction: it runs one at a time")
@@ -104,16 +123,20 @@ class Session:
             self.turn.release()
             raise
 
-    def take_turn(self):
+    def take_turn(self) -> None:
         """Who holds it, and the gate, are meetings, which end within the policy's wait; but for a
         statement of theirs that the store hasn't answered over this connection."""
         came = time.monotonic()
         if self.gate.locked() and self.gate.acquire(timeout=self.wait):
             self.gate.release()
         self.turn.acquire()
-        self.waited += time.monotonic() - came
+        self.has_waited(came)
 
-    def go_on(self):
+    def has_waited(self, since: float) -> None:
+        waited = time.monotonic() - since
+        self.waited, self.longest = self.waited + waited, max(self.longest, waited)
+
+    def go_on(self) -> None:
         """Takes another place where the session has ended."""
         if self.is_open:
             return
@@ -123,7 +146,7 @@ class Session:
         elif self.renew is None or self.place is None:
             raise ValueError(f"session {self.number} has ended")
 
-    def claim_name(self):
+    def claim_name(self) -> None:
         """Before the first transaction."""
         if self.is_named and not self.is_claimed:
             claim, token = getattr(self.store, "claim", None), getattr(self.auditor, "token", None)
@@ -131,7 +154,7 @@ class Session:
                 claim(self.run_name, token)
         self.is_claimed = True
 
-    def start(self, begin, holds, *arguments):
+    def start(self, begin: Callable[..., Any], holds: bool, *arguments: Any) -> Transaction:
         """A transaction, which has its number once the store has begun it."""
         begin(*arguments)
         transaction = Transaction(self, self.place.begun, holds)
@@ -142,16 +165,16 @@ class Session:
         return transaction
 
     @contextmanager
-    def transaction(self):
+    def transaction(self) -> Iterator[Transaction]:
         with whole(self.begin()) as transaction:
             yield transaction
 
-    def run(self, body, attempts=10):
+    def run(self, body: Callable[[Transaction], Result], attempts: int = 10) -> Result:
         """Calls body(transaction) and commits, again where the store aborts; each attempt has a number
         of its own."""
         return attempted(self.begin, body, attempts)
 
-    def close(self):
+    def close(self) -> None:
         """Nothing more of this session comes. Raises ValueError in the middle of a transaction."""
         if self.current is not None:
             raise ValueError(f"session {self.number} is in a transaction")
@@ -161,33 +184,37 @@ class Session:
         elif self.is_open:
             self.end()
 
-    def __enter__(self):
+    def __enter__(self) -> Session:
         return self
 
-    def __exit__(self, *_):
+    def __exit__(self, *_: object) -> None:
         if self.current is not None:
             self.current.rollback()
         self.close()
 
-    def end(self):
+    def end(self) -> None:
         """No transaction may stand behind the last one."""
         self.is_open, self.place.is_ended = False, True
         self.tell(self.auditor.take_close, self.number)
 
-    def tell(self, call, *arguments):
+    def tell(self, call: Callable[..., Any], *arguments: Any) -> None:
         """The auditor, whose fate is none of the client's business."""
+        came = time.monotonic()
         try:
             call(*arguments)
         except Exception as error:
             if self.failure is None:
                 self.failure = error
                 logger.error("nothing more of session %s is audited: %s", self.number, error)
+        self.has_waited(came)
 
     # What meetings call, for who holds the session's turn. Each is a transaction of the collector's
     # own, which the store has ended within so many seconds.
 
-    def run_alone(self, body, seconds, attempts=3):
-        def begin():
+    def run_alone(
+        self, body: Callable[[Transaction], Any], seconds: float, attempts: int = 3
+    ) -> Any:
+        def begin() -> Transaction:
             alone = getattr(self.store, "begin_alone", None)
             if alone is not None:
                 return self.start(alone, False, seconds)
@@ -195,27 +222,27 @@ class Session:
 
         return attempted(begin, body, attempts)
 
-    def fence(self, seconds=60.0):
+    def fence(self, seconds: float = 60.0) -> None:
         self.run_alone(lambda transaction: transaction.exchange(FENCE, ""), seconds)
 
-    def flag(self, seconds=60.0):
+    def flag(self, seconds: float = 60.0) -> None:
         """After it, all that this session did so far is behind one read of its flag away."""
         key = f"{FLAG}{self.number}"
         self.run_alone(lambda transaction: transaction.exchange(key, ""), seconds)
         self.place.is_due, self.place.has_flag = False, True
 
-    def read_all(self, keys, seconds=60.0):
+    def read_all(self, keys: Sequence[str], seconds: float = 60.0) -> None:
         self.run_alone(lambda transaction: transaction.get_all(keys), seconds)
 
-    def write_mark(self, seconds=60.0):
+    def write_mark(self, seconds: float = 60.0) -> None:
         self.run_alone(lambda transaction: transaction.exchange(MARK, ""), seconds)
         self.place.is_due = self.place.has_flag = False
 
-    def read_mark(self, seconds=60.0):
+    def read_mark(self, seconds: float = 60.0) -> None:
         self.run_alone(lambda transaction: transaction.get(MARK), seconds)
         self.place.is_due = self.place.has_flag = False
 
-    def lend(self, place, deed, seconds=60.0):
+    def lend(self, place: Place, deed: str, seconds: float = 60.0) -> None:
         """Runs "flag" or "read_mark" of a session that no client has over this one's connection."""
         one = Session(self.auditor, place.number, self.store, self.run_name)
         one.place, place.is_lent = place, True
@@ -226,7 +253,7 @@ class Session:
 
 
 @contextmanager
-def whole(transaction):
+def whole(transaction: Transaction) -> Iterator[Transaction]:
     try:
         yield transaction
     except OutcomeUnknown:
@@ -241,7 +268,9 @@ def whole(transaction):
     transaction.commit()
 
 
-def attempted(begin, body, attempts):
+def attempted(
+    begin: Callable[[], Transaction], body: Callable[[Transaction], Result], attempts: int
+) -> Result:
     for left in reversed(range(attempts)):
         try:
             with whole(begin()) as transaction:
@@ -250,55 +279,65 @@ def attempted(begin, body, attempts):
         except Aborted:
             if not left:
                 raise
+    raise ValueError("it is to be attempted once at least")
 
 
 class Transaction:
-    def __init__(self, session, number, holds=True):
+    def __init__(self, session: Session, number: int, holds: bool = True) -> None:
         self.session, self.store, self.number, self.holds = session, session.store, number, holds
-        self.reads, self.written, self.is_over = set(), {}, False
+        self.reads: Set[Read] = set()
+        self.written: Dict[str, Any] = {}
+        self.is_over = False
         self.is_committing = not holds  # from here on the store may have what it writes
-        self.sent = ()  # keys that were written and needn't be at the commit
-        self.statements = {}  # of each deed, as Logged has them
+        # For who is told of a violation; the collector's own transactions have none of it.
+        self.values: List[Tuple[str, str, str]] = []
+        self.began, self.caller = (time.time(), caller()) if holds else (0.0, "")
+        self.sent: Tuple[str, ...] = ()  # keys that were written and needn't be at the commit
+        self.statements: Dict[Deed, str] = {}  # of each deed, as Logged has them
 
-    def get(self, key, statement=None):
+    def get(self, key: str, statement: Optional[str] = None) -> Any:
         """`statement` is told of a violation in place of the store's."""
         if key in self.written:
             return self.written[key]  # its own write: not logged
         return self.was_read(key, self.store.read(key), statement)
 
-    def get_all(self, keys):
+    def get_all(self, keys: Sequence[str]) -> Dict[str, Any]:
         """The values of keys that weren't written here, by key; at once, where the store has a call
         for that."""
         many = getattr(self.store, "read_all", None)
         found = many(keys) if many else {key: self.store.read(key) for key in keys}
         return {key: self.was_read(key, found.get(key)) for key in keys}
 
-    def was_read(self, key, found, statement=None):
+    def was_read(
+        self, key: str, found: Optional[Found], statement: Optional[str] = None
+    ) -> Any:
         read = (key, "init" if found is None else self.source(found[1]))
         self.reads.add(read)
         self.was_run(read, statement)
+        if self.holds:
+            self.values.append(("read", key, brief(None if found is None else found[0])))
         return None if found is None else found[0]
 
-    def was_run(self, deed, statement=None):
+    def was_run(self, deed: Deed, statement: Optional[str] = None) -> None:
         statement = statement or getattr(self.store, "statement", None)
         if statement:
             self.statements.setdefault(deed, statement)
 
-    def source(self, name):
+    def source(self, name: Optional[Name]) -> Source:
         if name is None or name[0] != self.session.run_name:
             return "init"  # it was there before this run
         return (name[1], name[2])
 
-    def put(self, key, value, statement=None):
+    def put(self, key: str, value: Any, statement: Optional[str] = None) -> None:
         # It goes to the store at the commit, once, so that no version is there to be read but the last.
         self.written[key] = value
         if statement:
             self.statements[(key,)] = statement
 
-    def delete(self, key, statement=None):
+    def delete(self, key: str, statement: Optional[str] = None) -> None:
         self.put(key, None, statement)
 
-    def exchange(self, key, value):
+    def exchange(self, key: str, value: Any) -> None:
         """Reads the key and writes it: at once, where the store has a call for that. It has to be the
         last that is done with the key."""
         both = getattr(self.store, "exchange", None)
@@ -313,11 +352,11 @@ class Transaction:
         self.was_run((key,))
 
     @property
-    def name(self):
+    def name(self) -> Any:
         """Which is written beside values."""
         return (self.session.run_name, self.session.number, self.number)
 
-    def commit(self):
+    def commit(self) -> None:
         self.is_committing = True
         try:
             for key in sorted(self.written):
@@ -333,17 +372,17 @@ class Transaction:
         else:
             self.log(self.reads, self.written, "committed")
 
-    def rollback(self):
+    def rollback(self) -> None:
         if not self.is_over:
             try:
                 self.store.rollback()
             finally:
                 self.give_up()
 
-    def give_up(self):
+    def give_up(self) -> None:
         self.log((), (), "aborted")
 
-    def find_out(self):
+    def find_out(self) -> None:
         """Asks the store. Where it can't say, the transaction is logged with its writes alone, as the
         last of its session."""
         until = time.monotonic() + (self.session.patience if self.holds else 0.0)
@@ -360,7 +399,9 @@ class Transaction:
         self.log((), self.written, "unknown", is_last=bool(self.written))
         raise OutcomeUnknown(f"{self.session.number}.{self.number}")
 
-    def log(self, reads, writes, outcome, is_last=False):
+    def log(
+        self, reads: Iterable[Read], writes: Iterable[str], outcome: str, is_last: bool = False
+    ) -> None:
         """Hands in what is known; nothing that fails here comes back to the client."""
         session, self.is_over = self.session, True
         session.place.is_due = True
@@ -374,11 +415,19 @@ class Transaction:
             session.used_at, session.current = time.monotonic(), None
             session.turn.release()
 
-    def hand_in(self, reads, writes, outcome):
+    def hand_in(self, reads: Iterable[Read], writes: Iterable[str], outcome: str) -> None:
         statements = tuple(self.statements.items())
         if outcome != "committed":
             deeds = {*reads, *((key,) for key in writes)}
             statements = tuple(it for it in statements if it[0] in deeds)
-        reads = sorted(reads, key=repr) if len(reads) > 1 else [*reads]
-        logged = Logged(reads, sorted(writes), outcome, statements)
+        reads = [*reads]
+        if len(reads) > 1:
+            reads.sort(key=repr)
+        writes = sorted(writes)
+        values = tuple(self.values)
+        if self.holds:
+            values += tuple(("wrote", key, brief(self.written.get(key))) for key in writes)
+        if not reads:  # it isn't known, or doesn't matter, what was read
+            values = tuple(it for it in values if it[0] == "wrote")
+        logged = Logged(reads, writes, outcome, statements, values, self.began, self.caller)
         self.session.auditor.take(self.session.number, self.number, logged)

@@ -1,43 +1,50 @@
 """What is told of a violated history: a small part of it that is violated too, in words and as a script."""
-import time
 
-from .auditor import FENCE, LONGEST, PLAIN_FENCE, PROGRAM, Auditor, Logged, is_own, written
+from __future__ import annotations
+
+import time
+from typing import Any, Callable, Container, Dict, Iterable, Iterator, List, Mapping
+from typing import Optional, Set, Tuple
+
+from .auditor import FENCE, LONGEST, PLAIN_FENCE, PROGRAM, Auditor, is_own, written
 from .outcome import VIOLATED
+from .records import History, Logged, Names, Report, Source, TransactionId
 
 TOLD = 240  # characters of a statement, at most
 SECONDS = 5.0  # to make a history smaller
 START = "everything before the cut"  # a key that the first transaction of a history with a cut writes
 
 
-def audited(history, program=PROGRAM):
+def audited(history: History, program: str = PROGRAM) -> Tuple[Report, str]:
     """The report of an auditor of its own, and the script that gives it."""
     limit = max(1, sum(map(len, history)))
     with Auditor(len(history), limit, program) as auditor:
-        script, fragments = [["open", len(history), limit]], []
+        script: List[Any] = [["open", len(history), limit]]
+        fragments: List[Tuple[int, int, List[Logged]]] = []
         for session, txns in enumerate(history):
             for first in range(0, len(txns), LONGEST):
                 fragment = txns[first : first + LONGEST]
                 fragments.append((session, first, fragment))
                 script.append(["offer", session, first, [*map(auditor.txn, fragment)]])
-        for fragment in fragments:
-            auditor.offer(*fragment[:2], *fragment[2])
+        for at, number, its in fragments:
+            auditor.offer(at, number, *its)
         report = auditor.last_round()
         script.append(["round", *auditor.effort])
         return report, "".join(written(line) + "\n" for line in script)
 
 
-def is_violated(history, program=PROGRAM):
+def is_violated(history: History, program: str = PROGRAM) -> bool:
     return audited(history, program)[0].kind == VIOLATED
 
 
-def from_start(auditor):
+def from_start(auditor: Any) -> Tuple[History, Names]:
     """What remains as a history without a cut and without fences' own key, and the names of its
     transactions. Where something is forgotten, a first transaction stands for it: it writes the last
     version of each key, and every session begins with one that reads from it."""
     marks, base, history = auditor.marks, auditor.base, auditor.history
     gone, some_gone = (0, 0), any(marks)
 
-    def moved(key, source):
+    def moved(key: str, source: Source) -> Source:
         if source == "init" or not some_gone:
             return source
         if source[1] >= marks[source[0]]:
@@ -45,13 +52,13 @@ def from_start(auditor):
         # an older one than the last is as wrong as the initial state
         return "init" if base.get(key, source) != source else gone
 
-    def plain(key):
+    def plain(key: str) -> str:
         return PLAIN_FENCE if key == FENCE else key
 
-    def plain_deed(key, *source):
+    def plain_deed(key: str, *source: Source) -> Any:
         return (plain(key), *(moved(key, it) for it in source))
 
-    def without_cut(one):
+    def without_cut(one: Logged) -> Logged:
         return one._replace(
             reads=[plain_deed(*read) for read in one.reads],
             writes=[*map(plain, one.writes)],
@@ -64,16 +71,17 @@ def from_start(auditor):
     first = Logged((), (START, *sorted(map(plain, base))), "forgotten")
     after = Logged(((START, gone),), (), "forgotten")
 
-    def renamed(id):
+    def renamed(id: TransactionId) -> str:
         if id[1]:
             return f"{id[0]}.{id[1] - 1 + marks[id[0]]}"
         return "the cut" if id == gone else f"the cut in {id[0]}"
 
-    renamed.older = {plain(key): "in a version older than that at the cut" for key in base}
+    renamed.older = {  # type: ignore[attr-defined]  # what `version` looks for
+       plain(key): "in a version older than that at the cut" for key in base}
     return [[after if session else first, *txns] for session, txns in enumerate(history)], renamed
 
 
-def is_collectors_own(auditor, program=PROGRAM):
+def is_collectors_own(auditor: Any, program: str = PROGRAM) -> bool:
     """Whether the collector's own transactions have no order by themselves, and the clients' have one:
     then it isn't they who are to look for what went wrong."""
     history = from_start(auditor)[0]
@@ -82,10 +90,10 @@ def is_collectors_own(auditor, program=PROGRAM):
     )
 
 
-def only_keys(history, is_kept):
+def only_keys(history: History, is_kept: Callable[[str], bool]) -> History:
     """The same, where nothing was done with any other key."""
 
-    def part(logged):
+    def part(logged: Logged) -> Logged:
         reads = [(key, source) for key, source in logged.reads if key == START or is_kept(key)]
         return logged._replace(
             reads=reads, writes=[key for key in logged.writes if key == START or is_kept(key)]
@@ -94,20 +102,20 @@ def only_keys(history, is_kept):
     return [[*map(part, txns)] for txns in history]
 
 
-def name(id):
+def name(id: TransactionId) -> str:
     return f"{id[0]}.{id[1]}"
 
 
-def named(items):
+def named(items: Iterable[Any]) -> Set[TransactionId]:
     """The transactions that the items of a refutation name."""
-    found = set()
+    found: Set[TransactionId] = set()
     for kind, first, *rest in items:
         if kind in ("nowrite", "gone"):
             found.add((first, rest[0]))
         if kind in ("force", "split"):
             found.update([(first[0], first[1]), (first[3], first[4]), (first[5], first[6])])
         for arc in {"force": rest[-1:], "cycle": [first]}.get(kind, [[]])[0]:
-            found.update([tuple(arc[-4:-2]), tuple(arc[-2:])])
+            found.update([(arc[-4], arc[-3]), (arc[-2], arc[-1])])
     return found
 
 
@@ -115,11 +123,11 @@ class Part:
     """Some transactions of a history, by (session, number). It is true of the store too: a read is left
     out where its source is, and a write only where no read of it is left."""
 
-    def __init__(self, txns):
+    def __init__(self, txns: Dict[TransactionId, Logged]) -> None:
         self.txns = txns
 
     @classmethod
-    def of(cls, history):
+    def of(cls, history: History) -> Part:
         return cls(
             {
                 (session, number): logged
@@ -130,7 +138,7 @@ class Part:
             | wrong_sources(history)
         )
 
-    def only(self, ids):
+    def only(self, ids: Iterable[TransactionId]) -> Part:
         """The part that these are, with those from which one has read what they didn't write: that is
         what is wrong."""
         kept = {id for id in ids if id in self.txns}
@@ -138,19 +146,20 @@ class Part:
             kept.update(source for _, source in self.wrong_reads(self.txns[id]))
         return Part({id: self.less_reads(logged, kept) for id, logged in self.txns.items() if id in kept})
 
-    def wrong_reads(self, logged):
+    def wrong_reads(self, logged: Logged) -> Iterator[Tuple[str, TransactionId]]:
         for key, source in logged.reads:
             if source in self.txns and key not in self.txns[source].writes:
                 yield key, source
 
     @staticmethod
-    def less_reads(logged, kept):
+    def less_reads(logged: Logged, kept: Container[Source]) -> Logged:
         reads = [(key, source) for key, source in logged.reads if source == "init" or source in kept]
         return logged if len(reads) == len(logged.reads) else logged._replace(reads=reads)
 
-    def report(self, program):
+    def report(self, program: str) -> Optional[Set[TransactionId]]:
         """Of these alone, under numbers without holes: what its refutation names, or None."""
-        old, sessions = [], {}
+        old: List[List[TransactionId]] = []
+        sessions: Dict[int, int] = {}
         for session, number in sorted(self.txns):
             its = sessions.setdefault(session, len(sessions))
             if its == len(old):
@@ -164,7 +173,7 @@ class Part:
         return {old[session][number] for session, number in named(report.certificate)}
 
     @staticmethod
-    def moved(logged, new):
+    def moved(logged: Logged, new: Mapping[Source, TransactionId]) -> Logged:
         reads = [
             (key, "init" if source == "init" else new[source])
             for key, source in logged.reads
@@ -172,7 +181,7 @@ class Part:
         ]
         return logged._replace(reads=reads, statements=())
 
-    def lesser(self):
+    def lesser(self) -> Iterator[Tuple[Any, Part]]:
         """The same without some transactions, the last first, and fewer and fewer; then without one
         read, or without a write that nobody has read; each behind what is left out."""
         ids = sorted(self.txns, key=lambda id: (-id[1], id[0]))
@@ -194,15 +203,15 @@ class Part:
                     writes = [other for other in logged.writes if other != key]
                     yield (id, (key,)), Part({**self.txns, id: logged._replace(writes=writes)})
 
-    def history(self, sessions):
+    def history(self, sessions: int) -> History:
         """With all in their places, and nothing done in between."""
-        found = [[] for _ in range(sessions)]
+        found: History = [[] for _ in range(sessions)]
         for (session, number), logged in sorted(self.txns.items(), key=lambda it: it[0]):
             found[session] += [Logged((), ())] * (number - len(found[session])) + [logged]
         return found
 
 
-def wrong_sources(history):
+def wrong_sources(history: History) -> Dict[TransactionId, Logged]:
     """Transactions that did nothing, and from which one is said to have read."""
     return {
         source: history[source[0]][source[1]]
@@ -216,7 +225,7 @@ def wrong_sources(history):
     }
 
 
-def smaller(history, program=PROGRAM, seconds=SECONDS):
+def smaller(history: History, program: str = PROGRAM, seconds: float = SECONDS) -> History:
     """A part of a violated history that is violated too, while nothing that has one thing less is; or as
     small as it got in so many seconds. What a refutation names is kept, as long as that leaves something
     out; then one thing after another is left out. The history itself, where it isn't violated."""
@@ -226,7 +235,7 @@ def smaller(history, program=PROGRAM, seconds=SECONDS):
     if ids is None:
         return history
     part = by_names(part, ids, program)
-    needed = set()  # what can't be left out of a part can't be left out of a smaller one
+    needed: Set[Any] = set()  # what can't be left out of a part can't be left out of a smaller one
     while time.monotonic() < ends:
         found = next_smaller(part, needed, program, ends)
         if found is None:
@@ -235,19 +244,21 @@ def smaller(history, program=PROGRAM, seconds=SECONDS):
     return part.history(len(history))
 
 
-def by_names(part, ids, program):
+def by_names(part: Part, ids: Set[TransactionId], program: str) -> Part:
     """What refutations name, again and again until nothing changes."""
     while True:
         fewer = part.only(ids)
         if len(fewer.txns) >= len(part.txns):
             return part
-        ids = fewer.report(program)
-        if ids is None:
+        left = fewer.report(program)
+        if left is None:
             return part
-        part = fewer
+        part, ids = fewer, left
 
 
-def next_smaller(part, needed, program, ends):
+def next_smaller(
+    part: Part, needed: Set[Any], program: str, ends: float
+) -> Optional[Tuple[Part, Set[TransactionId]]]:
     """One that has one thing less, and what its refutation names; None where each thing is needed, or
     the time is up."""
     for what, candidate in part.lesser():
@@ -261,14 +272,14 @@ def next_smaller(part, needed, program, ends):
     return None
 
 
-def version(key, source, name):
+def version(key: str, source: Source, name: Names) -> str:
     """Which version of the key was read."""
     if source != "init":
         return f"from {name(source)}"
     return getattr(name, "older", {}).get(key, "as it was at first")
 
 
-def deeds(logged, name):
+def deeds(logged: Logged, name: Names) -> List[str]:
     """What a transaction did."""
     if logged.outcome == "aborted":
         return ["aborted"]
@@ -276,9 +287,10 @@ def deeds(logged, name):
     return reads + [f"wrote {key}" for key in logged.writes]
 
 
-def statements_of(logged):
+def statements_of(logged: Logged) -> Iterator[str]:
     """Lines that tell what was run for what the transaction did, where that is known."""
-    left, told = dict(logged.statements), {}
+    left: Dict[Any, str] = dict(logged.statements)
+    told: Dict[str, List[str]] = {}
     for deed in (*logged.reads, *((key,) for key in logged.writes)):
         if deed in left:
             did = ("wrote" if len(deed) == 1 else "read") + f" {deed[0]}"
@@ -288,7 +300,7 @@ def statements_of(logged):
         yield f"{', '.join(its)}: {short}"
 
 
-def words(history, name=name):
+def words(history: History, name: Names = name) -> Iterator[str]:
     """A line for each transaction, with its statements behind it."""
     for session, txns in enumerate(history):
         for number, logged in enumerate(txns):

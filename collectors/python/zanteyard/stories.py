@@ -6,18 +6,16 @@ A story is plain data, so that it can be told as lines and drawn on a page alike
 from __future__ import annotations
 
 from dataclasses import dataclass
-from typing import Any, Callable, Dict, Iterable, Iterator, List, Mapping, Optional
+from typing import Any, Dict, Iterable, Iterator, List, Mapping, Optional
 from typing import Sequence, Tuple
 
 from .anomalies import MEANINGS, Anomaly, find_anomaly
-from .auditor import Logged
+from .circumstances import caller_of, clock_of, values_of
 from .explain import SESSION, Explanation, below, explain_history
-from .scripts import History, Verdict
+from .records import History, Logged, Names, TransactionId
+from .scripts import ScriptHistory, Verdict
 from .shrinking import SECONDS, audited, from_start, smaller, words
 from .shrinking import version as version_text
-
-TransactionId = Tuple[int, int]
-Names = Callable[[TransactionId], str]
 
 SENTENCES: Mapping[str, str] = {
     "serial": "some order of these transactions explains every read, each session's own order kept",
@@ -94,7 +92,7 @@ class Story:
         return (*(names[link.start] for link in around), names[around[0].start]) if around else ()
 
 
-def verdict_story(verdict: Verdict, history: History) -> Story:
+def verdict_story(verdict: Verdict, history: ScriptHistory) -> Story:
     """Of a verdict that isn't violated."""
     order: Tuple[str, ...] = ()
     if verdict.kind in ("serial", "pending"):
@@ -118,7 +116,7 @@ def violation_story(
 
 
 def story_of(
-    history: Sequence[Sequence[Logged]],
+    history: History,
     names: Names,
     script: str = "",
     counts: Sequence[int] = (),
@@ -141,9 +139,7 @@ def story_of(
     )
 
 
-def _steps(
-    history: Sequence[Sequence[Logged]], names: Names, told: Iterable[TransactionId]
-) -> Iterator[Step]:
+def _steps(history: History, names: Names, told: Iterable[TransactionId]) -> Iterator[Step]:
     """The transactions that did something, and those that a link names."""
     told = set(told)
     for session, transactions in enumerate(history):
@@ -151,18 +147,25 @@ def _steps(
             one = (session, number)
             if logged.reads or logged.writes or logged.outcome == "aborted" or one in told:
                 sources = tuple(source for _, source in logged.reads if source != "init")
-                yield Step(one, names(one), logged.outcome, tuple(_deeds(logged, names)), sources)
+                yield Step(
+                    one,
+                    names(one),
+                    logged.outcome,
+                    tuple(_deeds(logged, names)),
+                    sources,
+                    clock_of(logged),
+                    caller_of(logged),
+                )
 
 
 def _deeds(logged: Logged, names: Names) -> Iterator[Deed]:
     statements: Dict[Any, str] = dict(logged.statements)
-    returned: Dict[Any, str] = dict(getattr(logged, "values", ()))
+    values = values_of(logged)
     for key, source in logged.reads:
-        deed = (key, source)
         text = f"read {key} {version_text(key, source, names)}"
-        yield Deed(text, statements.get(deed, ""), returned.get(deed, ""))
+        yield Deed(text, statements.get((key, source), ""), values.get(("read", key), ""))
     for key in logged.writes:
-        yield Deed(f"wrote {key}", statements.get((key,), ""), returned.get((key,), ""))
+        yield Deed(f"wrote {key}", statements.get((key,), ""), values.get(("wrote", key), ""))
 
 
 def _links(explanation: Explanation) -> Iterator[Link]:

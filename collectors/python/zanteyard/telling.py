@@ -1,13 +1,26 @@
 """A violation, told to a person."""
+
+from __future__ import annotations
+
 import time
+from typing import Callable
 
 from .auditor import PROGRAM
-from .explain import explain_history
+from .circumstances import circumstances
+from .explain import Explanation, explain_history
 from .picture import draw
+from .records import History, Names
 from .shrinking import SECONDS, audited, name, smaller, words
 
 
-def tell_violation(history, path, called=name, tell=print, seconds=SECONDS, program=PROGRAM):
+def tell_violation(
+    history: History,
+    path: str,
+    called: Names = name,
+    tell: Callable[[str], object] = print,
+    seconds: float = SECONDS,
+    program: str = PROGRAM,
+) -> History:
     """Tells what is left of a violated history without what it is violated without, and why no order
     explains it; then writes that as path.jsonl for cobra_audit, and draws it. What can't be written is
     told as well, when everything else has been. Gives the small history."""
@@ -15,6 +28,11 @@ def tell_violation(history, path, called=name, tell=print, seconds=SECONDS, prog
     small = smaller(history, program, max(0.0, ends - time.monotonic()))
     tell("violated: of what was logged, no order explains this part, each client's own order kept:")
     for line in words(small, called):
+        tell(f"  {line}")
+    known = [*circumstances(small, called)]
+    if known:
+        tell("as the clients saw it")
+    for line in known:
         tell(f"  {line}")
     explanation = explain_history(small, called, max(0.5, ends - time.monotonic()))
     tell("because")
@@ -28,11 +46,15 @@ def tell_violation(history, path, called=name, tell=print, seconds=SECONDS, prog
     return small
 
 
-def write_script(small, path, called, explanation, program):
+def write_script(
+    small: History, path: str, called: Names, explanation: Explanation, program: str
+) -> str:
     with open(f"{path}.jsonl", "w", encoding="utf-8") as file:
         file.write(audited(small, program)[1])
     return f"(cobra_audit < {path}.jsonl says so again)"
 
 
-def draw_picture(small, path, called, explanation, program):
+def draw_picture(
+    small: History, path: str, called: Names, explanation: Explanation, program: str
+) -> str:
     return f"(drawn: {', '.join(draw(small, path, called, explanation.arcs))})"

@@ -7,6 +7,7 @@ import multiprocessing
 import random
 import threading
 import time
+from typing import Any, Callable, Dict, List, Optional, Sequence
 
 from .processes import AuditClient
 from .sessions import Aborted, Session
@@ -20,42 +21,43 @@ PAIRS = 8  # of keys
 READY = 60.0  # seconds for all clients' processes to start
 
 
-def number_at(transaction, key):
+def number_at(transaction: Any, key: str) -> int:
     return int(transaction.get(key) or 0)
 
 
-def counter(transaction, client):
+def counter(transaction: Any, client: int) -> None:
     key = f"count {random.randrange(PAIRS)}"
     transaction.put(key, str(number_at(transaction, key) + 1))
 
 
-def skew(transaction, client):
+def skew(transaction: Any, client: int) -> None:
     pair = random.randrange(PAIRS)
     both = number_at(transaction, f"left {pair}") + number_at(transaction, f"right {pair}")
     side = random.choice((f"left {pair}", f"right {pair}"))
     transaction.put(side, str((both + 1) % 1000))  # else it would double and double
 
 
-def mixed(transaction, client):
+def mixed(transaction: Any, client: int) -> None:
     for key in random.sample(range(2 * PAIRS), 2):
         number_at(transaction, f"key {key}")
     transaction.put(f"key {random.randrange(2 * PAIRS)}", str(client))
 
 
-def blind(transaction, client):
+def blind(transaction: Any, client: int) -> None:
     if random.random() < 0.5:
         number_at(transaction, f"key {random.randrange(2 * PAIRS)}")
     else:
         transaction.put(f"key {random.randrange(2 * PAIRS)}", str(client))
 
 
-WORKLOADS = {"counter": counter, "skew": skew, "mixed": mixed, "blind": blind}
+Workload = Callable[[Any, int], None]
+WORKLOADS: Dict[str, Workload] = {"counter": counter, "skew": skew, "mixed": mixed, "blind": blind}
 
 
 class Nothing:
     """In place of an auditor."""
 
-    def take(self, *_):
+    def take(self, *_: object) -> None:
         pass
 
     take_close = take
@@ -65,9 +67,18 @@ class Clients:
     """Each in a thread, over a session of its own, until the time is up or `is_over()`; the first has
     this number."""
 
-    def __init__(self, sessions, workload, seconds, is_over, rate=None, first=0):
+    def __init__(
+        self,
+        sessions: Sequence[Any],
+        workload: Workload,
+        seconds: float,
+        is_over: Callable[[], bool],
+        rate: Optional[float] = None,
+        first: int = 0,
+    ) -> None:
         self.workload, self.is_over, self.committed, self.aborted = workload, is_over, 0, 0
-        self.failures, self.longest, self.lock = [], 0.0, threading.Lock()
+        self.failures: List[Exception] = []
+        self.longest, self.lock = 0.0, threading.Lock()
         self.count = len(sessions)
         # Of each client, from the begin of a transaction to that of the next.
         self.pause = self.count / rate if rate else 0.0
@@ -84,7 +95,7 @@ class Clients:
         self.took = time.monotonic() - self.began
         self.waited = sum(session.waited for session in sessions) / (self.took * len(sessions))
 
-    def client(self, number, session):
+    def client(self, number: int, session: Any) -> None:
         committed = aborted = 0
         due = self.began + random.random() * self.pause  # not all at once
         longest = 0.0
@@ -105,26 +116,38 @@ class Clients:
             self.aborted += aborted
             self.longest = max(self.longest, longest)
 
-    def wait(self, due):
+    def wait(self, due: float) -> float:
         """Until then; returns when the next transaction is due. Who is late doesn't catch up."""
         if self.pause:
             time.sleep(max(0.0, min(due, self.until) - time.monotonic()))
         return max(due, time.monotonic() - self.pause) + self.pause
 
-    def rate(self):
+    def rate(self) -> float:
         if self.failures:
             raise self.failures[0]
-        return self.committed / self.took
+        return float(self.committed / self.took)
 
 
 class ClientProcesses(Clients):
     """The same, each in a process of its own, which is let into the audit at this path; None for no
     audit. `make_store` makes a client's store, and is sent to its process."""
 
-    def __init__(self, path, make_store, count, workload, seconds, rate=None):
+    def __init__(
+        self,
+        path: Optional[str],
+        make_store: Callable[[], Any],
+        count: int,
+        workload: str,
+        seconds: float,
+        rate: Optional[float] = None,
+    ) -> None:
+        self.committed = self.aborted = 0
         # Processor time while transactions ran, and of the processes.
-        self.committed = self.aborted = self.used = self.whole = 0
-        self.failures, waited, took, longest = [], [], [], []
+        self.used = self.whole = 0.0
+        self.failures = []
+        waited: List[float] = []
+        took: List[float] = []
+        longest: List[float] = []
         spawned = multiprocessing.get_context(
             "spawn"
         )  # a fork would have half of the auditor's threads
@@ -161,7 +184,16 @@ class ClientProcesses(Clients):
         self.longest = max(longest, default=0.0)
 
 
-def client_process(told, ready, number, path, make_store, workload, seconds, rate):
+def client_process(
+    told: Any,
+    ready: Any,
+    number: int,
+    path: Optional[str],
+    make_store: Callable[[], Any],
+    workload: str,
+    seconds: float,
+    rate: Optional[float],
+) -> None:
     """One client, beside whose transactions its process does nothing else. Tells what failed, or what
     it did."""
     try:

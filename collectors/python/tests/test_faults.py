@@ -1,0 +1,355 @@
+"""What goes wrong around an audit of a real server: what the application saw, what the audit said, and how
+long anybody waited for it. The table of README.md is what these tests print to the file that
+ZANTEYARD_FAULTS names, if it does."""
+import logging
+import os
+import signal
+import subprocess
+import sys
+import tempfile
+import threading
+import time
+import unittest
+
+from zanteyard import Aborted, AuditorApart, AuditServer, LiveAuditor, OutcomeUnknown
+from zanteyard.auditor import PROGRAM
+from zanteyard.cluster import Cluster, program
+
+try:
+    import psycopg2
+
+    from zanteyard.postgres_store import PostgresStore, prepare
+except ImportError:
+    psycopg2 = None
+
+LACKING = [
+    name
+    for name, there in (
+        ("psycopg2", psycopg2),
+        ("initdb of PostgreSQL", program("initdb")),
+        (PROGRAM, os.path.isfile(PROGRAM)),
+    )
+    if not there
+]
+PLACE = os.path.join(os.path.dirname(os.path.abspath(__file__)), "..")
+CLIENTS = 4
+BOUND = 0.25  # seconds that a client waits for the audit at most
+SLACK = 2.0  # seconds more, where other programs have the processors
+SOON = 30.0
+
+CLIENT = """
+import sys, time
+sys.path.insert(0, sys.argv[1])
+import logging; logging.getLogger("zanteyard").setLevel(logging.CRITICAL)
+from zanteyard import Aborted, AuditClient
+from zanteyard.postgres_store import PostgresStore
+from tests.test_faults import add_one
+with AuditClient(sys.argv[2]) as audit:
+    session = audit.session(PostgresStore(sys.argv[3]))
+    print("begun", flush=True)
+    ends, seen = time.monotonic() + float(sys.argv[4]), 0
+    while time.monotonic() < ends:
+        try:
+            session.run(add_one, attempts=1)
+            seen += 1
+        except Aborted:
+            pass
+    print(seen, session.longest, flush=True)
+"""
+
+
+def add_one(transaction):
+    transaction.put("x", str(int(transaction.get("x") or 0) + 1))
+
+
+class Application:
+    """Clients that count, each in a thread, until it is ended. It tries again where the store says that
+    a transaction aborted, and where the store can't be reached; it counts what it was told is done."""
+
+    def __init__(self, sessions):
+        self.sessions, self.done, self.unknown, self.seen = sessions, 0, 0, []
+        self.is_ended, self.lock = False, threading.Lock()
+        self.threads = [threading.Thread(target=self.client, args=(it,), daemon=True) for it in sessions]
+        for thread in self.threads:
+            thread.start()
+
+    def client(self, session):
+        while not self.is_ended:
+            try:
+                session.run(add_one, attempts=1)
+                with self.lock:
+                    self.done += 1
+            except Aborted:
+                pass
+            except OutcomeUnknown:
+                with self.lock:
+                    self.unknown += 1
+            except Exception as error:
+                with self.lock:
+                    self.seen.append(error)
+                time.sleep(0.05)
+
+    def end(self):
+        self.is_ended = True
+        for thread in self.threads:
+            thread.join(SOON)
+
+    @property
+    def longest(self):
+        return max(session.longest for session in self.sessions)
+
+
+@unittest.skipIf(LACKING, f"not installed or not built: {', '.join(LACKING)}")
+class Faults(unittest.TestCase):
+    @classmethod
+    def setUpClass(cls):
+        cls.cluster = Cluster()
+        cls.cluster.__enter__()
+        cls.addClassCleanup(cls.cluster.__exit__)
+
+    def setUp(self):
+        logging.getLogger("zanteyard").setLevel(logging.CRITICAL)
+        self.addCleanup(logging.getLogger("zanteyard").setLevel, logging.NOTSET)
+        admin = psycopg2.connect(self.cluster.dsn)
+        admin.autocommit = True
+        admin.cursor().execute("DROP TABLE IF EXISTS zanteyard")
+        admin.close()
+        prepare(self.cluster.dsn)
+        self.told = []
+
+    def audit(self, **more):
+        self.auditor = AuditorApart(CLIENTS, **more)
+        self.addCleanup(self.auditor.end)
+        self.addCleanup(lambda: self.live.stop(1.0))
+        self.live = LiveAuditor(self.auditor, seconds=0.3, tell=self.told.append)
+
+    def application(self):
+        stores = [PostgresStore(self.cluster.dsn) for _ in range(CLIENTS)]
+        sessions = [self.live.session(store, patience=SOON) for store in stores]
+        for store in stores:
+            self.addCleanup(store.close)
+        application = Application(sessions)
+        self.addCleanup(application.end)
+        return application
+
+    def wait_for(self, condition):
+        until = time.monotonic() + SOON
+        while not condition() and time.monotonic() < until:
+            time.sleep(0.02)
+        self.assertTrue(condition(), self.told[-5:])
+
+    def is_audited(self):
+        return self.live.report is not None
+
+    def began_anew(self):
+        return len(self.live.outcome.earlier) > 0 and self.is_audited()
+
+    def counted(self):
+        """What the store has counted."""
+        connection = psycopg2.connect(self.cluster.dsn)
+        cursor = connection.cursor()
+        cursor.execute("SELECT value FROM zanteyard WHERE key = 'x'")
+        (count,) = cursor.fetchone()
+        connection.close()
+        return int(count)
+
+    def ended(self, application, fault, kind="incomplete", saw="nothing"):
+        """What all of them owe: no count twice, no violation, nobody who waits."""
+        application.end()
+        outcome = self.live.stop()
+        self.assertEqual(outcome.kind, kind, str(outcome))
+        self.assertGreaterEqual(self.counted(), application.done)
+        self.assertLessEqual(self.counted(), application.done + application.unknown)
+        self.assertLess(application.longest, BOUND + SLACK)
+        if saw == "nothing":
+            self.assertEqual((application.seen, application.unknown), ([], 0))
+        why = next((str(one.failure) for one in outcome.earlier if one.failure), "")
+        self.row(fault, saw, outcome, why, application.longest)
+        return outcome
+
+    def row(self, fault, saw, outcome, why, longest):
+        path = os.environ.get("ZANTEYARD_FAULTS")
+        if path:
+            audits = f" in {len(outcome.earlier) + 1} audits" if outcome.earlier else ""
+            said = f"{outcome.kind}: {outcome.audited} of {outcome.handed_in}{audits}"
+            because = f"; {why}" if why else ""
+            with open(path, "a", encoding="utf-8") as file:
+                file.write(f"| {fault} | {saw} | {said}{because} | {longest:.2f} s |\n")
+
+    def test_no_fault(self):
+        self.audit()
+        application = self.application()
+        self.wait_for(self.is_audited)
+        self.ended(application, "none", "serial")
+
+    def children(self, pid):
+        found = subprocess.run(["ps", "-o", "pid=", "--ppid", str(pid)], stdout=subprocess.PIPE, text=True)
+        return [int(line) for line in found.stdout.split()]
+
+    def test_cobra_audit_is_killed(self):
+        self.audit()
+        application = self.application()
+        self.wait_for(self.is_audited)
+        for pid in self.children(self.auditor.process.pid):
+            os.kill(pid, signal.SIGKILL)
+        self.wait_for(self.began_anew)
+        self.ended(application, "`cobra_audit` is killed")
+
+    def test_the_process_between_is_killed(self):
+        self.audit()
+        application = self.application()
+        self.wait_for(self.is_audited)
+        self.auditor.process.kill()
+        self.wait_for(self.began_anew)
+        self.ended(application, "the process between is killed")
+
+    def test_the_process_between_stands_still(self):
+        self.audit()
+        application = self.application()
+        self.wait_for(self.is_audited)
+        stands = self.auditor.process
+        os.kill(stands.pid, signal.SIGSTOP)
+        self.wait_for(lambda: self.live.lost)
+        done = application.done
+        time.sleep(0.5)
+        self.assertGreater(application.done, done)
+        os.kill(stands.pid, signal.SIGCONT)
+        self.wait_for(self.began_anew)
+        self.ended(application, "the process between stands still")
+
+    def test_a_client_hangs_in_a_transaction(self):
+        self.audit()
+        store = PostgresStore(self.cluster.dsn)
+        self.addCleanup(store.close)
+        hung = self.live.session(store)
+        sessions = [self.live.session(PostgresStore(self.cluster.dsn)) for _ in range(CLIENTS - 1)]
+        transaction = hung.begin()
+        transaction.get("y")
+        application = Application(sessions)
+        self.addCleanup(application.end)
+        self.wait_for(self.began_anew)
+        transaction.put("y", "1")
+        try:
+            transaction.commit()
+        except Aborted:
+            pass  # the store's own
+        hung.run(lambda t: t.get("y"))
+        outcome = self.ended(application, "a client hangs in a transaction")
+        self.assertIn("took longer", str(outcome.earlier[0].failure))
+        for session in sessions:
+            session.store.close()
+
+    def test_postgresql_is_restarted(self):
+        self.audit()
+        application = self.application()
+        self.wait_for(self.is_audited)
+        self.cluster.stop()
+        time.sleep(0.5)
+        begun = sum(session.begun for session in application.sessions)
+        time.sleep(0.5)
+        # Attempts that never reached the store took no numbers; those of before had begun.
+        self.assertLessEqual(sum(session.begun for session in application.sessions), begun + CLIENTS)
+        self.cluster.start()
+        done = application.done
+        self.wait_for(lambda: application.done > done + 100)
+        application.end()
+        kind = self.live.stop().kind
+        self.assertIn(kind, ("serial", "pending", "incomplete"))
+        self.assertTrue(all(isinstance(error, psycopg2.Error) for error in application.seen))
+        self.ended(application, "PostgreSQL is killed and started", kind, "the store's own errors, meanwhile")
+
+    def test_the_disk_is_full(self):
+        self.audit(script="/dev/full")
+        application = self.application()
+        self.wait_for(self.is_audited)
+        self.assertIsInstance(self.auditor.script_failure, OSError)
+        self.ended(application, "the disk with the script is full", "serial")
+
+    # clients in processes of their own
+
+    def processes(self, seconds):
+        folder = tempfile.TemporaryDirectory()
+        self.addCleanup(folder.cleanup)
+        self.server = AuditServer(self.live, f"{folder.name}/audit")
+        self.addCleanup(self.server.close)
+        call = [sys.executable, "-c", CLIENT, PLACE, self.server.path, self.cluster.dsn, str(seconds)]
+        begun = [subprocess.Popen(call, stdout=subprocess.PIPE, text=True) for _ in range(3)]
+        for process in begun:
+            self.addCleanup(process.stdout.close)
+            self.addCleanup(process.wait)
+            self.addCleanup(process.kill)
+        for process in begun:
+            self.assertEqual(process.stdout.readline(), "begun\n")
+        return begun
+
+    def all_ended(self, processes, fault, kind="incomplete"):
+        counts = [process.communicate(timeout=SOON)[0].split() for process in processes]
+        self.server.close()
+        outcome = self.live.stop()
+        self.assertEqual(outcome.kind, kind, str(outcome))
+        self.assertGreaterEqual(self.counted(), sum(int(count) for count, _ in counts))
+        longest = max(float(waited) for _, waited in counts)
+        self.assertLess(longest, BOUND + SLACK)
+        why = next((str(one.failure) for one in outcome.earlier if one.failure), "")
+        self.row(fault, "nothing", outcome, why, longest)
+        return outcome
+
+    def test_no_fault_in_processes(self):
+        self.audit()
+        self.all_ended(self.processes(2), "none, in processes", "serial")
+
+    def test_a_clients_process_is_killed(self):
+        self.audit()
+        killed, *others = self.processes(4)
+        self.wait_for(self.is_audited)
+        killed.kill()
+        self.wait_for(self.began_anew)
+        outcome = self.all_ended(others, "a client's process is killed")
+        self.assertIn("is lost", str(outcome.earlier[0].failure))
+
+    def test_a_clients_process_stands_still(self):
+        """No meeting can be had, until there is no room; it isn't audited until it answers again."""
+        self.audit()
+        hung, *others = self.processes(8)
+        self.wait_for(self.is_audited)
+        os.kill(hung.pid, signal.SIGSTOP)
+        time.sleep(4.0)
+        os.kill(hung.pid, signal.SIGCONT)
+        kind = "incomplete" if self.live.outcome.earlier else "serial"
+        outcome = self.all_ended([hung, *others], "a client's process stands still for 4 s", kind)
+        self.assertNotEqual(outcome.kind, "violated")
+
+    def test_the_auditors_process_is_killed(self):
+        """Clients go on, unaudited, and are told by their own `is_over`."""
+        program = """
+import sys, time
+sys.path.insert(0, sys.argv[1])
+from zanteyard import AuditorApart, AuditServer, LiveAuditor
+with AuditorApart(4) as auditor, LiveAuditor(auditor, tell=lambda line: None) as live:
+    with AuditServer(live, sys.argv[2]):
+        print("begun", flush=True)
+        time.sleep(100)
+"""
+        folder = tempfile.TemporaryDirectory()
+        self.addCleanup(folder.cleanup)
+        path = f"{folder.name}/audit"
+        call = [sys.executable, "-c", program, PLACE, path]
+        server = subprocess.Popen(call, stdout=subprocess.PIPE, text=True)
+        self.addCleanup(server.stdout.close)
+        self.addCleanup(server.wait)
+        self.addCleanup(server.kill)
+        self.assertEqual(server.stdout.readline(), "begun\n")
+        call = [sys.executable, "-c", CLIENT, PLACE, path, self.cluster.dsn, "3"]
+        client = subprocess.Popen(call, stdout=subprocess.PIPE, text=True)
+        self.addCleanup(client.stdout.close)
+        self.addCleanup(client.kill)
+        self.assertEqual(client.stdout.readline(), "begun\n")
+        time.sleep(1.0)
+        server.kill()
+        count, longest = client.communicate(timeout=SOON)[0].split()
+        self.assertEqual(self.counted(), int(count))
+        self.assertLess(float(longest), BOUND + SLACK)
+
+
+if __name__ == "__main__":
+    unittest.main()
