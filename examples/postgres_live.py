@@ -1,13 +1,14 @@
-"""Audits a PostgreSQL while clients run on it at the same time: one line a round, and what can't be at a violation.
+"""Audits a PostgreSQL while clients run on it at the same time: one line a round, and what can't be
+at a violation.
 
     python3 examples/postgres_live.py [--level serializable|repeatable|committed]
         [--workload counter|skew|mixed|blind] [--seconds N] [--clients N] [--rate N] [--every N]
         [--unaudited N] [--processes] [--rather-wait] [--dsn [DSN]]
 
-It starts a server of its own in a folder that is thrown away, or uses the one that --dsn names. It first
-runs the clients without the auditor, to tell what that costs. A violation is told in words, and written
-as a script for cobra_audit and as a picture. The status is 0 where all that was done was audited and is
-serial, and 1 where it wasn't or isn't.
+It starts a server of its own in a folder that is thrown away, or uses the one that --dsn names. It
+first runs the clients without the auditor, to tell what that costs. A violation is told in words,
+and written as a script for cobra_audit and as a picture. The status is 0 where all that was done
+was audited and is serial, and 1 where it wasn't or isn't.
 """
 import argparse
 import contextlib
@@ -76,8 +77,8 @@ class Nothing:
 
 
 class Clients:
-    """Each in a thread, over a session of its own, until the time is up or `is_over()`; the first has
-    this number."""
+    """Each in a thread, over a session of its own, until the time is up or `is_over()`; the first
+    has this number."""
 
     def __init__(self, sessions, workload, seconds, is_over, rate=None, first=0):
         self.workload, self.is_over, self.committed, self.aborted = workload, is_over, 0, 0
@@ -139,7 +140,8 @@ class ClientProcesses(Clients):
         # Processor time while transactions ran, and of the processes.
         self.committed = self.aborted = self.used = self.whole = 0
         self.failures, waited, took, longest = [], [], [], []
-        spawned = multiprocessing.get_context("spawn")  # a fork would have half of the auditor's threads
+        # A fork would have half of the auditor's threads.
+        spawned = multiprocessing.get_context("spawn")
         told, ready = spawned.SimpleQueue(), spawned.Barrier(count)
         asked = (path, make_store, workload, seconds, rate and rate / count)
         processes = [
@@ -174,8 +176,8 @@ class ClientProcesses(Clients):
 
 
 def client_process(told, ready, number, path, make_store, workload, seconds, rate):
-    """One client, beside whose transactions its process does nothing else. Tells what failed, or what
-    it did."""
+    """One client, beside whose transactions its process does nothing else. Tells what failed, or
+    what it did."""
     try:
         store = make_store()
         store.connect()
@@ -265,7 +267,7 @@ def arguments():
     asked.add_argument("--every", type=int, default=LiveAuditor.EVERY, help=told)
     told = "each client in a process of its own, in place of a thread"
     asked.add_argument("--processes", action="store_true", help=told)
-    told = "clients wait where the auditor can't keep up; else that audit ends, and another one begins"
+    told = "clients wait where the auditor can't keep up; else that audit ends, and another begins"
     asked.add_argument("--rather-wait", action="store_true", help=told)
     told = (
         "a server that is there, in a schema of this program's own; without a value, the one that "
@@ -281,8 +283,8 @@ def server(asked):
         import psycopg2  # noqa: F401
     except ImportError:
         sys.exit(
-            "psycopg2 is wanted: apt-get install python3-psycopg2, and run this by the Python that it "
-            "is for (/usr/bin/python3)"
+            "psycopg2 is wanted: apt-get install python3-psycopg2, and run this by the Python "
+            "that it is for (/usr/bin/python3)"
         )
     if asked.dsn is not None:
         from zanteyard.guest import Guest
@@ -307,12 +309,13 @@ def main():
     print(f"{at}: {outcome}; {live.cuts} cuts in {live.rounds} rounds")
     compared = f", {alone.rate():.0f} without the auditor" if alone else ""
     print(
-        f"{clients.rate():.0f} transactions a second were committed by {asked.clients} clients{compared}; "
-        f"{clients.aborted} aborted"
+        f"{clients.rate():.0f} transactions a second were committed by {asked.clients} clients"
+        f"{compared}; {clients.aborted} aborted"
     )
     print(
-        f"clients waited {100 * clients.waited:.1f}% of their time for meetings, and {clients.longest:.2f} s "
-        f"at most for a transaction; the auditor was at most {live.lag:.2f} s behind"
+        f"clients waited {100 * clients.waited:.1f}% of their time for the audit, and "
+        f"{clients.longest:.2f} s at most for a transaction; the auditor was at most "
+        f"{live.lag:.2f} s behind"
     )
     sys.exit(0 if outcome.kind == "serial" else 1)
 

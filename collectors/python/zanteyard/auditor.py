@@ -15,21 +15,21 @@ PROGRAM = os.environ.get("COBRA_AUDIT", os.path.normpath(BUILT))
 
 LIMIT = 4096  # the most transactions that may remain
 LONGEST = 256  # transactions of one line
-# Of a round: how many nodes of the search it may look at, how deep the search is split, and how many
-# workers share it. The next is tried where one hasn't decided.
+# Of a round: how many nodes of the search it may look at, how deep the search is split, and how
+# many workers share it. The next is tried where one hasn't decided.
 EFFORTS = ((4096, 0, 1), (65536, 4, max(1, min(16, os.cpu_count() or 1))))
 WAITS = (0.1, 0.5)  # seconds after which a line that was answered NoMemory is given again
 SECONDS = 60.0  # for the answer to a line that no client waits for
 LATEST = 10.0  # seconds after which an answer that no client waits for isn't waited for any more
 FENCE = "zanteyard fence"  # the key on which sessions run fences; its number is 0
 MARK = "zanteyard mark"  # a key that a meeting writes behind its fence, for all sessions to read
-FLAG = "zanteyard flag "  # and a session's number: a key that this session alone writes, at a meeting
+FLAG = "zanteyard flag "  # and a session's number: a key that this session alone writes
 PLAIN_FENCE = "zanteyard's fence"  # the key of fences, where what is left of one may be none
-OWN = (FENCE, MARK, FLAG, PLAIN_FENCE)  # what the keys of the collector's own transactions begin with
+OWN = (FENCE, MARK, FLAG, PLAIN_FENCE)  # what keys of the collector's own begin with
 logger = logging.getLogger("zanteyard")
-# What one transaction did: reads are pairs of a key's name and a source, which is "init" or (session,
-# number); writes are names of keys. Statements are for who is told of a violation: pairs of a deed,
-# which is a read or (key,) for a write, and what was run for it.
+# What one transaction did: reads are pairs of a key's name and a source, which is "init" or
+# (session, number); writes are names of keys. Statements are for who is told of a violation: pairs
+# of a deed, which is a read or (key,) for a write, and what was run for it.
 Logged = namedtuple("Logged", "reads writes outcome statements", defaults=("committed", ()))
 # The fence up to which the auditor has forgotten, and how many transactions that were.
 Cut = namedtuple("Cut", "fence gone")
@@ -67,8 +67,8 @@ def is_own(key):
 
 
 class Takes:
-    """What sessions hand in when the store has answered: it never raises, and waits no longer than the
-    policy says. What can't be taken in ends the audit, which `failure` and the log tell."""
+    """What sessions hand in when the store has answered: it never raises, and waits no longer than
+    the policy says. What can't be taken in ends the audit, which `failure` and the log tell."""
 
     def hand_in_to(self, policy, run_name):
         self.policy, self.is_named = policy, run_name is not None
@@ -78,7 +78,7 @@ class Takes:
         self.waiting = deque()
         self.is_ended = False  # by who has made it
         self.late = None  # what was asked for a session and isn't answered yet, and since when
-        self.lock = threading.RLock()  # so that what is kept here follows the replies in their order
+        self.lock = threading.RLock()  # what is kept here follows the replies in their order
 
     def take(self, session, number, logged):
         self.hand_in(("offer", session, number, logged))
@@ -98,8 +98,8 @@ class Takes:
                 self.lock.release()
 
     def take_in(self, ends=None):
-        """All that waits; until then. What isn't answered by then is asked for by who comes next, and
-        those don't wait."""
+        """All that waits; until then. What isn't answered by then is asked for by who comes next,
+        and those don't wait."""
         with self.lock:
             while self.failure is None and (self.late or self.waiting):
                 try:
@@ -159,18 +159,20 @@ def never_came(history, marks=None):
         for number, logged in enumerate(txns, marks[session]):
             for key, source in logged.reads:
                 if source != "init":
-                    ended = marks[source[0]] + len(history[source[0]]) if source[0] < len(marks) else 0
+                    is_there = source[0] < len(marks)
+                    ended = marks[source[0]] + len(history[source[0]]) if is_there else 0
                     if source[1] >= ended:
                         yield Pending((session, number), key, source)
 
 
 class Auditor(Takes):
-    """For threads: each call is one line and its reply. What sessions hand in (`take`) never raises;
-    all other calls raise Ended where the program is gone and Refused where it refuses a line.
+    """For threads: each call is one line and its reply. What sessions hand in (`take`) never
+    raises; all other calls raise Ended where the program is gone and Refused where it refuses a
+    line.
 
     `run_name` is beside each value that sessions write: each run needs one of its own, and has it
-    where none is given. `script` names a file to which every line goes that the program was given, so
-    that it can be given them again. `policy` says how long sessions wait."""
+    where none is given. `script` names a file to which every line goes that the program was given,
+    so that it can be given them again. `policy` says how long sessions wait."""
 
     def __init__(
         self,
@@ -189,7 +191,7 @@ class Auditor(Takes):
 
     def start(self, coverage):
         self.coverage, self.left_out = coverage, 0  # reads whose source the audit isn't about
-        self.numbers, self.names = {FENCE: 0}, [FENCE]  # of each key, by its name; and the other way
+        self.numbers, self.names = {FENCE: 0}, [FENCE]  # of keys, by name; and the other way
         self.history = [[] for _ in range(self.sessions)]  # what was taken in and isn't forgotten
         self.marks = [0] * self.sessions  # how many of each session are forgotten
         self.base = {}  # of each key that a forgotten transaction wrote, the last that did
@@ -206,7 +208,8 @@ class Auditor(Takes):
             raise
 
     def open_script(self):
-        """Of a second audit the script is beside the first one's, with its number behind the name."""
+        """Of a second audit the script is beside the first one's, with its number behind the
+        name."""
         if self.script_path is not None:
             behind = f".{self.audits}" if self.audits > 1 else ""
             self.script = open(f"{self.script_path}{behind}", "wb", buffering=0)
@@ -306,8 +309,8 @@ class Auditor(Takes):
                 logger.error("%s lacks lines: %s", self.script.name, error)
 
     def offer(self, session, number, *logged):
-        """Transactions that follow one another, the first of this number. Raises Full where there is
-        no room."""
+        """Transactions that follow one another, the first of this number. Raises Full where there
+        is no room."""
         if self.offer_all([(session, number, logged)]):
             raise Full(f"there is no room for transaction {number} of session {session}")
 
@@ -379,8 +382,8 @@ class Auditor(Takes):
         return report
 
     def truncate(self):
-        """Has the auditor forget what the last round found settled. The lines keep in which order what
-        remains stands to it. Raises NoCut where nothing is."""
+        """Has the auditor forget what the last round found settled. The lines keep in which order
+        what remains stands to it. Raises NoCut where nothing is."""
         with self.lock:
             try:
                 _, fence, gone, last = self.ask(["truncate"])

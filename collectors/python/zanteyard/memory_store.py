@@ -1,13 +1,18 @@
-"""A store in memory, whose faults can be switched on. Honest, it lets a transaction commit only where all that it read is still the newest."""
+"""A store in memory, whose faults can be switched on. Honest, it lets a transaction commit only
+where all that it read is still the newest."""
 import threading
 
 from .sessions import Aborted, NameTaken, OutcomeUnknown
 
-FAULTS = ("stale-read", "lost-update", "write-skew", "torn-read", "dirty-read", "lost-write", "reappearing")
+FAULTS = (
+    *("stale-read", "lost-update", "write-skew", "torn-read"),
+    *("dirty-read", "lost-write", "reappearing"),
+)
 
 
 class MemoryStore:
-    """What is shared by all connections: of each key its versions, oldest first, as (value, name, moment)."""
+    """What is shared by all connections: of each key its versions, oldest first, as (value, name,
+    moment)."""
 
     def __init__(self, fault=None):
         assert fault is None or fault in FAULTS, fault
@@ -71,7 +76,8 @@ class Connection:
         self.writes = {}
 
     def end(self, outcome):
-        """`lost`, which tests set, has the commit take effect ("committed") or not ("aborted") without an answer."""
+        """`lost`, which tests set, has the commit take effect ("committed") or not ("aborted")
+        without an answer."""
         self.last_outcome = self.lost or outcome
         if self.last_outcome == "committed" and self.shared.fault != "lost-write":
             self.install()
@@ -79,7 +85,8 @@ class Connection:
     def install(self):
         with self.shared.lock:
             for key, (value, name) in self.writes.items():
-                self.shared.versions.setdefault(key, []).append((value, name, self.shared.moment + 1))
+                version = (value, name, self.shared.moment + 1)
+                self.shared.versions.setdefault(key, []).append(version)
             self.shared.moment += 1
 
     def claim(self, run_name, token):
