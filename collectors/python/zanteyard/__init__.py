@@ -1,5 +1,5 @@
-"""Audits the transactions of a store's clients with cobra_audit. docs/COLLECTORS.md says what is logged,
-and why."""
+"""Audits the transactions of a store's clients with cobra_audit. docs/COLLECTORS.md says what is
+logged, and why."""
 from .apart import AuditorApart
 from .auditor import FENCE, Auditor, Full, NoCut, NoMemory, Refused
 from .explain import Explanation, explain_history, reasons
@@ -15,8 +15,9 @@ from .telling import tell_violation
 
 __all__ = [
     *("Aborted", "AuditClient", "AuditServer", "Auditor", "AuditorApart", "Cut", "Ended", "FENCE"),
-    *("Explanation", "Full", "LiveAuditor", "Logged", "Lost", "NameTaken", "NoCut", "NoMemory", "Outcome"),
-    *("OutcomeUnknown", "Pending", "Policy", "RATHER_LOSE_THE_AUDIT", "RATHER_WAIT", "Refused"),
-    *("Report", "Session", "Store", "Transaction", "audited", "dot_text", "draw", "explain_history"),
+    *("Explanation", "Full", "LiveAuditor", "Logged", "Lost", "NameTaken", "NoCut", "NoMemory"),
+    *("Outcome", "OutcomeUnknown", "Pending", "Policy", "RATHER_LOSE_THE_AUDIT", "RATHER_WAIT"),
+    *("Refused", "Report", "Session", "Store", "Transaction", "audited", "dot_text", "draw"),
+    *("explain_history",),
     *("from_start", "reasons", "smaller", "tell_violation", "words"),
 ]

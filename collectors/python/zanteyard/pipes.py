@@ -1,4 +1,5 @@
-"""A program that answers line by line over pipes, and that nobody waits for longer than was said."""
+"""A program that answers line by line over pipes, and that nobody waits for longer than was
+said."""
 
 from __future__ import annotations
 
@@ -46,8 +47,8 @@ class Pipes:
         self.unsent = memoryview(bytes(self.unsent) + b"".join(line + b"\n" for line in lines))
 
     def answers(self, count: int, seconds: float) -> List[bytes]:
-        """So many, in the order in which was asked. Raises Ended; or Late after so many seconds, and
-        may then be called again."""
+        """So many, in the order in which was asked. Raises Ended; or Late after so many seconds,
+        and may then be called again."""
         until = time.monotonic() + seconds
         try:
             while len(self.found) < count:
