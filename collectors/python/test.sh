@@ -41,10 +41,11 @@ if command -v mypy > /dev/null; then
 else
     echo "skipped: mypy, which isn't installed (no type was checked)"
 fi
+styled="zanteyard make_wheel.py ../../examples/postgres_live.py"
 if command -v ruff > /dev/null; then
-    ruff check --no-cache --line-length 100 --select E,W --ignore E203,E402,E701,E731 .
+    ruff check --no-cache --line-length 100 --select E,W --ignore E203,E402,E701,E731 $styled
 elif "$python" -m pycodestyle --version > /dev/null 2>&1; then
-    "$python" -m pycodestyle --max-line-length=100 --ignore=E203,E402,E701,E704,E731,W503 .
+    "$python" -m pycodestyle --max-line-length=100 --ignore=E203,E402,E701,E704,E731,W503 $styled
 else
     echo "skipped: ruff or pycodestyle, neither of which is installed (no line was measured)"
 fi

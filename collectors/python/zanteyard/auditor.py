@@ -218,7 +218,8 @@ class Auditor(Takes):
         self.names = [FENCE]  # of each key, by its name; and the other way
         self.history = [[] for _ in range(self.sessions)]  # what was taken in and isn't forgotten
         self.marks = [0] * self.sessions  # how many of each session are forgotten
-        self.base: Dict[str, TransactionId] = {}  # of each key that a forgotten transaction wrote, the last that did
+        # Of each key that a forgotten transaction wrote, the last that did.
+        self.base: Dict[str, TransactionId] = {}
         self.can_cut = True  # until the program says that it doesn't know the command
         self.effort = EFFORTS[0]  # of the last round
         self.audits += 1

@@ -48,7 +48,8 @@ class Cluster:
     table = "zanteyard"
 
     def __init__(self) -> None:
-        self.user: Dict[str, Any] = {"user": "postgres", "group": "postgres"} if os.geteuid() == 0 else {}
+        as_postgres = {"user": "postgres", "group": "postgres"}
+        self.user: Dict[str, Any] = as_postgres if os.geteuid() == 0 else {}
 
     def run(self, name: str, *arguments: str, **more: Any) -> None:
         call = [program(name) or name, *arguments]

@@ -17,7 +17,7 @@ from .shrinking import SECONDS, name, version
 
 
 class Arc(NamedTuple):
-    """That one transaction comes before another; `needs` are the arcs from which this one follows."""
+    """That one transaction comes before another; `needs` are the arcs from which this follows."""
 
     start: TransactionId
     end: TransactionId
