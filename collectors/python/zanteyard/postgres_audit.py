@@ -1,5 +1,5 @@
-"""Audits a PostgreSQL while clients run on it at the same time: a line a round, and what can't be at
-a violation. `zanteyard audit postgres` and `examples/postgres_live.py` are this."""
+"""Audits a PostgreSQL while clients run on it at the same time: a line a round, and what can't be
+at a violation. `zanteyard audit postgres` and `examples/postgres_live.py` are this."""
 
 from __future__ import annotations
 

@@ -20,8 +20,8 @@ class Logged(NamedTuple):
     what stands for transactions that the auditor has forgotten.
 
     The rest is for who is told of a violation. `statements` are pairs of a deed and what was run
-    for it; `values` are triples of "read" or "wrote", a key, and what was read or written, as a short
-    text; `began` is the time of day in seconds since 1970, 0 where it isn't known; `caller` is the
+    for it; `values` are triples of "read" or "wrote", a key, and what was read or written, as a
+    short text; `began` is the time of day in seconds since 1970, 0 where it isn't known; `caller` is the
     file and line from which the transaction was begun."""
 
     reads: Sequence[Read]

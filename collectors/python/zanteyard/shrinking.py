@@ -77,8 +77,8 @@ def from_start(auditor: Any) -> Tuple[History, Names]:
             return f"{id[0]}.{id[1] - 1 + marks[id[0]]}"
         return "the cut" if id == gone else f"the cut in {id[0]}"
 
-    renamed.older = {  # type: ignore[attr-defined]  # what `version` looks for
-       plain(key): "in a version older than that at the cut" for key in base}
+    older = {plain(key): "in a version older than that at the cut" for key in base}
+    renamed.older = older  # type: ignore[attr-defined]  # what `version` looks for
     return [[after if session else first, *txns] for session, txns in enumerate(history)], renamed
 
 
