@@ -6,8 +6,8 @@
 
 It starts a server of its own in a folder that is thrown away, or uses the one that --dsn names. It
 first runs the clients without the auditor, to tell what that costs. A violation is told in words,
-and written as a script for cobra_audit and as a picture. The status is 0 where all that was done was
-audited and is serial, and 1 where it wasn't or isn't.
+and written as a script for cobra_audit and as a picture. The status is 0 where all that was done
+was audited and is serial, and 1 where it wasn't or isn't.
 
 This is `zanteyard audit postgres`, for who has no wheel installed; its statuses tell more.
 """

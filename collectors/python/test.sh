@@ -45,7 +45,7 @@ styled="zanteyard make_wheel.py ../../examples/postgres_live.py"
 if command -v ruff > /dev/null; then
     ruff check --no-cache --line-length 100 --select E,W --ignore E203,E402,E701,E731 $styled
 elif "$python" -m pycodestyle --version > /dev/null 2>&1; then
-    "$python" -m pycodestyle --max-line-length=100 --ignore=E203,E402,E701,E704,E731,W503 $styled
+    "$python" -m pycodestyle --max-line-length=100 --ignore=E121,E126,E203,E402,E701,E704,E731,W503 $styled
 else
     echo "skipped: ruff or pycodestyle, neither of which is installed (no line was measured)"
 fi

@@ -21,8 +21,8 @@ class Logged(NamedTuple):
 
     The rest is for who is told of a violation. `statements` are pairs of a deed and what was run
     for it; `values` are triples of "read" or "wrote", a key, and what was read or written, as a
-    short text; `began` is the time of day in seconds since 1970, 0 where it isn't known; `caller` is the
-    file and line from which the transaction was begun."""
+    short text; `began` is the time of day in seconds since 1970, 0 where it isn't known; `caller`
+    is the file and line from which the transaction was begun."""
 
     reads: Sequence[Read]
     writes: Sequence[str]
