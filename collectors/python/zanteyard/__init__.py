@@ -2,6 +2,21 @@
 logged, and why."""
 from .apart import AuditorApart
 from .auditor import FENCE, Auditor, Full, NoCut, NoMemory, Refused
+from .errors import (
+    AbortedError,
+    AuditLostError,
+    FullError,
+    NameTakenError,
+    NoCutError,
+    NoMemoryError,
+    OutcomeUnknownError,
+    ProgramEndedError,
+    ProgramLateError,
+    ProgramMissingError,
+    RefusedError,
+    ScriptMistakeError,
+    ZanteyardError,
+)
 from .explain import Explanation, explain_history, reasons
 from .live import LiveAuditor, Lost
 from .outcome import RATHER_LOSE_THE_AUDIT, RATHER_WAIT, Outcome, Policy
@@ -14,6 +29,9 @@ from .shrinking import audited, from_start, smaller, words
 from .telling import tell_violation
 
 __all__ = [
+    *("AbortedError", "AuditLostError", "FullError", "NameTakenError", "NoCutError"),
+    *("NoMemoryError", "OutcomeUnknownError", "ProgramEndedError", "ProgramLateError"),
+    *("ProgramMissingError", "RefusedError", "ScriptMistakeError", "ZanteyardError"),
     *("Aborted", "AuditClient", "AuditServer", "Auditor", "AuditorApart", "Cut", "Ended", "FENCE"),
     *("Explanation", "Full", "LiveAuditor", "Logged", "Lost", "NameTaken", "NoCut", "NoMemory"),
     *("Outcome", "OutcomeUnknown", "Pending", "Policy", "RATHER_LOSE_THE_AUDIT", "RATHER_WAIT"),

@@ -13,10 +13,17 @@ from typing import Any, Deque, Dict, Iterator, List, Mapping, Optional, Sequence
 from typing import Type
 
 from .coverage import Coverage
+from .errors import FullError, NoCutError, NoMemoryError, RefusedError
 from .outcome import RATHER_LOSE_THE_AUDIT, Outcome, Policy, kind_of
 from .pipes import Ended, Late, Pipes
 from .programs import program_path
 from .records import Cut, History, Logged, Pending, Report, TransactionId
+
+# The same errors under shorter names.
+Refused = RefusedError
+Full = FullError
+NoMemory = NoMemoryError
+NoCut = NoCutError
 
 PROGRAM = program_path()
 
@@ -36,24 +43,6 @@ OWN = (FENCE, MARK, FLAG, PLAIN_FENCE)  # what keys of the collector's own begin
 logger = logging.getLogger("zanteyard")
 Effort = Tuple[int, int, int]  # nodes, depth, workers
 Fragment = Tuple[int, int, Sequence[Any]]  # session, number of the first, transactions
-
-
-class Refused(Exception):
-    """A line was refused: this is a mistake in how the log was made."""
-
-
-class Full(Refused):
-    """As many transactions remain as the auditor holds; nothing is wrong with this one."""
-
-
-class NoMemory(Refused):
-    """The program was refused memory for it, also when it was given the line again; nothing has
-    changed."""
-
-
-class NoCut(Refused):
-    """No round has found a fence up to which everything is settled; or the program has no such
-    command."""
 
 
 KINDS: Mapping[str, Type[Refused]] = {"Backlog": Full, "NoCut": NoCut, "NoMemory": NoMemory}

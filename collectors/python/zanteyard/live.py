@@ -15,6 +15,7 @@ from collections import deque
 
 from .auditor import FLAG, LONGEST, Full, NoCut, is_own, never_came
 from .coverage import SKIPPED, Coverage
+from .errors import AuditLostError
 from .meetings import Group, Missed
 from .outcome import COLLECTOR, RATHER_LOSE_THE_AUDIT, RUNNING, VIOLATED, Outcome, kind_of
 from .sessions import Place, Session
@@ -27,8 +28,7 @@ LONGEST_PAUSE = 30.0  # seconds between two attempts to start an auditor that ca
 STOPPING = 120.0  # seconds for what was handed in to be audited, as it is stopped
 
 
-class Lost(Exception):
-    """The audit ended, and why; the clients go on."""
+Lost = AuditLostError
 
 
 class LiveAuditor:

@@ -9,15 +9,13 @@ import subprocess
 import time
 from typing import Iterable, List, NoReturn
 
+from .errors import ProgramEndedError, ProgramLateError
+
+# The same errors under shorter names.
+Ended = ProgramEndedError
+Late = ProgramLateError
+
 ENDING = 5.0  # seconds for a program to end by itself, once its input has ended
-
-
-class Ended(Exception):
-    """The program ended, or can't be reached, and what it knew is gone with it."""
-
-
-class Late(Ended):
-    """The program hasn't answered in time."""
 
 
 class Pipes:

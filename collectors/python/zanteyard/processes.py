@@ -21,6 +21,7 @@ from multiprocessing.connection import Client, Listener
 
 from .apart import as_bytes, unpacked
 from .auditor import LONGEST
+from .errors import ElsewhereError
 from .live import PAUSE, Lost, unseen
 from .meetings import Group, Missed
 from .outcome import Policy
@@ -306,8 +307,7 @@ class ClientProcess(Messages):
             threading.Thread(target=self.tell, args=("over",), daemon=True).start()
 
 
-class Elsewhere(Exception):
-    """What failed in another process, in its words."""
+Elsewhere = ElsewhereError
 
 
 class AuditClient(Messages):

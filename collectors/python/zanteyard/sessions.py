@@ -28,24 +28,16 @@ from typing import Tuple, TypeVar
 
 from .auditor import FENCE, FLAG, MARK
 from .circumstances import brief, caller
+from .errors import AbortedError, NameTakenError, OutcomeUnknownError
 from .records import Deed, Found, Logged, Name, Read, Source, Store
+
+# The same errors under shorter names.
+Aborted = AbortedError
+OutcomeUnknown = OutcomeUnknownError
+NameTaken = NameTakenError
 
 logger = logging.getLogger("zanteyard")
 Result = TypeVar("Result")
-
-
-class Aborted(Exception):
-    """The store aborted the transaction; nothing of it was committed."""
-
-
-class OutcomeUnknown(Exception):
-    """Whether the transaction was committed can't be found out. Where it had written, nothing more
-    of its session is audited, unless another one is left for it."""
-
-
-class NameTaken(ValueError):
-    """The store knows the name of this run from an earlier one: what that has written would be
-    taken for this one's."""
 
 
 @dataclass
