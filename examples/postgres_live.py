@@ -1,5 +1,4 @@
-"""Audits a PostgreSQL while clients run on it at the same time: one line a round, and what can't be
-at a violation.
+"""Audits a PostgreSQL while clients run on it, and tells each round, and what can't be.
 
     python3 examples/postgres_live.py [--level serializable|repeatable|committed]
         [--workload counter|skew|mixed|blind] [--seconds N] [--clients N] [--rate N] [--every N]
