@@ -1,5 +1,4 @@
-"""What an audit costs the clients of a PostgreSQL: transactions a second with and without it, in
-turns.
+"""What an audit costs the clients of a PostgreSQL, in transactions a second.
 
     python3 bench/postgres_cost.py [--seconds N] [--times N] [--clients N] [--every N] [--delay N]
         [--workload NAME ..] [--processes]

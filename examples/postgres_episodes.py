@@ -1,5 +1,4 @@
-"""Audits clients of a PostgreSQL that run at the same time, in episodes that are each audited by
-itself.
+"""Audits clients of a PostgreSQL in episodes that are each audited by itself.
 
     python3 examples/postgres_episodes.py [--level serializable|repeatable|committed]
         [--workload counter|skew|mixed] [--episodes N] [--transactions N] [--clients 2|4|8]
