@@ -28,7 +28,8 @@ def audited(history, program=PROGRAM):
 
 
 def is_violated(history, program=PROGRAM):
-    return audited(history, program)[0].kind == VIOLATED
+    """Without what did nothing, so that a few transactions among many take no time."""
+    return Part.of(history).report(program) is not None
 
 
 def from_start(auditor):
