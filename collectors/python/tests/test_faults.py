@@ -293,7 +293,8 @@ class Faults(unittest.TestCase):
         counts = [process.communicate(timeout=SOON)[0].split() for process in processes]
         self.server.close()
         outcome = self.live.stop()
-        self.assertEqual(outcome.kind, kind, str(outcome))
+        wanted = kind or ("incomplete" if outcome.earlier else "serial")
+        self.assertEqual(outcome.kind, wanted, str(outcome))
         self.assertGreaterEqual(self.counted(), sum(int(count) for count, _ in counts))
         longest = max(float(waited) for _, waited in counts)
         self.assertLess(longest, BOUND + SLACK)
@@ -323,9 +324,8 @@ class Faults(unittest.TestCase):
         os.kill(hung.pid, signal.SIGSTOP)
         time.sleep(4.0)
         os.kill(hung.pid, signal.SIGCONT)
-        kind = "incomplete" if self.live.outcome.earlier else "serial"
-        outcome = self.all_ended([hung, *others], "a client's process stands still for 4 s", kind)
-        self.assertNotEqual(outcome.kind, "violated")
+        # whether there was no room meanwhile depends on how much the others got done
+        self.all_ended([hung, *others], "a client's process stands still for 4 s", kind=None)
 
     def test_the_auditors_process_is_killed(self):
         """Clients go on, unaudited, and are told by their own `is_over`."""
