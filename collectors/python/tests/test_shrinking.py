@@ -6,7 +6,7 @@ import sys
 import time
 import unittest
 
-from zanteyard import Aborted, Auditor, Logged, Session, audited, dot_text, smaller, tell_violation
+from zanteyard import Aborted, Logged, Session, audited, dot_text, smaller, tell_violation
 from zanteyard.auditor import PROGRAM
 from zanteyard.explain import explain_history
 from zanteyard.memory_store import MemoryStore
@@ -16,7 +16,7 @@ from .test_examples import EXAMPLES
 
 MOST = 4096  # transactions
 SECONDS = 5.0
-SLOW = 3.0  # times as long, where other programs have the processors
+SLOW = 6.0  # times as long, where other programs have the processors
 
 
 def workloads():
@@ -28,27 +28,38 @@ def workloads():
     return postgres_live.WORKLOADS
 
 
+class Records:
+    """In place of an auditor."""
+
+    run_name = "run"
+    is_named = False
+
+    def __init__(self, clients):
+        self.history = [[] for _ in range(clients)]
+
+    def take(self, session, number, logged):
+        self.history[session].append(logged)
+
+
 def history_of(workload, fault, honest, count=MOST, clients=8):
-    """So many transactions over a store in memory, several of them open at once; honest at
-    first."""
+    """So many transactions over a store in memory, several of them open at once; honest at first."""
     random.seed(1)
-    store = MemoryStore()
-    with Auditor(clients, count) as auditor:
-        sessions = [Session(auditor, number, store.connect()) for number in range(clients)]
-        begun, running = 0, {}
-        while begun < count or running:
-            store.fault = fault if begun >= honest else None
-            session = random.choice(sessions)
-            if session in running:
-                try:
-                    running.pop(session).commit()
-                except Aborted:
-                    pass
-            elif begun < count:
-                begun += 1
-                running[session] = session.begin()
-                workload(running[session], session.number)
-        return auditor.history, auditor.outcome()
+    store, records = MemoryStore(), Records(clients)
+    sessions = [Session(records, number, store.connect()) for number in range(clients)]
+    begun, running = 0, {}
+    while begun < count or running:
+        store.fault = fault if begun >= honest else None
+        session = random.choice(sessions)
+        if session in running:
+            try:
+                running.pop(session).commit()
+            except Aborted:
+                pass
+        elif begun < count:
+            begun += 1
+            running[session] = session.begin()
+            workload(running[session], session.number)
+    return records.history
 
 
 def told_of(history):
@@ -67,9 +78,9 @@ class Shrinking(unittest.TestCase):
             for fault in ("write-skew", "lost-update"):  # as at repeatable read, and at read committed
                 for honest in (0, MOST - 96):
                     with self.subTest(workload=name, fault=fault, honest=honest):
-                        history, outcome = history_of(workload, fault, honest)
+                        history = history_of(workload, fault, honest)
                         owed = "violated" if (fault, name) in self.OWED else "serial"
-                        self.assertEqual(outcome.kind, owed)
+                        self.assertEqual(audited(history)[0].kind, owed)
                         if owed == "violated":
                             self.check(history)
 
