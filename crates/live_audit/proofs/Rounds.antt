@@ -1,12 +1,14 @@
 -- What a round comes to.
 use Rattle.std.proofs.Common.{◌≡◌, ℕ, ◌+◌, ◌<◌, ◌≤◌, ◌^◌, ◌⊎◌, List, [], ◌∷◌, ◌++◌, Option, Some, None, refl, sym, ◌∙◌, ap, subst, inl, inr, length, append-nil, append_assoc, arith}
-use Rattle.std.specs.Prelude.{Result, Ok, Err, All, IsSome, map}
+use Rattle.std.specs.Prelude.{Result, Ok, Err, All, IsSome, IsSomeAnd, map}
 use Rattle.std.specs.Option.{option_to_list}
 use Rattle.std.proofs.lemmas.List.Elements.{All-append, All-weaker, All-nil, All-cons}
 use Rattle.txn.specs.declared.refusals.Refusal.{Refusal}
 use Rattle.txn.specs.declared.refusals.Refusal.TheVariants as refusals
 use Rattle.order_check.specs.declared.remainder.Kind.{Kind}
 use Rattle.order_check.specs.declared.remainder.Parts.{Parts}
+use Rattle.polygraph.specs.Solving.{IsLawful}
+use Rattle.polygraph.specs.declared.solving.Answer.{Answer}
 use Rattle.fragment_intake.specs.declared.rules.Parcel.{Parcel}
 use Rattle.report_queue.specs.Reports.{IsBefore}
 use Rattle.report_queue.specs.declared.entries.Entry.{Entry}
@@ -47,6 +49,13 @@ round_told old mid new (Report report) more begins search rounds told follows mo
     (told.0 ∙ ap (λ n. n + 1) rounds, told.1, told.2 ∙ ap (λ n. n + 1) rounds, counted old mid new report (Report report ∷ option_to_list more) begins told.3 search moves)
 round_told old mid new (Skipped refusals.NoMemory) more begins search rounds told follows moves = (nothing_more refusals.NoMemory more follows, told ∙ rounds, inl refl)
 round_told old mid new outcome more begins search rounds told follows moves = absurd told
+
+-- an answer that is lawful for the problem of the round that began
+pub asked_lawful : (core : CoreState) (parts : Parts) (budget depth : ℕ) (answer : Answer) → core.engine.asked ≡ Some parts → budget ≡ core.search.budget → depth ≡ core.search.depth → IsLawful parts budget depth answer → IsSomeAnd core.engine.asked (λ p. IsLawful p core.search.budget core.search.depth answer)
+asked_lawful core parts budget depth answer is budget_is depth_is lawful =
+    let by_budget : IsLawful parts core.search.budget depth answer = subst (λ (n : ℕ). IsLawful parts n depth answer) budget_is lawful in
+    let by_both : IsLawful parts core.search.budget core.search.depth answer = subst (λ (n : ℕ). IsLawful parts core.search.budget n answer) depth_is by_budget in
+    subst (λ (asked : Option Parts). IsSomeAnd asked (λ p. IsLawful p core.search.budget core.search.depth answer)) (sym is) by_both
 
 -- A round that didn't begin.
 
