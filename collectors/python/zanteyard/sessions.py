@@ -260,7 +260,8 @@ def whole(transaction: Transaction) -> Iterator[Transaction]:
     except BaseException:
         transaction.rollback()
         raise
-    transaction.commit()
+    if not transaction.is_over:  # the body may have ended it
+        transaction.commit()
 
 
 def attempted(
@@ -290,8 +291,14 @@ class Transaction:
         self.sent: Tuple[str, ...] = ()  # keys that were written and needn't be at the commit
         self.statements: Dict[Deed, str] = {}  # of each deed, as Logged has them
 
+    def still_open(self) -> None:
+        """What is done with a transaction that has ended would be one of its own in the store."""
+        if self.is_over:
+            raise ValueError(f"transaction {self.session.number}.{self.number} has ended")
+
     def get(self, key: str, statement: Optional[str] = None) -> Any:
         """`statement` is told of a violation in place of the store's."""
+        self.still_open()
         if key in self.written:
             return self.written[key]  # its own write: not logged
         return self.was_read(key, self.store.read(key), statement)
@@ -299,6 +306,7 @@ class Transaction:
     def get_all(self, keys: Sequence[str]) -> Dict[str, Any]:
         """The values of keys that weren't written here, by key; at once, where the store has a call
         for that."""
+        self.still_open()
         many = getattr(self.store, "read_all", None)
         found = many(keys) if many else {key: self.store.read(key) for key in keys}
         return {key: self.was_read(key, found.get(key)) for key in keys}
@@ -326,6 +334,7 @@ class Transaction:
     def put(self, key: str, value: Any, statement: Optional[str] = None) -> None:
         # It goes to the store at the commit, once, so that no version is there to be read but the
         # last.
+        self.still_open()
         self.written[key] = value
         if statement:
             self.statements[(key,)] = statement
@@ -336,6 +345,7 @@ class Transaction:
     def exchange(self, key: str, value: Any) -> None:
         """Reads the key and writes it: at once, where the store has a call for that. It has to be
         the last that is done with the key."""
+        self.still_open()
         both = getattr(self.store, "exchange", None)
         if both is None:
             self.get(key)
@@ -353,6 +363,7 @@ class Transaction:
         return (self.session.run_name, self.session.number, self.number)
 
     def commit(self) -> None:
+        self.still_open()
         self.is_committing = True
         try:
             for key in sorted(self.written):
@@ -362,8 +373,11 @@ class Transaction:
             self.store.commit()
         except OutcomeUnknown:
             self.find_out()
-        except BaseException:
+        except Exception:
             self.rollback()
+            raise
+        except BaseException:  # as Ctrl-C: the store may have committed
+            self.log((), self.written, "unknown", is_last=bool(self.written))
             raise
         else:
             self.log(self.reads, self.written, "committed")
@@ -382,16 +396,21 @@ class Transaction:
         """Asks the store. Where it can't say, the transaction is logged with its writes alone, as
         the last of its session."""
         until = time.monotonic() + (self.session.patience if self.holds else 0.0)
-        while self.written:
-            outcome = self.store.outcome()
-            if outcome == "committed":
-                return self.log(self.reads, self.written, "committed")
-            if outcome == "aborted":
-                self.give_up()
-                raise Aborted("the commit was not answered, and the store says that it aborted")
-            if time.monotonic() >= until:
-                break
-            time.sleep(0.05)
+        try:
+            while self.written:
+                outcome = self.store.outcome()
+                if outcome == "committed":
+                    return self.log(self.reads, self.written, "committed")
+                if outcome == "aborted":
+                    self.give_up()
+                    raise Aborted("the commit was not answered, and the store says that it aborted")
+                if time.monotonic() >= until:
+                    break
+                time.sleep(0.05)
+        except BaseException:
+            if not self.is_over:  # it was ended, as by Ctrl-C, before the store could say
+                self.log((), self.written, "unknown", is_last=True)
+            raise
         self.log((), self.written, "unknown", is_last=bool(self.written))
         raise OutcomeUnknown(f"{self.session.number}.{self.number}")
 
@@ -401,15 +420,17 @@ class Transaction:
         """Hands in what is known; nothing that fails here comes back to the client."""
         session, self.is_over = self.session, True
         session.place.is_due = True
-        # Nothing is known of a fence without its read: who reads from it waits for it then.
-        if not (is_last and FENCE in writes):
-            session.tell(self.hand_in, reads, writes, outcome)
-        if is_last:
-            session.end()
-        session.running = None
-        if self.holds:
-            session.used_at, session.current = time.monotonic(), None
-            session.turn.release()
+        try:
+            # Nothing is known of a fence without its read: who reads from it waits for it then.
+            if not (is_last and FENCE in writes):
+                session.tell(self.hand_in, reads, writes, outcome)
+            if is_last:
+                session.end()
+        finally:
+            session.running = None
+            if self.holds:
+                session.used_at, session.current = time.monotonic(), None
+                session.turn.release()
 
     def hand_in(self, reads: Iterable[Read], writes: Iterable[str], outcome: str) -> None:
         statements = tuple(self.statements.items())
