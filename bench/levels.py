@@ -1,13 +1,14 @@
 """What verdict each workload and level gets, and how long it takes to say why.
 
-    python3 bench/levels.py [--times N] [--seconds N] [--jobs N] [--workload NAME ..] [--level NAME ..]
+    python3 bench/levels.py [--times N] [--seconds N] [--jobs N] [--workload NAME ..]
+        [--level NAME ..]
 
-Runs examples/postgres_live.py so many times for each workload and level, with clients in threads and in
-processes, so many runs beside one another. Of each it tells how many runs were violated, serial, or
-incomplete (the audit ended where it couldn't keep up, and another one began); how long it took at most
-from the violation to the end of its explanation, in seconds; how many transactions it names at most; and
-how many explanations name a key of the collector's own. The status is 0 where nothing is violated that
-its level doesn't allow, and everything is that it owes.
+Runs examples/postgres_live.py so many times for each workload and level, with clients in threads
+and in processes, so many runs beside one another. Of each it tells how many runs were violated,
+serial, or incomplete (the audit ended where it couldn't keep up, and another one began); how long
+it took at most from the violation to the end of its explanation, in seconds; how many transactions
+it names at most; and how many explanations name a key of the collector's own. The status is 0 where
+nothing is violated that its level doesn't allow, and everything is that it owes.
 """
 import argparse
 import os
@@ -68,7 +69,10 @@ def main():
     asked = arguments()
     ways = ((), ("--processes",))
     keys = [
-        (workload, level, way) for workload in asked.workload for level in asked.level for way in ways
+        (workload, level, way)
+        for workload in asked.workload
+        for level in asked.level
+        for way in ways
     ]
     is_right = True
     print("workload, level, clients: verdicts; seconds to explain, transactions named, own keys")
@@ -79,8 +83,9 @@ def main():
             verdicts = ", ".join(f"{count} {kind}" for kind, count in sorted(kinds.items()))
             clients = "processes" if way else "threads"
             print(
-                f"{workload}, {level}, {clients}: {verdicts}; {max(run.took for run in runs):.2f} s, "
-                f"{max(run.named for run in runs)}, {sum(run.own for run in runs)}",
+                f"{workload}, {level}, {clients}: {verdicts}; "
+                f"{max(run.took for run in runs):.2f} s, {max(run.named for run in runs)}, "
+                f"{sum(run.own for run in runs)}",
                 flush=True,
             )
             is_right &= kinds["violated"] == asked.times or workload not in OWED[level]

@@ -1,16 +1,16 @@
-"""What an audit costs the clients of a PostgreSQL: transactions a second with and without it, in turns.
+"""What an audit costs the clients of a PostgreSQL, in transactions a second.
 
     python3 bench/postgres_cost.py [--seconds N] [--times N] [--clients N] [--every N] [--delay N]
         [--workload NAME ..] [--processes]
 
-Rates are means, and how much less stands with its standard error: runs differ by a fifth and more where
-processors are idle now and then, so that many short runs tell more than few long ones. Beside them, as
-medians: processor time for each transaction begun, of the clients and what hands their log over, and of
-what audits it; how much of their time clients waited for meetings, and how long at most; how far the
-auditor was behind at most. The clients are threads of one process, or processes of their own; the same
-sessions run over the same store without the auditor, but nobody takes their log. With a delay, in
-milliseconds, each statement takes that much longer, as over a network. TMPDIR=/dev/shm has the server's
-folder in memory, where a disk would be what is measured.
+Rates are means, and how much less stands with its standard error: runs differ by a fifth and more
+where processors are idle now and then, so that many short runs tell more than few long ones. Beside
+them, as medians: processor time for each transaction begun, of the clients and what hands their log
+over, and of what audits it; how much of their time clients waited for meetings, and how long at
+most; how far the auditor was behind at most. The clients are threads of one process, or processes
+of their own; the same sessions run over the same store without the auditor, but nobody takes their
+log. With a delay, in milliseconds, each statement takes that much longer, as over a network.
+TMPDIR=/dev/shm has the server's folder in memory, where a disk would be what is measured.
 """
 import argparse
 import os
@@ -53,7 +53,8 @@ class MakeStore:
 
 
 def empty(dsn):
-    """The table; else old versions of few rows pile up, and each run is slower than the one before."""
+    """The table; else old versions of few rows pile up, and each run is slower than the one
+    before."""
     connection = psycopg2.connect(dsn)
     with connection:
         connection.cursor().execute("TRUNCATE zanteyard")
@@ -129,8 +130,8 @@ def arguments():
 def main():
     asked = arguments()
     print(
-        "workload, without and with a second, less and its error, us each without and with, beside, "
-        "waited, longest without and with, behind at most, verdicts, cuts of rounds",
+        "workload, without and with a second, less and its error, us each without and with, "
+        "beside, waited, longest without and with, behind at most, verdicts, cuts of rounds",
         flush=True,
     )
     with ended_by_signals(), Cluster() as cluster:
@@ -161,8 +162,9 @@ def tell(workload, alone, audited):
     kinds = ", ".join(sorted({run.kind for run in audited}))
     cuts = f"{sum(run.cuts for run in audited)} of {sum(run.rounds for run in audited)}"
     print(
-        f"{workload:8} {rate_alone:6.0f} {rate:6.0f} {100 * less:5.1f}% +- {100 * less_error:3.1f}  "
-        f"{each[0]:5.0f} {each[1]:5.0f} {beside:5.0f}  {median(audited, 'waited'):4.1f}%  "
+        f"{workload:8} {rate_alone:6.0f} {rate:6.0f} {100 * less:5.1f}% +- "
+        f"{100 * less_error:3.1f}  {each[0]:5.0f} {each[1]:5.0f} {beside:5.0f}  "
+        f"{median(audited, 'waited'):4.1f}%  "
         f"{longest[0]:4.2f} {longest[1]:4.2f} s  {max(run.lag for run in audited):5.2f} s  "
         f"{kinds}  {cuts}",
         flush=True,

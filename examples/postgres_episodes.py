@@ -1,11 +1,11 @@
-"""Audits clients of a PostgreSQL that run at the same time, in episodes that are each audited by itself.
+"""Audits clients of a PostgreSQL in episodes that are each audited by itself.
 
     python3 examples/postgres_episodes.py [--level serializable|repeatable|committed]
         [--workload counter|skew|mixed] [--episodes N] [--transactions N] [--clients 2|4|8]
 
-It starts a server of its own in a folder that is thrown away. What is left of the first violated episode
-is told in words, and written as a script for cobra_audit and as a picture. The status is 0 where every
-episode is serial, and 1 where one isn't.
+It starts a server of its own in a folder that is thrown away. What is left of the first violated
+episode is told in words, and written as a script for cobra_audit and as a picture. The status is 0
+where every episode is serial, and 1 where one isn't.
 """
 import argparse
 import os
@@ -88,7 +88,8 @@ def episode(stores, name, workload, transactions):
     with Auditor(len(stores), transactions, run_name=name) as auditor:
         failures = []
         sessions = [
-            Session(auditor, client, OwnKeys(store, f"{name}/")) for client, store in enumerate(stores)
+            Session(auditor, client, OwnKeys(store, f"{name}/"))
+            for client, store in enumerate(stores)
         ]
         each = transactions // len(stores)
         threads = [
@@ -129,8 +130,8 @@ def main():
         from zanteyard.postgres_store import PostgresStore, prepare
     except ImportError:
         sys.exit(
-            "psycopg2 is wanted: apt-get install python3-psycopg2, and run this by the Python that it "
-            "is for (/usr/bin/python3)"
+            "psycopg2 is wanted: apt-get install python3-psycopg2, and run this by the Python "
+            "that it is for (/usr/bin/python3)"
         )
     if not program("initdb"):
         sys.exit("PostgreSQL is wanted: apt-get install postgresql")

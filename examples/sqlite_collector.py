@@ -2,8 +2,9 @@
 
     python3 examples/sqlite_collector.py [FAULT] [PROGRAM]
 
-FAULT is honest (the default), stale, lost-update, dirty-read or lost-write, and PROGRAM the auditor, where
-it isn't the one that the repository builds. docs/COLLECTORS.md tells why each part is as it is.
+FAULT is honest (the default), stale, lost-update, dirty-read or lost-write, and PROGRAM the
+auditor, where it isn't the one that the repository builds. docs/COLLECTORS.md tells why each part
+is as it is.
 """
 import json
 import os
@@ -32,7 +33,8 @@ class Auditor:
     """The program, with pipes on both ends: for each line that goes in, one comes out."""
 
     def __init__(self, sessions, limit):
-        self.program = subprocess.Popen([PROGRAM], stdin=subprocess.PIPE, stdout=subprocess.PIPE, text=True)
+        pipes = {"stdin": subprocess.PIPE, "stdout": subprocess.PIPE}
+        self.program = subprocess.Popen([PROGRAM], text=True, **pipes)
         self.numbers = {}  # of each key, in one table for all sessions
         self.ask("open", sessions, limit)
 
@@ -63,7 +65,7 @@ class Session:
     def get(self, key):
         if key in self.writes:
             return self.writes[key]  # its own write: not logged
-        order = "ASC" if FAULT == "stale" else "DESC"  # the fault: the oldest in place of the newest
+        order = "ASC" if FAULT == "stale" else "DESC"  # the fault: the oldest, not the newest
         found = f"SELECT value, session, number FROM versions WHERE key = ? ORDER BY rowid {order}"
         value, *source = self.store.execute(found, (key,)).fetchone() or (None, "init")
         self.reads.add((self.auditor.number(key), *source))
@@ -78,7 +80,8 @@ class Session:
             if not self.store.in_transaction:
                 self.store.execute("BEGIN")
             for key, value in self.writes.items():  # beside the value the writer's name
-                self.store.execute("INSERT INTO versions VALUES (?, ?, ?, ?)", (key, value, *self.id))
+                row = (key, value, *self.id)
+                self.store.execute("INSERT INTO versions VALUES (?, ?, ?, ?)", row)
             is_lost = FAULT == "lost-write" and self.id == (1, 1)
             self.store.execute("ROLLBACK" if is_lost else "COMMIT")
         except sqlite3.Error as error:  # a local store leaves no doubt that nothing was committed

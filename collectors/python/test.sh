@@ -1,15 +1,16 @@
 #!/usr/bin/env bash
-# Tests the collectors: the unit tests, then a PostgreSQL of its own that is audited while clients run on it. It wants the auditor, built
-# (crates/cobra_audit/out/cobra_audit, or what COBRA_AUDIT names), and tells in one line what is skipped where PostgreSQL or psycopg2 isn't
-# installed. It ends within minutes: what hangs is killed, and fails.
+# Tests the collectors: types and style, the unit tests, then a PostgreSQL of its own that is audited while clients run on it. It wants
+# the auditor, built (crates/cobra_audit/out/cobra_audit, or what COBRA_AUDIT names), and tells in one line what is skipped where
+# something isn't installed. It ends within minutes: what hangs is killed, and fails.
 #
-#     collectors/python/test.sh [--install]      --install: as root, first installs Debian's postgresql and python3-psycopg2
+#     collectors/python/test.sh [--install]      --install: as root, first installs the packages of Debian that it wants
 set -euo pipefail
 [ -z "${COBRA_AUDIT:-}" ] || COBRA_AUDIT=$(realpath "$COBRA_AUDIT")
 cd "$(dirname "$0")"
 if [ "${1:-}" = --install ]; then
     apt-get update -qq
-    DEBIAN_FRONTEND=noninteractive apt-get install -y -qq postgresql python3-psycopg2 > /dev/null
+    DEBIAN_FRONTEND=noninteractive apt-get install -y -qq postgresql python3-psycopg2 python3-venv python3-setuptools \
+        python3-wheel mypy python3-pycodestyle chromium > /dev/null
 fi
 audit=${COBRA_AUDIT:-../../crates/cobra_audit/out/cobra_audit}
 [ -x "$audit" ] || { echo "$audit is not built: README.md says how"; exit 1; }
@@ -35,6 +36,19 @@ limited() { # a Python program, for at most so many seconds: at their end it say
     (ulimit -c 0; exec timeout --foreground -s ABRT -k 10 "$seconds" "$python" -X faulthandler "$@")
 }
 
+if command -v mypy > /dev/null; then
+    MYPY_CACHE_DIR=$folder/mypy mypy
+else
+    echo "skipped: mypy, which isn't installed (no type was checked)"
+fi
+styled="zanteyard make_wheel.py ../../examples/postgres_live.py"
+if command -v ruff > /dev/null; then
+    ruff check --no-cache --line-length 100 --select E,W --ignore E203,E402,E701,E731 $styled
+elif "$python" -m pycodestyle --version > /dev/null 2>&1; then
+    "$python" -m pycodestyle --max-line-length=100 --ignore=E121,E126,E203,E402,E701,E704,E731,W503 $styled
+else
+    echo "skipped: ruff or pycodestyle, neither of which is installed (no line was measured)"
+fi
 limited 720 -m unittest
 if ! "$python" -c "import psycopg2" 2> /dev/null || ! "$python" -c "import sys; from zanteyard.cluster import program; sys.exit(not program('initdb'))"; then
     echo "skipped: what needs PostgreSQL and psycopg2, which aren't both installed (nothing was audited live)"

@@ -43,7 +43,8 @@ class Circumstances(unittest.TestCase):
         here = os.path.basename(__file__)
         self.assertRegex(
             text,
-            rf"0\.1 began at \d\d:\d\d:\d\d\.\d{{3}} from .*{here}:\d+; read rent: '100'; wrote rent: '90'",
+            rf"0\.1 began at \d\d:\d\d:\d\d\.\d{{3}} from .*{here}:\d+; "
+            "read rent: '100'; wrote rent: '90'",
         )
         page = page_of(story_of(small, name), "a bank", "proved")
         self.assertIn("<td>&#x27;100&#x27;</td>", page)

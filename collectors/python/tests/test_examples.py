@@ -1,4 +1,5 @@
-"""The examples at the top say what docs/COLLECTORS.md and README.md here say of them, and end well."""
+"""The examples at the top say what docs/COLLECTORS.md and README.md here say of them, and end
+well."""
 import os
 import re
 import signal

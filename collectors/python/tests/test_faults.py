@@ -1,6 +1,6 @@
-"""What goes wrong around an audit of a real server: what the application saw, what the audit said, and how
-long anybody waited for it. The table of README.md is what these tests print to the file that
-ZANTEYARD_FAULTS names, if it does."""
+"""What goes wrong around an audit of a real server: what the application saw, what the audit said,
+and how long anybody waited for it. The table of README.md is what these tests print to the file
+that ZANTEYARD_FAULTS names, if it does."""
 import logging
 import os
 import signal
@@ -63,13 +63,16 @@ def add_one(transaction):
 
 
 class Application:
-    """Clients that count, each in a thread, until it is ended. It tries again where the store says that
-    a transaction aborted, and where the store can't be reached; it counts what it was told is done."""
+    """Clients that count, each in a thread, until it is ended. It tries again where the store says
+    that a transaction aborted, and where the store can't be reached; it counts what it was told is
+    done."""
 
     def __init__(self, sessions):
         self.sessions, self.done, self.unknown, self.seen = sessions, 0, 0, []
         self.is_ended, self.lock = False, threading.Lock()
-        self.threads = [threading.Thread(target=self.client, args=(it,), daemon=True) for it in sessions]
+        self.threads = [
+            threading.Thread(target=self.client, args=(it,), daemon=True) for it in sessions
+        ]
         for thread in self.threads:
             thread.start()
 
@@ -183,7 +186,8 @@ class Faults(unittest.TestCase):
         self.ended(application, "none", "serial")
 
     def children(self, pid):
-        found = subprocess.run(["ps", "-o", "pid=", "--ppid", str(pid)], stdout=subprocess.PIPE, text=True)
+        call = ["ps", "-o", "pid=", "--ppid", str(pid)]
+        found = subprocess.run(call, stdout=subprocess.PIPE, text=True)
         return [int(line) for line in found.stdout.split()]
 
     def test_cobra_audit_is_killed(self):
@@ -248,7 +252,8 @@ class Faults(unittest.TestCase):
         begun = sum(session.begun for session in application.sessions)
         time.sleep(0.5)
         # Attempts that never reached the store took no numbers; those of before had begun.
-        self.assertLessEqual(sum(session.begun for session in application.sessions), begun + CLIENTS)
+        later = sum(session.begun for session in application.sessions)
+        self.assertLessEqual(later, begun + CLIENTS)
         self.cluster.start()
         done = application.done
         self.wait_for(lambda: application.done > done + 100)
@@ -256,7 +261,8 @@ class Faults(unittest.TestCase):
         kind = self.live.stop().kind
         self.assertIn(kind, ("serial", "pending", "incomplete"))
         self.assertTrue(all(isinstance(error, psycopg2.Error) for error in application.seen))
-        self.ended(application, "PostgreSQL is killed and started", kind, "the store's own errors, meanwhile")
+        saw = "the store's own errors, meanwhile"
+        self.ended(application, "PostgreSQL is killed and started", kind, saw)
 
     def test_the_disk_is_full(self):
         self.audit(script="/dev/full")
@@ -272,7 +278,8 @@ class Faults(unittest.TestCase):
         self.addCleanup(folder.cleanup)
         self.server = AuditServer(self.live, f"{folder.name}/audit")
         self.addCleanup(self.server.close)
-        call = [sys.executable, "-c", CLIENT, PLACE, self.server.path, self.cluster.dsn, str(seconds)]
+        more = (PLACE, self.server.path, self.cluster.dsn, str(seconds))
+        call = [sys.executable, "-c", CLIENT, *more]
         begun = [subprocess.Popen(call, stdout=subprocess.PIPE, text=True) for _ in range(3)]
         for process in begun:
             self.addCleanup(process.stdout.close)
@@ -308,7 +315,8 @@ class Faults(unittest.TestCase):
         self.assertIn("is lost", str(outcome.earlier[0].failure))
 
     def test_a_clients_process_stands_still(self):
-        """No meeting can be had, until there is no room; it isn't audited until it answers again."""
+        """No meeting can be had, until there is no room; it isn't audited until it answers
+        again."""
         self.audit()
         hung, *others = self.processes(8)
         self.wait_for(self.is_audited)

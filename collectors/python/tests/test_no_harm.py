@@ -1,4 +1,5 @@
-"""What a collector must never do: make up a violation, lose one in silence, or change what clients see."""
+"""What a collector must never do: make up a violation, lose one in silence, or change what clients
+see."""
 import json
 import logging
 import os
@@ -373,7 +374,8 @@ class Standing(NoHarm):
             except Exception as error:
                 errors.append(error)
 
-        threads = [threading.Thread(target=client, args=(live.session(store.connect()),)) for _ in range(4)]
+        sessions = [live.session(store.connect()) for _ in range(4)]
+        threads = [threading.Thread(target=client, args=(session,)) for session in sessions]
         for thread in threads:
             thread.start()
         while time.monotonic() < ends and not live.is_over:
@@ -416,7 +418,8 @@ class Lifetimes(NoHarm):
 class Scripts(NoHarm):
     def given_again(self, path):
         with open(path) as script:
-            ended = subprocess.run([PROGRAM], stdin=script, stdout=subprocess.PIPE, timeout=SOON, check=True)
+            more = {"stdout": subprocess.PIPE, "timeout": SOON, "check": True}
+            ended = subprocess.run([PROGRAM], stdin=script, **more)
         return [json.loads(line) for line in ended.stdout.splitlines()]
 
     def test_each_line_is_kept(self):

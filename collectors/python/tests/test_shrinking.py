@@ -1,4 +1,5 @@
-"""What is told of a violation is small, whole and there in time, at as many transactions as remain."""
+"""What is told of a violation is small, whole and there in time, at as many transactions as
+remain."""
 import os
 import random
 import sys
@@ -28,7 +29,8 @@ def workloads():
 
 
 def history_of(workload, fault, honest, count=MOST, clients=8):
-    """So many transactions over a store in memory, several of them open at once; honest at first."""
+    """So many transactions over a store in memory, several of them open at once; honest at
+    first."""
     random.seed(1)
     store = MemoryStore()
     with Auditor(clients, count) as auditor:

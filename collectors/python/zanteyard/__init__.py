@@ -1,7 +1,22 @@
-"""Audits the transactions of a store's clients with cobra_audit. docs/COLLECTORS.md says what is logged,
-and why."""
+"""Audits the transactions of a store's clients with cobra_audit. docs/COLLECTORS.md says what is
+logged, and why."""
 from .apart import AuditorApart
 from .auditor import FENCE, Auditor, Full, NoCut, NoMemory, Refused
+from .errors import (
+    AbortedError,
+    AuditLostError,
+    FullError,
+    NameTakenError,
+    NoCutError,
+    NoMemoryError,
+    OutcomeUnknownError,
+    ProgramEndedError,
+    ProgramLateError,
+    ProgramMissingError,
+    RefusedError,
+    ScriptMistakeError,
+    ZanteyardError,
+)
 from .explain import Explanation, explain_history, reasons
 from .live import LiveAuditor, Lost
 from .outcome import RATHER_LOSE_THE_AUDIT, RATHER_WAIT, Outcome, Policy
@@ -14,9 +29,13 @@ from .shrinking import audited, from_start, smaller, words
 from .telling import tell_violation
 
 __all__ = [
+    *("AbortedError", "AuditLostError", "FullError", "NameTakenError", "NoCutError"),
+    *("NoMemoryError", "OutcomeUnknownError", "ProgramEndedError", "ProgramLateError"),
+    *("ProgramMissingError", "RefusedError", "ScriptMistakeError", "ZanteyardError"),
     *("Aborted", "AuditClient", "AuditServer", "Auditor", "AuditorApart", "Cut", "Ended", "FENCE"),
-    *("Explanation", "Full", "LiveAuditor", "Logged", "Lost", "NameTaken", "NoCut", "NoMemory", "Outcome"),
-    *("OutcomeUnknown", "Pending", "Policy", "RATHER_LOSE_THE_AUDIT", "RATHER_WAIT", "Refused"),
-    *("Report", "Session", "Store", "Transaction", "audited", "dot_text", "draw", "explain_history"),
+    *("Explanation", "Full", "LiveAuditor", "Logged", "Lost", "NameTaken", "NoCut", "NoMemory"),
+    *("Outcome", "OutcomeUnknown", "Pending", "Policy", "RATHER_LOSE_THE_AUDIT", "RATHER_WAIT"),
+    *("Refused", "Report", "Session", "Store", "Transaction", "audited", "dot_text", "draw"),
+    *("explain_history",),
     *("from_start", "reasons", "smaller", "tell_violation", "words"),
 ]

@@ -1,6 +1,6 @@
-"""An auditor in a process of its own. The threads of a Python program run one at a time, so that whatever
-is done there with a log on its way to cobra_audit is taken from the clients; here they hand over what
-was logged, as bytes, and the rest is done beside them."""
+"""An auditor in a process of its own. The threads of a Python program run one at a time, so that
+whatever is done there with a log on its way to cobra_audit is taken from the clients; here they
+hand over what was logged, as bytes, and the rest is done beside them."""
 import gc
 import marshal
 import os
@@ -24,8 +24,8 @@ MORE = 30.0  # seconds for an answer, beside what the program may take for its o
 
 
 class AuditorApart(Takes):
-    """In place of an Auditor: calls go to one in another process, and their results come from there. For
-    threads. Raises Ended where that process can't be reached."""
+    """In place of an Auditor: calls go to one in another process, and their results come from
+    there. For threads. Raises Ended where that process can't be reached."""
 
     def __init__(
         self,
@@ -134,8 +134,8 @@ class AuditorApart(Takes):
 
     @staticmethod
     def packed(logged):
-        """As bytes, which leave nothing to the clients' garbage collector. What can't be made such is
-        left as it is, for offer_all to tell."""
+        """As bytes, which leave nothing to the clients' garbage collector. What can't be made such
+        is left as it is, for offer_all to tell."""
         try:
             return as_bytes(logged)
         except ValueError:
@@ -208,7 +208,8 @@ class AuditorApart(Takes):
 
 
 def as_bytes(logged):
-    return marshal.dumps(tuple(logged))  # takes a third of pickle's time, and knows plain values alone
+    # This takes a third of pickle's time, and knows plain values alone.
+    return marshal.dumps(tuple(logged))
 
 
 def unpacked(packed):
@@ -239,7 +240,8 @@ class Served:
         self.auditor.coverage = coverage
 
     def offer_all(self, fragments):
-        """The sessions whose transactions there was no room for, and how many reads were left out."""
+        """The sessions whose transactions there was no room for, and how many reads were left
+        out."""
         refused = {session for session, _, _ in self.auditor.offer_all(fragments)}
         return refused, self.auditor.left_out
 

@@ -13,47 +13,36 @@ from typing import Any, Deque, Dict, Iterator, List, Mapping, Optional, Sequence
 from typing import Type
 
 from .coverage import Coverage
+from .errors import FullError, NoCutError, NoMemoryError, RefusedError
 from .outcome import RATHER_LOSE_THE_AUDIT, Outcome, Policy, kind_of
 from .pipes import Ended, Late, Pipes
 from .programs import program_path
 from .records import Cut, History, Logged, Pending, Report, TransactionId
 
+# The same errors under shorter names.
+Refused = RefusedError
+Full = FullError
+NoMemory = NoMemoryError
+NoCut = NoCutError
+
 PROGRAM = program_path()
 
 LIMIT = 4096  # the most transactions that may remain
 LONGEST = 256  # transactions of one line
-# Of a round: how many nodes of the search it may look at, how deep the search is split, and how many
-# workers share it. The next is tried where one hasn't decided.
+# Of a round: how many nodes of the search it may look at, how deep the search is split, and how
+# many workers share it. The next is tried where one hasn't decided.
 EFFORTS = ((4096, 0, 1), (65536, 4, max(1, min(16, os.cpu_count() or 1))))
 WAITS = (0.1, 0.5)  # seconds after which a line that was answered NoMemory is given again
 SECONDS = 60.0  # for the answer to a line that no client waits for
 LATEST = 10.0  # seconds after which an answer that no client waits for isn't waited for any more
 FENCE = "zanteyard fence"  # the key on which sessions run fences; its number is 0
 MARK = "zanteyard mark"  # a key that a meeting writes behind its fence, for all sessions to read
-FLAG = "zanteyard flag "  # and a session's number: a key that this session alone writes, at a meeting
+FLAG = "zanteyard flag "  # and a session's number: a key that this session alone writes
 PLAIN_FENCE = "zanteyard's fence"  # the key of fences, where what is left of one may be none
-OWN = (FENCE, MARK, FLAG, PLAIN_FENCE)  # what the keys of the collector's own transactions begin with
+OWN = (FENCE, MARK, FLAG, PLAIN_FENCE)  # what keys of the collector's own begin with
 logger = logging.getLogger("zanteyard")
 Effort = Tuple[int, int, int]  # nodes, depth, workers
 Fragment = Tuple[int, int, Sequence[Any]]  # session, number of the first, transactions
-
-
-class Refused(Exception):
-    """A line was refused: this is a mistake in how the log was made."""
-
-
-class Full(Refused):
-    """As many transactions remain as the auditor holds; nothing is wrong with this one."""
-
-
-class NoMemory(Refused):
-    """The program was refused memory for it, also when it was given the line again; nothing has
-    changed."""
-
-
-class NoCut(Refused):
-    """No round has found a fence up to which everything is settled; or the program has no such
-    command."""
 
 
 KINDS: Mapping[str, Type[Refused]] = {"Backlog": Full, "NoCut": NoCut, "NoMemory": NoMemory}
@@ -70,8 +59,8 @@ def is_own(key: object) -> bool:
 
 
 class Takes:
-    """What sessions hand in when the store has answered: it never raises, and waits no longer than the
-    policy says. What can't be taken in ends the audit, which `failure` and the log tell."""
+    """What sessions hand in when the store has answered: it never raises, and waits no longer than
+    the policy says. What can't be taken in ends the audit, which `failure` and the log tell."""
 
     # what an auditor has besides
 
@@ -97,8 +86,8 @@ class Takes:
         self.handed_in, self.taken_in = 0, 0
         self.waiting: Deque[Tuple[Any, ...]] = deque()
         self.is_ended = False  # by who has made it
-        self.late: Any = None  # what was asked for a session and isn't answered yet, and since when
-        self.lock = threading.RLock()  # so that what is kept here follows the replies in their order
+        self.late: Any = None  # what was asked for a session and isn't answered yet, since when
+        self.lock = threading.RLock()  # what is kept here follows the replies in their order
 
     def take(self, session: int, number: int, logged: Logged) -> None:
         self.hand_in(("offer", session, number, logged))
@@ -118,8 +107,8 @@ class Takes:
                 self.lock.release()
 
     def take_in(self, ends: Optional[float] = None) -> None:
-        """All that waits; until then. What isn't answered by then is asked for by who comes next, and
-        those don't wait."""
+        """All that waits; until then. What isn't answered by then is asked for by who comes next,
+        and those don't wait."""
         with self.lock:
             while self.failure is None and (self.late or self.waiting):
                 try:
@@ -181,18 +170,20 @@ def never_came(
         for number, logged in enumerate(txns, marks[session]):
             for key, source in logged.reads:
                 if source != "init":
-                    ended = marks[source[0]] + len(history[source[0]]) if source[0] < len(marks) else 0
+                    is_there = source[0] < len(marks)
+                    ended = marks[source[0]] + len(history[source[0]]) if is_there else 0
                     if source[1] >= ended:
                         yield Pending((session, number), key, source)
 
 
 class Auditor(Takes):
-    """For threads: each call is one line and its reply. What sessions hand in (`take`) never raises;
-    all other calls raise Ended where the program is gone and Refused where it refuses a line.
+    """For threads: each call is one line and its reply. What sessions hand in (`take`) never
+    raises; all other calls raise Ended where the program is gone and Refused where it refuses a
+    line.
 
     `run_name` is beside each value that sessions write: each run needs one of its own, and has it
-    where none is given. `script` names a file to which every line goes that the program was given, so
-    that it can be given them again. `policy` says how long sessions wait."""
+    where none is given. `script` names a file to which every line goes that the program was given,
+    so that it can be given them again. `policy` says how long sessions wait."""
 
     def __init__(
         self,
@@ -216,7 +207,8 @@ class Auditor(Takes):
         self.names = [FENCE]  # of each key, by its name; and the other way
         self.history = [[] for _ in range(self.sessions)]  # what was taken in and isn't forgotten
         self.marks = [0] * self.sessions  # how many of each session are forgotten
-        self.base: Dict[str, TransactionId] = {}  # of each key that a forgotten transaction wrote, the last that did
+        # Of each key that a forgotten transaction wrote, the last that did.
+        self.base: Dict[str, TransactionId] = {}
         self.can_cut = True  # until the program says that it doesn't know the command
         self.effort = EFFORTS[0]  # of the last round
         self.audits += 1
@@ -230,7 +222,8 @@ class Auditor(Takes):
             raise
 
     def open_script(self) -> None:
-        """Of a second audit the script is beside the first one's, with its number behind the name."""
+        """Of a second audit the script is beside the first one's, with its number behind the
+        name."""
         if self.script_path is not None:
             behind = f".{self.audits}" if self.audits > 1 else ""
             self.script = open(f"{self.script_path}{behind}", "wb", buffering=0)
@@ -334,8 +327,8 @@ class Auditor(Takes):
                 logger.error("%s lacks lines: %s", self.script.name, error)
 
     def offer(self, session: int, number: int, *logged: Any) -> None:
-        """Transactions that follow one another, the first of this number. Raises Full where there is
-        no room."""
+        """Transactions that follow one another, the first of this number. Raises Full where there
+        is no room."""
         if self.offer_all([(session, number, logged)]):
             raise Full(f"there is no room for transaction {number} of session {session}")
 
@@ -408,8 +401,8 @@ class Auditor(Takes):
         return report
 
     def truncate(self) -> Cut:
-        """Has the auditor forget what the last round found settled. The lines keep in which order what
-        remains stands to it. Raises NoCut where nothing is."""
+        """Has the auditor forget what the last round found settled. The lines keep in which order
+        what remains stands to it. Raises NoCut where nothing is."""
         with self.lock:
             try:
                 _, fence, gone, last = self.ask(["truncate"])

@@ -19,8 +19,8 @@ DEPTH = 12  # calls that are looked through, at most
 
 
 def caller() -> str:
-    """The file and line outside of this package from which this was called; empty where there is none
-    near."""
+    """The file and line outside of this package from which this was called; empty where there is
+    none near."""
     frame: Any = sys._getframe(1)
     for _ in range(DEPTH):
         if frame is None:

@@ -13,6 +13,7 @@ import time
 from contextlib import contextmanager
 from typing import Any, Dict, Iterator, Optional
 
+INITIAL = ("-A", "trust", "-U", "postgres", "-E", "UTF8", "--locale=C", "--no-sync")
 STOPPING = 20  # seconds for a server to stop
 TRIES = 50  # to remove its folder
 
@@ -26,8 +27,8 @@ def program(name: str) -> Optional[str]:
 
 @contextmanager
 def ended_by_signals() -> Iterator[None]:
-    """In here SIGTERM, which `timeout` and systemd send, ends the program as an exception does: what it
-    has begun is cleaned up. For the main thread."""
+    """In here SIGTERM, which `timeout` and systemd send, ends the program as an exception does:
+    what it has begun is cleaned up. For the main thread."""
 
     def end(number: int, _: object) -> None:
         signal.signal(number, signal.SIG_IGN)  # once is enough
@@ -41,13 +42,14 @@ def ended_by_signals() -> Iterator[None]:
 
 
 class Cluster:
-    """Listens on a socket in its folder alone. PostgreSQL won't run as root, so that root runs it as the
-    user postgres."""
+    """Listens on a socket in its folder alone. PostgreSQL won't run as root, so that root runs it
+    as the user postgres."""
 
     table = "zanteyard"
 
     def __init__(self) -> None:
-        self.user: Dict[str, Any] = {"user": "postgres", "group": "postgres"} if os.geteuid() == 0 else {}
+        as_postgres = {"user": "postgres", "group": "postgres"}
+        self.user: Dict[str, Any] = as_postgres if os.geteuid() == 0 else {}
 
     def run(self, name: str, *arguments: str, **more: Any) -> None:
         call = [program(name) or name, *arguments]
@@ -61,7 +63,7 @@ class Cluster:
         try:
             if self.user:
                 shutil.chown(self.folder, "postgres", "postgres")
-            self.run("initdb", "-D", self.data, *"-A trust -U postgres -E UTF8 --locale=C --no-sync".split())
+            self.run("initdb", "-D", self.data, *INITIAL)
             self.start()
         except BaseException:
             self.__exit__()
@@ -71,7 +73,8 @@ class Cluster:
     def start(self) -> None:
         """Again, where it was stopped."""
         options = f"-c listen_addresses='' -c unix_socket_directories={self.folder} -c fsync=off"
-        self.run("pg_ctl", "-D", self.data, "-l", f"{self.folder}/log", "-o", options, "-w", "start")
+        log = f"{self.folder}/log"
+        self.run("pg_ctl", "-D", self.data, "-l", log, "-o", options, "-w", "start")
 
     def stop(self) -> None:
         """At once, as if it were killed; does nothing where it doesn't run."""

@@ -13,7 +13,6 @@ from . import demo, postgres_audit
 from .auditor import Auditor
 from .errors import ProgramEndedError, ScriptMistakeError, ZanteyardError
 from .page import page_of
-from .pipes import Ended
 from .programs import find_program, origin_of, program_path
 from .scripts import MORE, ScriptRun, Verdict
 from .stories import EXPLAINED, Story, story_lines, verdict_story, violation_story
@@ -33,7 +32,7 @@ def main(words: Optional[Sequence[str]] = None) -> int:
     try:
         status: int = asked.run(asked)
         return status
-    except (ProgramEndedError, Ended) as error:
+    except ProgramEndedError as error:
         print(f"undecided: {error}", file=sys.stderr)
         return UNDECIDED
     except (ZanteyardError, OSError) as error:

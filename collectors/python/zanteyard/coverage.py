@@ -1,9 +1,9 @@
 """Which of the sessions' transactions an audit is about, where it began while clients went on.
 
-What was answered before the audit began is the state that it begins with: no version that is written
-later can stand before it. What was on its way in that moment may stand before or after any of it, so
-that nothing is said of who read from it. What was sent to the store later is audited, under a number
-that counts from there.
+What was answered before the audit began is the state that it begins with: no version that is
+written later can stand before it. What was on its way in that moment may stand before or after any
+of it, so that nothing is said of who read from it. What was sent to the store later is audited,
+under a number that counts from there.
 """
 
 from __future__ import annotations
@@ -40,8 +40,8 @@ class Coverage:
         return number - first
 
     def source(self, session: int, number: int) -> Optional[Source]:
-        """Where a read of this transaction's write was from, as the audit sees it: (session, number)
-        or "init"; None where it can't be said, so that the read is to be left out."""
+        """Where a read of this transaction's write was from, as the audit sees it: (session,
+        number) or "init"; None where it can't be said, so that the read is to be left out."""
         if session >= len(self.early):
             return None  # it is one that isn't audited, since there were more clients than sessions
         found = self.number(session, number)

@@ -1,4 +1,10 @@
-"""What all errors of this package have in common."""
+"""What this package raises. All of it is a ZanteyardError.
+
+The shorter names that modules have beside these (Aborted, Ended, Full and the like) are the same
+classes.
+"""
+
+from __future__ import annotations
 
 
 class ZanteyardError(Exception):
@@ -10,7 +16,51 @@ class ProgramMissingError(ZanteyardError):
 
 
 class ProgramEndedError(ZanteyardError):
-    """The auditor ended before it had answered; what it knew is gone with it."""
+    """The program ended, or can't be reached, and what it knew is gone with it."""
+
+
+class ProgramLateError(ProgramEndedError):
+    """The program hasn't answered in time."""
+
+
+class RefusedError(ZanteyardError):
+    """A line was refused: this is a mistake in how the log was made."""
+
+
+class FullError(RefusedError):
+    """As many transactions remain as the auditor holds; nothing is wrong with this one."""
+
+
+class NoMemoryError(RefusedError):
+    """The program was refused memory for it, also when it was given the line again; nothing has
+    changed."""
+
+
+class NoCutError(RefusedError):
+    """No round has found a fence up to which everything is settled; or the program has no such
+    command."""
+
+
+class AbortedError(ZanteyardError):
+    """The store aborted the transaction; nothing of it was committed."""
+
+
+class OutcomeUnknownError(ZanteyardError):
+    """Whether the transaction was committed can't be found out. Where it had written, nothing more
+    of its session is audited, unless another one is left for it."""
+
+
+class NameTakenError(ZanteyardError, ValueError):
+    """The store knows the name of this run from an earlier one: what that has written would be
+    taken for this one's."""
+
+
+class AuditLostError(ZanteyardError):
+    """The audit ended, and why; the clients go on."""
+
+
+class ElsewhereError(ZanteyardError):
+    """What failed in another process, in its words."""
 
 
 class ScriptMistakeError(ZanteyardError):

@@ -1,9 +1,9 @@
-"""Why no order explains a history, in words. This is an aid: the verdict is the auditor's, and rests on
-none of this.
+"""Why no order explains a history, in words. This is an aid: the verdict is the auditor's, and
+rests on none of this.
 
-What must come before what follows from sessions, from reads, and from other writers of what was read,
-which stand before the writer or after the reader. Where that goes round in a circle no order is left;
-where none does, it takes a trial of all orders to see it.
+What must come before what follows from sessions, from reads, and from other writers of what was
+read, which stand before the writer or after the reader. Where that goes round in a circle no order
+is left; where none does, it takes a trial of all orders to see it.
 """
 
 from __future__ import annotations
@@ -17,7 +17,7 @@ from .shrinking import SECONDS, name, version
 
 
 class Arc(NamedTuple):
-    """That one transaction comes before another; `needs` are the arcs from which this one follows."""
+    """That one transaction comes before another; `needs` are the arcs from which this follows."""
 
     start: TransactionId
     end: TransactionId
@@ -32,8 +32,8 @@ SESSION = "they are in one session"
 
 @dataclass(frozen=True)
 class Explanation:
-    """`lines` tell it, each after those from which it follows; `arcs` lead from a transaction back to
-    itself, and there are none where the lines tell something else."""
+    """`lines` tell it, each after those from which it follows; `arcs` lead from a transaction back
+    to itself, and there are none where the lines tell something else."""
 
     lines: Tuple[str, ...]
     arcs: Tuple[Arc, ...] = ()
@@ -140,7 +140,8 @@ def forced_arcs(
                 if key not in its.writes or other in (reader, writer):
                     continue
                 check(ends)
-                read = f"{name(reader)} read {key} from {name(writer)}, and {name(other)}, which wrote it too, comes"
+                read = f"{name(reader)} read {key} from {name(writer)}"
+                read = f"{read}, and {name(other)}, which wrote it too, comes"
                 after, before = path(arcs_from, writer, other), path(arcs_from, other, reader)
                 if after:
                     yield Arc(reader, other, f"{read} after {name(writer)}", tuple(merged(after)))
@@ -198,8 +199,8 @@ def explain_history(
     try:
         around = circle(history, name, seconds)
     except TooLong:
-        told = f"it takes more than {seconds:g} s to say why in words; the auditor's refutation says it"
-        return Explanation((told,))
+        told = f"it takes more than {seconds:g} s to say why in words"
+        return Explanation((f"{told}; the auditor's refutation says it",))
     if around is None:
         return Explanation(("each order fails in its own way",))
     lines = [f"{name(arc.start)} comes before {name(arc.end)}: {arc.why}" for arc in below(around)]

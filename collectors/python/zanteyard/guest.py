@@ -14,14 +14,15 @@ WAITING = 10  # seconds for what clients have left open, as it is cleaned up
 
 
 class Guest:
-    """The same as a Cluster, in a server that is there: makes a schema with one table, and drops it at
-    the end. Where the user may make no schema, it is a table beside what is there, under a name that
-    nothing else has. What `dsn` doesn't say the environment does, as PGHOST and PGDATABASE."""
+    """The same as a Cluster, in a server that is there: makes a schema with one table, and drops it
+    at the end. Where the user may make no schema, it is a table beside what is there, under a name
+    that nothing else has. What `dsn` doesn't say the environment does, as PGHOST and PGDATABASE."""
 
     def __init__(self, dsn: str, tell: Callable[[str], object] = print) -> None:
         self.dsn, self.tell = dsn, tell
         self.name = f"zanteyard_{secrets.token_hex(6)}"
-        self.table, self.drop = f"{self.name}.zanteyard", f"DROP SCHEMA IF EXISTS {self.name} CASCADE"
+        self.table = f"{self.name}.zanteyard"
+        self.drop = f"DROP SCHEMA IF EXISTS {self.name} CASCADE"
 
     def run(self, statement: str) -> None:
         connection = psycopg2.connect(self.dsn)
@@ -43,12 +44,14 @@ class Guest:
 
     def __enter__(self) -> Guest:
         """Raises psycopg2's errors where the server can't be reached, or allows no table either."""
-        self.tell(f"in the {self.where()}: makes the schema {self.name} and a table in it, and drops both")
+        makes = f"makes the schema {self.name} and a table in it, and drops both"
+        self.tell(f"in the {self.where()}: {makes}")
         try:
             self.run(f"CREATE SCHEMA {self.name}")
         except errors.InsufficientPrivilege:
             self.table, self.drop = self.name, f"DROP TABLE IF EXISTS {quoted(self.name)}"
-            self.tell(f"no schema may be made there: makes the table {self.name} instead, and drops it")
+            makes = f"makes the table {self.name} instead, and drops it"
+            self.tell(f"no schema may be made there: {makes}")
         try:
             prepare(self.dsn, self.table)
         except BaseException:
@@ -60,4 +63,5 @@ class Guest:
         try:
             self.run(self.drop)
         except psycopg2.Error as error:
-            self.tell(f"what it made is left, and is to be dropped by hand ({self.drop}): {error}".strip())
+            told = f"what it made is left, and is to be dropped by hand ({self.drop})"
+            self.tell(f"{told}: {error}".strip())

@@ -1,9 +1,11 @@
-"""An auditor that goes along with clients as they run: rounds, meetings and cuts, in a thread of its own.
+"""An auditor that goes along with clients as they run: rounds, meetings and cuts, in a thread of
+its own.
 
-Clients hand in what they did and go on. Where room asks for it there is a meeting (`meetings.py`), after
-which the auditor can forget what stands in front of its fence. Where an audit can't go on, as when the
-auditor was killed or can't keep up, it ends with its outcome; by the policy another one begins of what
-is done from then on (`coverage.py`), or nothing more is audited. The clients go on in either case.
+Clients hand in what they did and go on. Where room asks for it there is a meeting (`meetings.py`),
+after which the auditor can forget what stands in front of its fence. Where an audit can't go on, as
+when the auditor was killed or can't keep up, it ends with its outcome; by the policy another one
+begins of what is done from then on (`coverage.py`), or nothing more is audited. The clients go on
+in either case.
 """
 import logging
 import queue
@@ -13,6 +15,7 @@ from collections import deque
 
 from .auditor import FLAG, LONGEST, Full, NoCut, is_own, never_came
 from .coverage import SKIPPED, Coverage
+from .errors import AuditLostError
 from .meetings import Group, Missed
 from .outcome import COLLECTOR, RATHER_LOSE_THE_AUDIT, RUNNING, VIOLATED, Outcome, kind_of
 from .sessions import Place, Session
@@ -25,19 +28,19 @@ LONGEST_PAUSE = 30.0  # seconds between two attempts to start an auditor that ca
 STOPPING = 120.0  # seconds for what was handed in to be audited, as it is stopped
 
 
-class Lost(Exception):
-    """The audit ended, and why; the clients go on."""
+Lost = AuditLostError
 
 
 class LiveAuditor:
-    """`every` so many transactions is a meeting (after a quarter of that where the last one failed), and
-    after `seconds` where there were any a round; `idle` for how many seconds a client does nothing until
-    it goes without a session, which others may have; `patience` for how many a meeting waits for
-    clients' transactions; `most` how many transactions may wait to be taken in before clients wait;
-    `tell` is called with a line for each round. `policy` says what gives way.
+    """`every` so many transactions is a meeting (after a quarter of that where the last one
+    failed), and after `seconds` where there were any a round; `idle` for how many seconds a client
+    does nothing until it goes without a session, which others may have; `patience` for how many a
+    meeting waits for clients' transactions; `most` how many transactions may wait to be taken in
+    before clients wait; `tell` is called with a line for each round. `policy` says what gives way.
 
-    The auditor is an Auditor, or, so that clients are held up less, an AuditorApart. The name of the
-    run, `run_name`, is the auditor's where none is given. `outcome` tells at each time what came of it.
+    The auditor is an Auditor, or, so that clients are held up less, an AuditorApart. The name of
+    the run, `run_name`, is the auditor's where none is given. `outcome` tells at each time what
+    came of it.
     """
 
     EVERY = 2560  # where one meeting fails there is room for two more
@@ -63,12 +66,13 @@ class LiveAuditor:
         self.packed = getattr(auditor, "packed", None)
         self.group = Group()
         self.groups = [self.group]  # this process's clients, and each other process's
-        self.left = deque(Place(number) for number in range(auditor.sessions))  # no client has these
+        # No client has these.
+        self.left = deque(Place(number) for number in range(auditor.sessions))
         self.lock = threading.Condition()  # around those
         self.is_lending, self.overflow = False, auditor.sessions
         self.coverage = Coverage.of_all(auditor.sessions)
-        # Keys written by transactions that hadn't read them, and not read since; changed by who has a
-        # session's turn, and by a meeting that holds all.
+        # Keys written by transactions that hadn't read them, and not read since; changed by who has
+        # a session's turn, and by a meeting that holds all.
         self.unseen = set()
         self.waiting = queue.SimpleQueue()
         self.seen = {}  # of each session, the number behind the last that was handed in
@@ -77,7 +81,8 @@ class LiveAuditor:
         self.met_at, self.met, self.why_not = 0, time.monotonic(), None
         self.meetings, self.is_meeting = 0, False
         self.taken_in, self.rounds, self.cuts, self.left_out = 0, 0, 0, 0
-        # For how many seconds a transaction waited to be taken in, at most: ever, and since a round.
+        # For how many seconds a transaction waited to be taken in, at most: ever, and since a
+        # round.
         self.lag = self.behind = self.told_behind = 0.0
         self.told_at, self.told_of = time.monotonic(), 0
         self.report, self.is_stopping, self.is_fences_alone = None, False, False
@@ -226,13 +231,15 @@ class LiveAuditor:
             self.waiting.put((time.monotonic(), session))
 
     def lose(self, error):
-        """This audit ends with what was handed in by now; why, is told by its outcome and the log."""
+        """This audit ends with what was handed in by now; why, is told by its outcome and the
+        log."""
         if self.lost is None:
             self.lost = error
             logger.error("the audit %s ends: %s", self.name, error)
 
     def stop(self, seconds=STOPPING):
-        """Audits all that was handed in, and gives the outcome; after so many seconds, what is known."""
+        """Audits all that was handed in, and gives the outcome; after so many seconds, what is
+        known."""
         self.is_stopping = True
         self.thread.join(seconds)
         if self.thread.is_alive():
@@ -339,8 +346,8 @@ class LiveAuditor:
             time.sleep(max(0.0, min(PAUSE, ends - time.monotonic())))
 
     def start_anew(self):
-        """Only what is sent to the store from some moment on is audited; what was on its way then is
-        left out, as if it had been read by nobody."""
+        """Only what is sent to the store from some moment on is audited; what was on its way then
+        is left out, as if it had been read by nobody."""
         why, ended = self.lost, self.state(True, self.lost)
         while not self.waiting.empty():
             self.waiting.get()
@@ -360,7 +367,8 @@ class LiveAuditor:
         self.taken_in = self.told_of = self.left_out = 0
         self.met_at, self.met, self.began = self.handed_in, time.monotonic(), time.monotonic()
         self.why_not = None
-        self.tell(f"audit {len(self.earlier)} has ended: {ended._alone()}; now audited: {self.name}")
+        told = f"audit {len(self.earlier)} has ended: {ended._alone()}"
+        self.tell(f"{told}; now audited: {self.name}")
         logger.warning("another audit begins, %s, after: %s", self.name, why)
 
     def edges(self):
@@ -477,15 +485,16 @@ class LiveAuditor:
         except NoCut as error:
             if not self.auditor.can_cut:
                 return "no cut: this cobra_audit forgets nothing"
-            return "no cut: no fence is settled" if str(error).endswith("NoCut") else f"no cut: {error}"
+            is_none = str(error).endswith("NoCut")
+            return "no cut: no fence is settled" if is_none else f"no cut: {error}"
         self.cuts += 1
         return f"cut at {cut.fence[0]}.{cut.fence[1]}: {cut.gone} forgotten"
 
     # meetings
 
     def meet(self):
-        """Gives how many waited to be taken in as clients went on: no read of these has a source that
-        isn't among them, or was taken in before."""
+        """Gives how many waited to be taken in as clients went on: no read of these has a source
+        that isn't among them, or was taken in before."""
         patience = self.patience if self.has_room() else PATIENT * self.patience
         self.meetings, self.is_meeting = self.meetings + 1, True
         groups, places = list(self.groups), self.borrow()
@@ -569,8 +578,8 @@ def unseen(logged):
 
 
 def fragments(offers):
-    """Of each session that is among them, (session, number of the first, transactions); without those
-    that have no number."""
+    """Of each session that is among them, (session, number of the first, transactions); without
+    those that have no number."""
     found = {}
     for session, number, logged in offers:
         if number is None:

@@ -1,12 +1,13 @@
 """The sessions of one process, as meetings use them.
 
-At a meeting each session is held as its transaction ends. It then writes its flag, a key of its own,
-while one of them, the leader, writes the mark over; the leader reads all flags, and with them the keys
-that were written unseen; it runs a fence, and writes the mark again, which all others read before they
-go on. So every transaction of before comes before the fence, every one of later after it, and of each
-key it is known who wrote it last. A session that has done nothing since it read the mark needs no flag:
-whoever overwrites what it read comes after it. Flags are written side by side, and marks are read so:
-what is done one after another is five statements, however many sessions there are.
+At a meeting each session is held as its transaction ends. It then writes its flag, a key of its
+own, while one of them, the leader, writes the mark over; the leader reads all flags, and with them
+the keys that were written unseen; it runs a fence, and writes the mark again, which all others read
+before they go on. So every transaction of before comes before the fence, every one of later after
+it, and of each key it is known who wrote it last. A session that has done nothing since it read the
+mark needs no flag: whoever overwrites what it read comes after it. Flags are written side by side,
+and marks are read so: what is done one after another is five statements, however many sessions
+there are.
 """
 import threading
 import time
@@ -25,8 +26,8 @@ def none_running():
 
 class Group:
     """All of it but `sessions` is for one thread at a time, and is called in this order: `gather`,
-    `lead` in one group alone, `pass_on`, `release`. Who isn't called on in time releases its sessions
-    by itself, and raises Missed from then on."""
+    `lead` in one group alone, `pass_on`, `release`. Who isn't called on in time releases its
+    sessions by itself, and raises Missed from then on."""
 
     is_here = True
 
@@ -50,8 +51,9 @@ class Group:
         return any(session.is_open for session in self.sessions)
 
     def gather(self, meeting, seconds, leads, places, idle):
-        """Holds all sessions, and has flags written: of those, and of these places that are lent. Gives
-        the numbers of those that have flags, and the places of sessions that were idle for so long."""
+        """Holds all sessions, and has flags written: of those, and of these places that are lent.
+        Gives the numbers of those that have flags, and the places of sessions that were idle for so
+        long."""
         self.ends = time.monotonic() + seconds
         if not self.gate.acquire(timeout=seconds):
             raise Missed("the meeting before this one still goes on")
@@ -77,7 +79,8 @@ class Group:
         return flags, self.given_back(idle)
 
     def begin_gather(self, *arguments):
-        """What is begun gives what waits for its end, which other processes work towards meanwhile."""
+        """What is begun gives what waits for its end, which other processes work towards
+        meanwhile."""
         found = self.gather(*arguments)
         return lambda ends: found
 
@@ -91,7 +94,8 @@ class Group:
 
     def hold(self, session, meeting, seconds):
         if not session.turn.acquire(timeout=self.left()):
-            raise Missed(f"a transaction of session {session.number} took longer than {seconds:g} s")
+            told = f"a transaction of session {session.number} took longer than {seconds:g} s"
+            raise Missed(told)
         with self.lock:
             if self.meeting != meeting:
                 session.turn.release()
@@ -153,7 +157,8 @@ class Group:
         return max(0.0, self.ends - time.monotonic())
 
     def release(self, meeting=None):
-        """Lets all go on, but for whose connection is still in use; at once where it has been done."""
+        """Lets all go on, but for whose connection is still in use; at once where it has been
+        done."""
         with self.lock:
             if self.meeting is None or meeting not in (None, self.meeting):
                 return
@@ -164,14 +169,14 @@ class Group:
         self.gate.release()
 
     def edges(self):
-        """Of each session's number, how many of its transactions have been answered, and from which on
-        none has been sent. To be called twice: all that was answered as the first call ended had been
-        answered when whatever hadn't been sent in the second call was sent."""
+        """Of each session's number, how many of its transactions have been answered, and from which
+        on none has been sent. To be called twice: all that was answered as the first call ended had
+        been answered when whatever hadn't been sent in the second call was sent."""
         found = []
         for session in list(self.sessions):
             if session.place is None:
                 continue
-            begun = session.begun  # before it is seen what runs: all below have ended, if nothing does
+            begun = session.begun  # before it is seen what runs: if nothing does, all have ended
             running = session.running
             if running is None:
                 found.append((session.number, begun, begun))

@@ -1,5 +1,5 @@
-"""A store in memory, whose faults can be switched on. Honest, it lets a transaction commit only where
-all that it read is still the newest."""
+"""A store in memory, whose faults can be switched on. Honest, it lets a transaction commit only
+where all that it read is still the newest."""
 
 from __future__ import annotations
 
@@ -9,7 +9,10 @@ from typing import Any, Dict, List, Optional, Tuple
 from .records import Found, Name
 from .sessions import Aborted, NameTaken, OutcomeUnknown
 
-FAULTS = ("stale-read", "lost-update", "write-skew", "torn-read", "dirty-read", "lost-write", "reappearing")
+FAULTS = (
+    *("stale-read", "lost-update", "write-skew", "torn-read"),
+    *("dirty-read", "lost-write", "reappearing"),
+)
 
 
 class MemoryStore:
@@ -82,8 +85,8 @@ class Connection:
         self.writes = {}
 
     def end(self, outcome: str) -> None:
-        """`lost`, which tests set, has the commit take effect ("committed") or not ("aborted") without
-        an answer."""
+        """`lost`, which tests set, has the commit take effect ("committed") or not ("aborted")
+        without an answer."""
         self.last_outcome = self.lost or outcome
         if self.last_outcome == "committed" and self.shared.fault != "lost-write":
             self.install()
@@ -91,7 +94,8 @@ class Connection:
     def install(self) -> None:
         with self.shared.lock:
             for key, (value, name) in self.writes.items():
-                self.shared.versions.setdefault(key, []).append((value, name, self.shared.moment + 1))
+                version = (value, name, self.shared.moment + 1)
+                self.shared.versions.setdefault(key, []).append(version)
             self.shared.moment += 1
 
     def claim(self, run_name: str, token: str) -> None:

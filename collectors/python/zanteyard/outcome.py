@@ -15,8 +15,8 @@ RUNNING = "running"
 @dataclass(frozen=True)
 class Policy:
     """What gives way. A client waits for the audit at most `wait` seconds in one call. Where that
-    isn't enough the audit ends with its reason; where it `begins_anew`, another one begins of what is
-    done from then on, at most one in `pause` seconds."""
+    isn't enough the audit ends with its reason; where it `begins_anew`, another one begins of what
+    is done from then on, at most one in `pause` seconds."""
 
     wait: float = 0.25
     begins_anew: bool = True
@@ -33,12 +33,12 @@ class Outcome:
 
     `kind`: "running" while more may come; "serial"; "pending" where all was audited, but reads name
     transactions that never came; "violated", which stays true whatever is missing; "the collector's
-    own violation", where its own transactions alone have no order; "undecided", where the search was
-    given up; "incomplete", where something wasn't audited: `failure` says why.
+    own violation", where its own transactions alone have no order; "undecided", where the search
+    was given up; "incomplete", where something wasn't audited: `failure` says why.
 
     `audited` of `handed_in` transactions were audited; of the `left_out` reads the source isn't
-    known to the audit, so that they weren't checked. `earlier` are the audits that ended before this
-    one began, each with its own outcome.
+    known to the audit, so that they weren't checked. `earlier` are the audits that ended before
+    this one began, each with its own outcome.
     """
 
     kind: str
@@ -57,7 +57,8 @@ class Outcome:
 
     @property
     def counts(self) -> Optional[Sequence[int]]:
-        """Of the last round: how many transactions of each session it was about; None without one."""
+        """Of the last round: how many transactions of each session it was about; None without
+        one."""
         return self.report.counts if self.report else None
 
     @property

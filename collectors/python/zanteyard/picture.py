@@ -22,8 +22,8 @@ def dot_text(
     history: History, name: Names = name, arcs: Optional[Sequence[Arc]] = None
 ) -> str:
     """Each transaction with what it did, a column for each session. The arcs are an explanation's,
-    which is made where none are given. They are bold and red, those from which they follow are grey; an
-    arc goes from what comes before to what comes after."""
+    which is made where none are given. They are bold and red, those from which they follow are
+    grey; an arc goes from what comes before to what comes after."""
     around = explain_history(history, name).arcs if arcs is None else arcs
     lines = [
         "digraph violation {",

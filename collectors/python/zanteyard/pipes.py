@@ -1,4 +1,5 @@
-"""A program that answers line by line over pipes, and that nobody waits for longer than was said."""
+"""A program that answers line by line over pipes, and that nobody waits for longer than was
+said."""
 
 from __future__ import annotations
 
@@ -8,15 +9,13 @@ import subprocess
 import time
 from typing import Iterable, List, NoReturn
 
+from .errors import ProgramEndedError, ProgramLateError
+
+# The same errors under shorter names.
+Ended = ProgramEndedError
+Late = ProgramLateError
+
 ENDING = 5.0  # seconds for a program to end by itself, once its input has ended
-
-
-class Ended(Exception):
-    """The program ended, or can't be reached, and what it knew is gone with it."""
-
-
-class Late(Ended):
-    """The program hasn't answered in time."""
 
 
 class Pipes:
@@ -46,8 +45,8 @@ class Pipes:
         self.unsent = memoryview(bytes(self.unsent) + b"".join(line + b"\n" for line in lines))
 
     def answers(self, count: int, seconds: float) -> List[bytes]:
-        """So many, in the order in which was asked. Raises Ended; or Late after so many seconds, and
-        may then be called again."""
+        """So many, in the order in which was asked. Raises Ended; or Late after so many seconds,
+        and may then be called again."""
         until = time.monotonic() + seconds
         try:
             while len(self.found) < count:

@@ -1,5 +1,5 @@
-"""Audits a PostgreSQL while clients run on it at the same time: a line a round, and what can't be at a
-violation. `zanteyard audit postgres` and `examples/postgres_live.py` are this."""
+"""Audits a PostgreSQL while clients run on it at the same time: a line a round, and what can't be
+at a violation. `zanteyard audit postgres` and `examples/postgres_live.py` are this."""
 
 from __future__ import annotations
 
@@ -45,8 +45,8 @@ class MakeStore:
 
 @dataclass(frozen=True)
 class LiveRun:
-    """What came of a run. `alone` are the clients without an auditor, if they ran so; `story` tells a
-    violation where there was one, and `seen` the rounds."""
+    """What came of a run. `alone` are the clients without an auditor, if they ran so; `story` tells
+    a violation where there was one, and `seen` the rounds."""
 
     asked: argparse.Namespace
     live: LiveAuditor

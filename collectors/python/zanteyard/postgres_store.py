@@ -14,19 +14,22 @@ from .sessions import Aborted, NameTaken, OutcomeUnknown
 
 LEVELS = ("serializable", "repeatable read", "read committed")
 TABLE = """CREATE TABLE IF NOT EXISTS {table} (
-    key text PRIMARY KEY, value text, run text NOT NULL, session int NOT NULL, number bigint NOT NULL)"""
+    key text PRIMARY KEY, value text,
+    run text NOT NULL, session int NOT NULL, number bigint NOT NULL)"""
 READ = "SELECT value, run, session, number FROM {table} WHERE key = %s"
 READ_ALL = "SELECT key, value, run, session, number FROM {table} WHERE key = ANY(%s)"
 TRANSACTION = "RETURNING pg_current_xact_id()::text"  # told by each write: no commit has to ask
 WRITE = f"""INSERT INTO {{table}} VALUES (%s, %s, %s, %s, %s) ON CONFLICT (key) DO UPDATE
-    SET value = excluded.value, run = excluded.run, session = excluded.session, number = excluded.number
+    SET value = excluded.value, run = excluded.run, session = excluded.session,
+    number = excluded.number
     {TRANSACTION}"""
 # The row is locked before it is read, so that what is given is what is overwritten: a plain
 # subselect would give what the statement's snapshot has, from before it waited for the lock.
 OVERWRITE = f"""UPDATE {{table}} AS now SET value = %s, run = %s, session = %s, number = %s
     FROM (SELECT * FROM {{table}} WHERE key = %s FOR UPDATE) AS before WHERE now.key = before.key
     {TRANSACTION}, before.value, before.run, before.session, before.number"""
-FIRST = f"INSERT INTO {{table}} VALUES (%s, %s, %s, %s, %s) ON CONFLICT (key) DO NOTHING {TRANSACTION}"
+FIRST = f"""INSERT INTO {{table}} VALUES (%s, %s, %s, %s, %s) ON CONFLICT (key) DO NOTHING
+    {TRANSACTION}"""
 STATUS = """SELECT pg_xact_status(%s::text::xid8), EXISTS (SELECT 1 FROM {table}
     WHERE key = %s AND run = %s AND session = %s AND number = %s)"""
 KNOWS = "SELECT EXISTS (SELECT 1 FROM {table} WHERE run = %s)"
@@ -55,8 +58,8 @@ def prepare(dsn: str, table: str = "zanteyard") -> None:
 
 
 class PostgresStore:
-    """One connection, for one thread at a time. `level` is "serializable", "repeatable read" or "read
-    committed"; `table` may be "schema.table"."""
+    """One connection, for one thread at a time. `level` is "serializable", "repeatable read" or
+    "read committed"; `table` may be "schema.table"."""
 
     def __init__(
         self, dsn: str, level: str = "serializable", table: str = "zanteyard"
@@ -163,9 +166,9 @@ class PostgresStore:
             self.connection.close()
 
     def outcome(self) -> str:
-        """By a connection of its own, since the one at hand may be broken. A server that crashed gives
-        the number of a transaction that was lost to another one, so that it alone doesn't say what
-        was committed: the row has to be there, too."""
+        """By a connection of its own, since the one at hand may be broken. A server that crashed
+        gives the number of a transaction that was lost to another one, so that it alone doesn't say
+        what was committed: the row has to be there, too."""
         if self.transaction_id is None:
             return "unknown"
         try:

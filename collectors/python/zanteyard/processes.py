@@ -1,11 +1,12 @@
 """A live audit of clients in several processes.
 
-The process that has the LiveAuditor lets the others in by an AuditServer, a socket in the file system. In
-each of those an AuditClient stands in the LiveAuditor's place: its sessions run there, over connections
-of their own; what they did is handed over some twenty-five times a second; and meetings hold them and
-run their flags by calls over the same socket. All messages of a process come in the order in which they
-were sent, so that whatever was done before a call was answered has been handed over by then. No client
-sends or receives anything: threads beside them do, and where these can't the client goes on.
+The process that has the LiveAuditor lets the others in by an AuditServer, a socket in the file
+system. In each of those an AuditClient stands in the LiveAuditor's place: its sessions run there,
+over connections of their own; what they did is handed over some twenty-five times a second; and
+meetings hold them and run their flags by calls over the same socket. All messages of a process come
+in the order in which they were sent, so that whatever was done before a call was answered has been
+handed over by then. No client sends or receives anything: threads beside them do, and where these
+can't the client goes on.
 """
 import logging
 import marshal
@@ -20,6 +21,7 @@ from multiprocessing.connection import Client, Listener
 
 from .apart import as_bytes, unpacked
 from .auditor import LONGEST
+from .errors import ElsewhereError
 from .live import PAUSE, Lost, unseen
 from .meetings import Group, Missed
 from .outcome import Policy
@@ -102,7 +104,8 @@ class AuditServer:
 
     def close(self, patience=30.0):
         """Lets nobody in any more, and waits for so many seconds until all have left; before the
-        LiveAuditor is stopped, so that it takes in all that they did. Who is still there is lost."""
+        LiveAuditor is stopped, so that it takes in all that they did. Who is still there is
+        lost."""
         if self.is_closing:
             return
         self.is_closing = True
@@ -143,7 +146,8 @@ class ClientProcess(Messages):
     def listen(self):
         live = self.live
         try:
-            self.send("welcome", live.run_name, live.is_named, live.token, self.most, astuple(live.policy))
+            run = (live.run_name, live.is_named, live.token)
+            self.send("welcome", *run, self.most, astuple(live.policy))
             if live.has_ended:
                 self.send("over")
             live.groups.append(self)
@@ -162,7 +166,8 @@ class ClientProcess(Messages):
     def lose(self, why):
         if self.has and not self.has_left:  # else it did nothing that isn't known
             sessions = ", ".join(map(str, sorted(self.has)))
-            told = f"the process of the sessions {sessions} is lost, and what was done in them last isn't known"
+            told = f"the process of the sessions {sessions} is lost"
+            told = f"{told}, and what was done in them last isn't known"
             self.live.lose(Ended(f"{told}: {why}"))
 
     def take_logged(self, logged, dropped):
@@ -171,7 +176,8 @@ class ClientProcess(Messages):
             if number is None:
                 live.take_close(session)
             else:
-                live.hand_in(came, session, number, keys, packed if live.packed else unpacked(packed))
+                what = packed if live.packed else unpacked(packed)
+                live.hand_in(came, session, number, keys, what)
         if dropped:
             live.counts[-1] = live.counts.get(-1, 0) + dropped
         self.wait_for_room()
@@ -301,15 +307,14 @@ class ClientProcess(Messages):
             threading.Thread(target=self.tell, args=("over",), daemon=True).start()
 
 
-class Elsewhere(Exception):
-    """What failed in another process, in its words."""
+Elsewhere = ElsewhereError
 
 
 class AuditClient(Messages):
-    """In place of a LiveAuditor, in a process of clients: theirs is behind the AuditServer at this path.
-    `leave` ends it, once its sessions do nothing more; a process that ends without it has the audit
-    end, since nobody knows what it did last. Raises OSError where nobody is there, and Ended where
-    nobody answers."""
+    """In place of a LiveAuditor, in a process of clients: theirs is behind the AuditServer at this
+    path. `leave` ends it, once its sessions do nothing more; a process that ends without it has the
+    audit end, since nobody knows what it did last. Raises OSError where nobody is there, and Ended
+    where nobody answers."""
 
     def __init__(self, path):
         super().__init__(Client(path, "AF_UNIX"))
@@ -336,19 +341,21 @@ class AuditClient(Messages):
         return self.group.sessions
 
     def session(self, store, **more):
-        """The session of a new client. Raises ValueError where none is left, and Ended where nothing
-        more is audited."""
+        """The session of a new client. Raises ValueError where none is left, and Ended where
+        nothing more is audited."""
         place = self.ask_for_place("join", True, seconds=PATIENCE)
         if place is None:
-            raise Ended("nothing more is audited") if self.is_over else ValueError("no session is left")
+            if self.is_over:
+                raise Ended("nothing more is audited")
+            raise ValueError("no session is left")
         made = Session(self, place.number, store, self.run_name, renew=self.renew, **more)
         made.place = place
         self.group.add(made)
         return made
 
     def renew(self, session):
-        """For a session that has ended: another one's place, or its own, and unaudited. At most once a
-        second somebody is asked."""
+        """For a session that has ended: another one's place, or its own, and unaudited. At most
+        once a second somebody is asked."""
         if session.place is not None and time.monotonic() < self.tried + 1:
             return session.place
         self.tried = time.monotonic()
@@ -397,13 +404,14 @@ class AuditClient(Messages):
             session.turn.release()
 
     def leave(self):
-        """Hands over what is left, and gives its sessions back; waits for a meeting that holds them.
-        Where one is still in a transaction after half a minute, the process is as lost as if it had
-        ended."""
+        """Hands over what is left, and gives its sessions back; waits for a meeting that holds
+        them. Where one is still in a transaction after half a minute, the process is as lost as if
+        it had ended."""
         if self.is_leaving:
             return
         self.is_leaving, ends = True, time.monotonic() + LEAVING
-        taken = [it for it in self.sessions if it.turn.acquire(timeout=max(0, ends - time.monotonic()))]
+        left = lambda: max(0.0, ends - time.monotonic())
+        taken = [it for it in self.sessions if it.turn.acquire(timeout=left())]
         self.hand_over_all()
         if len(taken) == len(self.sessions):
             places = [session.place for session in self.sessions if session.is_open]
@@ -449,7 +457,8 @@ class AuditClient(Messages):
         ends = time.monotonic() + self.policy.wait
         while self.waiting.qsize() + self.sent - self.taken > most and not self.goes_on():
             if time.monotonic() > ends:
-                self.lose(f"the auditor can't keep up: {self.sent - self.taken} transactions are on their way")
+                count = self.sent - self.taken
+                self.lose(f"the auditor can't keep up: {count} transactions are on their way")
             time.sleep(PAUSE / 8)
 
     def goes_on(self):
@@ -556,7 +565,8 @@ class AuditClient(Messages):
         self.group.release()
 
     def call_edges(self, _):
-        self.lost = None  # what ends from here on is handed over; what has ended is known by its number
+        # What ends from here on is handed over; what has ended is known by its number.
+        self.lost = None
         return self.group.edges()
 
     def call_reopen(self, _):

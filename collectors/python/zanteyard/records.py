@@ -16,13 +16,13 @@ Names = Callable[[TransactionId], str]  # how a transaction is told
 
 
 class Logged(NamedTuple):
-    """What one transaction did. `outcome` is "committed", "aborted" or "unknown"; "forgotten" of what
-    stands for transactions that the auditor has forgotten.
+    """What one transaction did. `outcome` is "committed", "aborted" or "unknown"; "forgotten" of
+    what stands for transactions that the auditor has forgotten.
 
-    The rest is for who is told of a violation. `statements` are pairs of a deed and what was run for
-    it; `values` are triples of "read" or "wrote", a key, and what was read or written, as a short
-    text; `began` is the time of day in seconds since 1970, 0 where it isn't known; `caller` is the
-    file and line from which the transaction was begun."""
+    The rest is for who is told of a violation. `statements` are pairs of a deed and what was run
+    for it; `values` are triples of "read" or "wrote", a key, and what was read or written, as a
+    short text; `began` is the time of day in seconds since 1970, 0 where it isn't known; `caller`
+    is the file and line from which the transaction was begun."""
 
     reads: Sequence[Read]
     writes: Sequence[str]
@@ -62,7 +62,7 @@ History = List[List[Logged]]  # of each session what it did, in order
 
 
 class Store(Protocol):
-    """A store's connection, as a session wants it; the page of `sessions` says what each call does."""
+    """A store's connection, as a session wants it; `sessions` says what each call does."""
 
     def begin(self) -> None:
         ...

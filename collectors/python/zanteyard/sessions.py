@@ -1,19 +1,19 @@
 """One client's transactions, numbered as they begin, and logged when their outcome is known.
 
-A store, as a session wants it, has six calls and may raise Aborted from all but the last. `begin()` and
-`rollback()`; `read(key)`, which gives (value, name), or None where the key isn't there, with the name
-that was written beside the value; `write(key, value, name)`, where the value None deletes the key and
-leaves the name behind; `commit()`, which raises OutcomeUnknown where no answer came; and `outcome()`,
-which says of the transaction whose commit was sent last, and which had written, whether it is
-"committed", "aborted" or "unknown".
+A store, as a session wants it, has six calls and may raise Aborted from all but the last. `begin()`
+and `rollback()`; `read(key)`, which gives (value, name), or None where the key isn't there, with
+the name that was written beside the value; `write(key, value, name)`, where the value None deletes
+the key and leaves the name behind; `commit()`, which raises OutcomeUnknown where no answer came;
+and `outcome()`, which says of the transaction whose commit was sent last, and which had written,
+whether it is "committed", "aborted" or "unknown".
 
 It may have more. `read_all(keys)` gives by key what `read` gives, for those that are there.
-`exchange(key, value, name)` writes as `write` does and gives what `read` gave of the version that it
-overwrites: nothing may come between the two, at whatever level the store runs. `begin_alone(seconds)`
-begins, in place of `begin`, transactions of one statement each, which end within so many seconds;
-these calls may then raise OutcomeUnknown themselves. `claim(run_name, token)` raises NameTaken where
-the store knows the name, but for a run with this token. `statement` is what it has run last, as who is
-told of a violation should see it.
+`exchange(key, value, name)` writes as `write` does and gives what `read` gave of the version that
+it overwrites: nothing may come between the two, at whatever level the store runs.
+`begin_alone(seconds)` begins, in place of `begin`, transactions of one statement each, which end
+within so many seconds; these calls may then raise OutcomeUnknown themselves. `claim(run_name,
+token)` raises NameTaken where the store knows the name, but for a run with this token. `statement`
+is what it has run last, as who is told of a violation should see it.
 """
 
 from __future__ import annotations
@@ -23,35 +23,28 @@ import threading
 import time
 from contextlib import contextmanager
 from dataclasses import dataclass
-from typing import Any, Callable, Dict, Iterable, Iterator, List, Optional, Sequence, Set, Tuple, TypeVar
+from typing import Any, Callable, Dict, Iterable, Iterator, List, Optional, Sequence, Set
+from typing import Tuple, TypeVar
 
 from .auditor import FENCE, FLAG, MARK
 from .circumstances import brief, caller
+from .errors import AbortedError, NameTakenError, OutcomeUnknownError
 from .records import Deed, Found, Logged, Name, Read, Source, Store
+
+# The same errors under shorter names.
+Aborted = AbortedError
+OutcomeUnknown = OutcomeUnknownError
+NameTaken = NameTakenError
 
 logger = logging.getLogger("zanteyard")
 Result = TypeVar("Result")
 
 
-class Aborted(Exception):
-    """The store aborted the transaction; nothing of it was committed."""
-
-
-class OutcomeUnknown(Exception):
-    """Whether the transaction was committed can't be found out. Where it had written, nothing more of
-    its session is audited, unless another one is left for it."""
-
-
-class NameTaken(ValueError):
-    """The store knows the name of this run from an earlier one: what that has written would be taken
-    for this one's."""
-
-
 @dataclass
 class Place:
-    """A session of the auditor, whoever has it: its number, how many transactions it has had, whether
-    any came after its last flag or mark, and whether its flag wasn't read since; whether it is audited
-    at all, has ended for this audit, or is lent to somebody who runs a flag for it."""
+    """A session of the auditor, whoever has it: its number, how many transactions it has had,
+    whether any came after its last flag or mark, and whether its flag wasn't read since; whether it
+    is audited at all, has ended for this audit, or is lent to somebody who runs a flag for it."""
 
     number: int
     begun: int = 0
@@ -66,12 +59,13 @@ class Session:
     """Runs one transaction at a time over a store's connection; for one thread at a time.
 
     `run_name` tells the names of this run from those of others, and is the auditor's where none is
-    given; `patience` is for how many seconds the store is asked for an outcome. Where the session has
-    ended, `renew(self)`, if there is one, gives the Place of one that is left; where it gives None the
-    client goes on unaudited, and where there is no `renew` at all no transaction begins any more.
+    given; `patience` is for how many seconds the store is asked for an outcome. Where the session
+    has ended, `renew(self)`, if there is one, gives the Place of one that is left; where it gives
+    None the client goes on unaudited, and where there is no `renew` at all no transaction begins
+    any more.
 
-    What the auditor does with the log never reaches who runs transactions: `failure` says why nothing
-    more of this session is audited, if that is so."""
+    What the auditor does with the log never reaches who runs transactions: `failure` says why
+    nothing more of this session is audited, if that is so."""
 
     def __init__(
         self,
@@ -89,7 +83,8 @@ class Session:
         self.place: Any = Place(number)  # None where no place is left for it
         self.is_open, self.is_claimed = True, False
         self.wait = getattr(getattr(auditor, "policy", None), "wait", 30.0)
-        self.turn = threading.Lock()  # held by a transaction from its begin to its end, and by a meeting
+        # Held by a transaction from its begin to its end, and by a meeting.
+        self.turn = threading.Lock()
         # Held while a meeting waits for the turn: else a busy client would take it again before the
         # meeting gets it.
         self.gate = threading.Lock()
@@ -170,8 +165,8 @@ class Session:
             yield transaction
 
     def run(self, body: Callable[[Transaction], Result], attempts: int = 10) -> Result:
-        """Calls body(transaction) and commits, again where the store aborts; each attempt has a number
-        of its own."""
+        """Calls body(transaction) and commits, again where the store aborts; each attempt has a
+        number of its own."""
         return attempted(self.begin, body, attempts)
 
     def close(self) -> None:
@@ -329,7 +324,8 @@ class Transaction:
         return (name[1], name[2])
 
     def put(self, key: str, value: Any, statement: Optional[str] = None) -> None:
-        # It goes to the store at the commit, once, so that no version is there to be read but the last.
+        # It goes to the store at the commit, once, so that no version is there to be read but the
+        # last.
         self.written[key] = value
         if statement:
             self.statements[(key,)] = statement
@@ -338,8 +334,8 @@ class Transaction:
         self.put(key, None, statement)
 
     def exchange(self, key: str, value: Any) -> None:
-        """Reads the key and writes it: at once, where the store has a call for that. It has to be the
-        last that is done with the key."""
+        """Reads the key and writes it: at once, where the store has a call for that. It has to be
+        the last that is done with the key."""
         both = getattr(self.store, "exchange", None)
         if both is None:
             self.get(key)
@@ -383,8 +379,8 @@ class Transaction:
         self.log((), (), "aborted")
 
     def find_out(self) -> None:
-        """Asks the store. Where it can't say, the transaction is logged with its writes alone, as the
-        last of its session."""
+        """Asks the store. Where it can't say, the transaction is logged with its writes alone, as
+        the last of its session."""
         until = time.monotonic() + (self.session.patience if self.holds else 0.0)
         while self.written:
             outcome = self.store.outcome()

@@ -1,4 +1,5 @@
-"""What is told of a violated history: a small part of it that is violated too, in words and as a script."""
+"""What is told of a violated history: a small part of it that is violated too, in words and as a
+script."""
 
 from __future__ import annotations
 
@@ -12,7 +13,7 @@ from .records import History, Logged, Names, Report, Source, TransactionId
 
 TOLD = 240  # characters of a statement, at most
 SECONDS = 5.0  # to make a history smaller
-START = "everything before the cut"  # a key that the first transaction of a history with a cut writes
+START = "everything before the cut"  # a key that the first transaction behind a cut writes
 
 
 def audited(history: History, program: str = PROGRAM) -> Tuple[Report, str]:
@@ -39,8 +40,8 @@ def is_violated(history: History, program: str = PROGRAM) -> bool:
 
 def from_start(auditor: Any) -> Tuple[History, Names]:
     """What remains as a history without a cut and without fences' own key, and the names of its
-    transactions. Where something is forgotten, a first transaction stands for it: it writes the last
-    version of each key, and every session begins with one that reads from it."""
+    transactions. Where something is forgotten, a first transaction stands for it: it writes the
+    last version of each key, and every session begins with one that reads from it."""
     marks, base, history = auditor.marks, auditor.base, auditor.history
     gone, some_gone = (0, 0), any(marks)
 
@@ -76,14 +77,14 @@ def from_start(auditor: Any) -> Tuple[History, Names]:
             return f"{id[0]}.{id[1] - 1 + marks[id[0]]}"
         return "the cut" if id == gone else f"the cut in {id[0]}"
 
-    renamed.older = {  # type: ignore[attr-defined]  # what `version` looks for
-       plain(key): "in a version older than that at the cut" for key in base}
+    older = {plain(key): "in a version older than that at the cut" for key in base}
+    renamed.older = older  # type: ignore[attr-defined]  # what `version` looks for
     return [[after if session else first, *txns] for session, txns in enumerate(history)], renamed
 
 
 def is_collectors_own(auditor: Any, program: str = PROGRAM) -> bool:
-    """Whether the collector's own transactions have no order by themselves, and the clients' have one:
-    then it isn't they who are to look for what went wrong."""
+    """Whether the collector's own transactions have no order by themselves, and the clients' have
+    one: then it isn't they who are to look for what went wrong."""
     history = from_start(auditor)[0]
     return is_violated(only_keys(history, is_own), program) and not is_violated(
         only_keys(history, lambda key: not is_own(key)), program
@@ -120,8 +121,8 @@ def named(items: Iterable[Any]) -> Set[TransactionId]:
 
 
 class Part:
-    """Some transactions of a history, by (session, number). It is true of the store too: a read is left
-    out where its source is, and a write only where no read of it is left."""
+    """Some transactions of a history, by (session, number). It is true of the store too: a read is
+    left out where its source is, and a write only where no read of it is left."""
 
     def __init__(self, txns: Dict[TransactionId, Logged]) -> None:
         self.txns = txns
@@ -139,12 +140,13 @@ class Part:
         )
 
     def only(self, ids: Iterable[TransactionId]) -> Part:
-        """The part that these are, with those from which one has read what they didn't write: that is
-        what is wrong."""
+        """The part that these are, with those from which one has read what they didn't write: that
+        is what is wrong."""
         kept = {id for id in ids if id in self.txns}
         for id in [*kept]:
             kept.update(source for _, source in self.wrong_reads(self.txns[id]))
-        return Part({id: self.less_reads(logged, kept) for id, logged in self.txns.items() if id in kept})
+        txns = {id: logged for id, logged in self.txns.items() if id in kept}
+        return Part({id: self.less_reads(logged, kept) for id, logged in txns.items()})
 
     def wrong_reads(self, logged: Logged) -> Iterator[Tuple[str, TransactionId]]:
         for key, source in logged.reads:
@@ -153,7 +155,7 @@ class Part:
 
     @staticmethod
     def less_reads(logged: Logged, kept: Container[Source]) -> Logged:
-        reads = [(key, source) for key, source in logged.reads if source == "init" or source in kept]
+        reads = [read for read in logged.reads if read[1] == "init" or read[1] in kept]
         return logged if len(reads) == len(logged.reads) else logged._replace(reads=reads)
 
     def report(self, program: str) -> Optional[Set[TransactionId]]:
@@ -226,9 +228,10 @@ def wrong_sources(history: History) -> Dict[TransactionId, Logged]:
 
 
 def smaller(history: History, program: str = PROGRAM, seconds: float = SECONDS) -> History:
-    """A part of a violated history that is violated too, while nothing that has one thing less is; or as
-    small as it got in so many seconds. What a refutation names is kept, as long as that leaves something
-    out; then one thing after another is left out. The history itself, where it isn't violated."""
+    """A part of a violated history that is violated too, while nothing that has one thing less is;
+    or as small as it got in so many seconds. What a refutation names is kept, as long as that
+    leaves something out; then one thing after another is left out. The history itself, where it
+    isn't violated."""
     ends = time.monotonic() + seconds
     part = Part.of(history)
     ids = part.report(program)
@@ -259,8 +262,8 @@ def by_names(part: Part, ids: Set[TransactionId], program: str) -> Part:
 def next_smaller(
     part: Part, needed: Set[Any], program: str, ends: float
 ) -> Optional[Tuple[Part, Set[TransactionId]]]:
-    """One that has one thing less, and what its refutation names; None where each thing is needed, or
-    the time is up."""
+    """One that has one thing less, and what its refutation names; None where each thing is needed,
+    or the time is up."""
     for what, candidate in part.lesser():
         if time.monotonic() > ends:
             return None

@@ -21,9 +21,9 @@ def tell_violation(
     seconds: float = SECONDS,
     program: str = PROGRAM,
 ) -> History:
-    """Tells what is left of a violated history without what it is violated without, and why no order
-    explains it; then writes that as path.jsonl for cobra_audit, and draws it. What can't be written is
-    told as well, when everything else has been. Gives the small history."""
+    """Tells what is left of a violated history without what it is violated without, and why no
+    order explains it; then writes that as path.jsonl for cobra_audit, and draws it. What can't be
+    written is told as well, when everything else has been. Gives the small history."""
     ends = time.monotonic() + seconds
     small = smaller(history, program, max(0.0, ends - time.monotonic()))
     tell("violated: of what was logged, no order explains this part, each client's own order kept:")

@@ -64,8 +64,8 @@ class Nothing:
 
 
 class Clients:
-    """Each in a thread, over a session of its own, until the time is up or `is_over()`; the first has
-    this number."""
+    """Each in a thread, over a session of its own, until the time is up or `is_over()`; the first
+    has this number."""
 
     def __init__(
         self,
@@ -194,8 +194,8 @@ def client_process(
     seconds: float,
     rate: Optional[float],
 ) -> None:
-    """One client, beside whose transactions its process does nothing else. Tells what failed, or what
-    it did."""
+    """One client, beside whose transactions its process does nothing else. Tells what failed, or
+    what it did."""
     try:
         store = make_store()
         store.connect()
