@@ -35,7 +35,8 @@ def audited(history: History, program: str = PROGRAM) -> Tuple[Report, str]:
 
 
 def is_violated(history: History, program: str = PROGRAM) -> bool:
-    return audited(history, program)[0].kind == VIOLATED
+    """Without what did nothing, so that a few transactions among many take no time."""
+    return Part.of(history).report(program) is not None
 
 
 def from_start(auditor: Any) -> Tuple[History, Names]:

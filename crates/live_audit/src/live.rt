@@ -8,7 +8,7 @@ ghost use Rattle.live_audit.specs.Live.{Live};
 ghost use Rattle.live_audit.specs.Running.{AreEnded, HasEnded, HasMoved, IsBetweenRounds, IsLastCount, IsLastSkipped, IsRound, CanBeTold, IsSaid, told_in, reports_in};
 ghost use Rattle.live_audit.specs.Truth.{IsTrueEntry, accepted_history};
 
-use crate::core::Core;
+use crate::live_core::Core;
 use crate::running::Running;
 use fragment_intake::{AuditorPass, Desk};
 use order_check::Kind;

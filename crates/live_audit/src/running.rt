@@ -7,7 +7,7 @@ ghost use Rattle.live_audit.specs.Live.{MovesOn};
 ghost use Rattle.live_audit.specs.Running.{AreEnded, IsRoundTold};
 ghost use Rattle.live_audit.specs.Told.{IsTold, IsFollowUp};
 
-use crate::core::Core;
+use crate::live_core::Core;
 use fragment_intake::{Item, Parcel};
 use polygraph::{Answer, Problem, Solver};
 use report_queue::Entry;

@@ -6,7 +6,7 @@ use Rattle.round_state.specs.declared.steps.StepReply.TheVariants as reply
 use Rattle.live_audit.specs.CoreState.{CoreState}
 use Rattle.live_audit.specs.Live.{MovesOn}
 use Rattle.live_audit.proofs.Answering.{begin_moves, begin_legal, begin_skipped}
-use Rattle.live_audit.proofs.core.Core.begin.Goals as goal
+use Rattle.live_audit.proofs.live_core.Core.begin.Goals as goal
 
 pub returns-clause-moves : goal.returns-clause-moves
 returns-clause-moves c = subst (λ (s : CoreState). OnOk c.begin.result (MovesOn s.search s.engine [] [] c.begin.new.engine)) c.self.view_is (begin_moves _ c.self.inside.engine c.begin.new.engine c.begin.result c.begin.ensures)

@@ -3,7 +3,7 @@ use Rattle.std.specs.Prelude.{IsSomeAnd}
 use Rattle.polygraph.specs.Solving.{IsLawful}
 use Rattle.live_audit.specs.CoreState.{Search, CoreState}
 use Rattle.live_audit.proofs.Answering.{core_finished}
-use Rattle.live_audit.proofs.core.Core.finish.Goals as goal
+use Rattle.live_audit.proofs.live_core.Core.finish.Goals as goal
 
 pub invariant_of-self : goal.invariant_of-self
 invariant_of-self c =
