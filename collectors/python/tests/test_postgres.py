@@ -3,7 +3,7 @@ import os
 import threading
 import unittest
 
-from zanteyard import FENCE, Aborted, Auditor, NameTaken, OutcomeUnknown, Session, smaller, words
+from zanteyard import FENCE, Aborted, Auditor, Logged, NameTaken, OutcomeUnknown, Session, smaller, words
 from zanteyard.auditor import FLAG, PROGRAM
 from zanteyard.cluster import Cluster, program
 
@@ -197,7 +197,7 @@ class Postgres(unittest.TestCase):
                 lost()
             found()
             self.assertFalse(session.is_open)
-        self.assertEqual(self.auditor.history[0], [([], [f"{FLAG}0"], "unknown", ())])
+        self.assertEqual(self.auditor.history[0], [Logged([], [f"{FLAG}0"], "unknown")])
         self.assertEqual(self.auditor.history[1], [])  # a fence of which nobody knows what it read
         outcome = self.auditor.outcome()
         self.assertEqual((outcome.kind, outcome.pending), ("pending", (((2, 1), FENCE, (1, 0)),)))

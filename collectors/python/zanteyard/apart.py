@@ -1,6 +1,9 @@
 """An auditor in a process of its own. The threads of a Python program run one at a time, so that
 whatever is done there with a log on its way to cobra_audit is taken from the clients; here they
 hand over what was logged, as bytes, and the rest is done beside them."""
+
+from __future__ import annotations
+
 import gc
 import marshal
 import os
@@ -9,10 +12,14 @@ import signal
 import subprocess
 import sys
 from multiprocessing.connection import Connection, Pipe
+from typing import Any, List, Optional, Sequence, Tuple
 
-from .auditor import EFFORTS, LIMIT, PROGRAM, SECONDS, Auditor, Full, Logged, NoCut, Takes
-from .outcome import RATHER_LOSE_THE_AUDIT
+from .auditor import EFFORTS, LIMIT, PROGRAM, SECONDS, Auditor, Effort, Fragment, Full, NoCut
+from .auditor import Takes
+from .coverage import Coverage
+from .outcome import RATHER_LOSE_THE_AUDIT, Policy
 from .pipes import ENDING, Ended, Late
+from .records import Cut, History, Logged, Report
 
 PLACE = os.path.dirname(os.path.dirname(os.path.abspath(__file__)))
 START = (
@@ -29,20 +36,21 @@ class AuditorApart(Takes):
 
     def __init__(
         self,
-        sessions,
-        limit=LIMIT,
-        program=PROGRAM,
-        run_name=None,
-        script=None,
-        policy=RATHER_LOSE_THE_AUDIT,
-    ):
+        sessions: int,
+        limit: int = LIMIT,
+        program: str = PROGRAM,
+        run_name: Optional[str] = None,
+        script: Optional[str] = None,
+        policy: Policy = RATHER_LOSE_THE_AUDIT,
+    ) -> None:
         self.sessions, self.limit, self.path, self.script_path = sessions, limit, program, script
         self.hand_in_to(policy, run_name)
-        self.process = self.connection = None
+        self.process: Any = None
+        self.connection: Any = None
         self.audits = 0
         self.start(None)
 
-    def start(self, coverage):
+    def start(self, coverage: Optional[Coverage]) -> None:
         self.remaining, self.can_cut, self.left_out = 0, True, 0
         self.connection, theirs = Pipe()
         descriptor = str(theirs.fileno())
@@ -61,7 +69,7 @@ class AuditorApart(Takes):
             self.end_program()
             raise
 
-    def start_anew(self, coverage=None):
+    def start_anew(self, coverage: Optional[Coverage] = None) -> None:
         """In another process, since this one may be what was lost. Raises Ended behind `end`."""
         with self.lock:
             self.check_end()
@@ -69,7 +77,7 @@ class AuditorApart(Takes):
             self.failure, self.late, self.handed_in, self.taken_in = None, None, 0, 0
             self.start(coverage)
 
-    def call(self, name, *arguments, seconds=SECONDS + MORE):
+    def call(self, name: str, *arguments: Any, seconds: float = SECONDS + MORE) -> Any:
         with self.lock:
             if self.late is not None:
                 self.end_late(SECONDS)
@@ -80,17 +88,17 @@ class AuditorApart(Takes):
                 self.give_up()
                 raise
 
-    def give_up(self):
+    def give_up(self) -> None:
         """It would answer later what nobody asks any more."""
         self.process.kill()
 
-    def send(self, name, arguments):
+    def send(self, name: str, arguments: Sequence[Any]) -> None:
         try:
             self.connection.send((name, arguments))
         except (OSError, ValueError) as error:
             raise Ended(f"{UNREACHABLE}: {error}") from error
 
-    def receive(self, seconds):
+    def receive(self, seconds: float) -> Any:
         try:
             if not self.connection.poll(seconds):
                 raise Late(f"{UNREACHABLE}: it hasn't answered for {seconds:.3g} s")
@@ -101,14 +109,14 @@ class AuditorApart(Takes):
             raise result
         return result
 
-    def begin_take(self, kind, session, *offered):
+    def begin_take(self, kind: str, session: int, *offered: Any) -> Any:
         if kind == "close":
             self.send("close", (session,))
         else:
             self.send("offer_all", ([self.plain((session, offered[0], offered[1:]))],))
         return session, *offered
 
-    def end_take(self, kind, asked, seconds):
+    def end_take(self, kind: str, asked: Any, seconds: float) -> None:
         result = self.receive(seconds)
         if kind == "offer":
             refused, self.left_out = result
@@ -117,23 +125,23 @@ class AuditorApart(Takes):
                 raise Full(told)
             self.remaining += 1
 
-    def offer(self, session, number, *logged):
+    def offer(self, session: int, number: int, *logged: Logged) -> None:
         if self.offer_all([(session, number, logged)]):
             raise Full(f"there is no room for transaction {number} of session {session}")
 
     @staticmethod
-    def plain(fragment):
+    def plain(fragment: Fragment) -> Fragment:
         session, first, txns = fragment
         return session, first, [one if type(one) is bytes else as_bytes(one) for one in txns]
 
-    def offer_all(self, fragments):
+    def offer_all(self, fragments: Sequence[Fragment]) -> List[Fragment]:
         """Their transactions may be packed."""
         refused, self.left_out = self.call("offer_all", [*map(self.plain, fragments)])
         self.remaining += sum(len(txns) for session, _, txns in fragments if session not in refused)
         return [fragment for fragment in fragments if fragment[0] in refused]
 
     @staticmethod
-    def packed(logged):
+    def packed(logged: Logged) -> Any:
         """As bytes, which leave nothing to the clients' garbage collector. What can't be made such
         is left as it is, for offer_all to tell."""
         try:
@@ -141,22 +149,23 @@ class AuditorApart(Takes):
         except ValueError:
             return logged
 
-    def close(self, session):
+    def close(self, session: int) -> None:
         self.call("close", session)
 
-    def round(self, efforts=EFFORTS):
+    def round(self, efforts: Sequence[Effort] = EFFORTS) -> Report:
         """As Auditor.round."""
         self.take_in()
         if self.failure is not None:
             raise self.failure
         return self.last_round(efforts)
 
-    def last_round(self, efforts=EFFORTS):
-        return self.call("last_round", efforts)
+    def last_round(self, efforts: Sequence[Effort] = EFFORTS) -> Report:
+        report: Report = self.call("last_round", efforts)
+        return report
 
-    def truncate(self):
+    def truncate(self) -> Cut:
         try:
-            cut = self.call("truncate")
+            cut: Cut = self.call("truncate")
         except NoCut:
             self.can_cut = self.call("get", "can_cut")
             raise
@@ -164,32 +173,32 @@ class AuditorApart(Takes):
         return cut
 
     @property
-    def history(self):
+    def history(self) -> History:  # type: ignore[override]  # it is asked for
         return [[*map(unpacked, txns)] for txns in self.call("get", "history")]
 
     @property
-    def marks(self):
+    def marks(self) -> Any:
         return self.call("get", "marks")
 
     @property
-    def base(self):
+    def base(self) -> Any:
         return self.call("get", "base")
 
     @property
-    def script_failure(self):
+    def script_failure(self) -> Any:
         return self.call("get", "script_failure")
 
-    def end(self):
+    def end(self) -> Optional[int]:
         """Ends the program and the process, and gives the program's status; None where that isn't
         known."""
         self.is_ended = True
         with self.lock:
             return self.end_program()
 
-    def end_program(self):
+    def end_program(self) -> Optional[int]:
         self.late = None
         try:
-            status = self.call("end", seconds=2 * ENDING)
+            status: Optional[int] = self.call("end", seconds=2 * ENDING)
         except Ended:
             status = None
         self.connection.close()
@@ -200,29 +209,30 @@ class AuditorApart(Takes):
         self.process.wait()
         return status
 
-    def __enter__(self):
+    def __enter__(self) -> AuditorApart:
         return self
 
-    def __exit__(self, *_):
+    def __exit__(self, *_: object) -> None:
         self.end()
 
 
-def as_bytes(logged):
+def as_bytes(logged: Logged) -> bytes:
     # This takes a third of pickle's time, and knows plain values alone.
-    return marshal.dumps(tuple(logged))
+    plain: Any = tuple(logged)
+    return marshal.dumps(plain)
 
 
-def unpacked(packed):
+def unpacked(packed: bytes) -> Logged:
     return Logged(*marshal.loads(packed))
 
 
 class OfPacked(Auditor):
     """An Auditor of transactions that are packed, and that stay so in its history."""
 
-    def txn(self, packed):
+    def txn(self, packed: bytes) -> List[Any]:
         return super().txn(unpacked(packed))
 
-    def moved(self, packed):
+    def moved(self, packed: bytes) -> Tuple[bytes, int]:
         logged, left_out = super().moved(unpacked(packed))
         return as_bytes(logged), left_out
 
@@ -230,28 +240,36 @@ class OfPacked(Auditor):
 class Served:
     """The other process's end of the calls."""
 
-    def __init__(self):
-        self.auditor = None
+    def __init__(self) -> None:
+        self.auditor: Any = None  # an OfPacked, once it is opened
 
-    def open(self, sessions, limit, program, script, audits, coverage):
+    def open(
+        self,
+        sessions: int,
+        limit: int,
+        program: str,
+        script: Optional[str],
+        audits: int,
+        coverage: Optional[Coverage],
+    ) -> None:
         behind = f".{audits}" if audits > 1 else ""
         script = script and f"{script}{behind}"
         self.auditor = OfPacked(sessions, limit, program, "", script)
         self.auditor.coverage = coverage
 
-    def offer_all(self, fragments):
+    def offer_all(self, fragments: Sequence[Fragment]) -> Any:
         """The sessions whose transactions there was no room for, and how many reads were left
         out."""
         refused = {session for session, _, _ in self.auditor.offer_all(fragments)}
         return refused, self.auditor.left_out
 
-    def get(self, name):
+    def get(self, name: str) -> Any:
         return getattr(self.auditor, name)
 
-    def end(self):
+    def end(self) -> Optional[int]:
         return self.auditor.end() if self.auditor else None
 
-    def answer(self, name, arguments):
+    def answer(self, name: str, arguments: Sequence[Any]) -> Tuple[bool, Any]:
         try:
             deed = getattr(self if hasattr(self, name) else self.auditor, name)
             return False, deed(*arguments)
@@ -259,7 +277,7 @@ class Served:
             return True, error
 
 
-def serve(descriptor):
+def serve(descriptor: int) -> None:
     """Answers calls until there are no more."""
     signal.signal(signal.SIGINT, signal.SIG_IGN)  # it ends when the clients' process does
     gc.freeze()  # what is there by now stays

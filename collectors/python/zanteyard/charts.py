@@ -58,7 +58,7 @@ def _chart(
     return "\n".join(
         [
             f'<svg class="chart" role="img" viewBox="0 0 {WIDTH:.0f} {HEIGHT:.0f}" '
-            f'width="{WIDTH:.0f}" height="{HEIGHT:.0f}" xmlns="http://www.w3.org/2000/svg">',
+            f'width="{WIDTH:.0f}" height="{HEIGHT:.0f}">',
             f"<title>{escape(title)}, round by round</title>",
             f'<text class="label" x="{LEFT:.0f}" y="15">{escape(title)}</text>',
             f'<line class="axis" x1="{LEFT:.0f}" x2="{WIDTH - 20:.0f}" y1="{floor}" y2="{floor}"/>',

@@ -103,8 +103,7 @@ def draw_story(story: Story) -> str:
     return "\n".join(
         [
             f'<svg class="timeline" role="img" viewBox="{left:.0f} {top:.0f} {right - left:.0f} '
-            f'{bottom - top:.0f}" width="{right - left:.0f}" height="{bottom - top:.0f}" '
-            'xmlns="http://www.w3.org/2000/svg">',
+            f'{bottom - top:.0f}" width="{right - left:.0f}" height="{bottom - top:.0f}">',
             f"<title>{escape(about)}</title>",
             _ends_of_arcs(),
             *_lanes(story, boxes, right),

@@ -9,17 +9,23 @@ mark needs no flag: whoever overwrites what it read comes after it. Flags are wr
 and marks are read so: what is done one after another is five statements, however many sessions
 there are.
 """
+
+from __future__ import annotations
+
 import threading
 import time
 from concurrent.futures import Future, ThreadPoolExecutor, wait
+from typing import Any, Callable, Dict, List, Optional, Sequence, Tuple
+
+from .sessions import Place, Session
 
 
 class Missed(Exception):
     """The meeting can't be had, and why."""
 
 
-def none_running():
-    done = Future()
+def none_running() -> Future[Any]:
+    done: Future[Any] = Future()
     done.set_result(None)
     return done
 
@@ -31,26 +37,31 @@ class Group:
 
     is_here = True
 
-    def __init__(self):
-        self.sessions = []
+    def __init__(self) -> None:
+        self.sessions: List[Session] = []
         self.gate = threading.Lock()  # held while a meeting goes on: no transaction begins
         self.lock = threading.Lock()  # around what follows, since a timer may release
-        self.meeting, self.held, self.leader, self.timer = None, {}, None, None
+        self.meeting: Optional[int] = None
+        self.held: Dict[Session, Any] = {}
+        self.leader: Any = None  # the Session that leads, if one of these does
+        self.timer: Any = None
         self.pool = ThreadPoolExecutor(64, "zanteyard-meeting")  # threads are made as they are used
 
-    def add(self, session):
+    def add(self, session: Session) -> None:
         session.gate = self.gate
         self.sessions.append(session)
 
-    def remove(self, session):
+    def remove(self, session: Session) -> None:
         if session in self.sessions:
             self.sessions.remove(session)
 
     @property
-    def has_sessions(self):
+    def has_sessions(self) -> bool:
         return any(session.is_open for session in self.sessions)
 
-    def gather(self, meeting, seconds, leads, places, idle):
+    def gather(
+        self, meeting: int, seconds: float, leads: bool, places: Sequence[Place], idle: float
+    ) -> Tuple[List[Any], Any]:
         """Holds all sessions, and has flags written: of those, and of these places that are lent.
         Gives the numbers of those that have flags, and the places of sessions that were idle for so
         long."""
@@ -78,21 +89,21 @@ class Group:
         flags += [place.number for place in places if place.has_flag]
         return flags, self.given_back(idle)
 
-    def begin_gather(self, *arguments):
+    def begin_gather(self, *arguments: Any) -> Callable[..., Any]:
         """What is begun gives what waits for its end, which other processes work towards
         meanwhile."""
         found = self.gather(*arguments)
         return lambda ends: found
 
-    def begin_lead(self, *arguments):
+    def begin_lead(self, *arguments: Any) -> Callable[..., Any]:
         self.lead(*arguments)
         return lambda ends: None
 
-    def begin_pass_on(self, *arguments):
+    def begin_pass_on(self, *arguments: Any) -> Callable[..., Any]:
         self.pass_on(*arguments)
         return lambda ends: None
 
-    def hold(self, session, meeting, seconds):
+    def hold(self, session: Session, meeting: int, seconds: float) -> None:
         if not session.turn.acquire(timeout=self.left()):
             told = f"a transaction of session {session.number} took longer than {seconds:g} s"
             raise Missed(told)
@@ -102,7 +113,7 @@ class Group:
                 raise Missed("the meeting took too long")
             self.held[session] = none_running()
 
-    def given_back(self, idle):
+    def given_back(self, idle: float) -> List[Place]:
         """Whose client does nothing goes without a session, until it comes back."""
         places = []
         for session in list(self.held):
@@ -112,7 +123,7 @@ class Group:
                 session.is_open, session.place = False, None
         return places
 
-    def lead(self, meeting, lists):
+    def lead(self, meeting: int, lists: Any) -> Any:
         """Has the leader read these keys, and put its fence and the mark behind them."""
         for keys in lists:
             self.begin(meeting, self.leader, "read_all", keys)
@@ -121,7 +132,7 @@ class Group:
             self.begin(meeting, self.leader, deed)
             self.end_all()
 
-    def pass_on(self, meeting, places):
+    def pass_on(self, meeting: int, places: Sequence[Place]) -> Any:
         """Has all others read the mark, those that are lent too."""
         for session in self.held:
             if session is not self.leader and session.is_open:
@@ -129,7 +140,7 @@ class Group:
         self.end_all()
         self.share(meeting, places, "read_mark")
 
-    def share(self, meeting, places, deed):
+    def share(self, meeting: int, places: Sequence[Place], deed: str) -> None:
         """Runs what these places need over the sessions' connections."""
         lenders = [session for session in self.held if session.is_open] if places else []
         for start in range(0, len(places) if lenders else 0, max(1, len(lenders))):
@@ -137,14 +148,14 @@ class Group:
                 self.begin(meeting, session, "lend", place, deed)
             self.end_all()
 
-    def begin(self, meeting, session, deed, *arguments):
+    def begin(self, meeting: int, session: Session, deed: str, *arguments: Any) -> None:
         with self.lock:
             if self.meeting != meeting:
                 raise Missed("the meeting took too long")
             run = getattr(session, deed)
             self.held[session] = self.pool.submit(run, *arguments, max(0.001, self.left()))
 
-    def end_all(self):
+    def end_all(self) -> None:
         """Waits for what was begun; raises what failed."""
         running = list(self.held.values())
         _, late = wait(running, self.left())
@@ -153,10 +164,10 @@ class Group:
         for one in running:
             one.result()
 
-    def left(self):
+    def left(self) -> float:
         return max(0.0, self.ends - time.monotonic())
 
-    def release(self, meeting=None):
+    def release(self, meeting: Optional[int] = None) -> None:
         """Lets all go on, but for whose connection is still in use; at once where it has been
         done."""
         with self.lock:
@@ -168,7 +179,7 @@ class Group:
             running.add_done_callback(lambda _, turn=session.turn: turn.release())
         self.gate.release()
 
-    def edges(self):
+    def edges(self) -> List[Tuple[Any, int, int]]:
         """Of each session's number, how many of its transactions have been answered, and from which
         on none has been sent. To be called twice: all that was answered as the first call ended had
         been answered when whatever hadn't been sent in the second call was sent."""
@@ -185,16 +196,16 @@ class Group:
                 found.append((session.number, running.number, first))
         return found
 
-    def reopen(self):
+    def reopen(self) -> None:
         """Another audit begins, in which every place may be used again."""
         for session in list(self.sessions):
             place = session.place
             if place is not None:
                 session.is_open, place.is_due = place.is_audited, True
 
-    def numbers(self):
+    def numbers(self) -> Any:
         """Of the sessions' places."""
         return [session.number for session in self.sessions if session.place is not None]
 
-    def end(self):
+    def end(self) -> None:
         self.pool.shutdown(wait=False)
