@@ -213,7 +213,7 @@ class Faults(unittest.TestCase):
         self.wait_for(self.is_audited)
         stands = self.auditor.process
         os.kill(stands.pid, signal.SIGSTOP)
-        self.wait_for(lambda: self.live.lost)
+        self.wait_for(lambda: self.live._lost)
         done = application.done
         time.sleep(0.5)
         self.assertGreater(application.done, done)

@@ -10,7 +10,7 @@ import unittest
 from zanteyard import FENCE, Aborted, Auditor, AuditorApart, Ended, Full, LiveAuditor, Logged, NoCut
 from zanteyard import NoMemory, Policy, Refused, audited, dot_text, draw, from_start, reasons, smaller, words
 from zanteyard.auditor import FLAG, MARK, PROGRAM
-from zanteyard.live import fragments
+from zanteyard.audit import fragments
 from zanteyard.memory_store import MemoryStore
 
 
@@ -69,7 +69,7 @@ class Meetings(WithProgram):
         live, store = self.live(4), MemoryStore()
         run_clients(live, [store.connect() for _ in range(4)], 60, add_one("x"))
         self.assertEqual(self.ended(live).kind, "serial")
-        self.assertEqual((live.taken_in, live.waiting.qsize()), (live.handed_in, 0))
+        self.assertEqual((live.taken_in, len(live._backlog)), (live.handed_in, 0))
         self.assertGreater(live.rounds, 0)
         self.assertEqual(len(self.told), live.rounds)
         self.assertRegex(self.told[0], r"^round 1: (serial|pending); \d+ transactions, \d+ a second, \d+\.\d\d s behind; \d+ remain; (no )?cut")
@@ -167,9 +167,9 @@ class Meetings(WithProgram):
         b.used_at -= 700
         a.run(add_one("x"))
         self.wait_for(lambda: not b.is_open)
-        self.wait_for(lambda: sorted(place.number for place in live.left) == [1, 2])
+        self.wait_for(lambda: sorted(live._places.numbers()) == [1, 2])
         b.run(add_one("x"))
-        self.assertEqual((b.number in (1, 2), b.is_open, len(live.left)), (True, True, 1))
+        self.assertEqual((b.number in (1, 2), b.is_open, len(live._places.numbers())), (True, True, 1))
         self.assertEqual(self.ended(live).kind, "serial")
 
     def with_write(self, live, store, write):
@@ -207,8 +207,8 @@ class Meetings(WithProgram):
         for _ in range(24):
             a.run(add_one("x"))
             self.wait_for(lambda: live.taken_in == a.begun)
-            rooms.append(live.room)
-        reserve = live.reserve
+            rooms.append(live._backlog.room)
+        reserve = live._audit.reserve
         self.assertEqual(self.ended(live).kind, "serial")
         self.assertLessEqual(rooms[0], min(30, 40 - reserve))
         self.assertLess(rooms[-1], rooms[0])
@@ -249,7 +249,7 @@ class Meetings(WithProgram):
             return live.cuts > cuts
 
         self.wait_for(is_cut)
-        self.wait_for(lambda: len(live.left) == 2)
+        self.wait_for(lambda: len(live._places.numbers()) == 2)
         self.assertEqual(sorted(live.session(store.connect()).number for _ in range(2)), [1, 2])
         self.assertEqual(self.ended(live).kind, "serial")
 
@@ -299,8 +299,8 @@ class Meetings(WithProgram):
             a.run(add_one("x"))
         self.wait_for(lambda: live.taken_in == 3)
         for every, has_room in ((19, True), (20, False)):  # a quarter of it comes before the next meeting where one fails
-            live.every = every
-            self.assertEqual(live.has_room(), has_room)
+            live._pace.every = every
+            self.assertEqual(live._has_room(), has_room)
         self.assertEqual(self.ended(live).kind, "serial")
 
     def test_one_transaction_at_a_time(self):

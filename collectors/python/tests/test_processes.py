@@ -66,7 +66,7 @@ class Elsewhere(test_live.Meetings):
         with self.assertRaisesRegex(ValueError, "no session is left"):
             self.client.session(store.connect())
         other.leave()
-        self.wait_for(lambda: live.left)
+        self.wait_for(live._places.numbers)
         again = self.client.session(store.connect())
         self.assertEqual((again.number, again.begun), (b.number, b.begun))
         for session in (a, again, a, again):
@@ -122,7 +122,7 @@ class Elsewhere(test_live.Meetings):
         for _ in range(50):
             session.run(add_one("x"))
         other.leave()
-        self.wait_for(lambda: live.waiting.qsize() < 10)
+        self.wait_for(lambda: len(live._backlog) < 10)
 
     def test_what_is_run_for_a_session_that_is_left_comes_late(self):
         self.addCleanup(setattr, processes, "PATIENCE", processes.PATIENCE)
@@ -137,10 +137,10 @@ class Elsewhere(test_live.Meetings):
         self.client.call_pass_on, processes.PATIENCE = later, 0.2
         a.run(add_one("x"))
         self.wait_for(lambda: any("hasn't answered" in line for line in self.told))
-        processes.PATIENCE = live.patience = 60.0
-        self.wait_for(lambda: live.left)
+        processes.PATIENCE = live._pace.patience = 60.0
+        self.wait_for(live._places.numbers)
         self.wait_for(lambda: self.is_cut(live, a))
-        self.wait_for(lambda: live.left)
+        self.wait_for(live._places.numbers)
         self.assertEqual(self.client.session(store.connect()).number, 1)
         self.assertEqual(self.ended(live).kind, "serial")
 
@@ -194,7 +194,7 @@ class Elsewhere(test_live.Meetings):
         plain, stuck.tell = stuck.tell, lambda *_, **__: True  # calls don't get there
         a.run(add_one("x"))
         self.wait_for(lambda: any(f"sessions {b.number} hasn't answered" in line for line in self.told))
-        processes.PATIENCE, live.patience, stuck.tell = 60.0, 60.0, plain  # where other programs have the processors
+        processes.PATIENCE, live._pace.patience, stuck.tell = 60.0, 60.0, plain  # where other programs have the processors
         self.wait_for(lambda: self.is_cut(live, a))
         other.leave()
         self.assertEqual(self.ended(live).kind, "serial")

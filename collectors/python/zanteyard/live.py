@@ -7,585 +7,393 @@ when the auditor was killed or can't keep up, it ends with its outcome; by the p
 begins of what is done from then on (`coverage.py`), or nothing more is audited. The clients go on
 in either case.
 """
+
+from __future__ import annotations
+
 import logging
-import queue
 import threading
 import time
-from collections import deque
+from dataclasses import dataclass, replace
+from typing import Any, Callable, Iterable, List, Optional
 
-from .auditor import FLAG, LONGEST, Full, NoCut, is_own, never_came
-from .coverage import SKIPPED, Coverage
+from .apart import AuditorApart
+from .audit import AnyAuditor, Audit, Figures
+from .auditor import LONGEST
+from .backlog import Backlog, keys_written_unseen
+from .convener import Convener
+from .coverage import Coverage
+from .edges import coverage_from_now
 from .errors import AuditLostError
-from .meetings import Group, Missed
-from .outcome import COLLECTOR, RATHER_LOSE_THE_AUDIT, RUNNING, VIOLATED, Outcome, kind_of
+from .outcome import RATHER_LOSE_THE_AUDIT, Outcome, Policy
+from .places import Places
+from .records import Logged, Report, Store
 from .sessions import Place, Session
+from .sessions_here import PATIENCE, SessionsHere
 
 logger = logging.getLogger("zanteyard")
-READS = 200  # of one transaction; the auditor takes 256
 PATIENT = 30  # times as long a meeting waits where the next one may come too late
 PAUSE = 0.04  # seconds, in which more transactions come: a line each would cost the clients more
 LONGEST_PAUSE = 30.0  # seconds between two attempts to start an auditor that can't be started
 STOPPING = 120.0  # seconds for what was handed in to be audited, as it is stopped
+GIVING_UP = 1.0  # the same, where an exception ends it
+
+Lost = AuditLostError  # the same error under a shorter name
 
 
-Lost = AuditLostError
+@dataclass
+class Pace:
+    """What comes when; `LiveAuditor` says what each of these is."""
+
+    every: int
+    seconds: float
+    idle: float
+    patience: float
+
+    @property
+    def soon(self) -> int:
+        """How many transactions come before the next meeting where one fails."""
+        return max(1, self.every // 4)
 
 
-class LiveAuditor:
-    """`every` so many transactions is a meeting (after a quarter of that where the last one
-    failed), and after `seconds` where there were any a round; `idle` for how many seconds a client
-    does nothing until it goes without a session, which others may have; `patience` for how many a
-    meeting waits for clients' transactions; `most` how many transactions may wait to be taken in
-    before clients wait; `tell` is called with a line for each round. `policy` says what gives way.
+class LiveAuditor(SessionsHere):
+    """Audits clients while they run. For threads.
 
     The auditor is an Auditor, or, so that clients are held up less, an AuditorApart. The name of
-    the run, `run_name`, is the auditor's where none is given. `outcome` tells at each time what
-    came of it.
+    the run, `run_name`, is the auditor's where none is given. After `every` so many transactions
+    there is a meeting (after a quarter of that where the last one failed), which waits up to
+    `patience` seconds for clients' transactions; `seconds` after the last round there is one where
+    anything was done. A client that did nothing for `idle` seconds goes without a session, which
+    others may have. At most `most` transactions may wait to be taken in before clients wait.
+    `policy` says what gives way.
+
+    Each round is a line at level INFO of the log `zanteyard`; `tell` is called with it too, where
+    it is given, in the auditor's thread. What fails is told by `outcome`, and never raised to who
+    runs transactions.
     """
 
     EVERY = 2560  # where one meeting fails there is room for two more
 
     def __init__(
         self,
-        auditor,
-        run_name=None,
-        every=EVERY,
-        seconds=2.0,
-        idle=30.0,
-        patience=1.0,
-        most=2048,
-        tell=print,
-        policy=RATHER_LOSE_THE_AUDIT,
-    ):
-        self.auditor, self.every, self.seconds, self.idle = auditor, every, seconds, idle
-        self.patience, self.most, self.tell, self.policy = patience, most, tell, policy
+        auditor: AnyAuditor,
+        run_name: Optional[str] = None,
+        every: int = EVERY,
+        seconds: float = 2.0,
+        idle: float = 30.0,
+        patience: float = 1.0,
+        most: int = 2048,
+        tell: Optional[Callable[[str], object]] = None,
+        policy: Policy = RATHER_LOSE_THE_AUDIT,
+    ) -> None:
+        super().__init__(run_name if run_name is not None else auditor.run_name, policy)
+        self.auditor = auditor
         self.is_named = run_name is not None or auditor.is_named
-        self.run_name = run_name if run_name is not None else auditor.run_name
         self.token = auditor.token
-        # Has what was logged as bytes while it waits; None where the auditor takes no bytes.
-        self.packed = getattr(auditor, "packed", None)
-        self.group = Group()
-        self.groups = [self.group]  # this process's clients, and each other process's
-        # No client has these.
-        self.left = deque(Place(number) for number in range(auditor.sessions))
-        self.lock = threading.Condition()  # around those
-        self.is_lending, self.overflow = False, auditor.sessions
-        self.coverage = Coverage.of_all(auditor.sessions)
-        # Keys written by transactions that hadn't read them, and not read since; changed by who has
-        # a session's turn, and by a meeting that holds all.
-        self.unseen = set()
-        self.waiting = queue.SimpleQueue()
-        self.seen = {}  # of each session, the number behind the last that was handed in
-        self.counts = {}  # of each session, how many were handed in, in all audits
-        self.counted = 0  # of all, as this audit began
-        self.met_at, self.met, self.why_not = 0, time.monotonic(), None
-        self.meetings, self.is_meeting = 0, False
-        self.taken_in, self.rounds, self.cuts, self.left_out = 0, 0, 0, 0
-        # For how many seconds a transaction waited to be taken in, at most: ever, and since a
-        # round.
-        self.lag = self.behind = self.told_behind = 0.0
-        self.told_at, self.told_of = time.monotonic(), 0
-        self.report, self.is_stopping, self.is_fences_alone = None, False, False
-        self.lost = None  # why no more is audited, or none until another audit begins
-        self.failed, self.earlier, self.began = None, (), time.monotonic()
-        self.reserve = 4 * auditor.sessions  # room for a meeting's own transactions
-        self.room = most  # how many may wait, by now
-        self.at_end, self.has_ended, self.pending = [], False, ()
-        self.thread = threading.Thread(target=self.serve, daemon=True)
-        self.thread.start()
+        # Has what was logged as bytes while it waits.
+        self._packed = auditor.packed if isinstance(auditor, AuditorApart) else None
+        self._told_to, self._pace = tell, Pace(every, seconds, idle, patience)
+        self._backlog, self._places = Backlog(most), Places(auditor.sessions)
+        # This process's clients, and each other process's.
+        self._convener = Convener([self._group], self._places, self._backlog)
+        self._figures = Figures(told_at=time.monotonic())
+        self._audit = self._next_audit(Coverage.of_all(auditor.sessions))
+        self._lost: Optional[Exception] = None  # why no more is audited, until another audit begins
+        self._failure: Optional[Exception] = None  # the same, once nothing more is audited for good
+        self._is_stopping = self._has_ended = False
+        self._at_end: List[Callable[[], object]] = []
+        self._thread = threading.Thread(target=self._serve, name="zanteyard", daemon=True)
+        self._thread.start()
 
-    def session(self, store, **more):
-        """The session of a new client; raises ValueError where none is left."""
-        place = self.next_left()
+    def session(self, store: Store, patience: float = PATIENCE) -> Session:
+        """The session of a new client, which asks the store for so many seconds for an outcome that
+        isn't known. Raises ValueError where none is left."""
+        place = self._places.take(self.policy.wait)
         if place is None:
             raise ValueError(f"no session is left of {self.auditor.sessions}")
-        made = Session(self, place.number, store, self.run_name, renew=self.renew, **more)
-        made.place = place
-        self.group.add(made)
-        return made
+        return self._add_session(place, store, patience)
 
-    def next_left(self):
-        """The place of a session that no client has, or None. While a meeting has them it is waited
-        for, as long as the policy says."""
-        with self.lock:
-            self.lock.wait_for(lambda: self.left or not self.is_lending, self.policy.wait)
-            return self.left.popleft() if self.left else None
-
-    def renew(self, session):
-        """For a session that has ended: another one's place, or its own, and unaudited."""
-        place = self.next_left()
-        if place is None:
-            self.lose(Lost(f"no session of {self.auditor.sessions} is left for a client"))
-        return place or session.place or self.unaudited_place()
-
-    def unaudited_place(self):
-        with self.lock:
-            self.overflow += 1
-            return Place(self.overflow - 1, is_audited=False)
-
-    def leave_session(self, session):
-        """Its client does nothing more, and another one may have its place."""
-        if not session.turn.acquire(timeout=self.policy.wait):
-            raise ValueError(f"session {session.number} is in a transaction")
-        try:
-            self.group.remove(session)
-            place, session.place, session.renew = session.place, None, None
-            if not session.is_open:
-                return
-            session.is_open = False
-            place.is_due = True
-            with self.lock:
-                self.left.append(place)
-        finally:
-            session.turn.release()
-
-    @property
-    def soon(self):
-        """How many transactions come before the next meeting where one fails."""
-        return max(1, self.every // 4)
-
-    @property
-    def handed_in(self):
-        """By clients, and by meetings."""
-        return sum(list(self.counts.values())) - self.counted
-
-    @property
-    def outcome(self):
-        """Of this audit and of those that ended before it; see Outcome.whole."""
-        return self.state().whole
-
-    def state(self, has_ended=None, failure=None):
-        """Of this audit."""
-        audited, kind = sum(self.report.counts) if self.report else 0, RUNNING
-        failure = failure or self.failure
-        if self.is_violated or (self.has_ended if has_ended is None else has_ended):
-            kind = kind_of(self.report, failure, audited >= self.handed_in)
-            kind = COLLECTOR if self.is_fences_alone else kind
-        return Outcome(
-            kind,
-            audited,
-            max(audited, self.handed_in),
-            failure,
-            self.pending,
-            self.report,
-            self.name,
-            self.left_out,
-            self.earlier,
-        )
-
-    @property
-    def name(self):
-        """Of this audit."""
-        return f"{self.run_name}, audit {len(self.earlier) + 1}" if self.earlier else self.run_name
-
-    @property
-    def failure(self):
-        """Why nothing more is audited, once that is so; then `outcome` isn't serial."""
-        return self.failed
-
-    @property
-    def is_violated(self):
-        return self.report is not None and self.report.kind == VIOLATED
-
-    @property
-    def is_over(self):
-        """Nothing more is audited: a violation was found, or the audit has ended for good."""
-        return self.is_violated or self.has_ended
-
-    # what sessions call
-
-    def take(self, session, number, logged):
-        what = self.packed(logged) if self.packed else logged
-        self.hand_in(time.monotonic(), session, number, unseen(logged), what)
-        if self.waiting.qsize() > self.room and threading.current_thread() is not self.thread:
-            self.wait_for_room()
-
-    def hand_in(self, came, session, number, unseen, packed):
-        self.seen[session] = number + 1  # one thread at a time has the session's turn
-        self.counts[session] = self.counts.get(session, 0) + 1
-        if unseen:
-            self.unseen.update(unseen)
-        if not (self.has_ended or self.lost):
-            self.waiting.put((came, session, number, packed))
-
-    def wait_for_room(self, pause=0.001):
-        """As long as the policy says, and not in a meeting, which wants the session's turn."""
-        ends = time.monotonic() + self.policy.wait
-        while self.waiting.qsize() > self.room and not self.goes_on():
-            if time.monotonic() > ends:
-                self.lose(Lost(self.no_room()))
-            time.sleep(pause)
-
-    def no_room(self):
-        """Why clients would have to wait."""
-        waits = f"{self.waiting.qsize()} transactions wait for it"
-        if self.room < self.most and self.why_not:
-            return f"the auditor holds as many transactions as it can, {waits}, and {self.why_not}"
-        return f"the auditor can't keep up: {waits}"
-
-    def goes_on(self):
-        return self.is_meeting or self.is_over or self.lost is not None
-
-    def take_close(self, session):
-        if not (self.has_ended or self.lost):
-            self.waiting.put((time.monotonic(), session))
-
-    def lose(self, error):
-        """This audit ends with what was handed in by now; why, is told by its outcome and the
-        log."""
-        if self.lost is None:
-            self.lost = error
-            logger.error("the audit %s ends: %s", self.name, error)
-
-    def stop(self, seconds=STOPPING):
+    def stop(self, seconds: float = STOPPING) -> Outcome:
         """Audits all that was handed in, and gives the outcome; after so many seconds, what is
-        known."""
-        self.is_stopping = True
-        self.thread.join(seconds)
-        if self.thread.is_alive():
+        known. May be called again."""
+        self._is_stopping = True
+        self._thread.join(seconds)
+        if self._thread.is_alive():
             self.lose(Lost(f"it hasn't audited what was handed in after {seconds:g} s"))
-            self.failed, self.has_ended = self.lost, True
+            self._failure, self._has_ended = self._lost, True
         return self.outcome
 
-    def __enter__(self):
+    def lose(self, error: Exception) -> None:
+        """This audit ends with what was handed in by now; why, is told by its outcome and the
+        log."""
+        if self._lost is None:
+            self._lost = error
+            logger.error("the audit %s ends: %s", self.name, error)
+
+    def __enter__(self) -> LiveAuditor:
         return self
 
-    def __exit__(self, kind, *_):
+    def __exit__(self, kind: Optional[type], *_: object) -> None:
         """As `stop` does; at once, where an exception ends it."""
         if kind is not None:
             self.lose(Lost(f"it was given up ({kind.__name__})"))
-        self.stop(STOPPING if kind is None else 1.0)
+        self.stop(STOPPING if kind is None else GIVING_UP)
+
+    # what is known by now
+
+    @property
+    def outcome(self) -> Outcome:
+        """Of this audit and of those that ended before it; see Outcome.whole."""
+        return self._audit.outcome(self._has_ended, self._failure).whole
+
+    @property
+    def name(self) -> str:
+        """Of this audit."""
+        return self._audit.name
+
+    @property
+    def report(self) -> Optional[Report]:
+        """Of this audit's last round; None before the first."""
+        return self._audit.report
+
+    @property
+    def failure(self) -> Optional[Exception]:
+        """Why nothing more is audited, once that is so; then `outcome` isn't serial."""
+        return self._failure
+
+    @property
+    def is_violated(self) -> bool:
+        return self._audit.is_violated
+
+    @property
+    def is_over(self) -> bool:
+        """Nothing more is audited: a violation was found, or the audit has ended for good."""
+        return self.is_violated or self._has_ended
+
+    @property
+    def handed_in(self) -> int:
+        """Transactions of this audit, by clients and by meetings."""
+        return self._audit.handed_in
+
+    @property
+    def taken_in(self) -> int:
+        """Transactions that the auditor has of this audit."""
+        return self._audit.taken_in
+
+    @property
+    def rounds(self) -> int:
+        """Of all audits."""
+        return self._figures.rounds
+
+    @property
+    def cuts(self) -> int:
+        """Of all audits."""
+        return self._figures.cuts
+
+    @property
+    def meetings(self) -> int:
+        """Of all audits, those that failed too."""
+        return self._convener.meetings
+
+    @property
+    def lag(self) -> float:
+        """For how many seconds a transaction waited to be taken in, at most."""
+        return self._figures.lag
+
+    @property
+    def told_behind(self) -> float:
+        """The same of what was taken in between the last round and the one before."""
+        return self._figures.told_behind
+
+    # what sessions call
+
+    def take(self, session: int, number: int, logged: Logged) -> None:
+        """Hands in what a transaction did; waits for room as long as the policy says."""
+        what = self._packed(logged) if self._packed else logged
+        unseen = keys_written_unseen(logged)
+        self._hand_in(time.monotonic(), session, number, unseen, what)
+        if self._backlog.is_over_full and threading.current_thread() is not self._thread:
+            self._wait_for_room()
+
+    def take_close(self, session: int) -> None:
+        """Nothing more of this session comes."""
+        if not self._drops():
+            self._backlog.put((time.monotonic(), session, None, None))
+
+    def _hand_in(
+        self, came: float, session: int, number: int, unseen: Iterable[str], what: Any
+    ) -> None:
+        self._backlog.count(session, number, unseen)
+        if not self._drops():
+            self._backlog.put((came, session, number, what))
+
+    def _drops(self) -> bool:
+        """Whether no audit takes in what is handed in."""
+        return self._has_ended or self._lost is not None
+
+    def _wait_for_room(self, pause: float = 0.001) -> None:
+        ends = time.monotonic() + self.policy.wait
+        while self._backlog.is_over_full and not self._goes_on():
+            if time.monotonic() > ends:
+                self.lose(Lost(self._no_room()))
+            time.sleep(pause)
+
+    def _goes_on(self) -> bool:
+        """Whether nobody waits for room; as in a meeting, which wants the session's turn."""
+        return self._convener.is_meeting or self.is_over or self._lost is not None
+
+    def _no_room(self) -> str:
+        """Why clients would have to wait."""
+        waits, why = f"{len(self._backlog)} transactions wait for it", self._audit.why_no_cut
+        if self._backlog.room < self._backlog.most and why:
+            return f"the auditor holds as many transactions as it can, {waits}, and {why}"
+        return f"the auditor can't keep up: {waits}"
+
+    def _renew(self, session: Session) -> Optional[Place]:
+        place = self._places.take(self.policy.wait)
+        if place is None:
+            self._lose_for_a_client()
+        return place or session.place or self._places.take_unaudited()
+
+    def _lose_for_a_client(self) -> None:
+        """One goes on unaudited, since there are more than sessions."""
+        self.lose(Lost(f"no session of {self.auditor.sessions} is left for a client"))
+
+    def _give_back(self, place: Place) -> None:
+        self._places.add([place])
 
     # the thread
 
-    def serve(self):
+    def _serve(self) -> None:
         try:
-            while not (self.is_stopping and self.waiting.empty()) and not self.is_violated:
-                self.pause()
-                self.guarded(self.step)
-                if self.lost and not self.is_violated and not self.begin_anew():
+            while not self.is_violated and not (self._is_stopping and len(self._backlog) == 0):
+                self._pause()
+                self._guarded(self._step)
+                if self._lost and not self.is_violated and not self._begin_anew():
                     break
-            self.conclude()
+            self._conclude()
         except Exception as error:  # told by who asks: a thread's own error would be lost
             self.lose(error)
         finally:
-            self.end_all()
+            self._failure, self._has_ended = (None if self.is_violated else self._lost), True
+            self._group.end()
+            for told in self._at_end:
+                told()
 
-    def end_all(self):
-        self.failed, self.has_ended = (None if self.is_violated else self.lost), True
-        self.group.end()
-        for told in self.at_end:
-            told()
+    def _pause(self) -> None:
+        """Nobody is woken for what waits: that would cost a client more than its whole log."""
+        if len(self._backlog) < LONGEST and not self._is_stopping:
+            time.sleep(PAUSE)
 
-    def guarded(self, deed):
+    def _guarded(self, deed: Callable[[], object]) -> None:
         """What fails here ends the audit."""
         try:
             deed()
         except Exception as error:
             self.lose(error)
 
-    def step(self):
-        self.take_in()
-        if self.is_stopping or self.is_violated or self.lost:
+    def _step(self) -> None:
+        audit = self._audit
+        audit.take_in()
+        if self._is_stopping or audit.is_violated or self._lost:
             return
-        if self.is_meeting_due():
-            self.take_in_all(self.meet())
-            if not self.is_violated:  # it may be by a round that was to make room
-                cuts = self.cuts
-                self.audit()
-                if self.cuts == cuts and self.why_not is None:
-                    self.why_not = "no fence was settled"  # so that another meeting comes soon
-        elif self.is_round_due():
-            self.audit(no_cut="no meeting yet")
+        if self._is_meeting_due():
+            self._meet()
+        elif audit.is_round_due(self._pace.seconds):
+            audit.run_round("no meeting yet")
 
-    def conclude(self):
+    def _is_meeting_due(self) -> bool:
+        """Where room asks for it: at a violation nothing is lost by a later one."""
+        pace = self._pace
+        return self._convener.new >= (pace.soon if self._audit.why_no_cut else pace.every)
+
+    def _meet(self) -> None:
+        """With a round behind it, over what came up to its end."""
+        audit, pace = self._audit, self._pace
+        patience = pace.patience if self._has_room() else PATIENT * pace.patience
+        met = self._convener.meet(min(patience, self.policy.wait), pace.idle)
+        audit.why_no_cut = met.failure
+        audit.take_in_all(met.came)
+        if audit.is_violated:  # by a round that was to make room
+            return
+        cuts = self.cuts
+        audit.run_round()
+        if self.cuts == cuts and audit.why_no_cut is None:
+            audit.why_no_cut = "no fence was settled"  # so that another meeting comes soon
+
+    def _has_room(self) -> bool:
+        """For as many transactions more as come before the next meeting, if this one fails."""
+        remain = self.auditor.remaining + len(self._backlog)
+        return remain + self._pace.soon < self.auditor.limit
+
+    def _conclude(self) -> None:
         """The last round of this audit, over all that was handed in while it went on."""
-        self.guarded(lambda: self.take_in_all(self.waiting.qsize()))
-        if not self.is_violated and self.taken_in > self.told_of:
-            self.guarded(self.audit)
-        if self.report is not None and self.report.kind == "pending":
-            self.guarded(self.find_pending)
-        if self.is_violated:
-            self.guarded(self.find_whose)
+        audit = self._audit
+        self._guarded(lambda: audit.take_in_all(len(self._backlog)))
+        if not audit.is_violated and audit.has_news:
+            self._guarded(audit.run_round)
+        self._guarded(audit.find_pending)
+        self._guarded(audit.find_whose)
 
-    def find_pending(self):
-        self.pending = tuple(never_came(self.auditor.history, self.auditor.marks))
-
-    def find_whose(self):
-        """Whether the collector's own transactions alone are violated, and the clients' aren't."""
-        from .shrinking import is_collectors_own
-
-        self.is_fences_alone = is_collectors_own(self.auditor)
-        if self.is_fences_alone:
-            logger.error("fences and marks alone are violated, and no client's transaction is")
+    def _tell(self, line: str) -> None:
+        logger.info("%s", line)
+        if self._told_to is not None:
+            self._told_to(line)
 
     # another audit
 
-    def begin_anew(self):
+    def _begin_anew(self) -> bool:
         """Whether another audit has begun."""
-        self.conclude()
-        if self.is_violated or self.cant_begin():
+        self._conclude()
+        if self.is_violated or self._cant_begin():
             return False
         pause = self.policy.pause
-        self.wait_until(self.began + pause)
-        while not self.cant_begin():
+        self._wait_until(self._audit.began + pause)
+        while not self._cant_begin():
             try:
-                self.start_anew()
+                self._start_anew()
                 return True
             except Exception as error:
                 logger.error("another audit can't begin: %s", error)
-            self.wait_until(time.monotonic() + pause)
+            self._wait_until(time.monotonic() + pause)
             pause = min(2 * pause, LONGEST_PAUSE)
         return False
 
-    def cant_begin(self):
-        return self.is_stopping or self.auditor.is_ended or not self.policy.begins_anew
+    def _cant_begin(self) -> bool:
+        return self._is_stopping or self.auditor.is_ended or not self.policy.begins_anew
 
-    def wait_until(self, ends):
-        while not self.cant_begin() and time.monotonic() < ends:
+    def _wait_until(self, ends: float) -> None:
+        while not self._cant_begin() and time.monotonic() < ends:
             time.sleep(max(0.0, min(PAUSE, ends - time.monotonic())))
 
-    def start_anew(self):
+    def _start_anew(self) -> None:
         """Only what is sent to the store from some moment on is audited; what was on its way then
         is left out, as if it had been read by nobody."""
-        why, ended = self.lost, self.state(True, self.lost)
-        while not self.waiting.empty():
-            self.waiting.get()
-        self.is_meeting, self.room = True, self.most  # nobody waits for room: processes are asked
-        self.lost = None  # nothing is dropped from here on: what has ended is known by its number
+        why, convener = self._lost, self._convener
+        ended = self._audit.outcome(True, why)
+        self._backlog.clear()
+        # Nobody waits for room: processes are asked.
+        convener.is_meeting, self._backlog.room = True, self._backlog.most
+        self._lost = None  # nothing is dropped from here on: what has ended is known by its number
         try:
-            coverage = self.edges()
+            sessions, groups = self.auditor.sessions, convener.groups
+            coverage = coverage_from_now(sessions, groups, self._places, self._backlog)
             self.auditor.start_anew(coverage)
         except Exception:
-            self.lost = why
+            self._lost = why
             raise
         finally:
-            self.is_meeting = False
-        self.earlier = (*self.earlier, ended._alone())
-        self.coverage, self.report, self.pending = coverage, None, ()
-        self.counted += ended.handed_in
-        self.taken_in = self.told_of = self.left_out = 0
-        self.met_at, self.met, self.began = self.handed_in, time.monotonic(), time.monotonic()
-        self.why_not = None
-        told = f"audit {len(self.earlier)} has ended: {ended._alone()}"
-        self.tell(f"{told}; now audited: {self.name}")
+            convener.is_meeting = False
+        self._audit = self._next_audit(coverage, ended)
+        convener.start_anew()
+        earlier = self._audit.earlier
+        self._tell(f"audit {len(earlier)} has ended: {earlier[-1]}; now audited: {self.name}")
         logger.warning("another audit begins, %s, after: %s", self.name, why)
 
-    def edges(self):
-        """The coverage of an audit that begins now."""
-        count = self.auditor.sessions
-        early, first = [0] * count, [None] * count
-        for at in range(2):
-            with self.lock:
-                found = [(place.number, place.begun, place.begun) for place in self.left]
-            for group in self.groups:
-                found += group.edges() or ()
-            for session, answered, unsent in found:
-                if session < count and at == 0:
-                    early[session] = answered
-                elif session < count:
-                    first[session] = unsent
-        self.reopen(first, early)
-        return Coverage(early, first)
-
-    def reopen(self, first, early):
-        """Who had ended goes on; the places of processes that are lost may be used again."""
-        for group in self.groups:
-            group.reopen()
-        with self.lock:
-            for session, number in enumerate(first):
-                if number is None and not self.is_away(session):
-                    early[session] = self.seen.get(session, 0)
-                    first[session] = early[session] + SKIPPED
-                    self.left.append(Place(session, first[session], is_due=True))
-
-    def is_away(self, session):
-        """Whether a process that doesn't answer has it."""
-        return any(session in group.numbers() for group in self.groups)
-
-    # what waits
-
-    def pause(self):
-        """Nobody is woken for what waits: that would cost a client more than its whole log."""
-        if self.waiting.qsize() < LONGEST and not self.is_stopping:
-            time.sleep(PAUSE)
-
-    def is_meeting_due(self):
-        """Where room asks for it: at a violation nothing is lost by a later one."""
-        new = self.handed_in - self.met_at
-        return new >= (self.soon if self.why_not else self.every)
-
-    def is_round_due(self):
-        return self.taken_in > self.told_of and time.monotonic() - self.told_at >= self.seconds
-
-    def take_in_all(self, left):
-        """So many of what waits."""
-        while left > 0 and not self.is_violated:
-            left -= self.take_in(left)
-
-    def take_in(self, most=LONGEST):
-        """What waits, up to so many; gives how many these were."""
-        free = self.auditor.limit - self.auditor.remaining - self.reserve
-        self.room = max(0, min(self.most, free))
-        count = min(self.waiting.qsize(), LONGEST, most)
-        found = [self.waiting.get() for _ in range(count)]  # nobody else takes any
-        if found:
-            self.offer_all(fragments(self.covered(one) for one in found if len(one) > 2))
-            self.behind = max(self.behind, time.monotonic() - found[0][0])
-            for session in (one[1] for one in found if len(one) == 2):  # behind all that it did
-                self.auditor.close(session)
-        return len(found)
-
-    def covered(self, one):
-        """(session, number in this audit, what was logged); no number where it isn't audited."""
-        _, session, number, logged = one
-        if session >= self.auditor.sessions:
-            return session, None, logged
-        return session, self.coverage.number(session, number), logged
-
-    def offer_all(self, found):
-        refused = self.auditor.offer_all(found)
-        self.taken_in += sum(len(txns) for _, _, txns in found)
-        self.taken_in -= sum(len(txns) for _, _, txns in refused)
-        if refused:
-            self.audit()  # a cut may make room
-        for session, first, txns in refused:
-            for number, logged in enumerate(() if self.is_violated else txns, first):
-                try:
-                    self.auditor.offer(session, number, logged)
-                except Full as error:
-                    why = f", since {self.why_not}" if self.why_not else ""
-                    limit = self.auditor.limit
-                    raise Full(f"{limit} transactions remain, and no more are held{why}") from error
-                self.taken_in += 1
-
-    def audit(self, no_cut=None):
-        no_cut = no_cut or self.why_not
-        self.report = self.auditor.last_round()
-        self.left_out = self.auditor.left_out
-        self.rounds += 1
-        cut = f"no cut: {no_cut}" if no_cut else self.cut()
-        now = time.monotonic()
-        rate = (self.taken_in - self.told_of) / max(now - self.told_at, 0.001)
-        self.told_at, self.told_of = now, self.taken_in
-        self.lag, behind, self.behind = max(self.lag, self.behind), self.behind, 0.0
-        self.told_behind = behind
-        self.tell(
-            f"round {self.report.number}: {self.report.kind}; {self.taken_in} transactions, "
-            f"{rate:.0f} a second, {behind:.2f} s behind; {self.auditor.remaining} remain; {cut}"
-        )
-
-    def cut(self):
-        if self.report.kind not in ("serial", "pending"):
-            return "no cut"
-        if not self.auditor.can_cut:
-            return "no cut: this cobra_audit forgets nothing"
-        try:
-            cut = self.auditor.truncate()
-        except NoCut as error:
-            if not self.auditor.can_cut:
-                return "no cut: this cobra_audit forgets nothing"
-            is_none = str(error).endswith("NoCut")
-            return "no cut: no fence is settled" if is_none else f"no cut: {error}"
-        self.cuts += 1
-        return f"cut at {cut.fence[0]}.{cut.fence[1]}: {cut.gone} forgotten"
-
-    # meetings
-
-    def meet(self):
-        """Gives how many waited to be taken in as clients went on: no read of these has a source
-        that isn't among them, or was taken in before."""
-        patience = self.patience if self.has_room() else PATIENT * self.patience
-        self.meetings, self.is_meeting = self.meetings + 1, True
-        groups, places = list(self.groups), self.borrow()
-        try:
-            self.why_not = self.meeting(groups, places, min(patience, self.policy.wait))
-        except Missed as error:
-            self.why_not = str(error)
-        except Exception as error:  # the store's: a client will meet it too
-            self.why_not = f"the meeting failed ({str(error).strip() or type(error).__name__})"
-        finally:
-            self.is_meeting, came = False, self.waiting.qsize()
-            for group in groups:
-                group.release()
-            self.is_lending = False
-            self.give_back(places)
-        self.met_at, self.met = self.handed_in, time.monotonic()
-        return came
-
-    def borrow(self):
-        """The sessions that no client has are open too."""
-        with self.lock:
-            self.is_lending, places = True, list(self.left)
-            self.left.clear()
-        return places
-
-    def give_back(self, places):
-        with self.lock:
-            self.left.extend(place for place in places if not (place.is_ended or place.is_lent))
-            self.lock.notify_all()
-
-    def meeting(self, groups, places, patience):
-        """Says why there is none; None where all have met."""
-        number, groups = self.meetings, [group for group in groups if group.has_sessions]
-        if not groups:
-            return "no client has a session"
-        groups.sort(key=lambda group: group.is_here)  # what is here is done while others work
-        leading = groups[number % len(groups)]
-        shares = [places[at :: len(groups)] for at in range(len(groups))]
-        ends = time.monotonic() + patience
-        due = [[place for place in share if place.is_due] for share in shares]
-        unread = {place.number for place in places if place.has_flag}
-        answers = [
-            group.begin_gather(number, patience, group is leading, share, self.idle)
-            for group, share in zip(groups, due)
-        ]
-        for group, answer in zip(groups, answers):
-            flags, idle = answer(ends)
-            unread.update(flags)
-            places.extend(idle)
-            shares[groups.index(group)].extend(idle)
-        self.lead(leading, number, sorted(f"{FLAG}{session}" for session in unread), ends)
-        passing = [group.begin_pass_on(number, it) for group, it in zip(groups, shares)]
-        for answer in passing:
-            answer(ends)
-        return None
-
-    def has_room(self):
-        """For as many transactions more as come before the next meeting, if this one fails."""
-        remain = self.auditor.remaining + self.waiting.qsize()
-        return remain + self.soon < self.auditor.limit
-
-    def lead(self, leading, meeting, flags, ends):
-        found, self.unseen = self.unseen, set()
-        keys = sorted((key for key in list(found) if not is_own(key)), key=repr)
-        lists = [[*flags, *keys[: READS - len(flags)]]]
-        rest = keys[READS - len(flags) :]
-        lists += [rest[start : start + READS] for start in range(0, len(rest), READS)]
-        try:
-            leading.begin_lead(meeting, [it for it in lists if it])(ends)
-        except BaseException:  # they are to be read at the next meeting
-            self.unseen.update(keys)
-            raise
-
-
-def unseen(logged):
-    """The keys that were written by who hadn't read them."""
-    if not logged.writes:
-        return ()
-    read = dict(logged.reads)
-    return [key for key in logged.writes if key not in read]
-
-
-def fragments(offers):
-    """Of each session that is among them, (session, number of the first, transactions); without
-    those that have no number."""
-    found = {}
-    for session, number, logged in offers:
-        if number is None:
-            continue
-        fragment = found.get(session)
-        if fragment is None:
-            fragment = found[session] = (session, number, [])
-        fragment[2].append(logged)
-    return [*found.values()]
+    def _next_audit(self, coverage: Coverage, before: Optional[Outcome] = None) -> Audit:
+        """Behind this outcome of the last one, if there was any."""
+        more = (self._backlog, self._figures, self._tell, self.run_name, coverage)
+        if before is None:
+            return Audit(self.auditor, *more)
+        earlier = (*before.earlier, replace(before, earlier=()))
+        counted = sum(one.handed_in for one in earlier)
+        return Audit(self.auditor, *more, counted, earlier)

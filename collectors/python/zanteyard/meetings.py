@@ -15,9 +15,12 @@ from __future__ import annotations
 import threading
 import time
 from concurrent.futures import Future, ThreadPoolExecutor, wait
-from typing import Any, Callable, Dict, List, Optional, Sequence, Tuple
+from typing import Any, Callable, Dict, List, Optional, Sequence, Tuple, TypeVar
 
 from .sessions import Place, Session
+
+Result = TypeVar("Result")
+Wait = Callable[[float], Result]  # until then, by the monotonic clock; raises Missed
 
 
 class Missed(Exception):
@@ -61,7 +64,7 @@ class Group:
 
     def gather(
         self, meeting: int, seconds: float, leads: bool, places: Sequence[Place], idle: float
-    ) -> Tuple[List[Any], Any]:
+    ) -> Tuple[List[Any], List[Place]]:
         """Holds all sessions, and has flags written: of those, and of these places that are lent.
         Gives the numbers of those that have flags, and the places of sessions that were idle for so
         long."""
@@ -89,18 +92,20 @@ class Group:
         flags += [place.number for place in places if place.has_flag]
         return flags, self.given_back(idle)
 
-    def begin_gather(self, *arguments: Any) -> Callable[..., Any]:
+    def begin_gather(
+        self, meeting: int, seconds: float, leads: bool, places: Sequence[Place], idle: float
+    ) -> Wait[Tuple[List[Any], List[Place]]]:
         """What is begun gives what waits for its end, which other processes work towards
         meanwhile."""
-        found = self.gather(*arguments)
+        found = self.gather(meeting, seconds, leads, places, idle)
         return lambda ends: found
 
-    def begin_lead(self, *arguments: Any) -> Callable[..., Any]:
-        self.lead(*arguments)
+    def begin_lead(self, meeting: int, lists: Sequence[Sequence[str]]) -> Wait[None]:
+        self.lead(meeting, lists)
         return lambda ends: None
 
-    def begin_pass_on(self, *arguments: Any) -> Callable[..., Any]:
-        self.pass_on(*arguments)
+    def begin_pass_on(self, meeting: int, places: Sequence[Place]) -> Wait[None]:
+        self.pass_on(meeting, places)
         return lambda ends: None
 
     def hold(self, session: Session, meeting: int, seconds: float) -> None:
@@ -203,7 +208,7 @@ class Group:
             if place is not None:
                 session.is_open, place.is_due = place.is_audited, True
 
-    def numbers(self) -> Any:
+    def numbers(self) -> List[Any]:
         """Of the sessions' places."""
         return [session.number for session in self.sessions if session.place is not None]
 

@@ -22,7 +22,8 @@ from multiprocessing.connection import Client, Listener
 from .apart import as_bytes, unpacked
 from .auditor import LONGEST
 from .errors import ElsewhereError
-from .live import PAUSE, Lost, unseen
+from .backlog import keys_written_unseen
+from .live import PAUSE, Lost
 from .meetings import Group, Missed
 from .outcome import Policy
 from .pipes import Ended
@@ -79,7 +80,7 @@ class AuditServer:
             pass
         self.listener = Listener(path, "AF_UNIX", backlog=64)
         os.chmod(path, 0o600)
-        live.at_end.append(self.tell_end)
+        live._at_end.append(self.tell_end)
         self.thread = threading.Thread(target=self.let_in, daemon=True)
         self.thread.start()
 
@@ -138,7 +139,7 @@ class ClientProcess(Messages):
         super().__init__(connection)
         self.live, self.has_left, self.has = live, False, set()  # the numbers of its sessions
         # A session's transactions on their way: of all, half of what may wait here.
-        self.most = max(1, live.most // (2 * live.auditor.sessions))
+        self.most = max(1, live._backlog.most // (2 * live.auditor.sessions))
         self.answers, self.asked, self.lent = {}, 0, {}
         self.changed = threading.Condition()  # around those
         self.thread = threading.Thread(target=self.listen, daemon=True)
@@ -148,17 +149,17 @@ class ClientProcess(Messages):
         try:
             run = (live.run_name, live.is_named, live.token)
             self.send("welcome", *run, self.most, astuple(live.policy))
-            if live.has_ended:
+            if live._has_ended:
                 self.send("over")
-            live.groups.append(self)
+            live._convener.groups.append(self)
             while not self.has_left:
                 kind, *rest = self.receive()
                 getattr(self, f"take_{kind}")(*rest)
         except Exception as error:  # it ended without leaving, or sent what isn't known
             self.lose(str(error) or "it ended without leaving")
             self.has_left = True
-        if self in live.groups:
-            live.groups.remove(self)
+        if self in live._convener.groups:
+            live._convener.groups.remove(self)
         with self.changed:
             self.changed.notify_all()
         self.connection.close()
@@ -176,16 +177,16 @@ class ClientProcess(Messages):
             if number is None:
                 live.take_close(session)
             else:
-                what = packed if live.packed else unpacked(packed)
-                live.hand_in(came, session, number, keys, what)
+                what = packed if live._packed else unpacked(packed)
+                live._hand_in(came, session, number, keys, what)
         if dropped:
-            live.counts[-1] = live.counts.get(-1, 0) + dropped
+            live._backlog.count_dropped(dropped)
         self.wait_for_room()
         self.tell("taken", len(logged))
 
     def wait_for_room(self):
         """What isn't answered yet counts as on its way, so that clients there wait, or don't."""
-        while self.live.waiting.qsize() > self.live.room and not self.live.goes_on():
+        while self.live._backlog.is_over_full and not self.live._goes_on():
             time.sleep(PAUSE / 4)
 
     def take_lost(self, why):
@@ -201,27 +202,26 @@ class ClientProcess(Messages):
 
     def join(self, asked, is_new):
         """A session that is left, for a new client, or for one whose session has ended."""
-        place = self.live.next_left()
+        place = self.live._places.take(self.live.policy.wait)
         if place is None and not is_new:
-            sessions = self.live.auditor.sessions
-            self.live.lose(Lost(f"no session of {sessions} is left for a client"))
+            self.live._lose_for_a_client()
         if place is not None:
             self.has.add(place.number)
         if not self.tell("left", asked, place and astuple(place)) and place is not None:
             self.has.discard(place.number)
-            self.live.give_back([place])
+            self.live._places.give_back([place])
 
     def take_overflow(self, asked):
-        self.tell("left", asked, astuple(self.live.unaudited_place()))
+        self.tell("left", asked, astuple(self.live._places.take_unaudited()))
 
     def take_back(self, place):
         self.has.discard(place[0])
-        self.live.give_back([Place(*place)])
+        self.live._places.give_back([Place(*place)])
 
     def take_leave(self, places):
         """Its sessions are left for others."""
         self.has_left = True
-        self.live.give_back([Place(*place) for place in places])
+        self.live._places.give_back([Place(*place) for place in places])
 
     # calls of its group's methods
 
@@ -234,7 +234,7 @@ class ClientProcess(Messages):
                 self.answers[asked] = (result, failure, is_missed)
                 self.changed.notify_all()
         if is_late:
-            self.live.give_back(places)
+            self.live._places.give_back(places)
 
     def ask(self, name, *arguments, lent=()):
         """Gives what waits for the answer, until then and a little longer."""
@@ -445,7 +445,7 @@ class AuditClient(Messages):
             self.dropped += 1
             self.lose(f"transaction {number} of session {session} can't be handed over: {error}")
             return
-        self.waiting.put((time.monotonic(), session, number, unseen(logged), packed))
+        self.waiting.put((time.monotonic(), session, number, keys_written_unseen(logged), packed))
         most = self.most * len(self.sessions)
         if self.waiting.qsize() > most // 2:
             self.wake.set()

@@ -1,0 +1,88 @@
+"""What clients have handed in, until the auditor has taken it in."""
+
+from __future__ import annotations
+
+import queue
+import threading
+from typing import Any, Dict, Iterable, List, Optional, Sequence, Set, Tuple
+
+from .records import Logged
+
+# When it came by the monotonic clock, the session, the transaction's number (None where nothing
+# more of the session comes), and what was logged. A plain tuple of plain values is nothing to the
+# clients' garbage collector, which would otherwise take its time from them.
+HandedIn = Tuple[float, int, Optional[int], Any]
+DROPPED = -1  # counts what another process couldn't hand over, in place of a session
+
+
+def keys_written_unseen(logged: Logged) -> Sequence[str]:
+    """The keys that were written by who hadn't read them."""
+    if not logged.writes:
+        return ()
+    read = dict(logged.reads)
+    return [key for key in logged.writes if key not in read]
+
+
+class Backlog:
+    """For threads. One thread at a time counts for a session: it has that one's turn."""
+
+    def __init__(self, most: int) -> None:
+        self.most = most
+        self.room = most  # how many may wait by now, before clients wait
+        # Not read since. Changed by who has a session's turn, and by a meeting that holds all.
+        self._unseen: Set[str] = set()
+        self._waiting: queue.SimpleQueue[HandedIn] = queue.SimpleQueue()
+        self._next_numbers: Dict[int, int] = {}
+        self._counts: Dict[int, int] = {}  # by session, of all audits
+        self._dropping = threading.Lock()
+
+    def count(self, session: int, number: int, unseen: Iterable[str]) -> None:
+        """A transaction, whether or not an audit is about it."""
+        self._next_numbers[session] = number + 1
+        self._counts[session] = self._counts.get(session, 0) + 1
+        if unseen:
+            self._unseen.update(unseen)
+
+    def count_dropped(self, count: int) -> None:
+        with self._dropping:
+            self._counts[DROPPED] = self._counts.get(DROPPED, 0) + count
+
+    @property
+    def counted(self) -> int:
+        """How many transactions were handed in, by clients and by meetings, in all audits."""
+        return sum(list(self._counts.values()))
+
+    def next_number(self, session: int) -> int:
+        """Behind the last that was handed in."""
+        return self._next_numbers.get(session, 0)
+
+    def put(self, handed_in: HandedIn) -> None:
+        self._waiting.put(handed_in)
+
+    def take(self, most: int) -> List[HandedIn]:
+        """What waits, up to so many; nobody else may take any meanwhile."""
+        return [self._waiting.get() for _ in range(min(len(self), most))]
+
+    def clear(self) -> None:
+        while len(self):
+            self._waiting.get()
+
+    def __len__(self) -> int:
+        return self._waiting.qsize()
+
+    @property
+    def is_over_full(self) -> bool:
+        return len(self) > self.room
+
+    def leave_room(self, free: int) -> None:
+        """No more may wait than can be taken in."""
+        self.room = max(0, min(self.most, free))
+
+    def take_unseen(self) -> Set[str]:
+        """The keys that were written unseen; from here on they count as read."""
+        found, self._unseen = self._unseen, set()
+        return found
+
+    def put_unseen(self, keys: Iterable[str]) -> None:
+        """Those that weren't read after all."""
+        self._unseen.update(keys)

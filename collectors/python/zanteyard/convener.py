@@ -1,0 +1,141 @@
+"""Has the sessions of all processes meet; `meetings.py` says what a meeting is."""
+
+from __future__ import annotations
+
+import time
+from typing import List, NamedTuple, Optional, Protocol, Sequence, Set, Tuple
+
+from .auditor import FLAG, is_own
+from .backlog import Backlog
+from .meetings import Missed, Wait
+from .places import Places
+from .sessions import Place
+
+READS = 200  # of one transaction; the auditor takes 256
+
+
+class MeetingGroup(Protocol):
+    """The sessions of one process, here or elsewhere; `Group` says what each call does."""
+
+    @property
+    def is_here(self) -> bool:
+        ...
+
+    @property
+    def has_sessions(self) -> bool:
+        ...
+
+    def numbers(self) -> Sequence[int]:
+        ...
+
+    def begin_gather(
+        self, meeting: int, seconds: float, leads: bool, places: Sequence[Place], idle: float
+    ) -> Wait[Tuple[List[int], List[Place]]]:
+        ...
+
+    def begin_lead(self, meeting: int, lists: Sequence[Sequence[str]]) -> Wait[None]:
+        ...
+
+    def begin_pass_on(self, meeting: int, places: Sequence[Place]) -> Wait[None]:
+        ...
+
+    def release(self) -> None:
+        ...
+
+    def edges(self) -> Optional[Sequence[Tuple[int, int, int]]]:
+        """None where it doesn't answer: then none of its sessions is audited."""
+
+    def reopen(self) -> None:
+        ...
+
+
+class Met(NamedTuple):
+    """What came of a meeting. `failure` says why there was none; None where all have met. `came` is
+    how many transactions waited to be taken in as clients went on: no read of these has a source
+    that isn't among them, or was taken in before."""
+
+    failure: Optional[str]
+    came: int
+
+
+class Convener:
+    """For the auditor's thread, but for `groups`, to which any may add its own."""
+
+    def __init__(self, groups: List[MeetingGroup], places: Places, backlog: Backlog) -> None:
+        self.groups, self._places, self._backlog = groups, places, backlog
+        self.meetings = 0
+        self.is_meeting = False  # clients wait for it, and so for nothing else
+        self._counted = 0  # transactions, as the last one ended
+
+    @property
+    def new(self) -> int:
+        """How many transactions were handed in since the last meeting."""
+        return self._backlog.counted - self._counted
+
+    def start_anew(self) -> None:
+        """As if a meeting had just ended."""
+        self._counted = self._backlog.counted
+
+    def meet(self, patience: float, idle: float) -> Met:
+        """Waits so many seconds for clients' transactions; who was idle for so many goes without a
+        session."""
+        self.meetings, self.is_meeting = self.meetings + 1, True
+        groups, places = list(self.groups), self._places.lend()
+        failure: Optional[str] = None
+        try:
+            failure = self._hold(groups, places, patience, idle)
+        except Missed as error:
+            failure = str(error)
+        except Exception as error:  # the store's: a client will meet it too
+            failure = f"the meeting failed ({str(error).strip() or type(error).__name__})"
+        finally:
+            self.is_meeting, came = False, len(self._backlog)
+            for group in groups:
+                group.release()
+            self._places.take_back(places)
+        self._counted = self._backlog.counted
+        return Met(failure, came)
+
+    def _hold(
+        self, groups: Sequence[MeetingGroup], places: List[Place], patience: float, idle: float
+    ) -> Optional[str]:
+        """Says why there is none. Places that clients give back are added to these."""
+        number, ends = self.meetings, time.monotonic() + patience
+        # What is here is done while others work.
+        meeting = sorted((it for it in groups if it.has_sessions), key=lambda it: it.is_here)
+        if not meeting:
+            return "no client has a session"
+        leading = meeting[number % len(meeting)]
+        shares = [places[at :: len(meeting)] for at in range(len(meeting))]
+        unread = {place.number for place in places if place.has_flag}
+        gathering = [
+            group.begin_gather(
+                number, patience, group is leading, [it for it in share if it.is_due], idle
+            )
+            for group, share in zip(meeting, shares)
+        ]
+        for share, gathered in zip(shares, gathering):
+            flags, given_back = gathered(ends)
+            unread.update(flags)
+            places.extend(given_back)
+            share.extend(given_back)
+        self._lead(leading, unread, ends)
+        passing = [group.begin_pass_on(number, it) for group, it in zip(meeting, shares)]
+        for passed in passing:
+            passed(ends)
+        return None
+
+    def _lead(self, leading: MeetingGroup, unread: Set[int], ends: float) -> None:
+        """Has the leader read what nobody has read: flags of these sessions first, with as many
+        keys as there is room for."""
+        flags = sorted(f"{FLAG}{session}" for session in unread)
+        found = self._backlog.take_unseen()
+        keys = sorted((key for key in list(found) if not is_own(key)), key=repr)
+        lists = [[*flags, *keys[: READS - len(flags)]]]
+        rest = keys[READS - len(flags) :]
+        lists += [rest[start : start + READS] for start in range(0, len(rest), READS)]
+        try:
+            leading.begin_lead(self.meetings, [it for it in lists if it])(ends)
+        except BaseException:  # they are to be read at the next meeting
+            self._backlog.put_unseen(keys)
+            raise

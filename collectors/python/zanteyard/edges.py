@@ -1,0 +1,47 @@
+"""Where an audit begins that begins while clients go on: `coverage.py` says what that means."""
+
+from __future__ import annotations
+
+from typing import Iterable, List, Optional, Sequence, Tuple
+
+from .backlog import Backlog
+from .convener import MeetingGroup
+from .coverage import SKIPPED, Coverage
+from .places import Places
+from .sessions import Place
+
+
+def coverage_from_now(
+    sessions: int, groups: Sequence[MeetingGroup], places: Places, backlog: Backlog
+) -> Coverage:
+    """What is sent to the store from now on is audited. Who had ended goes on, and the places of
+    processes that are lost may be used again; a process that doesn't answer has no part."""
+    early: List[int] = [0] * sessions
+    first: List[Optional[int]] = [None] * sessions
+    # Asked twice: what had been answered by the end of the first time had been answered before
+    # anything was sent that hadn't been in the second.
+    for session, answered, _ in _asked(groups, places):
+        if session < sessions:
+            early[session] = answered
+    for session, _, unsent in _asked(groups, places):
+        if session < sessions:
+            first[session] = unsent
+    for group in groups:
+        group.reopen()
+    away = {number for group in groups for number in group.numbers()}
+    for session, number in enumerate(first):
+        if number is None and session not in away:  # of a process that is lost
+            early[session] = backlog.next_number(session)
+            begun = early[session] + SKIPPED
+            first[session] = begun
+            places.add([Place(session, begun, is_due=True)])
+    return Coverage(early, first)
+
+
+def _asked(groups: Sequence[MeetingGroup], places: Places) -> Iterable[Tuple[int, int, int]]:
+    """Of each session: how many of its transactions have been answered, and from which on none has
+    been sent."""
+    found = places.edges()
+    for group in groups:
+        found += group.edges() or ()
+    return found

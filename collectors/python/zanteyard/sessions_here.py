@@ -1,0 +1,49 @@
+"""The sessions of one process, whether the auditor is in this one or in another."""
+
+from __future__ import annotations
+
+from typing import Optional
+
+from .meetings import Group
+from .outcome import Policy
+from .records import Store
+from .sessions import Place, Session
+
+PATIENCE = 5.0  # seconds in which a store is asked for an outcome that isn't known
+
+
+class SessionsHere:
+    """For threads. `run_name` is beside each value that sessions write, and `policy` says how long
+    they wait."""
+
+    def __init__(self, run_name: str, policy: Policy) -> None:
+        self.run_name, self.policy = run_name, policy
+        self._group = Group()
+
+    def leave_session(self, session: Session) -> None:
+        """Its client does nothing more, and another one may have its place. Raises ValueError in
+        the middle of a transaction."""
+        if not session.turn.acquire(timeout=self.policy.wait):
+            raise ValueError(f"session {session.number} is in a transaction")
+        try:
+            self._group.remove(session)
+            place, session.place, session.renew = session.place, None, None
+            is_open, session.is_open = session.is_open, False
+            if is_open:
+                place.is_due = True
+                self._give_back(place)
+        finally:
+            session.turn.release()
+
+    def _add_session(self, place: Place, store: Store, patience: float) -> Session:
+        made = Session(self, place.number, store, self.run_name, patience, self._renew)
+        made.place = place
+        self._group.add(made)
+        return made
+
+    def _renew(self, session: Session) -> Optional[Place]:
+        """For a session that has ended: another one's place, or its own, and unaudited."""
+        raise NotImplementedError
+
+    def _give_back(self, place: Place) -> None:
+        raise NotImplementedError
