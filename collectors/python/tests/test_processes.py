@@ -6,8 +6,9 @@ import sys
 import tempfile
 import time
 
-from zanteyard import AuditClient, AuditServer, Ended, processes
+from zanteyard import AuditClient, AuditServer, Ended
 from zanteyard.memory_store import MemoryStore
+from zanteyard.remote_group import RemoteGroup
 
 from . import test_live
 from .test_live import add_one
@@ -43,7 +44,7 @@ class Elsewhere(test_live.Meetings):
 
     def cut_off(self, client):
         """As where its process is killed."""
-        with socket.socket(fileno=os.dup(client.connection.fileno())) as same:
+        with socket.socket(fileno=os.dup(client._messages._connection.fileno())) as same:
             same.shutdown(socket.SHUT_RDWR)
 
     def test_two_processes_meet(self):
@@ -95,7 +96,7 @@ class Elsewhere(test_live.Meetings):
         self.wait_for(lambda: self.is_cut(live, a) and not b.is_open)
         b.run(add_one("x"))
         self.cut_off(other)
-        self.wait_for(lambda: other.is_gone)
+        self.wait_for(lambda: other._is_gone)
         b.run(add_one("x"))
         self.wait_for(lambda: live.is_over)
         self.assertIn("is lost", str(live.failure))
@@ -125,19 +126,19 @@ class Elsewhere(test_live.Meetings):
         self.wait_for(lambda: len(live._backlog) < 10)
 
     def test_what_is_run_for_a_session_that_is_left_comes_late(self):
-        self.addCleanup(setattr, processes, "PATIENCE", processes.PATIENCE)
+        self.addCleanup(setattr, RemoteGroup, "patience", RemoteGroup.patience)
         live, store = self.live(2, every=1, patience=0.2), MemoryStore()
-        a, pass_on, late = self.client.session(store.connect()), self.client.call_pass_on, []
+        a, pass_on, late = self.client.session(store.connect()), self.client._group.pass_on, []
 
         def later(*arguments):
             if not late:
                 late.append(time.sleep(1.0))
             return pass_on(*arguments)
 
-        self.client.call_pass_on, processes.PATIENCE = later, 0.2
+        self.client._group.pass_on, RemoteGroup.patience = later, 0.2
         a.run(add_one("x"))
         self.wait_for(lambda: any("hasn't answered" in line for line in self.told))
-        processes.PATIENCE = live._pace.patience = 60.0
+        RemoteGroup.patience = live._pace.patience = 60.0
         self.wait_for(live._places.numbers)
         self.wait_for(lambda: self.is_cut(live, a))
         self.wait_for(live._places.numbers)
@@ -159,9 +160,7 @@ class Elsewhere(test_live.Meetings):
         self.client.session(store.connect()).run(add_one("x"))
         begun = other.session(store.connect())
         begun.begin()
-        self.addCleanup(setattr, processes, "LEAVING", processes.LEAVING)
-        processes.LEAVING = 0.05
-        other.leave()
+        other.leave(0.05)
         self.wait_for(lambda: live.is_over)
         self.assertIn("in a transaction", str(live.failure))
 
@@ -186,15 +185,15 @@ class Elsewhere(test_live.Meetings):
         self.assertEqual(self.ended(live).kind, "violated")
 
     def test_a_process_that_does_not_answer_prevents_the_meeting(self):
-        self.addCleanup(setattr, processes, "PATIENCE", processes.PATIENCE)
-        processes.PATIENCE = 0.1
+        self.addCleanup(setattr, RemoteGroup, "patience", RemoteGroup.patience)
+        RemoteGroup.patience = 0.1
         live, store, other = self.live(2, every=1, patience=0.05), MemoryStore(), self.another()
         a, b = self.client.session(store.connect()), other.session(store.connect())
-        (stuck,) = [it for it in self.server.processes if b.number in it.has]
+        (stuck,) = [it.messages for it in self.server._processes if b.number in it.group.numbers()]
         plain, stuck.tell = stuck.tell, lambda *_, **__: True  # calls don't get there
         a.run(add_one("x"))
         self.wait_for(lambda: any(f"sessions {b.number} hasn't answered" in line for line in self.told))
-        processes.PATIENCE, live._pace.patience, stuck.tell = 60.0, 60.0, plain  # where other programs have the processors
+        RemoteGroup.patience, live._pace.patience, stuck.tell = 60.0, 60.0, plain  # where other programs have the processors
         self.wait_for(lambda: self.is_cut(live, a))
         other.leave()
         self.assertEqual(self.ended(live).kind, "serial")

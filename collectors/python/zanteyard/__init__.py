@@ -1,6 +1,8 @@
 """Audits the transactions of a store's clients with cobra_audit. docs/COLLECTORS.md says what is
 logged, and why."""
 from .apart import AuditorApart
+from .audit_client import AuditClient
+from .audit_server import AuditServer
 from .auditor import FENCE, Auditor, Full, NoCut, NoMemory, Refused
 from .errors import (
     AbortedError,
@@ -22,7 +24,6 @@ from .live import LiveAuditor, Lost
 from .outcome import RATHER_LOSE_THE_AUDIT, RATHER_WAIT, Outcome, Policy
 from .picture import dot_text, draw
 from .pipes import Ended
-from .processes import AuditClient, AuditServer
 from .records import Cut, Logged, Pending, Report, Store
 from .sessions import Aborted, NameTaken, OutcomeUnknown, Session, Transaction
 from .shrinking import audited, from_start, smaller, words

@@ -10,13 +10,13 @@ from dataclasses import dataclass
 from typing import Any, Callable, List, Optional, Tuple
 
 from .apart import AuditorApart
+from .audit_server import AuditServer
 from .charts import RoundSeen
 from .cluster import Cluster, ended_by_signals, program
 from .errors import ZanteyardError
 from .live import LiveAuditor
 from .outcome import RATHER_LOSE_THE_AUDIT, RATHER_WAIT, Outcome
 from .page import page_of
-from .processes import AuditServer
 from .sessions import Session
 from .shrinking import from_start
 from .stories import Story, story_of

@@ -9,7 +9,7 @@ import threading
 import time
 from typing import Any, Callable, Dict, List, Optional, Sequence
 
-from .processes import AuditClient
+from .audit_client import AuditClient
 from .sessions import Aborted, Session
 
 LEVELS = {

@@ -1,0 +1,193 @@
+"""A process of clients of a live audit; `audit_server.py` says how it has part in it."""
+
+from __future__ import annotations
+
+import logging
+import threading
+import time
+from dataclasses import astuple
+from multiprocessing.connection import Client
+from typing import Any, Callable, Dict, List, Optional
+
+from .errors import ProgramEndedError
+from .group_calls import GroupCalls
+from .handover import Handover
+from .live import PAUSE
+from .messages import Messages
+from .outcome import Policy
+from .place_requests import PlaceRequests
+from .records import Logged, Store
+from .sessions import Place, Session
+from .sessions_here import PATIENCE, SessionsHere
+
+logger = logging.getLogger("zanteyard")
+ANSWERING = 5.0  # seconds for an answer of the auditor's process
+LEAVING = 30.0  # seconds for sessions to end their transactions
+
+
+class AuditClient(SessionsHere):
+    """In place of a LiveAuditor, in a process of clients: theirs is behind the AuditServer at this
+    path. `leave` ends it, once its sessions do nothing more; a process that ends without it has the
+    audit end, since nobody knows what it did last. Raises OSError where nobody is there, and
+    ProgramEndedError where nobody answers. For threads."""
+
+    def __init__(self, path: str) -> None:
+        connection: Any = Client(path, "AF_UNIX")
+        self._messages = Messages(connection)
+        if not self._messages.comes(ANSWERING):
+            told = f"the auditor's process hasn't answered for {ANSWERING:g} s"
+            raise ProgramEndedError(told)
+        _, run_name, self.is_named, self.token, most, policy = self._messages.receive()
+        super().__init__(run_name, Policy(*policy))
+        self._handover = Handover(self._messages, most)
+        self._requests = PlaceRequests(self._messages)
+        self._calls = GroupCalls(self._group, self._messages, self._handover)
+        self._is_over = self._is_gone = False  # the audit, and the auditor's process
+        self._renewed = 0.0  # when a session was asked for last, in place of one that had ended
+        self._deeds: Dict[str, Callable[..., None]] = {
+            "call": self._calls.put,
+            "left": self._requests.take_answer,
+            "over": self._note_end,
+            "taken": self._handover.note_taken,
+        }
+        targets = (self._listen, self._calls.run_all, self._hand_over)
+        self._threads = [threading.Thread(target=target, daemon=True) for target in targets]
+        for thread in self._threads:
+            thread.start()
+
+    @property
+    def sessions(self) -> List[Session]:
+        """Of this process."""
+        return self._group.sessions
+
+    @property
+    def is_over(self) -> bool:
+        """Nothing more is audited: a violation was found, or the audit has ended for good, or the
+        auditor's process is gone."""
+        return self._is_over
+
+    def session(self, store: Store, patience: float = PATIENCE) -> Session:
+        """The session of a new client, which asks the store for so many seconds for an outcome that
+        isn't known. Raises ValueError where none is left, and ProgramEndedError where nothing more
+        is audited."""
+        place = self._requests.ask("join", True, seconds=ANSWERING)
+        if place is not None:
+            return self._add_session(place, store, patience)
+        if self._is_over:
+            raise ProgramEndedError("nothing more is audited")
+        raise ValueError("no session is left")
+
+    def leave(self, seconds: float = LEAVING) -> None:
+        """Hands over what is left, and gives its sessions back; waits for a meeting that holds
+        them. Where one is still in a transaction after so many seconds, the process is as lost as
+        if it had ended. May be called again."""
+        if self._calls.is_leaving:
+            return
+        self._calls.is_leaving, ends = True, time.monotonic() + seconds
+        taken = [
+            session
+            for session in self.sessions
+            if session.turn.acquire(timeout=max(0.0, ends - time.monotonic()))
+        ]
+        self._hand_over_all()
+        if len(taken) == len(self.sessions):
+            places = [session.place for session in self.sessions if session.is_open]
+            self._messages.tell("leave", [astuple(place) for place in places])
+        else:
+            self._messages.tell("lose", "a session was in a transaction as it left")
+        for session in self.sessions:
+            session.is_open, session.renew = False, None
+        for session in taken:
+            session.turn.release()
+        for thread in self._threads:
+            thread.join(ANSWERING)
+        self._group.end()
+        self._messages.close()
+
+    def __enter__(self) -> AuditClient:
+        return self
+
+    def __exit__(self, *_: object) -> None:
+        self.leave()
+
+    # what sessions call
+
+    def take(self, session: int, number: int, logged: Logged) -> None:
+        """Hands over what a transaction did; waits for room as long as the policy says."""
+        if self._handover.lost is not None or self._is_gone:
+            self._handover.drop()
+            return
+        try:
+            self._handover.put(session, number, logged)
+        except ValueError as error:
+            self._lose(f"transaction {number} of session {session} can't be handed over: {error}")
+            return
+        self._wait_for_room()
+
+    def take_close(self, session: int) -> None:
+        """Nothing more of this session comes."""
+        self._handover.put_close(session)
+
+    def _wait_for_room(self) -> None:
+        """Not in a meeting, which wants the session's turn, and in which nothing is told of what
+        was taken in."""
+        ends, sessions = time.monotonic() + self.policy.wait, len(self.sessions)
+        while self._handover.is_full(sessions) and not self._goes_on():
+            if time.monotonic() > ends:
+                count = self._handover.on_their_way
+                self._lose(f"the auditor can't keep up: {count} transactions are on their way")
+            time.sleep(PAUSE / 8)
+
+    def _goes_on(self) -> bool:
+        """Whether nobody waits for room."""
+        return self._is_over or self._handover.lost is not None or self._group.gate.locked()
+
+    def _lose(self, why: str) -> None:
+        """Nothing more of this process is audited, until another audit begins."""
+        self._handover.lose(why)
+        logger.error("nothing more is audited: %s", why)
+
+    def _renew(self, session: Session) -> Optional[Place]:
+        """At most once a second somebody is asked."""
+        if session.place is not None and time.monotonic() < self._renewed + 1:
+            place: Place = session.place
+            return place
+        self._renewed = time.monotonic()
+        wait = self.policy.wait / 2
+        found = self._requests.ask("join", False, seconds=wait) or session.place
+        return found or self._requests.ask("overflow", seconds=wait)
+
+    def _give_back(self, place: Place) -> None:
+        self._handover.put_back(astuple(place))
+
+    # the threads
+
+    def _hand_over(self) -> None:
+        while not (self._calls.is_leaving or self._is_gone):
+            self._handover.pause(PAUSE)
+            self._hand_over_all()
+
+    def _hand_over_all(self) -> None:
+        try:
+            self._handover.send_all()
+        except OSError:
+            self._note_gone()
+
+    def _listen(self) -> None:
+        try:
+            while True:
+                kind, *rest = self._messages.receive()
+                self._deeds[kind](*rest)
+        except (EOFError, OSError):
+            pass  # the auditor's process has closed it, or is gone
+        finally:
+            self._note_gone()
+            self._calls.end()
+
+    def _note_end(self) -> None:
+        self._is_over = True
+
+    def _note_gone(self) -> None:
+        """The auditor's process can't be reached: clients go on."""
+        self._is_over = self._is_gone = True
+        self._requests.end()

@@ -1,0 +1,108 @@
+"""What sessions of one process did, on its way to the auditor's process."""
+
+from __future__ import annotations
+
+import queue
+import threading
+import time
+from typing import Any, List, Optional, Sequence, Tuple
+
+from .apart import as_bytes
+from .auditor import LONGEST
+from .backlog import keys_written_unseen
+from .messages import Messages
+from .records import Logged
+
+# When it came, the session, the number (None where nothing more of the session comes), the keys
+# that were written unseen, and what was logged, as bytes.
+Packed = Tuple[float, int, Optional[int], Sequence[str], bytes]
+
+
+class Handover:
+    """For threads. What was lost since, `lost` says why: nothing more is handed over."""
+
+    def __init__(self, messages: Messages, most: int) -> None:
+        """At most so many transactions a session are on their way, before clients wait."""
+        self._messages, self._most = messages, most
+        self._waiting: queue.SimpleQueue[Packed] = queue.SimpleQueue()
+        self._given_back: queue.SimpleQueue[Tuple[Any, ...]] = queue.SimpleQueue()
+        self._sending = threading.Lock()  # so that what one session did is sent in its order
+        self._wake = threading.Event()  # somebody waits for room
+        self._sent = self._taken = 0
+        self._dropping = threading.Lock()
+        self._dropped = 0
+        self.lost: Optional[str] = None
+        self._told_lost: Optional[str] = None
+
+    def put(self, session: int, number: int, logged: Logged) -> None:
+        """Raises ValueError where it can't be handed over; then it counts as dropped."""
+        try:
+            packed = as_bytes(logged)
+        except ValueError:
+            self.drop()
+            raise
+        unseen = keys_written_unseen(logged)
+        self._waiting.put((time.monotonic(), session, number, unseen, packed))
+
+    def put_close(self, session: int) -> None:
+        self._waiting.put((time.monotonic(), session, None, (), b""))
+
+    def put_back(self, place: Tuple[Any, ...]) -> None:
+        """A place that is left, behind all that was done in it."""
+        self._given_back.put(place)
+
+    def drop(self) -> None:
+        """A transaction is done and not handed over: it counts all the same."""
+        with self._dropping:
+            self._dropped += 1
+
+    def lose(self, why: str) -> None:
+        self.lost = why
+        self._wake.set()
+
+    def begin_anew(self) -> None:
+        """What ends from here on is handed over; what has ended is known by its number."""
+        self.lost = None
+
+    def is_full(self, sessions: int) -> bool:
+        """Whether clients have to wait; they are waited for no longer, where it is nearly so."""
+        most = self._most * sessions
+        if self._waiting.qsize() > most // 2:
+            self._wake.set()
+        return self._waiting.qsize() + self.on_their_way > most
+
+    @property
+    def on_their_way(self) -> int:
+        """How many transactions were sent, and not taken in yet."""
+        return self._sent - self._taken
+
+    def note_taken(self, count: int) -> None:
+        self._taken += count
+
+    def pause(self, seconds: float) -> None:
+        """Until then, or until somebody waits for room."""
+        self._wake.wait(seconds)
+        self._wake.clear()
+
+    def send_all(self) -> None:
+        """Raises OSError where the auditor's process is gone."""
+        with self._sending:
+            places = _taken_from(self._given_back, self._given_back.qsize())
+            while self._dropped or not self._waiting.empty():
+                self._send(_taken_from(self._waiting, min(self._waiting.qsize(), LONGEST)))
+            for place in places:
+                self._messages.send("back", place)
+            lost = self.lost
+            if lost is not None and self._told_lost is not lost:
+                self._told_lost = lost
+                self._messages.send("lost", lost)
+
+    def _send(self, logged: List[Packed]) -> None:
+        with self._dropping:
+            dropped, self._dropped = self._dropped, 0
+        self._sent += len(logged)
+        self._messages.send("logged", logged, dropped)
+
+
+def _taken_from(waiting: "queue.SimpleQueue[Any]", count: int) -> List[Any]:
+    return [waiting.get() for _ in range(count)]

@@ -1,0 +1,152 @@
+"""The sessions of another process, as meetings use them: by calls over its connection."""
+
+from __future__ import annotations
+
+import threading
+import time
+from dataclasses import astuple, dataclass
+from typing import Any, Callable, Dict, Iterable, List, Optional, Sequence, Set, Tuple
+
+from .errors import ElsewhereError
+from .meetings import Missed, Wait
+from .messages import Messages
+from .sessions import Place
+
+PATIENCE = 5.0  # seconds for an answer, beside those that the call may take
+
+
+@dataclass
+class _Call:
+    """What was asked: the places that are lent for it, and once it is there the answer, which is
+    the result, what failed, and whether that is a meeting that was missed."""
+
+    lent: Sequence[Place]
+    answer: Optional[Tuple[Any, Optional[str], bool]] = None
+    is_late: bool = False
+
+
+class RemoteGroup:
+    """In place of a Group. For threads; `take_answer` is for the one that listens."""
+
+    is_here = False
+    patience = PATIENCE
+
+    def __init__(
+        self, messages: Messages, wait: float, give_back: Callable[[Iterable[Place]], None]
+    ) -> None:
+        """A call waits so many seconds beside its own; what is lent for one whose answer comes
+        later is given back then."""
+        self._messages, self._wait, self._give_back = messages, wait, give_back
+        self._numbers: Set[int] = set()
+        self._has_left = False
+        self._changed = threading.Condition()  # around what follows
+        self._calls: Dict[int, _Call] = {}
+        self._asked = 0
+
+    def add(self, number: int) -> None:
+        self._numbers.add(number)
+
+    def remove(self, number: int) -> None:
+        self._numbers.discard(number)
+
+    def leave(self) -> None:
+        """Nothing more is answered."""
+        self._has_left = True
+        with self._changed:
+            self._changed.notify_all()
+
+    @property
+    def has_left(self) -> bool:
+        return self._has_left
+
+    @property
+    def has_sessions(self) -> bool:
+        return bool(self._numbers) and not self._has_left
+
+    def numbers(self) -> Sequence[int]:
+        return () if self._has_left else sorted(self._numbers)
+
+    def told(self) -> str:
+        """The numbers of its sessions, also where it has left, in words."""
+        return ", ".join(map(str, sorted(self._numbers)))
+
+    def begin_gather(
+        self, meeting: int, seconds: float, leads: bool, places: Sequence[Place], idle: float
+    ) -> Wait[Tuple[List[int], List[Place]]]:
+        wait = self._begin("gather", meeting, seconds, leads, idle, lent=places)
+
+        def gathered(ends: float) -> Tuple[List[int], List[Place]]:
+            flags, given_back = wait(ends)
+            self._numbers.difference_update(number for number, *_ in given_back)
+            return flags, [Place(*place) for place in given_back]
+
+        return gathered
+
+    def begin_lead(self, meeting: int, lists: Sequence[Sequence[str]]) -> Wait[None]:
+        return self._begin("lead", meeting, lists)
+
+    def begin_pass_on(self, meeting: int, places: Sequence[Place]) -> Wait[None]:
+        return self._begin("pass_on", meeting, lent=places)
+
+    def release(self) -> None:
+        self._messages.tell("call", 0, "release", ([],), seconds=self.patience)
+
+    def reopen(self) -> None:
+        self._messages.tell("call", 0, "reopen", ([],), seconds=self.patience)
+
+    def edges(self) -> Optional[Sequence[Tuple[int, int, int]]]:
+        try:
+            found: Sequence[Tuple[int, int, int]]
+            found = self._begin("edges")(time.monotonic() + self.patience)
+            return found
+        except (Missed, ElsewhereError):
+            return None
+
+    def take_answer(
+        self,
+        asked: int,
+        result: Any,
+        failure: Optional[str],
+        is_missed: bool,
+        lent: Sequence[Tuple[Any, ...]],
+    ) -> None:
+        with self._changed:
+            call = self._calls.pop(asked, None)
+            if call is None:
+                return
+            for place, now in zip(call.lent, lent):
+                vars(place).update(vars(Place(*now)))
+            if not call.is_late:
+                call.answer = (result, failure, is_missed)
+                self._changed.notify_all()
+        if call.is_late:
+            self._give_back(call.lent)
+
+    def _begin(self, name: str, *arguments: Any, lent: Sequence[Place] = ()) -> Wait[Any]:
+        """Gives what waits for the answer, until then and a little longer."""
+        call = _Call(lent)
+        with self._changed:
+            self._asked += 1
+            asked = self._asked
+            self._calls[asked] = call
+        told = (*arguments, [astuple(place) for place in lent])
+        for place in lent:
+            place.is_lent = True  # until it is answered
+        if self._has_left or not self._messages.tell(
+            "call", asked, name, told, seconds=self.patience
+        ):
+            raise Missed("a process has left")
+        return lambda ends: self._answer_to(call, ends)
+
+    def _answer_to(self, call: _Call, ends: float) -> Any:
+        seconds = max(0.0, ends - time.monotonic()) + min(self.patience, self._wait)
+        with self._changed:
+            self._changed.wait_for(lambda: call.answer or self._has_left, seconds)
+            call.is_late = call.answer is None
+        if call.answer is None:
+            what = "has left" if self._has_left else f"hasn't answered for {seconds:.3g} s"
+            raise Missed(f"the process of the sessions {self.told()} {what}")
+        result, failure, is_missed = call.answer
+        if failure is not None:
+            raise (Missed if is_missed else ElsewhereError)(failure)
+        return result
