@@ -200,9 +200,18 @@ class LiveAuditor:
         if self.waiting.qsize() > self.room and threading.current_thread() is not self.thread:
             self.wait_for_room()
 
+    def miss(self, session, number, error):
+        """It isn't known whether a session has handed in what it did under this number."""
+        if self.seen.get(session, 0) <= number:
+            self.count(session, number)
+        self.lose(error)
+
+    def count(self, session, number):
+        count = self.counts.get(session, 0) + 1
+        self.seen[session], self.counts[session] = number + 1, count
+
     def hand_in(self, came, session, number, unseen, packed):
-        self.seen[session] = number + 1  # one thread at a time has the session's turn
-        self.counts[session] = self.counts.get(session, 0) + 1
+        self.count(session, number)  # one thread at a time has the session's turn
         if unseen:
             self.unseen.update(unseen)
         if not (self.has_ended or self.lost):

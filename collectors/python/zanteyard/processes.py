@@ -188,6 +188,10 @@ class ClientProcess(Messages):
         while self.live.waiting.qsize() > self.live.room and not self.live.goes_on():
             time.sleep(PAUSE / 4)
 
+    def take_missed(self, session, number):
+        if self.live.seen.get(session, 0) <= number:
+            self.live.count(session, number)
+
     def take_lost(self, why):
         """It goes on, and what it did from then on isn't known."""
         self.live.lose(Lost(why))
@@ -451,6 +455,12 @@ class AuditClient(Messages):
             self.wake.set()
         self.wait_for_room(most)
 
+    def miss(self, session, number, error):
+        """It isn't known whether a session has handed in what it did under this number."""
+        self.waiting.put(("missed", session, number))
+        if self.lost is None:
+            self.lose(str(error))
+
     def wait_for_room(self, most):
         """As long as the policy says, and not in a meeting, which wants the session's turn, and in
         which nothing is told of what was taken in."""
@@ -499,8 +509,8 @@ class AuditClient(Messages):
         if logged or dropped:
             self.sent += len(logged)
             self.send("logged", logged, dropped)
-        for _, place in (one for one in found if len(one) == 2):
-            self.send("back", place)
+        for told in (one for one in found if len(one) < 5):  # a place, or what was missed
+            self.send(*told)
 
     def listen(self):
         try:
