@@ -98,12 +98,14 @@ class Session:
     @property
     def number(self) -> Optional[int]:
         """Of the auditor's session that this one has; None where it has none."""
-        return self.place.number if self.place is not None else None
+        place = self.place  # which a meeting may take
+        return place.number if place is not None else None
 
     @property
     def begun(self) -> int:
         """How many transactions that has had."""
-        return int(self.place.begun) if self.place is not None else 0
+        place = self.place
+        return int(place.begun) if place is not None else 0
 
     def begin(self) -> Transaction:
         """Raises what the store does where it can't be reached; then nothing has begun."""
