@@ -5,15 +5,17 @@ import logging
 import os
 import signal
 import subprocess
+import sys
 import tempfile
 import threading
 import time
 import unittest
 
 import zanteyard
-from zanteyard import Aborted, Auditor, AuditorApart, LiveAuditor, Session
+from zanteyard import Aborted, AuditClient, Auditor, AuditorApart, AuditServer, LiveAuditor, Session
 from zanteyard.auditor import FENCE, PROGRAM
 from zanteyard.memory_store import MemoryStore
+from zanteyard.sessions import whole
 
 from .test_live import add_one, set_to
 
@@ -200,6 +202,128 @@ class AfterTheCommit(NoHarm):
             others.join(BOUND + SLACK)
             self.assertFalse(others.is_alive())
         self.assertEqual((auditor.round().kind, auditor.taken_in), ("serial", 1))  # it wasn't lost
+
+
+class Unspeakable:
+    """A value of the application's that can't be told."""
+
+    def __repr__(self):
+        raise RuntimeError("no word for it")
+
+
+class Interrupts(NoHarm):
+    """Ctrl-C and the like, wherever they come while a transaction is committed and handed in: as a
+    function is entered, or behind a call."""
+
+    KINDS = (KeyboardInterrupt, SystemExit, GeneratorExit)
+    PLACES = ("sessions", "auditor", "apart", "live", "backlog", "audit_client", "handover", "pipes")
+
+    def interrupted(self, transaction, at):
+        """Whether its commit was, at the place of this number."""
+        places, kind = [], self.KINDS[at % len(self.KINDS)]
+
+        def profile(frame, event, _):
+            name = os.path.basename(frame.f_code.co_filename)[: -len(".py")]
+            if event in ("call", "c_return") and name in self.PLACES:
+                places.append(frame.f_lineno)
+                if len(places) == at:
+                    sys.setprofile(None)
+                    raise kind
+
+        try:
+            with whole(transaction):
+                sys.setprofile(profile)
+                try:
+                    transaction.commit()
+                finally:
+                    sys.setprofile(None)
+            return False
+        except kind:
+            return True
+
+    def each_place(self, begin, step=1):
+        """`begin` gives two sessions, and what gives the outcome."""
+        for at in range(1, 1000, step):
+            store = MemoryStore()
+            a, b, end = begin(store)
+            a.run(set_to("x", 1))
+            transaction = a.begin()
+            add_one("x")(transaction)
+            with self.subTest(at=at):
+                is_interrupted = self.interrupted(transaction, at)
+                self.assertFalse(a.turn.locked())
+                b.run(lambda t: t.get("x"))
+                outcome = end()
+                self.assertNotEqual(outcome.kind, "violated")
+                self.assertEqual(outcome.handed_in, 3)
+                if outcome.kind == "serial":  # then the interrupt came before the store's answer
+                    self.assertEqual(outcome.audited, 3)
+                else:
+                    self.assertEqual(outcome.kind, "incomplete")
+                    self.assertIn("was interrupted", str(outcome))
+            if not is_interrupted:
+                self.assertEqual(outcome.kind, "serial")
+                return
+        self.fail("it has no end")
+
+    def test_over_an_auditor(self):
+        for of, step in ((Auditor, 1), (AuditorApart, 5)):  # the latter takes longer to begin
+
+            def begin(store):
+                auditor = of(3)
+                a, b = (Session(auditor, number, store.connect()) for number in range(2))
+
+                def end():
+                    with auditor:
+                        return auditor.outcome()
+
+                return a, b, end
+
+            with self.subTest(of=of.__name__):
+                self.each_place(begin, step)
+
+    def test_while_it_is_audited(self):
+        def begin(store):
+            auditor = Auditor(3)
+            live = self.live(auditor, policy=zanteyard.Policy(BOUND, begins_anew=False))
+
+            def end():
+                with auditor:
+                    return live.stop()
+
+            return *(live.session(store.connect()) for _ in range(2)), end
+
+        self.each_place(begin)
+
+    def test_what_can_not_be_told_is_missed_and_no_client_knows(self):
+        auditor = Auditor(3)
+        live = self.live(auditor, policy=zanteyard.Policy(BOUND, begins_anew=False))
+        with auditor:
+            session = live.session(MemoryStore().connect())
+            session.run(set_to("x", Unspeakable()))
+            outcome = live.stop()
+        self.assertEqual((outcome.kind, outcome.handed_in), ("incomplete", 1))
+        self.assertIn("no word for it", str(outcome))
+
+    def test_in_a_process_of_clients(self):
+        folder = tempfile.TemporaryDirectory()
+        self.addCleanup(folder.cleanup)
+
+        def begin(store):
+            auditor = Auditor(3)
+            live = self.live(auditor, policy=zanteyard.Policy(BOUND, begins_anew=False))
+            server = AuditServer(live, f"{folder.name}/audit")
+            client = AuditClient(server.path)
+
+            def end():
+                with auditor:
+                    with server, client:
+                        pass
+                    return live.stop()
+
+            return *(client.session(store.connect()) for _ in range(2)), end
+
+        self.each_place(begin)
 
 
 class Names(NoHarm):
@@ -422,7 +546,7 @@ class Scripts(NoHarm):
             ended = subprocess.run([PROGRAM], stdin=script, **more)
         return [json.loads(line) for line in ended.stdout.splitlines()]
 
-    def test_each_line_is_kept(self):
+    def test_each_place_is_kept(self):
         for of in (Auditor, AuditorApart):
             with self.subTest(of=of.__name__), tempfile.TemporaryDirectory() as folder:
                 path = os.path.join(folder, "script.jsonl")

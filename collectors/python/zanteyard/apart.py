@@ -47,7 +47,7 @@ class AuditorApart(Takes):
         self.hand_in_to(policy, run_name)
         self.process: Any = None
         self.connection: Any = None
-        self.audits = 0
+        self.audits, self.waits = 0, False
         self.start(None)
 
     def start(self, coverage: Optional[Coverage]) -> None:
@@ -74,7 +74,7 @@ class AuditorApart(Takes):
         with self.lock:
             self.check_end()
             self.end_program()
-            self.failure, self.late, self.handed_in, self.taken_in = None, None, 0, 0
+            self.begin_count()
             self.start(coverage)
 
     def call(self, name: str, *arguments: Any, seconds: float = SECONDS + MORE) -> Any:
@@ -92,6 +92,9 @@ class AuditorApart(Takes):
         """It would answer later what nobody asks any more."""
         self.process.kill()
 
+    def is_waiting(self) -> bool:
+        return self.waits
+
     def send(self, name: str, arguments: Sequence[Any]) -> None:
         try:
             self.connection.send((name, arguments))
@@ -100,7 +103,10 @@ class AuditorApart(Takes):
 
     def receive(self, seconds: float) -> Any:
         try:
-            if not self.connection.poll(seconds):
+            self.waits = True
+            is_there = self.connection.poll(seconds)
+            self.waits = False
+            if not is_there:
                 raise Late(f"{UNREACHABLE}: it hasn't answered for {seconds:.3g} s")
             is_failed, result = self.connection.recv()
         except (OSError, EOFError, pickle.UnpicklingError) as error:

@@ -115,14 +115,21 @@ class AuditClient(SessionsHere):
     def take(self, session: int, number: int, logged: Logged) -> None:
         """Hands over what a transaction did; waits for room as long as the policy says."""
         if self._handover.lost is not None or self._is_gone:
-            self._handover.drop()
+            self._handover.dropped += 1
             return
         try:
             self._handover.put(session, number, logged)
         except ValueError as error:
+            self._handover.dropped += 1
             self._lose(f"transaction {number} of session {session} can't be handed over: {error}")
             return
         self._wait_for_room()
+
+    def miss(self, session: int, number: int, error: Exception) -> None:
+        """It isn't known whether a session has handed in what it did under this number."""
+        self._handover.put_behind("missed", session, number)
+        if self._handover.lost is None:
+            self._lose(str(error))
 
     def take_close(self, session: int) -> None:
         """Nothing more of this session comes."""
@@ -158,7 +165,7 @@ class AuditClient(SessionsHere):
         return found or self._requests.ask("overflow", seconds=wait)
 
     def _give_back(self, place: Place) -> None:
-        self._handover.put_back(astuple(place))
+        self._handover.put_behind("back", astuple(place))
 
     # the threads
 

@@ -75,6 +75,10 @@ class Takes:
     def give_up(self) -> None:
         raise NotImplementedError
 
+    def is_waiting(self) -> bool:
+        """Whether an answer is waited for, and no part of it was read."""
+        raise NotImplementedError
+
     def last_round(self) -> Report:
         raise NotImplementedError
 
@@ -82,22 +86,42 @@ class Takes:
         self.policy, self.is_named = policy, run_name is not None
         self.run_name: str = run_name if run_name is not None else fresh_name()
         self.token = secrets.token_hex(12)  # of this run alone, also where its name isn't
-        self.failure: Optional[Exception] = None
-        self.handed_in, self.taken_in = 0, 0
         self.waiting: Deque[Tuple[Any, ...]] = deque()
         self.is_ended = False  # by who has made it
-        self.late: Any = None  # what was asked for a session and isn't answered yet, since when
+        self.counting = threading.Lock()
         self.lock = threading.RLock()  # what is kept here follows the replies in their order
+        self.begin_count()
+
+    def begin_count(self) -> None:
+        self.failure: Optional[Exception] = None
+        self.handed_in, self.taken_in = 0, 0
+        self.seen: Dict[int, int] = {}  # of each session, the number behind the last one counted
+        self.late: Any = None  # what was asked for a session and isn't answered yet, since when
 
     def take(self, session: int, number: int, logged: Logged) -> None:
+        self.count(session, number)
         self.hand_in(("offer", session, number, logged))
-        self.handed_in += 1
+
+    def count(self, session: int, number: int) -> None:
+        """Once, also of what is missed after it was handed in."""
+        with self.counting:
+            if self.seen.get(session, 0) <= number:
+                self.seen[session] = number + 1
+                self.handed_in += 1
+
+    def miss(self, session: int, number: int, error: Exception) -> None:
+        """It isn't known whether a session has handed in what it did under this number."""
+        self.count(session, number)
+        self.waiting.clear()
+        self.fail(error)  # what was asked already is answered before a round is
 
     def take_close(self, session: int) -> None:
         """Nothing more of this session comes."""
         self.hand_in(("close", session))
 
     def hand_in(self, what: Tuple[Any, ...]) -> None:
+        if self.failure is not None:
+            return
         self.waiting.append(what)
         ends = time.monotonic() + self.policy.wait
         if self.lock.acquire(timeout=self.policy.wait):  # else who has it takes it in
@@ -125,6 +149,10 @@ class Takes:
                     return
                 except Exception as error:
                     self.lose(error)
+                except BaseException:  # as Ctrl-C: unless nothing was read just then
+                    if self.late is None or not self.is_waiting():
+                        self.give_up()
+                    raise
 
     def check_end(self) -> None:
         if self.is_ended:
@@ -142,6 +170,9 @@ class Takes:
         """Nothing more is audited but what was taken in by now."""
         self.late = None
         self.waiting.clear()
+        self.fail(error)
+
+    def fail(self, error: Exception) -> None:
         if self.failure is None:
             self.failure = error
             logger.error("nothing more is audited: %s", error)
@@ -234,7 +265,7 @@ class Auditor(Takes):
         with self.lock:
             self.check_end()
             self.end_program()
-            self.failure, self.late, self.handed_in, self.taken_in = None, None, 0, 0
+            self.begin_count()
             self.start(coverage)
 
     @property
@@ -274,6 +305,9 @@ class Auditor(Takes):
         """It would answer later what nobody asks any more."""
         assert self.program is not None
         self.program.kill()
+
+    def is_waiting(self) -> bool:
+        return self.program is not None and self.program.is_waiting
 
     def give(self, texts: Sequence[str]) -> None:
         if self.program is None:

@@ -36,12 +36,17 @@ class Backlog:
         self._counts: Dict[int, int] = {}  # by session, of all audits
         self._dropping = threading.Lock()
 
-    def count(self, session: int, number: int, unseen: Iterable[str]) -> None:
+    def count(self, session: int, number: int, unseen: Iterable[str] = ()) -> None:
         """A transaction, whether or not an audit is about it."""
-        self._next_numbers[session] = number + 1
-        self._counts[session] = self._counts.get(session, 0) + 1
+        count = self._counts.get(session, 0) + 1  # from here on no interrupt comes in between
+        self._next_numbers[session], self._counts[session] = number + 1, count
         if unseen:
             self._unseen.update(unseen)
+
+    def count_missed(self, session: int, number: int) -> None:
+        """Once, where it isn't known whether it was counted."""
+        if self.next_number(session) <= number:
+            self.count(session, number)
 
     def count_dropped(self, count: int) -> None:
         with self._dropping:

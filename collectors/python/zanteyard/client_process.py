@@ -33,6 +33,7 @@ class ClientProcess:
             "logged": self._take_logged,
             "lose": self._take_end,
             "lost": self._take_loss,
+            "missed": live._backlog.count_missed,
             "overflow": self._take_overflow,
         }
 

@@ -25,36 +25,25 @@ class Handover:
         """At most so many transactions a session are on their way, before clients wait."""
         self._messages, self._most = messages, most
         self._waiting: queue.SimpleQueue[Packed] = queue.SimpleQueue()
-        self._given_back: queue.SimpleQueue[Tuple[Any, ...]] = queue.SimpleQueue()
+        self._behind: queue.SimpleQueue[Tuple[Any, ...]] = queue.SimpleQueue()
         self._sending = threading.Lock()  # so that what one session did is sent in its order
         self._wake = threading.Event()  # somebody waits for room
         self._sent = self._taken = 0
-        self._dropping = threading.Lock()
-        self._dropped = 0
+        self.dropped = 0  # transactions that are done and not handed over: they count all the same
         self.lost: Optional[str] = None
         self._told_lost: Optional[str] = None
 
     def put(self, session: int, number: int, logged: Logged) -> None:
-        """Raises ValueError where it can't be handed over; then it counts as dropped."""
-        try:
-            packed = as_bytes(logged)
-        except ValueError:
-            self.drop()
-            raise
-        unseen = keys_written_unseen(logged)
+        """Raises ValueError where it can't be made bytes."""
+        packed, unseen = as_bytes(logged), keys_written_unseen(logged)
         self._waiting.put((time.monotonic(), session, number, unseen, packed))
 
     def put_close(self, session: int) -> None:
         self._waiting.put((time.monotonic(), session, None, (), b""))
 
-    def put_back(self, place: Tuple[Any, ...]) -> None:
-        """A place that is left, behind all that was done in it."""
-        self._given_back.put(place)
-
-    def drop(self) -> None:
-        """A transaction is done and not handed over: it counts all the same."""
-        with self._dropping:
-            self._dropped += 1
+    def put_behind(self, *message: Any) -> None:
+        """A message that is sent when all that was done by now has been."""
+        self._behind.put(message)
 
     def lose(self, why: str) -> None:
         self.lost = why
@@ -87,19 +76,18 @@ class Handover:
     def send_all(self) -> None:
         """Raises OSError where the auditor's process is gone."""
         with self._sending:
-            places = _taken_from(self._given_back, self._given_back.qsize())
-            while self._dropped or not self._waiting.empty():
+            behind = _taken_from(self._behind, self._behind.qsize())
+            while self.dropped or not self._waiting.empty():
                 self._send(_taken_from(self._waiting, min(self._waiting.qsize(), LONGEST)))
-            for place in places:
-                self._messages.send("back", place)
+            for message in behind:
+                self._messages.send(*message)
             lost = self.lost
             if lost is not None and self._told_lost is not lost:
                 self._told_lost = lost
                 self._messages.send("lost", lost)
 
     def _send(self, logged: List[Packed]) -> None:
-        with self._dropping:
-            dropped, self._dropped = self._dropped, 0
+        dropped, self.dropped = self.dropped, 0
         self._sent += len(logged)
         self._messages.send("logged", logged, dropped)
 

@@ -214,6 +214,11 @@ class LiveAuditor(SessionsHere):
         if self._backlog.is_over_full and threading.current_thread() is not self._thread:
             self._wait_for_room()
 
+    def miss(self, session: int, number: int, error: Exception) -> None:
+        """It isn't known whether a session has handed in what it did under this number."""
+        self._backlog.count_missed(session, number)
+        self.lose(error)
+
     def take_close(self, session: int) -> None:
         """Nothing more of this session comes."""
         if not self._drops():

@@ -60,7 +60,7 @@ class Group:
 
     @property
     def has_sessions(self) -> bool:
-        return any(session.is_open for session in self.sessions)
+        return any(session.is_open for session in list(self.sessions))
 
     def gather(
         self, meeting: int, seconds: float, leads: bool, places: Sequence[Place], idle: float
@@ -81,16 +81,19 @@ class Group:
             raise Missed("no client has a session")
         self.leader = max(summoned, key=lambda session: session.used_at) if leads else None
         for session in sorted(summoned, key=lambda session: session.current is not None):
-            self.hold(session, meeting, seconds)
+            place = self.hold(session, meeting, seconds)
             if session.is_open and session is self.leader:
                 self.begin(meeting, session, "write_mark")
-            elif session.is_open and session.place.is_due:
+            elif session.is_open and place.is_due:
                 self.begin(meeting, session, "flag")
         self.end_all()
         self.share(meeting, places, "flag")
-        flags = [one.number for one in self.held if one.is_open and one.place.has_flag]
-        flags += [place.number for place in places if place.has_flag]
-        return flags, self.given_back(idle)
+        with self.lock:  # else who is released goes on meanwhile
+            if self.meeting != meeting:
+                raise Missed("the meeting took too long")
+            flags = [one.number for one in self.held if one.is_open and one.place.has_flag]
+            flags += [place.number for place in places if place.has_flag]
+            return flags, self.given_back(idle)
 
     def begin_gather(
         self, meeting: int, seconds: float, leads: bool, places: Sequence[Place], idle: float
@@ -108,7 +111,8 @@ class Group:
         self.pass_on(meeting, places)
         return lambda ends: None
 
-    def hold(self, session: Session, meeting: int, seconds: float) -> None:
+    def hold(self, session: Session, meeting: int, seconds: float) -> Any:
+        """Gives its place."""
         if not session.turn.acquire(timeout=self.left()):
             told = f"a transaction of session {session.number} took longer than {seconds:g} s"
             raise Missed(told)
@@ -117,9 +121,11 @@ class Group:
                 session.turn.release()
                 raise Missed("the meeting took too long")
             self.held[session] = none_running()
+            return session.place
 
     def given_back(self, idle: float) -> List[Place]:
-        """Whose client does nothing goes without a session, until it comes back."""
+        """Whose client does nothing goes without a session, until it comes back; for who has the
+        lock."""
         places = []
         for session in list(self.held):
             is_idle = time.monotonic() - session.used_at > idle
@@ -190,15 +196,16 @@ class Group:
         been answered when whatever hadn't been sent in the second call was sent."""
         found = []
         for session in list(self.sessions):
-            if session.place is None:
+            place = session.place  # which its client may leave meanwhile
+            if place is None:
                 continue
-            begun = session.begun  # before it is seen what runs: if nothing does, all have ended
+            begun = place.begun  # before it is seen what runs: if nothing does, all have ended
             running = session.running
             if running is None:
-                found.append((session.number, begun, begun))
+                found.append((place.number, begun, begun))
             else:
                 first = running.number + 1 if running.is_committing else running.number
-                found.append((session.number, running.number, first))
+                found.append((place.number, running.number, first))
         return found
 
     def reopen(self) -> None:
@@ -210,7 +217,8 @@ class Group:
 
     def numbers(self) -> List[Any]:
         """Of the sessions' places."""
-        return [session.number for session in self.sessions if session.place is not None]
+        places = [session.place for session in list(self.sessions)]
+        return [place.number for place in places if place is not None]
 
     def end(self) -> None:
         self.pool.shutdown(wait=False)

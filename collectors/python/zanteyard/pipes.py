@@ -34,6 +34,7 @@ class Pipes:
         self.rest = b""  # what was read behind the last whole line
         self.unsent = memoryview(b"")  # of lines
         self.found: List[bytes] = []  # answers that nobody has yet
+        self.is_waiting = False  # an interrupt in that moment loses nothing
         self.waits = select.poll()
         self.waits.register(self.output, select.POLLIN | select.POLLHUP)
         self.takes = select.poll()
@@ -69,7 +70,11 @@ class Pipes:
                 raise Late("cobra_audit hasn't answered in time") from None
 
     def read(self, until: float, is_blocking: bool) -> None:
-        if not self.waits.poll(self.left(until) if is_blocking else 0):
+        left = self.left(until) if is_blocking else 0
+        self.is_waiting = True
+        is_there = self.waits.poll(left)
+        self.is_waiting = False
+        if not is_there:
             if is_blocking:
                 raise Late("cobra_audit hasn't answered in time")
             return

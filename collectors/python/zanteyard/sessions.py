@@ -28,7 +28,7 @@ from typing import Tuple, TypeVar
 
 from .auditor import FENCE, FLAG, MARK
 from .circumstances import brief, caller
-from .errors import AbortedError, NameTakenError, OutcomeUnknownError
+from .errors import AbortedError, AuditLostError, NameTakenError, OutcomeUnknownError
 from .records import Deed, Found, Logged, Name, Read, Source, Store
 
 # The same errors under shorter names.
@@ -98,12 +98,14 @@ class Session:
     @property
     def number(self) -> Optional[int]:
         """Of the auditor's session that this one has; None where it has none."""
-        return self.place.number if self.place is not None else None
+        place = self.place  # which a meeting may take
+        return place.number if place is not None else None
 
     @property
     def begun(self) -> int:
         """How many transactions that has had."""
-        return int(self.place.begun) if self.place is not None else 0
+        place = self.place
+        return int(place.begun) if place is not None else 0
 
     def begin(self) -> Transaction:
         """Raises what the store does where it can't be reached; then nothing has begun."""
@@ -192,16 +194,29 @@ class Session:
         self.is_open, self.place.is_ended = False, True
         self.tell(self.auditor.take_close, self.number)
 
-    def tell(self, call: Callable[..., Any], *arguments: Any) -> None:
-        """The auditor, whose fate is none of the client's business."""
+    def tell(self, call: Callable[..., Any], *arguments: Any) -> bool:
+        """Whether the auditor took it, whose fate is none of the client's business."""
         came = time.monotonic()
         try:
             call(*arguments)
+            return True
         except Exception as error:
-            if self.failure is None:
-                self.failure = error
-                logger.error("nothing more of session %s is audited: %s", self.number, error)
-        self.has_waited(came)
+            self.fail(error)
+            return False
+        finally:
+            self.has_waited(came)
+
+    def fail(self, error: Exception) -> None:
+        if self.failure is None:
+            self.failure = error
+            logger.error("nothing more of session %s is audited: %s", self.number, error)
+
+    def miss(self, number: int, error: Optional[Exception] = None) -> None:
+        """Whether what was done under this number was handed in isn't known."""
+        self.fail(error or AuditLostError("it isn't known what was done"))
+        miss = getattr(self.auditor, "miss", None)
+        if miss is not None:
+            self.tell(miss, self.number, number, error or self.failure)
 
     # What meetings call, for who holds the session's turn. Each is a transaction of the collector's
     # own, which the store has ended within so many seconds.
@@ -371,16 +386,16 @@ class Transaction:
                     self.store.write(key, self.written[key], self.name)
                     self.was_run((key,))
             self.store.commit()
+            self.log(self.reads, self.written, "committed")
         except OutcomeUnknown:
             self.find_out()
         except Exception:
             self.rollback()
             raise
         except BaseException:  # as Ctrl-C: the store may have committed
-            self.log((), self.written, "unknown", is_last=bool(self.written))
+            if not self.is_over:
+                self.log((), self.written, "unknown", is_last=bool(self.written))
             raise
-        else:
-            self.log(self.reads, self.written, "committed")
 
     def rollback(self) -> None:
         if not self.is_over:
@@ -417,19 +432,28 @@ class Transaction:
     def log(
         self, reads: Iterable[Read], writes: Iterable[str], outcome: str, is_last: bool = False
     ) -> None:
-        """Hands in what is known; nothing that fails here comes back to the client."""
-        session, self.is_over = self.session, True
-        session.place.is_due = True
+        """Hands in what is known; nothing that fails here comes back to the client, but for what
+        ends it, as Ctrl-C does: then it isn't known what was handed in."""
+        session = self.session
         try:
+            self.is_over = True
+            session.place.is_due = True
+            if self.holds:
+                session.used_at = time.monotonic()
             # Nothing is known of a fence without its read: who reads from it waits for it then.
             if not (is_last and FENCE in writes):
-                session.tell(self.hand_in, reads, writes, outcome)
+                if not session.tell(self.hand_in, reads, writes, outcome):
+                    session.miss(self.number)
             if is_last:
                 session.end()
-        finally:
+        except BaseException as error:
+            told = f"transaction {session.number}.{self.number} was interrupted as it was handed in"
+            session.miss(self.number, AuditLostError(f"{told} ({type(error).__name__})"))
+            raise
+        finally:  # nothing is called before the turn is given back: no signal comes in between
             session.running = None
             if self.holds:
-                session.used_at, session.current = time.monotonic(), None
+                session.current = None
                 session.turn.release()
 
     def hand_in(self, reads: Iterable[Read], writes: Iterable[str], outcome: str) -> None:
