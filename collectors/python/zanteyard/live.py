@@ -14,7 +14,7 @@ import logging
 import threading
 import time
 from dataclasses import dataclass, replace
-from typing import Any, Callable, Iterable, List, Optional
+from typing import Any, Callable, Iterable, List, Optional, Tuple
 
 from .apart import AuditorApart
 from .audit import AnyAuditor, Audit, Figures
@@ -149,6 +149,11 @@ class LiveAuditor(SessionsHere):
     def name(self) -> str:
         """Of this audit."""
         return self._audit.name
+
+    @property
+    def earlier(self) -> Tuple[Outcome, ...]:
+        """Of the audits that ended before this one began."""
+        return self._audit.earlier
 
     @property
     def report(self) -> Optional[Report]:
