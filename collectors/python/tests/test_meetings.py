@@ -1,13 +1,18 @@
 """What a meeting has the sessions of one process do, at moments that a run seldom comes to."""
+import logging
 import os
+import threading
+import time
 import unittest
 
-from zanteyard import Auditor, Session
-from zanteyard.auditor import PROGRAM
+from zanteyard import Auditor, OutcomeUnknown, Session, StoreLateError
+from zanteyard.auditor import FLAG, PROGRAM
 from zanteyard.meetings import Group, Missed
 from zanteyard.memory_store import MemoryStore
+from zanteyard.sessions import Place
 
 SECONDS = 60.0
+SLOW = 20.0  # seconds in which anything is done that isn't waited for, beside other programs
 
 
 @unittest.skipUnless(os.path.isfile(PROGRAM), f"{PROGRAM} is not built")
@@ -40,6 +45,54 @@ class Meetings(unittest.TestCase):
         begun[0].commit()
         self.assertEqual((session.number, session.is_open), (0, True))
         self.assertEqual(self.auditor.round().kind, "serial")
+
+    def stuck(self, **more):
+        """A session for which a meeting runs a flag that its store doesn't answer."""
+        store, self.answers = self.store.connect(), threading.Event()
+        self.addCleanup(self.answers.set)
+        logging.getLogger("zanteyard").setLevel(logging.CRITICAL)
+        self.addCleanup(logging.getLogger("zanteyard").setLevel, logging.NOTSET)
+        plain = store.write
+
+        def write(key, value, name):
+            if key.startswith(FLAG):
+                self.answers.wait(SECONDS)
+                raise OutcomeUnknown("no answer")
+            plain(key, value, name)
+
+        store.write, store.known = write, False
+        vars(store).update(more)
+        session = self.session(0, store)
+        session.run(lambda t: t.put("x", 1))
+        with self.assertRaises(Missed):
+            self.group.gather(1, 0.1, False, (), SECONDS)
+        self.group.release()
+        return session
+
+    def test_who_waits_for_the_store_in_the_audits_place_waits_no_longer_than_a_bound(self):
+        session = self.stuck()
+        began = time.monotonic()
+        with self.assertRaises(StoreLateError):
+            session.begin()
+        self.assertGreater(time.monotonic() - began, 2 * session.wait - 0.01)
+        self.assertLess(time.monotonic() - began, SLOW)
+        self.assertGreaterEqual(session.longest, 2 * session.wait - 0.01)
+        self.answers.set()
+        with session.turn:
+            self.assertFalse(session.is_open)  # since its flag may be there, or not
+
+    def test_what_the_store_does_not_answer_is_given_up_where_it_can_be(self):
+        session = self.stuck(hang_up=lambda: self.answers.set())
+        session.renew = lambda it: Place(1)
+        began = time.monotonic()
+        session.run(lambda t: t.put("x", 2))
+        self.assertLess(time.monotonic() - began, SLOW)
+        self.assertEqual(self.auditor.round().kind, "serial")
+
+    def test_nothing_is_waited_for_behind_the_end(self):
+        self.stuck(hang_up=lambda: self.answers.set())
+        self.group.end()
+        self.assertTrue(self.answers.is_set())
 
     def test_who_is_idle_goes_without_a_place(self):
         session = self.session(0)

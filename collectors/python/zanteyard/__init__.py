@@ -17,6 +17,7 @@ from .errors import (
     ProgramMissingError,
     RefusedError,
     ScriptMistakeError,
+    StoreLateError,
     ZanteyardError,
 )
 from .explain import Explanation, explain_history, reasons
@@ -32,11 +33,11 @@ from .telling import tell_violation
 __all__ = [
     *("AbortedError", "AuditLostError", "FullError", "NameTakenError", "NoCutError"),
     *("NoMemoryError", "OutcomeUnknownError", "ProgramEndedError", "ProgramLateError"),
-    *("ProgramMissingError", "RefusedError", "ScriptMistakeError", "ZanteyardError"),
+    *("ProgramMissingError", "RefusedError", "ScriptMistakeError", "StoreLateError"),
     *("Aborted", "AuditClient", "AuditServer", "Auditor", "AuditorApart", "Cut", "Ended", "FENCE"),
     *("Explanation", "Full", "LiveAuditor", "Logged", "Lost", "NameTaken", "NoCut", "NoMemory"),
     *("Outcome", "OutcomeUnknown", "Pending", "Policy", "RATHER_LOSE_THE_AUDIT", "RATHER_WAIT"),
     *("Refused", "Report", "Session", "Store", "Transaction", "audited", "dot_text", "draw"),
-    *("explain_history",),
+    *("ZanteyardError", "explain_history"),
     *("from_start", "reasons", "smaller", "tell_violation", "words"),
 ]

@@ -50,6 +50,11 @@ class OutcomeUnknownError(ZanteyardError):
     of its session is audited, unless another one is left for it."""
 
 
+class StoreLateError(ZanteyardError, TimeoutError):
+    """Over this session's connection the store hasn't answered what the audit asked, and nothing
+    else can be asked meanwhile. Nothing has begun."""
+
+
 class NameTakenError(ZanteyardError, ValueError):
     """The store knows the name of this run from an earlier one: what that has written would be
     taken for this one's."""

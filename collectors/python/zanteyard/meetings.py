@@ -221,4 +221,9 @@ class Group:
         return [place.number for place in places if place is not None]
 
     def end(self) -> None:
+        """No meeting comes any more; what the store hasn't answered is given up, since a program's
+        end waits for all threads of pools."""
         self.pool.shutdown(wait=False)
+        for session in list(self.sessions):
+            if session.current is None and session.turn.locked():
+                session.hang_up()

@@ -3,7 +3,9 @@ marks a deleted key."""
 
 from __future__ import annotations
 
+import os
 import re
+import socket
 from typing import Any, Dict, Optional, Sequence, Tuple
 
 import psycopg2
@@ -164,6 +166,16 @@ class PostgresStore:
         """Closes the connection; the next transaction opens another one. May be called twice."""
         if self.connection is not None:
             self.connection.close()
+
+    def hang_up(self) -> None:
+        """From any thread: what waits for the server raises OutcomeUnknown at once, or psycopg2's
+        error, and the next transaction opens another connection."""
+        connection = self.connection
+        try:
+            with socket.socket(fileno=os.dup(connection.fileno())) as same:
+                same.shutdown(socket.SHUT_RDWR)
+        except (AttributeError, OSError, psycopg2.Error):
+            pass  # none is open
 
     def outcome(self) -> str:
         """By a connection of its own, since the one at hand may be broken. A server that crashed

@@ -11,7 +11,9 @@ It may have more. `read_all(keys)` gives by key what `read` gives, for those tha
 `exchange(key, value, name)` writes as `write` does and gives what `read` gave of the version that
 it overwrites: nothing may come between the two, at whatever level the store runs.
 `begin_alone(seconds)` begins, in place of `begin`, transactions of one statement each, which end
-within so many seconds; these calls may then raise OutcomeUnknown themselves. `claim(run_name,
+within so many seconds; these calls may then raise OutcomeUnknown themselves. `hang_up()`, from any
+thread, has whatever waits for an answer over this connection wait no more, and the next transaction
+begin over another one: it is called where a client waits for what the audit asks. `claim(run_name,
 token)` raises NameTaken where the store knows the name, but for a run with this token. `statement`
 is what it has run last, as who is told of a violation should see it.
 """
@@ -29,6 +31,7 @@ from typing import Tuple, TypeVar
 from .auditor import FENCE, FLAG, MARK
 from .circumstances import brief, caller
 from .errors import AbortedError, AuditLostError, NameTakenError, OutcomeUnknownError
+from .errors import StoreLateError
 from .records import Deed, Found, Logged, Name, Read, Source, Store
 
 # The same errors under shorter names.
@@ -122,12 +125,25 @@ class Session:
 
     def take_turn(self) -> None:
         """Who holds it, and the gate, are meetings, which end within the policy's wait; but for a
-        statement of theirs that the store hasn't answered over this connection."""
+        statement of theirs that the store hasn't answered over this connection. That is waited for
+        as long once more, and then given up."""
         came = time.monotonic()
-        if self.gate.locked() and self.gate.acquire(timeout=self.wait):
-            self.gate.release()
-        self.turn.acquire()
-        self.has_waited(came)
+        try:
+            if self.gate.locked() and self.gate.acquire(timeout=self.wait):
+                self.gate.release()
+            if self.turn.acquire(timeout=self.wait):
+                return
+            logger.warning("session %s: the store doesn't answer the audit", self.number)
+            self.hang_up()
+            if not self.turn.acquire(timeout=self.wait):
+                raise StoreLateError(f"session {self.number} waits for the store")
+        finally:
+            self.has_waited(came)
+
+    def hang_up(self) -> None:
+        hang_up = getattr(self.store, "hang_up", None)
+        if hang_up is not None:
+            hang_up()
 
     def has_waited(self, since: float) -> None:
         waited = time.monotonic() - since
