@@ -1,5 +1,27 @@
-"""Audits the transactions of a store's clients with cobra_audit. docs/COLLECTORS.md says what is
-logged, and why."""
+"""Audits a transactional store's clients for serializability, by the program cobra_audit.
+
+    from zanteyard import Auditor, Session
+    from zanteyard.postgres_store import PostgresStore, prepare
+
+    prepare("dbname=bank")
+    with Auditor(sessions=1) as auditor:
+        alice = Session(auditor, 0, PostgresStore("dbname=bank"))
+        alice.run(lambda t: t.put("rent", str(int(t.get("rent") or 0) + 10)))
+        print(auditor.outcome())
+
+- What runs: an Auditor, or an AuditorApart, which holds clients up less; a Session for each client,
+  over a Store; each of its transactions is a Transaction.
+- While clients run without an end: a LiveAuditor, which gives out sessions; for clients of other
+  processes an AuditServer, and an AuditClient there. A Policy says what gives way.
+- What came of it: an Outcome, with the Report of its last round and what is Pending.
+- What is told of a violation: tell_violation does all of it; from_start, smaller, words,
+  explain_history, reasons, audited, dot_text and draw are its parts.
+- What is raised is a ZanteyardError; Aborted, Ended, Full, Lost, NameTaken, NoCut, NoMemory,
+  OutcomeUnknown and Refused are the same classes under shorter names. What fails behind a commit
+  is never raised to who runs transactions: outcomes tell it, and the log `zanteyard`.
+
+docs/COLLECTORS.md says what is logged, and why.
+"""
 from .apart import AuditorApart
 from .audit_client import AuditClient
 from .audit_server import AuditServer
@@ -29,15 +51,24 @@ from .records import Cut, Logged, Pending, Report, Store
 from .sessions import Aborted, NameTaken, OutcomeUnknown, Session, Transaction
 from .shrinking import audited, from_start, smaller, words
 from .telling import tell_violation
+from .version import VERSION as __version__
 
 __all__ = [
-    *("AbortedError", "AuditLostError", "FullError", "NameTakenError", "NoCutError"),
-    *("NoMemoryError", "OutcomeUnknownError", "ProgramEndedError", "ProgramLateError"),
-    *("ProgramMissingError", "RefusedError", "ScriptMistakeError", "StoreLateError"),
-    *("Aborted", "AuditClient", "AuditServer", "Auditor", "AuditorApart", "Cut", "Ended", "FENCE"),
-    *("Explanation", "Full", "LiveAuditor", "Logged", "Lost", "NameTaken", "NoCut", "NoMemory"),
-    *("Outcome", "OutcomeUnknown", "Pending", "Policy", "RATHER_LOSE_THE_AUDIT", "RATHER_WAIT"),
-    *("Refused", "Report", "Session", "Store", "Transaction", "audited", "dot_text", "draw"),
-    *("ZanteyardError", "explain_history"),
-    *("from_start", "reasons", "smaller", "tell_violation", "words"),
+    # what runs
+    *("Auditor", "AuditorApart", "Session", "Store", "Transaction", "Logged", "FENCE", "Cut"),
+    *("LiveAuditor", "AuditServer", "AuditClient"),
+    *("Policy", "RATHER_LOSE_THE_AUDIT", "RATHER_WAIT"),
+    # what came of it
+    *("Outcome", "Pending", "Report"),
+    # what is told of a violation
+    *("Explanation", "audited", "dot_text", "draw", "explain_history", "from_start", "reasons"),
+    *("smaller", "tell_violation", "words"),
+    # what is raised
+    *("AbortedError", "AuditLostError", "FullError", "NameTakenError"),
+    *("NoCutError", "NoMemoryError", "OutcomeUnknownError", "ProgramEndedError"),
+    *("ProgramLateError", "ProgramMissingError", "RefusedError", "ScriptMistakeError"),
+    *("StoreLateError", "ZanteyardError"),
+    *("Aborted", "Ended", "Full", "Lost", "NameTaken", "NoCut", "NoMemory", "OutcomeUnknown"),
+    "Refused",
+    "__version__",
 ]

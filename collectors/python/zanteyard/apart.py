@@ -14,10 +14,8 @@ import sys
 from multiprocessing.connection import Connection, Pipe
 from typing import Any, List, Optional, Sequence, Tuple
 
-from .auditor import EFFORTS, LIMIT, PROGRAM, SECONDS, Auditor, Effort, Fragment, Full, NoCut
-from .auditor import Takes
+from .auditor import EFFORTS, SECONDS, Auditor, Effort, Fragment, Full, NoCut, Takes
 from .coverage import Coverage
-from .outcome import RATHER_LOSE_THE_AUDIT, Policy
 from .pipes import ENDING, Ended, Late
 from .records import Cut, History, Logged, Report
 
@@ -34,23 +32,11 @@ class AuditorApart(Takes):
     """In place of an Auditor: calls go to one in another process, and their results come from
     there. For threads. Raises Ended where that process can't be reached."""
 
-    def __init__(
-        self,
-        sessions: int,
-        limit: int = LIMIT,
-        program: str = PROGRAM,
-        run_name: Optional[str] = None,
-        script: Optional[str] = None,
-        policy: Policy = RATHER_LOSE_THE_AUDIT,
-    ) -> None:
-        self.sessions, self.limit, self.path, self.script_path = sessions, limit, program, script
-        self.hand_in_to(policy, run_name)
-        self.process: Any = None
-        self.connection: Any = None
-        self.audits, self.waits = 0, False
-        self.start(None)
+    process: Any = None
+    connection: Any = None
+    _waits = False  # for an answer, of which nothing was read
 
-    def start(self, coverage: Optional[Coverage]) -> None:
+    def _start(self, coverage: Optional[Coverage]) -> None:
         self.remaining, self.can_cut, self.left_out = 0, True, 0
         self.connection, theirs = Pipe()
         descriptor = str(theirs.fileno())
@@ -66,34 +52,26 @@ class AuditorApart(Takes):
             more = (self.script_path, self.audits, coverage)
             self.call("open", self.sessions, self.limit, self.path, *more)
         except BaseException:
-            self.end_program()
+            self._end_program()
             raise
-
-    def start_anew(self, coverage: Optional[Coverage] = None) -> None:
-        """In another process, since this one may be what was lost. Raises Ended behind `end`."""
-        with self.lock:
-            self.check_end()
-            self.end_program()
-            self.begin_count()
-            self.start(coverage)
 
     def call(self, name: str, *arguments: Any, seconds: float = SECONDS + MORE) -> Any:
         with self.lock:
-            if self.late is not None:
-                self.end_late(SECONDS)
+            if self._late is not None:
+                self._end_late(SECONDS)
             self.send(name, arguments)
             try:
                 return self.receive(seconds)
             except Late:
-                self.give_up()
+                self._give_up()
                 raise
 
-    def give_up(self) -> None:
+    def _give_up(self) -> None:
         """It would answer later what nobody asks any more."""
         self.process.kill()
 
-    def is_waiting(self) -> bool:
-        return self.waits
+    def _is_waiting(self) -> bool:
+        return self._waits
 
     def send(self, name: str, arguments: Sequence[Any]) -> None:
         try:
@@ -103,9 +81,9 @@ class AuditorApart(Takes):
 
     def receive(self, seconds: float) -> Any:
         try:
-            self.waits = True
+            self._waits = True
             is_there = self.connection.poll(seconds)
-            self.waits = False
+            self._waits = False
             if not is_there:
                 raise Late(f"{UNREACHABLE}: it hasn't answered for {seconds:.3g} s")
             is_failed, result = self.connection.recv()
@@ -115,14 +93,14 @@ class AuditorApart(Takes):
             raise result
         return result
 
-    def begin_take(self, kind: str, session: int, *offered: Any) -> Any:
+    def _begin_take(self, kind: str, session: int, *offered: Any) -> Any:
         if kind == "close":
             self.send("close", (session,))
         else:
             self.send("offer_all", ([self.plain((session, offered[0], offered[1:]))],))
         return session, *offered
 
-    def end_take(self, kind: str, asked: Any, seconds: float) -> None:
+    def _end_take(self, kind: str, asked: Any, seconds: float) -> None:
         result = self.receive(seconds)
         if kind == "offer":
             refused, self.left_out = result
@@ -130,10 +108,6 @@ class AuditorApart(Takes):
                 told = f"there is no room for transaction {asked[1]} of session {asked[0]}"
                 raise Full(told)
             self.remaining += 1
-
-    def offer(self, session: int, number: int, *logged: Logged) -> None:
-        if self.offer_all([(session, number, logged)]):
-            raise Full(f"there is no room for transaction {number} of session {session}")
 
     @staticmethod
     def plain(fragment: Fragment) -> Fragment:
@@ -157,13 +131,6 @@ class AuditorApart(Takes):
 
     def close(self, session: int) -> None:
         self.call("close", session)
-
-    def round(self, efforts: Sequence[Effort] = EFFORTS) -> Report:
-        """As Auditor.round."""
-        self.take_in()
-        if self.failure is not None:
-            raise self.failure
-        return self.last_round(efforts)
 
     def last_round(self, efforts: Sequence[Effort] = EFFORTS) -> Report:
         report: Report = self.call("last_round", efforts)
@@ -194,15 +161,8 @@ class AuditorApart(Takes):
     def script_failure(self) -> Any:
         return self.call("get", "script_failure")
 
-    def end(self) -> Optional[int]:
-        """Ends the program and the process, and gives the program's status; None where that isn't
-        known."""
-        self.is_ended = True
-        with self.lock:
-            return self.end_program()
-
-    def end_program(self) -> Optional[int]:
-        self.late = None
+    def _end_program(self) -> Optional[int]:
+        self._late = None
         try:
             status: Optional[int] = self.call("end", seconds=2 * ENDING)
         except Ended:
@@ -217,9 +177,6 @@ class AuditorApart(Takes):
 
     def __enter__(self) -> AuditorApart:
         return self
-
-    def __exit__(self, *_: object) -> None:
-        self.end()
 
 
 def as_bytes(logged: Logged) -> bytes:
@@ -238,8 +195,8 @@ class OfPacked(Auditor):
     def txn(self, packed: bytes) -> List[Any]:
         return super().txn(unpacked(packed))
 
-    def moved(self, packed: bytes) -> Tuple[bytes, int]:
-        logged, left_out = super().moved(unpacked(packed))
+    def _moved(self, packed: bytes) -> Tuple[bytes, int]:
+        logged, left_out = super()._moved(unpacked(packed))
         return as_bytes(logged), left_out
 
 

@@ -59,120 +59,182 @@ def is_own(key: object) -> bool:
 
 
 class Takes:
-    """What sessions hand in when the store has answered: it never raises, and waits no longer than
-    the policy says. What can't be taken in ends the audit, which `failure` and the log tell."""
+    """What an auditor does wherever its program is: it takes what sessions hand in when the store
+    has answered. That never raises, and waits no longer than the policy says. What can't be taken
+    in ends the audit, which `failure` and the log tell."""
 
-    # what an auditor has besides
+    history: History  # of each session what was taken in and isn't forgotten
 
-    history: History
-
-    def begin_take(self, kind: str, session: int, *offered: Any) -> Any:
-        raise NotImplementedError
-
-    def end_take(self, kind: str, asked: Any, seconds: float) -> None:
-        raise NotImplementedError
-
-    def give_up(self) -> None:
-        raise NotImplementedError
-
-    def is_waiting(self) -> bool:
-        """Whether an answer is waited for, and no part of it was read."""
-        raise NotImplementedError
-
-    def last_round(self) -> Report:
-        raise NotImplementedError
-
-    def hand_in_to(self, policy: Policy, run_name: Optional[str]) -> None:
+    def __init__(
+        self,
+        sessions: int,
+        limit: int = LIMIT,
+        program: str = PROGRAM,
+        run_name: Optional[str] = None,
+        script: Optional[str] = None,
+        policy: Policy = RATHER_LOSE_THE_AUDIT,
+    ) -> None:
+        self.sessions, self.limit, self.path, self.script_path = sessions, limit, program, script
         self.policy, self.is_named = policy, run_name is not None
         self.run_name: str = run_name if run_name is not None else fresh_name()
         self.token = secrets.token_hex(12)  # of this run alone, also where its name isn't
-        self.waiting: Deque[Tuple[Any, ...]] = deque()
+        self.audits = 0
+        self._waiting: Deque[Tuple[Any, ...]] = deque()
         self.is_ended = False  # by who has made it
-        self.counting = threading.Lock()
+        self._counting = threading.Lock()
         self.lock = threading.RLock()  # what is kept here follows the replies in their order
-        self.begin_count()
+        self._begin_count()
+        self._start(None)
 
-    def begin_count(self) -> None:
+    # what each kind has of its own
+
+    def _start(self, coverage: Optional[Coverage]) -> None:
+        raise NotImplementedError
+
+    def _end_program(self) -> Optional[int]:
+        raise NotImplementedError
+
+    def offer_all(self, fragments: Sequence[Fragment]) -> List[Fragment]:
+        """Several fragments, each (session, number of the first, transactions): gives those for
+        which there was no room."""
+        raise NotImplementedError
+
+    def _begin_take(self, kind: str, session: int, *offered: Any) -> Any:
+        raise NotImplementedError
+
+    def _end_take(self, kind: str, asked: Any, seconds: float) -> None:
+        raise NotImplementedError
+
+    def _give_up(self) -> None:
+        raise NotImplementedError
+
+    def _is_waiting(self) -> bool:
+        """Whether an answer is waited for, and no part of it was read."""
+        raise NotImplementedError
+
+    def last_round(self, efforts: Sequence[Effort] = EFFORTS) -> Report:
+        """As `round`, over what was taken in by now, whatever was lost."""
+        raise NotImplementedError
+
+    # what users call
+
+    def offer(self, session: int, number: int, *logged: Any) -> None:
+        """Transactions that follow one another, the first of this number. Raises Full where there
+        is no room."""
+        if self.offer_all([(session, number, logged)]):
+            raise Full(f"there is no room for transaction {number} of session {session}")
+
+    def round(self, efforts: Sequence[Effort] = EFFORTS) -> Report:
+        """The report of a round over all that sessions have handed in. One that ends spent is given
+        again with the next effort: then it tells of the last. Raises why, where something that
+        sessions did was lost: `outcome` tells what is known all the same."""
+        self._take_in()
+        if self.failure is not None:
+            raise self.failure
+        return self.last_round(efforts)
+
+    def start_anew(self, coverage: Optional[Coverage] = None) -> None:
+        """Another program, which knows nothing of what the one before it was given. By a Coverage,
+        numbers count from where the audit begins. Raises Ended behind `end`."""
+        with self.lock:
+            self._check_end()
+            self._end_program()
+            self._begin_count()
+            self._start(coverage)
+
+    def end(self) -> Optional[int]:
+        """Ends the program, and gives its status, or None where that isn't known. May be called
+        again."""
+        self.is_ended = True
+        with self.lock:
+            return self._end_program()
+
+    def __exit__(self, *_: object) -> None:
+        self.end()
+
+    # what sessions call
+
+    def _begin_count(self) -> None:
         self.failure: Optional[Exception] = None
         self.handed_in, self.taken_in = 0, 0
-        self.seen: Dict[int, int] = {}  # of each session, the number behind the last one counted
-        self.late: Any = None  # what was asked for a session and isn't answered yet, since when
+        self._seen: Dict[int, int] = {}  # of each session, the number behind the last one counted
+        self._late: Any = None  # what was asked for a session and isn't answered yet, since when
 
     def take(self, session: int, number: int, logged: Logged) -> None:
-        self.count(session, number)
-        self.hand_in(("offer", session, number, logged))
+        self._count(session, number)
+        self._hand_in(("offer", session, number, logged))
 
-    def count(self, session: int, number: int) -> None:
+    def _count(self, session: int, number: int) -> None:
         """Once, also of what is missed after it was handed in."""
-        with self.counting:
-            if self.seen.get(session, 0) <= number:
-                self.seen[session] = number + 1
+        with self._counting:
+            if self._seen.get(session, 0) <= number:
+                self._seen[session] = number + 1
                 self.handed_in += 1
 
     def miss(self, session: int, number: int, error: Exception) -> None:
         """It isn't known whether a session has handed in what it did under this number."""
-        self.count(session, number)
-        self.waiting.clear()
-        self.fail(error)  # what was asked already is answered before a round is
+        self._count(session, number)
+        self._waiting.clear()
+        self._fail(error)  # what was asked already is answered before a round is
 
     def take_close(self, session: int) -> None:
         """Nothing more of this session comes."""
-        self.hand_in(("close", session))
+        self._hand_in(("close", session))
 
-    def hand_in(self, what: Tuple[Any, ...]) -> None:
+    def _hand_in(self, what: Tuple[Any, ...]) -> None:
         if self.failure is not None:
             return
-        self.waiting.append(what)
+        self._waiting.append(what)
         ends = time.monotonic() + self.policy.wait
         if self.lock.acquire(timeout=self.policy.wait):  # else who has it takes it in
             try:
-                self.take_in(ends)
+                self._take_in(ends)
             finally:
                 self.lock.release()
 
-    def take_in(self, ends: Optional[float] = None) -> None:
+    def _take_in(self, ends: Optional[float] = None) -> None:
         """All that waits; until then. What isn't answered by then is asked for by who comes next,
         and those don't wait."""
         with self.lock:
-            while self.failure is None and (self.late or self.waiting):
+            while self.failure is None and (self._late or self._waiting):
                 try:
-                    if self.late is None:
-                        what = self.waiting.popleft()
-                        self.late = (what, self.begin_take(*what), time.monotonic())
+                    if self._late is None:
+                        what = self._waiting.popleft()
+                        self._late = (what, self._begin_take(*what), time.monotonic())
                     elif ends is not None:
-                        ends = min(ends, self.late[2] + self.policy.wait)
-                    self.end_late(SECONDS if ends is None else max(0.0, ends - time.monotonic()))
+                        ends = min(ends, self._late[2] + self.policy.wait)
+                    self._end_late(SECONDS if ends is None else max(0.0, ends - time.monotonic()))
                 except Late as error:
-                    if ends is None or time.monotonic() > self.late[2] + LATEST:
-                        self.give_up()
-                        self.lose(error)
+                    if ends is None or time.monotonic() > self._late[2] + LATEST:
+                        self._give_up()
+                        self._lose(error)
                     return
                 except Exception as error:
-                    self.lose(error)
+                    self._lose(error)
                 except BaseException:  # as Ctrl-C: unless nothing was read just then
-                    if self.late is None or not self.is_waiting():
-                        self.give_up()
+                    if self._late is None or not self._is_waiting():
+                        self._give_up()
                     raise
 
-    def check_end(self) -> None:
+    def _check_end(self) -> None:
         if self.is_ended:
             raise Ended("the auditor has been ended")
 
-    def end_late(self, seconds: float) -> None:
+    def _end_late(self, seconds: float) -> None:
         """The answer to what was asked for a session; raises Late, and may then be called again."""
-        (kind, *_), asked, _ = self.late
-        self.end_take(kind, asked, seconds)
-        self.late = None
+        (kind, *_), asked, _ = self._late
+        self._end_take(kind, asked, seconds)
+        self._late = None
         if kind == "offer":
             self.taken_in += 1
 
-    def lose(self, error: Exception) -> None:
+    def _lose(self, error: Exception) -> None:
         """Nothing more is audited but what was taken in by now."""
-        self.late = None
-        self.waiting.clear()
-        self.fail(error)
+        self._late = None
+        self._waiting.clear()
+        self._fail(error)
 
-    def fail(self, error: Exception) -> None:
+    def _fail(self, error: Exception) -> None:
         if self.failure is None:
             self.failure = error
             logger.error("nothing more is audited: %s", error)
@@ -181,10 +243,10 @@ class Takes:
         """After a round over all that was handed in. Raises nothing."""
         report = None
         try:
-            self.take_in()
+            self._take_in()
             report = self.last_round()
         except Exception as error:
-            self.lose(error)
+            self._lose(error)
         is_whole = self.taken_in >= self.handed_in
         pending = tuple(never_came(self.history)) if report and report.kind == "pending" else ()
         kind = kind_of(report, self.failure, is_whole)
@@ -216,23 +278,10 @@ class Auditor(Takes):
     where none is given. `script` names a file to which every line goes that the program was given,
     so that it can be given them again. `policy` says how long sessions wait."""
 
-    def __init__(
-        self,
-        sessions: int,
-        limit: int = LIMIT,
-        program: str = PROGRAM,
-        run_name: Optional[str] = None,
-        script: Optional[str] = None,
-        policy: Policy = RATHER_LOSE_THE_AUDIT,
-    ) -> None:
-        self.sessions, self.limit, self.path = sessions, limit, program
-        self.hand_in_to(policy, run_name)
-        self.script_path, self.audits = script, 0
-        self.script: Any = None  # a raw file, whose `write` tells how much it took
-        self.program: Optional[Pipes] = None
-        self.start(None)
+    script: Any = None  # a raw file, whose `write` tells how much it took
+    program: Optional[Pipes] = None
 
-    def start(self, coverage: Optional[Coverage]) -> None:
+    def _start(self, coverage: Optional[Coverage]) -> None:
         self.coverage, self.left_out = coverage, 0  # reads whose source the audit isn't about
         self.numbers: Dict[str, int] = {FENCE: 0}
         self.names = [FENCE]  # of each key, by its name; and the other way
@@ -245,28 +294,19 @@ class Auditor(Takes):
         self.audits += 1
         self.script_failure: Optional[OSError] = None
         try:
-            self.open_script()
+            self._open_script()
             self.program = Pipes(self.path)
             self.ask(["open", self.sessions, self.limit])
         except BaseException:
-            self.end_program()
+            self._end_program()
             raise
 
-    def open_script(self) -> None:
+    def _open_script(self) -> None:
         """Of a second audit the script is beside the first one's, with its number behind the
         name."""
         if self.script_path is not None:
             behind = f".{self.audits}" if self.audits > 1 else ""
             self.script = open(f"{self.script_path}{behind}", "wb", buffering=0)
-
-    def start_anew(self, coverage: Optional[Coverage] = None) -> None:
-        """Another program, which knows nothing of what the one before it was given. By a Coverage,
-        numbers count from where the audit begins. Raises Ended behind `end`."""
-        with self.lock:
-            self.check_end()
-            self.end_program()
-            self.begin_count()
-            self.start(coverage)
 
     @property
     def remaining(self) -> int:
@@ -274,82 +314,82 @@ class Auditor(Takes):
 
     def ask(self, line: Sequence[Any]) -> List[Any]:
         text = written(line)
-        (reply,) = self.replies_to([text])
-        return self.settled(text, reply)
+        (reply,) = self._replies_to([text])
+        return self._settled(text, reply)
 
-    def settled(self, text: str, reply: List[Any], seconds: float = SECONDS) -> List[Any]:
+    def _settled(self, text: str, reply: List[Any], seconds: float = SECONDS) -> List[Any]:
         """The reply, where the line isn't refused for good."""
         for wait in WAITS:
             if reply[0] != "no" or reply[2] != "NoMemory" or wait > seconds:
                 break
             time.sleep(wait)
-            (reply,) = self.replies_to([text])
+            (reply,) = self._replies_to([text])
         if reply[0] == "no":
             raise KINDS.get(reply[2], Refused)(f"{text} was answered {reply[2]}")
         return reply
 
-    def replies_to(self, texts: Sequence[str]) -> List[List[Any]]:
+    def _replies_to(self, texts: Sequence[str]) -> List[List[Any]]:
         """Of lines that are given one behind the other; raises Late where that takes too long."""
         with self.lock:
-            if self.late is not None and self.late[1][0] not in texts:  # else it is given again
-                self.end_late(SECONDS)
-            self.give(texts)
+            if self._late is not None and self._late[1][0] not in texts:  # else it is given again
+                self._end_late(SECONDS)
+            self._give(texts)
             try:
                 assert self.program is not None
                 return [json.loads(answer) for answer in self.program.answers(len(texts), SECONDS)]
             except Late:
-                self.give_up()
+                self._give_up()
                 raise
 
-    def give_up(self) -> None:
+    def _give_up(self) -> None:
         """It would answer later what nobody asks any more."""
         assert self.program is not None
         self.program.kill()
 
-    def is_waiting(self) -> bool:
+    def _is_waiting(self) -> bool:
         return self.program is not None and self.program.is_waiting
 
-    def give(self, texts: Sequence[str]) -> None:
+    def _give(self, texts: Sequence[str]) -> None:
         if self.program is None:
             raise Ended("cobra_audit has been ended")
         lines = [text.encode() for text in texts]
-        self.keep(lines)
+        self._keep(lines)
         self.program.ask(lines)
 
     # a line for a session, and its answer
 
-    def begin_take(self, kind: str, session: int, *offered: Any) -> Tuple[str, Any]:
+    def _begin_take(self, kind: str, session: int, *offered: Any) -> Tuple[str, Any]:
         if kind == "close":
             text, fragment = written(["close", session]), None
         else:
             number, logged = offered
-            fragment = self.covered((session, number, [logged]))
-            text = self.offer_of(fragment)
-        self.give([text])
+            fragment = self._covered((session, number, [logged]))
+            text = self._offer_of(fragment)
+        self._give([text])
         return text, fragment
 
-    def end_take(self, kind: str, asked: Tuple[str, Any], seconds: float) -> None:
+    def _end_take(self, kind: str, asked: Tuple[str, Any], seconds: float) -> None:
         text, fragment = asked
         assert self.program is not None
         (answer,) = self.program.answers(1, seconds)
         try:
-            self.settled(text, json.loads(answer), seconds)
+            self._settled(text, json.loads(answer), seconds)
         except Full as error:
             told = f"there is no room for transaction {fragment[1]} of session {fragment[0]}"
             raise Full(told) from error
         if kind == "offer":
-            self.keep_history(fragment)
+            self._keep_history(fragment)
 
-    def offer_of(self, fragment: Tuple[Any, ...]) -> str:
+    def _offer_of(self, fragment: Tuple[Any, ...]) -> str:
         session, first, txns, _ = fragment
         return written(["offer", session, first, [*map(self.txn, txns)]])
 
-    def keep_history(self, fragment: Tuple[Any, ...]) -> None:
+    def _keep_history(self, fragment: Tuple[Any, ...]) -> None:
         session, _, txns, left_out = fragment
         self.history[session] += txns
         self.left_out += left_out
 
-    def keep(self, lines: Sequence[bytes]) -> None:
+    def _keep(self, lines: Sequence[bytes]) -> None:
         """In the script; a file that can't be written harms nobody but who wants to read it."""
         if self.script is not None and self.script_failure is None:
             try:
@@ -360,37 +400,29 @@ class Auditor(Takes):
                 self.script_failure = error
                 logger.error("%s lacks lines: %s", self.script.name, error)
 
-    def offer(self, session: int, number: int, *logged: Any) -> None:
-        """Transactions that follow one another, the first of this number. Raises Full where there
-        is no room."""
-        if self.offer_all([(session, number, logged)]):
-            raise Full(f"there is no room for transaction {number} of session {session}")
-
     def offer_all(self, fragments: Sequence[Fragment]) -> List[Fragment]:
-        """The same of several fragments, each (session, number of the first, transactions): gives
-        those for which there was no room."""
         refused = []
         with self.lock:
-            moved = [self.covered(fragment) for fragment in fragments]
-            texts = [self.offer_of(fragment) for fragment in moved]
-            replies = self.replies_to(texts)
+            moved = [self._covered(fragment) for fragment in fragments]
+            texts = [self._offer_of(fragment) for fragment in moved]
+            replies = self._replies_to(texts)
             for fragment, its, text, reply in zip(fragments, moved, texts, replies):
                 try:
-                    self.settled(text, reply)
-                    self.keep_history(its)
+                    self._settled(text, reply)
+                    self._keep_history(its)
                 except Full:
                     refused.append(fragment)
         return refused
 
-    def covered(self, fragment: Fragment) -> Tuple[Any, ...]:
+    def _covered(self, fragment: Fragment) -> Tuple[Any, ...]:
         """The fragment as the audit sees it, and how many reads were left out."""
         session, first, txns = fragment
         if self.coverage is None:
             return session, first, txns, 0
-        moved = [self.moved(logged) for logged in txns]
+        moved = [self._moved(logged) for logged in txns]
         return session, first, [logged for logged, _ in moved], sum(count for _, count in moved)
 
-    def moved(self, logged: Any) -> Tuple[Any, int]:
+    def _moved(self, logged: Any) -> Tuple[Any, int]:
         assert self.coverage is not None
         return self.coverage.moved(logged)
 
@@ -417,17 +449,7 @@ class Auditor(Takes):
     def close(self, session: int) -> None:
         self.ask(["close", session])
 
-    def round(self, efforts: Sequence[Effort] = EFFORTS) -> Report:
-        """The report of a round over all that sessions have handed in. One that ends spent is given
-        again with the next effort: then it tells of the last. Raises why, where something that
-        sessions did was lost: `outcome` tells what is known all the same."""
-        self.take_in()
-        if self.failure is not None:
-            raise self.failure
-        return self.last_round(efforts)
-
     def last_round(self, efforts: Sequence[Effort] = EFFORTS) -> Report:
-        """The same of what was taken in, whatever was lost."""
         for self.effort in efforts:
             report = Report(*self.ask(["round", *self.effort])[1:])
             if report.kind != "spent":
@@ -453,13 +475,7 @@ class Auditor(Takes):
                 self.marks[session] += count
             return Cut((fence[0], fence[1]), len(gone))
 
-    def end(self) -> Optional[int]:
-        """Ends the program, and gives its status; may be called again."""
-        self.is_ended = True
-        with self.lock:
-            return self.end_program()
-
-    def end_program(self) -> Optional[int]:
+    def _end_program(self) -> Optional[int]:
         if self.script is not None:
             self.script.close()
             self.script = None
@@ -467,9 +483,6 @@ class Auditor(Takes):
 
     def __enter__(self) -> Auditor:
         return self
-
-    def __exit__(self, *_: object) -> None:
-        self.end()
 
 
 def written(line: Sequence[Any]) -> str:
