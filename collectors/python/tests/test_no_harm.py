@@ -484,11 +484,11 @@ class Standing(NoHarm):
         """Ended as often as they can be, at whatever moment that comes."""
         policy = zanteyard.Policy(BOUND, True, 0.02)
         live, store = self.live(self.auditor(5), every=100, policy=policy), MemoryStore()
-        ends, errors = time.monotonic() + 6.0, []
+        ended, errors = threading.Event(), []
 
         def client(session):
             try:
-                while time.monotonic() < ends and not live.is_over:
+                while not (ended.is_set() or live.is_over):
                     try:
                         session.run(add_one("x"), attempts=1)
                         session.run(lambda t: (t.get("x"), t.put("y", t.get("y"))), attempts=1)
@@ -502,9 +502,11 @@ class Standing(NoHarm):
         threads = [threading.Thread(target=client, args=(session,)) for session in sessions]
         for thread in threads:
             thread.start()
-        while time.monotonic() < ends and not live.is_over:
+        began, latest = time.monotonic(), time.monotonic() + SOON
+        while time.monotonic() < (began + 6.0 if len(live.earlier) > 5 else latest):
             time.sleep(0.15)
             live.lose(RuntimeError("for the sake of it"))
+        ended.set()
         for thread in threads:
             thread.join()
         outcome = live.stop()

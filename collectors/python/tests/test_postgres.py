@@ -1,6 +1,8 @@
 """The same against a real PostgreSQL, where it is installed."""
 import os
+import signal
 import threading
+import time
 import unittest
 
 from zanteyard import FENCE, Aborted, Auditor, Logged, NameTaken, OutcomeUnknown, Session, smaller, words
@@ -243,6 +245,36 @@ class Postgres(unittest.TestCase):
         self.assertEqual(b.run(lambda t: t.get("x")), "1")
         self.assertEqual(self.auditor.history[0][0].outcome, "committed")
         self.assertEqual(self.kind(), "serial")
+
+    def took(self, seconds, error, call):
+        """At least one of three tries fails so in so many seconds, and half a second more: beside
+        other programs the others may take longer."""
+        least = float("inf")
+        for _ in range(3):
+            began = time.monotonic()
+            with self.assertRaises(error):
+                call()
+            least = min(least, time.monotonic() - began)
+        self.assertLess(least, seconds + 0.5)
+
+    def test_a_server_that_stands_still_is_waited_for_no_longer_than_was_said(self):
+        """It takes connections, and answers nothing to them; those of before go on."""
+        with Cluster() as cluster:
+            prepare(cluster.dsn)
+            auditor = Auditor(8)
+            self.addCleanup(auditor.end)
+            sessions = [Session(auditor, number, Lossy(cluster.dsn), patience=1.0) for number in range(3)]
+            for session in sessions:
+                session.store.connect()
+                self.addCleanup(session.store.close)
+            os.kill(cluster.runs(), signal.SIGSTOP)
+            try:
+                store = PostgresStore(cluster.dsn, patience=0.5)
+                self.took(0.5, psycopg2.OperationalError, store.begin)
+                self.took(0.2, psycopg2.OperationalError, lambda: store.begin_alone(0.2))
+                self.took(1.0, OutcomeUnknown, lambda: sessions.pop().run(lambda t: t.put("x", "1")))
+            finally:
+                os.kill(cluster.runs(), signal.SIGCONT)
 
     def test_a_server_that_is_killed_in_the_commit(self):
         with Cluster() as cluster:

@@ -11,6 +11,7 @@ from typing import Any, Dict, Optional, Sequence, Tuple
 import psycopg2
 from psycopg2 import errors
 
+from .postgres_connection import answer, connected
 from .records import Found, Name
 from .sessions import Aborted, NameTaken, OutcomeUnknown
 
@@ -36,6 +37,7 @@ STATUS = """SELECT pg_xact_status(%s::text::xid8), EXISTS (SELECT 1 FROM {table}
     WHERE key = %s AND run = %s AND session = %s AND number = %s)"""
 KNOWS = "SELECT EXISTS (SELECT 1 FROM {table} WHERE run = %s)"
 CONFLICTS = (errors.SerializationFailure, errors.DeadlockDetected)
+PATIENCE = 5.0  # seconds for a connection, and for an outcome
 ATTEMPTS = 10  # at the first row of a key: each fails only where another client has just made it
 RUN = "zanteyard run "  # before a run's name: the key of the row that says whose it is
 
@@ -61,14 +63,19 @@ def prepare(dsn: str, table: str = "zanteyard") -> None:
 
 class PostgresStore:
     """One connection, for one thread at a time. `level` is "serializable", "repeatable read" or
-    "read committed"; `table` may be "schema.table"."""
+    "read committed"; `table` may be "schema.table". A connection is waited for no longer than
+    `patience` seconds."""
 
     def __init__(
-        self, dsn: str, level: str = "serializable", table: str = "zanteyard"
+        self,
+        dsn: str,
+        level: str = "serializable",
+        table: str = "zanteyard",
+        patience: float = PATIENCE,
     ) -> None:
         if level not in LEVELS:
             raise ValueError(f"{level} is none of {', '.join(LEVELS)}")
-        self.dsn, self.level, self.table = dsn, level, quoted(table)
+        self.dsn, self.level, self.table, self.patience = dsn, level, quoted(table), patience
         self.connection: Any = None
         self.transaction_id: Optional[str] = None
         self.written: Tuple[Any, ...] = ()  # the key that was written last, and the name beside it
@@ -76,9 +83,9 @@ class PostgresStore:
         self.before = ""  # what the transaction's first statement is sent behind
         self.is_alone = False
 
-    def connect(self) -> None:
+    def connect(self, seconds: Optional[float] = None) -> None:
         """Opens the connection, and raises psycopg2's errors where it can't."""
-        self.connection = psycopg2.connect(self.dsn)
+        self.connection = connected(self.dsn, self.patience if seconds is None else seconds)
         self.connection.autocommit = True  # transactions are begun here, on the way of a statement
 
     def send(self, text: str, values: Sequence[Any] = ()) -> Any:
@@ -100,16 +107,16 @@ class PostgresStore:
         self.statement = cursor.query.decode(errors="replace")[len(before) :]
         return cursor
 
-    def begin(self) -> None:
+    def begin(self, seconds: Optional[float] = None) -> None:
         if self.connection is None or self.connection.closed:
-            self.connect()
+            self.connect(seconds)
         self.transaction_id, self.is_alone = None, False
         self.before = f"BEGIN ISOLATION LEVEL {self.level.upper()}; "
 
     def begin_alone(self, seconds: float) -> None:
         """Instead of `begin`, where what follows are statements that need no other one: each is a
         transaction by itself, is done or not after so many seconds, and holds no lock behind it."""
-        self.begin()
+        self.begin(min(seconds, self.patience))
         self.is_alone = True
         self.before = f"SET LOCAL statement_timeout = {max(1, int(1000 * seconds))}; "
 
@@ -178,22 +185,20 @@ class PostgresStore:
             pass  # none is open
 
     def outcome(self) -> str:
+        return self.outcome_within(self.patience)
+
+    def outcome_within(self, seconds: float) -> str:
         """By a connection of its own, since the one at hand may be broken. A server that crashed
         gives the number of a transaction that was lost to another one, so that it alone doesn't say
         what was committed: the row has to be there, too."""
         if self.transaction_id is None:
             return "unknown"
+        values = (self.transaction_id, *self.written)
         try:
-            connection = psycopg2.connect(self.dsn)
-            try:
-                cursor = connection.cursor()
-                values = (self.transaction_id, *self.written)
-                cursor.execute(STATUS.format(table=self.table), values)
-                status, is_there = cursor.fetchone() or (None, False)
-            finally:
-                connection.close()
+            found = answer(self.dsn, STATUS.format(table=self.table), values, seconds)
         except psycopg2.Error:
             return "unknown"
+        status, is_there = found or (None, False)
         if status == "aborted" or (status == "committed" and is_there):
             return str(status)
         return "unknown"

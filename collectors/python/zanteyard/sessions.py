@@ -7,8 +7,9 @@ the key and leaves the name behind; `commit()`, which raises OutcomeUnknown wher
 and `outcome()`, which says of the transaction whose commit was sent last, and which had written,
 whether it is "committed", "aborted" or "unknown".
 
-It may have more. `read_all(keys)` gives by key what `read` gives, for those that are there.
-`exchange(key, value, name)` writes as `write` does and gives what `read` gave of the version that
+It may have more. `outcome_within(seconds)` does what `outcome` does, and takes no longer; without
+it `outcome` is called, however long it takes. `read_all(keys)` gives by key what `read` gives, for
+those that are there. `exchange(key, value, name)` writes as `write` does and gives what `read` gave of the version that
 it overwrites: nothing may come between the two, at whatever level the store runs.
 `begin_alone(seconds)` begins, in place of `begin`, transactions of one statement each, which end
 within so many seconds; these calls may then raise OutcomeUnknown themselves. `hang_up()`, from any
@@ -39,6 +40,7 @@ Aborted = AbortedError
 OutcomeUnknown = OutcomeUnknownError
 NameTaken = NameTakenError
 
+LEAST = 0.1  # seconds for an outcome, where nobody was promised any
 logger = logging.getLogger("zanteyard")
 Result = TypeVar("Result")
 
@@ -429,7 +431,7 @@ class Transaction:
         until = time.monotonic() + (self.session.patience if self.holds else 0.0)
         try:
             while self.written:
-                outcome = self.store.outcome()
+                outcome = self.outcome_within(max(LEAST, until - time.monotonic()))
                 if outcome == "committed":
                     return self.log(self.reads, self.written, "committed")
                 if outcome == "aborted":
@@ -444,6 +446,10 @@ class Transaction:
             raise
         self.log((), self.written, "unknown", is_last=bool(self.written))
         raise OutcomeUnknown(f"{self.session.number}.{self.number}")
+
+    def outcome_within(self, seconds: float) -> str:
+        bounded = getattr(self.store, "outcome_within", None)
+        return str(bounded(seconds) if bounded is not None else self.store.outcome())
 
     def log(
         self, reads: Iterable[Read], writes: Iterable[str], outcome: str, is_last: bool = False
