@@ -33,12 +33,12 @@ class AuditorApart(Takes):
     there. For threads. Raises Ended where that process can't be reached."""
 
     process: Any = None
-    connection: Any = None
+    _connection: Any = None
     _waits = False  # for an answer, of which nothing was read
 
     def _start(self, coverage: Optional[Coverage]) -> None:
         self.remaining, self.can_cut, self.left_out = 0, True, 0
-        self.connection, theirs = Pipe()
+        self._connection, theirs = Pipe()
         descriptor = str(theirs.fileno())
         self.process = subprocess.Popen(
             [sys.executable, "-I", "-c", START, PLACE, descriptor],
@@ -50,18 +50,18 @@ class AuditorApart(Takes):
         self.audits += 1
         try:
             more = (self.script_path, self.audits, coverage)
-            self.call("open", self.sessions, self.limit, self.path, *more)
+            self._call("open", self.sessions, self.limit, self.path, *more)
         except BaseException:
             self._end_program()
             raise
 
-    def call(self, name: str, *arguments: Any, seconds: float = SECONDS + MORE) -> Any:
+    def _call(self, name: str, *arguments: Any, seconds: float = SECONDS + MORE) -> Any:
         with self.lock:
             if self._late is not None:
                 self._end_late(SECONDS)
-            self.send(name, arguments)
+            self._send(name, arguments)
             try:
-                return self.receive(seconds)
+                return self._receive(seconds)
             except Late:
                 self._give_up()
                 raise
@@ -73,20 +73,20 @@ class AuditorApart(Takes):
     def _is_waiting(self) -> bool:
         return self._waits
 
-    def send(self, name: str, arguments: Sequence[Any]) -> None:
+    def _send(self, name: str, arguments: Sequence[Any]) -> None:
         try:
-            self.connection.send((name, arguments))
+            self._connection.send((name, arguments))
         except (OSError, ValueError) as error:
             raise Ended(f"{UNREACHABLE}: {error}") from error
 
-    def receive(self, seconds: float) -> Any:
+    def _receive(self, seconds: float) -> Any:
         try:
             self._waits = True
-            is_there = self.connection.poll(seconds)
+            is_there = self._connection.poll(seconds)
             self._waits = False
             if not is_there:
                 raise Late(f"{UNREACHABLE}: it hasn't answered for {seconds:.3g} s")
-            is_failed, result = self.connection.recv()
+            is_failed, result = self._connection.recv()
         except (OSError, EOFError, pickle.UnpicklingError) as error:
             raise Ended(f"{UNREACHABLE}: {error}") from error
         if is_failed:
@@ -95,13 +95,13 @@ class AuditorApart(Takes):
 
     def _begin_take(self, kind: str, session: int, *offered: Any) -> Any:
         if kind == "close":
-            self.send("close", (session,))
+            self._send("close", (session,))
         else:
-            self.send("offer_all", ([self.plain((session, offered[0], offered[1:]))],))
+            self._send("offer_all", ([self._plain((session, offered[0], offered[1:]))],))
         return session, *offered
 
     def _end_take(self, kind: str, asked: Any, seconds: float) -> None:
-        result = self.receive(seconds)
+        result = self._receive(seconds)
         if kind == "offer":
             refused, self.left_out = result
             if refused:
@@ -110,13 +110,13 @@ class AuditorApart(Takes):
             self.remaining += 1
 
     @staticmethod
-    def plain(fragment: Fragment) -> Fragment:
+    def _plain(fragment: Fragment) -> Fragment:
         session, first, txns = fragment
         return session, first, [one if type(one) is bytes else as_bytes(one) for one in txns]
 
     def offer_all(self, fragments: Sequence[Fragment]) -> List[Fragment]:
         """Their transactions may be packed."""
-        refused, self.left_out = self.call("offer_all", [*map(self.plain, fragments)])
+        refused, self.left_out = self._call("offer_all", [*map(self._plain, fragments)])
         self.remaining += sum(len(txns) for session, _, txns in fragments if session not in refused)
         return [fragment for fragment in fragments if fragment[0] in refused]
 
@@ -130,44 +130,44 @@ class AuditorApart(Takes):
             return logged
 
     def close(self, session: int) -> None:
-        self.call("close", session)
+        self._call("close", session)
 
     def last_round(self, efforts: Sequence[Effort] = EFFORTS) -> Report:
-        report: Report = self.call("last_round", efforts)
+        report: Report = self._call("last_round", efforts)
         return report
 
     def truncate(self) -> Cut:
         try:
-            cut: Cut = self.call("truncate")
+            cut: Cut = self._call("truncate")
         except NoCut:
-            self.can_cut = self.call("get", "can_cut")
+            self.can_cut = self._call("get", "can_cut")
             raise
         self.remaining -= cut.gone
         return cut
 
     @property
     def history(self) -> History:  # type: ignore[override]  # it is asked for
-        return [[*map(unpacked, txns)] for txns in self.call("get", "history")]
+        return [[*map(unpacked, txns)] for txns in self._call("get", "history")]
 
     @property
     def marks(self) -> Any:
-        return self.call("get", "marks")
+        return self._call("get", "marks")
 
     @property
     def base(self) -> Any:
-        return self.call("get", "base")
+        return self._call("get", "base")
 
     @property
     def script_failure(self) -> Any:
-        return self.call("get", "script_failure")
+        return self._call("get", "script_failure")
 
     def _end_program(self) -> Optional[int]:
         self._late = None
         try:
-            status: Optional[int] = self.call("end", seconds=2 * ENDING)
+            status: Optional[int] = self._call("end", seconds=2 * ENDING)
         except Ended:
             status = None
-        self.connection.close()
+        self._connection.close()
         try:
             self.process.wait(ENDING)
         except subprocess.TimeoutExpired:

@@ -57,7 +57,7 @@ class AuditClient(SessionsHere):
 
     @property
     def sessions(self) -> List[Session]:
-        """Of this process."""
+        """Those of this process."""
         return self._group.sessions
 
     @property

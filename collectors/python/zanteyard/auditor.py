@@ -161,6 +161,7 @@ class Takes:
         self._late: Any = None  # what was asked for a session and isn't answered yet, since when
 
     def take(self, session: int, number: int, logged: Logged) -> None:
+        """Hands in what a transaction did; waits as long as the policy says."""
         self._count(session, number)
         self._hand_in(("offer", session, number, logged))
 
@@ -270,13 +271,15 @@ def never_came(
 
 
 class Auditor(Takes):
-    """For threads: each call is one line and its reply. What sessions hand in (`take`) never
-    raises; all other calls raise Ended where the program is gone and Refused where it refuses a
-    line.
+    """The program cobra_audit. For threads: each call is one line and its reply. What sessions hand
+    in (`take`) never raises; all other calls raise Ended where the program is gone and Refused
+    where it refuses a line.
 
-    `run_name` is beside each value that sessions write: each run needs one of its own, and has it
-    where none is given. `script` names a file to which every line goes that the program was given,
-    so that it can be given them again. `policy` says how long sessions wait."""
+    `sessions` are 1 to 64, and at most `limit` transactions may remain, which is 4,096 at most.
+    `program` is the file to start. `run_name` is beside each value that sessions write: each run
+    needs one of its own, and has it where none is given. `script` names a file to which every line
+    goes that the program was given, so that it can be given them again. `policy` says how long
+    sessions wait."""
 
     script: Any = None  # a raw file, whose `write` tells how much it took
     program: Optional[Pipes] = None
@@ -310,9 +313,12 @@ class Auditor(Takes):
 
     @property
     def remaining(self) -> int:
+        """How many transactions were taken in and aren't forgotten."""
         return sum(map(len, self.history))
 
     def ask(self, line: Sequence[Any]) -> List[Any]:
+        """The reply to a line as docs/FORMATS.md has them; one that is refused for want of memory
+        is given again."""
         text = written(line)
         (reply,) = self._replies_to([text])
         return self._settled(text, reply)
@@ -427,7 +433,7 @@ class Auditor(Takes):
         return self.coverage.moved(logged)
 
     def txn(self, logged: Any) -> List[Any]:
-        """As lines have it."""
+        """A transaction as lines have it."""
         reads = sorted(
             (self.key_number(key), *(() if source == "init" else source))
             for key, source in logged.reads
@@ -437,6 +443,7 @@ class Auditor(Takes):
         return [texts, sorted(map(self.key_number, logged.writes))]
 
     def key_number(self, key: str) -> int:
+        """Which stands for the key in lines; a new one, where it has none yet."""
         found = self.numbers.get(key)
         if found is not None:
             return found
@@ -447,6 +454,7 @@ class Auditor(Takes):
             return self.numbers[key]
 
     def close(self, session: int) -> None:
+        """Nothing more of this session comes; its number isn't used again."""
         self.ask(["close", session])
 
     def last_round(self, efforts: Sequence[Effort] = EFFORTS) -> Report:

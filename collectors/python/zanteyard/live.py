@@ -142,22 +142,22 @@ class LiveAuditor(SessionsHere):
 
     @property
     def outcome(self) -> Outcome:
-        """Of this audit and of those that ended before it; see Outcome.whole."""
+        """What came of it by now, of this audit and of those that ended before it as one."""
         return self._audit.outcome(self._has_ended, self._failure).whole
 
     @property
     def name(self) -> str:
-        """Of this audit."""
+        """Of this audit: the run's, with a number from the second on."""
         return self._audit.name
 
     @property
     def earlier(self) -> Tuple[Outcome, ...]:
-        """Of the audits that ended before this one began."""
+        """The outcomes of the audits that ended before this one began."""
         return self._audit.earlier
 
     @property
     def report(self) -> Optional[Report]:
-        """Of this audit's last round; None before the first."""
+        """What the last round of this audit said; None before the first."""
         return self._audit.report
 
     @property
@@ -167,6 +167,7 @@ class LiveAuditor(SessionsHere):
 
     @property
     def is_violated(self) -> bool:
+        """That stays so, whatever comes."""
         return self._audit.is_violated
 
     @property
@@ -176,27 +177,27 @@ class LiveAuditor(SessionsHere):
 
     @property
     def handed_in(self) -> int:
-        """Transactions of this audit, by clients and by meetings."""
+        """How many transactions clients and meetings have done since this audit began."""
         return self._audit.handed_in
 
     @property
     def taken_in(self) -> int:
-        """Transactions that the auditor has of this audit."""
+        """How many of these the auditor has been given."""
         return self._audit.taken_in
 
     @property
     def rounds(self) -> int:
-        """Of all audits."""
+        """How many there were, in all audits."""
         return self._figures.rounds
 
     @property
     def cuts(self) -> int:
-        """Of all audits."""
+        """How many times something was forgotten, in all audits."""
         return self._figures.cuts
 
     @property
     def meetings(self) -> int:
-        """Of all audits, those that failed too."""
+        """How many there were, in all audits, those that failed too."""
         return self._convener.meetings
 
     @property
