@@ -87,6 +87,7 @@ class LiveAuditor:
         self.told_at, self.told_of = time.monotonic(), 0
         self.report, self.is_stopping, self.is_fences_alone = None, False, False
         self.lost = None  # why no more is audited, or none until another audit begins
+        self.has_failed_to_tell = False
         self.failed, self.earlier, self.began = None, (), time.monotonic()
         self.reserve = 4 * auditor.sessions  # room for a meeting's own transactions
         self.room = most  # how many may wait, by now
@@ -377,7 +378,7 @@ class LiveAuditor:
         self.met_at, self.met, self.began = self.handed_in, time.monotonic(), time.monotonic()
         self.why_not = None
         told = f"audit {len(self.earlier)} has ended: {ended._alone()}"
-        self.tell(f"{told}; now audited: {self.name}")
+        self.say(f"{told}; now audited: {self.name}")
         logger.warning("another audit begins, %s, after: %s", self.name, why)
 
     def edges(self):
@@ -479,10 +480,19 @@ class LiveAuditor:
         self.told_at, self.told_of = now, self.taken_in
         self.lag, behind, self.behind = max(self.lag, self.behind), self.behind, 0.0
         self.told_behind = behind
-        self.tell(
+        self.say(
             f"round {self.report.number}: {self.report.kind}; {self.taken_in} transactions, "
             f"{rate:.0f} a second, {behind:.2f} s behind; {self.auditor.remaining} remain; {cut}"
         )
+
+    def say(self, line):
+        """What the user's `tell` raises is told once, and harms nothing."""
+        try:
+            self.tell(line)
+        except BaseException as error:  # in this thread nothing but the audit would be ended by it
+            if not self.has_failed_to_tell:
+                self.has_failed_to_tell = True
+                logger.error("rounds can't be told: %r", error)
 
     def cut(self):
         if self.report.kind not in ("serial", "pending"):
