@@ -5,7 +5,7 @@ import threading
 import time
 import unittest
 
-from zanteyard import Auditor, OutcomeUnknown, Session, StoreLateError
+from zanteyard import Aborted, Auditor, OutcomeUnknown, Session, StoreLateError
 from zanteyard.auditor import FLAG, PROGRAM
 from zanteyard.meetings import Group, Missed
 from zanteyard.memory_store import MemoryStore
@@ -93,6 +93,38 @@ class Meetings(unittest.TestCase):
         self.stuck(hang_up=lambda: self.answers.set())
         self.group.end()
         self.assertTrue(self.answers.is_set())
+
+    def test_nothing_is_run_again_once_the_meetings_time_is_up(self):
+        store, attempts = self.store.connect(), []
+
+        def commit():
+            attempts.append(time.monotonic())
+            time.sleep(0.02)
+            raise Aborted("for what another did")
+
+        store.commit = commit
+        session = self.session(0, store)
+        for seconds, count in ((0.01, 1), (SECONDS, 3)):
+            attempts.clear()
+            with self.subTest(seconds=seconds), self.assertRaises(Aborted):
+                session.flag(seconds)
+            self.assertEqual(len(attempts), count)
+
+    def test_each_attempt_has_what_is_left_of_the_time(self):
+        store, seconds = self.store.connect(), []
+
+        def begin_alone(given):
+            store.begin()
+            seconds.append(given)
+            time.sleep(0.02)
+            if len(seconds) < 3:
+                raise Aborted("for what another did")
+
+        store.begin_alone = begin_alone
+        self.session(0, store).flag(SECONDS)
+        self.assertEqual(len(seconds), 3)
+        self.assertLess(seconds[1], seconds[0] - 0.01)
+        self.assertLess(seconds[2], seconds[1] - 0.01)
 
     def test_who_is_idle_goes_without_a_place(self):
         session = self.session(0)

@@ -448,6 +448,26 @@ class Standing(NoHarm):
         self.assertNotEqual(live.outcome.earlier[0].name, live.name)
         live.stop()
 
+    def test_a_tell_that_raises_ends_nothing_and_is_told_once(self):
+        logging.getLogger("zanteyard").setLevel(logging.NOTSET)
+        for error in (BrokenPipeError("nobody reads it"), SystemExit(1)):
+            with self.subTest(error=error), self.assertLogs("zanteyard", "ERROR") as log:
+
+                def tell(line, error=error):
+                    self.told.append(line)
+                    raise error
+
+                self.told = []
+                live = self.live(self.auditor(), tell=tell)
+                session = live.session(MemoryStore().connect())
+                for count in range(3):
+                    session.run(add_one("x"))
+                    self.wait_for(lambda: len(self.told) > count)
+                outcome = live.stop()
+                self.assertEqual((outcome.kind, outcome.audited, outcome.earlier), ("serial", 3, ()))
+                self.assertEqual(len(log.output), 1)
+                self.assertIn("rounds can't be told", log.output[0])
+
     def test_who_rather_waits_waits_and_nothing_is_lost(self):
         auditor = self.auditor()
         live = self.live(auditor, most=10, policy=zanteyard.RATHER_WAIT)

@@ -246,6 +246,25 @@ class Postgres(unittest.TestCase):
         self.assertEqual(self.auditor.history[0][0].outcome, "committed")
         self.assertEqual(self.kind(), "serial")
 
+    def test_what_a_meeting_reads_is_read_at_the_clients_level(self):
+        """Of a batch that is closed, a deposit into it, and a report: the report alone makes that no
+        order (Fekete and others, 2004), so that the store has to know of it."""
+        for level, wanted in (("serializable", "serial"), ("repeatable read", "violated")):
+            with self.subTest(level=level):
+                self.setUp()
+                a, b, c = self.sessions(level)
+                a.run(lambda t: (t.put("batch", "1"), t.put("deposits", "0")))
+                deposit = a.begin()
+                deposit.get("batch")
+                b.run(lambda t: t.put("batch", str(int(t.get("batch")) + 1)))
+                c.read_all(["batch", "deposits"])
+                try:
+                    deposit.put("deposits", "10")
+                    deposit.commit()
+                except Aborted:
+                    pass
+                self.assertEqual(self.kind(), wanted)
+
     def took(self, seconds, error, call):
         """At least one of three tries fails so in so many seconds, and half a second more: beside
         other programs the others may take longer."""

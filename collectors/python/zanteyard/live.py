@@ -91,7 +91,8 @@ class LiveAuditor(SessionsHere):
         self.token = auditor.token
         # Has what was logged as bytes while it waits.
         self._packed = auditor.packed if isinstance(auditor, AuditorApart) else None
-        self._told_to, self._pace = tell, Pace(every, seconds, idle, patience)
+        self._told_to, self._has_failed_to_tell = tell, False
+        self._pace = Pace(every, seconds, idle, patience)
         self._backlog, self._places = Backlog(most), Places(auditor.sessions)
         # This process's clients, and each other process's.
         self._convener = Convener([self._group], self._places, self._backlog)
@@ -346,9 +347,16 @@ class LiveAuditor(SessionsHere):
         self._guarded(audit.find_whose)
 
     def _tell(self, line: str) -> None:
+        """What the caller's `tell` raises is told once, and harms nothing."""
         logger.info("%s", line)
-        if self._told_to is not None:
+        if self._told_to is None:
+            return
+        try:
             self._told_to(line)
+        except BaseException as error:  # in this thread nothing but the audit would be ended by it
+            if not self._has_failed_to_tell:
+                self._has_failed_to_tell = True
+                logger.error("rounds can't be told: %r", error)
 
     # another audit
 

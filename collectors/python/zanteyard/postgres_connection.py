@@ -21,7 +21,8 @@ def connected(dsn: str, seconds: float) -> Any:
     more: Dict[str, Any] = {}
     if "connect_timeout" not in extensions.parse_dsn(dsn):
         more["connect_timeout"] = max(LEAST, math.ceil(seconds))
-    return within(seconds, lambda: psycopg2.connect(dsn, **more), lambda late: late and late.close())
+    connecting = lambda: psycopg2.connect(dsn, **more)
+    return within(seconds, connecting, lambda late: late and late.close())
 
 
 def answer(dsn: str, text: str, values: Sequence[Any], seconds: float) -> Optional[Sequence[Any]]:
@@ -90,4 +91,3 @@ def within(
     except BaseException:
         found.cancel()
         raise
-

@@ -36,6 +36,7 @@ FIRST = f"""INSERT INTO {{table}} VALUES (%s, %s, %s, %s, %s) ON CONFLICT (key) 
 STATUS = """SELECT pg_xact_status(%s::text::xid8), EXISTS (SELECT 1 FROM {table}
     WHERE key = %s AND run = %s AND session = %s AND number = %s)"""
 KNOWS = "SELECT EXISTS (SELECT 1 FROM {table} WHERE run = %s)"
+READING = "SET TRANSACTION ISOLATION LEVEL SERIALIZABLE, READ ONLY; "
 CONFLICTS = (errors.SerializationFailure, errors.DeadlockDetected)
 PATIENCE = 5.0  # seconds for a connection, and for an outcome
 ATTEMPTS = 10  # at the first row of a key: each fails only where another client has just made it
@@ -94,8 +95,10 @@ class PostgresStore:
         cursor.execute(text, values)
         return cursor
 
-    def ask(self, text: str, values: Sequence[Any] = ()) -> Any:
+    def ask(self, text: str, values: Sequence[Any] = (), is_reading: bool = False) -> Any:
         before, self.before = self.before, "" if not self.is_alone else self.before
+        if is_reading and self.is_alone and self.level == "serializable":
+            before = READING + before
         try:
             cursor = self.send(before + text.format(table=self.table), values)
         except CONFLICTS as error:
@@ -115,17 +118,20 @@ class PostgresStore:
 
     def begin_alone(self, seconds: float) -> None:
         """Instead of `begin`, where what follows are statements that need no other one: each is a
-        transaction by itself, is done or not after so many seconds, and holds no lock behind it."""
+        transaction by itself, is done or not after so many seconds, and holds no lock behind it.
+        Where the level is serializable what they read is as well: a snapshot that isn't may show
+        what no order has. An `exchange` locks its one row, at whatever level it is run."""
         self.begin(min(seconds, self.patience))
         self.is_alone = True
         self.before = f"SET LOCAL statement_timeout = {max(1, int(1000 * seconds))}; "
 
     def read(self, key: str) -> Optional[Found]:
-        row = self.ask(READ, (key,)).fetchone()
+        row = self.ask(READ, (key,), is_reading=True).fetchone()
         return None if row is None else (row[0], row[1:])
 
     def read_all(self, keys: Sequence[str]) -> Dict[str, Found]:
-        return {row[0]: (row[1], row[2:]) for row in self.ask(READ_ALL, (keys,))}
+        rows = self.ask(READ_ALL, (keys,), is_reading=True)
+        return {row[0]: (row[1], row[2:]) for row in rows}
 
     def write(self, key: str, value: Any, name: Name) -> None:
         self.written = (key, *name)

@@ -9,9 +9,9 @@ whether it is "committed", "aborted" or "unknown".
 
 It may have more. `outcome_within(seconds)` does what `outcome` does, and takes no longer; without
 it `outcome` is called, however long it takes. `read_all(keys)` gives by key what `read` gives, for
-those that are there. `exchange(key, value, name)` writes as `write` does and gives what `read` gave of the version that
-it overwrites: nothing may come between the two, at whatever level the store runs.
-`begin_alone(seconds)` begins, in place of `begin`, transactions of one statement each, which end
+those that are there. `exchange(key, value, name)` writes as `write` does and gives what `read` gave
+of the version that it overwrites: nothing may come between the two, at whatever level the store
+runs. `begin_alone(seconds)` begins, in place of `begin`, transactions of one statement each, which end
 within so many seconds; these calls may then raise OutcomeUnknown themselves. `hang_up()`, from any
 thread, has whatever waits for an answer over this connection wait no more, and the next transaction
 begin over another one: it is called where a client waits for what the audit asks. `claim(run_name,
@@ -22,6 +22,7 @@ is what it has run last, as who is told of a violation should see it.
 from __future__ import annotations
 
 import logging
+import math
 import threading
 import time
 from contextlib import contextmanager
@@ -40,6 +41,7 @@ Aborted = AbortedError
 OutcomeUnknown = OutcomeUnknownError
 NameTaken = NameTakenError
 
+SHORTEST = 0.001  # seconds that the store is given for a transaction
 LEAST = 0.1  # seconds for an outcome, where nobody was promised any
 logger = logging.getLogger("zanteyard")
 Result = TypeVar("Result")
@@ -242,13 +244,15 @@ class Session:
     def run_alone(
         self, body: Callable[[Transaction], Any], seconds: float, attempts: int = 3
     ) -> Any:
+        ends = time.monotonic() + seconds
+
         def begin() -> Transaction:
             alone = getattr(self.store, "begin_alone", None)
             if alone is not None:
-                return self.start(alone, False, seconds)
+                return self.start(alone, False, max(SHORTEST, ends - time.monotonic()))
             return self.start(self.store.begin, False)
 
-        return attempted(begin, body, attempts)
+        return attempted(begin, body, attempts, ends)
 
     def fence(self, seconds: float = 60.0) -> None:
         self.run_alone(lambda transaction: transaction.exchange(FENCE, ""), seconds)
@@ -298,7 +302,10 @@ def whole(transaction: Transaction) -> Iterator[Transaction]:
 
 
 def attempted(
-    begin: Callable[[], Transaction], body: Callable[[Transaction], Result], attempts: int
+    begin: Callable[[], Transaction],
+    body: Callable[[Transaction], Result],
+    attempts: int,
+    ends: float = math.inf,
 ) -> Result:
     for left in reversed(range(attempts)):
         try:
@@ -306,7 +313,7 @@ def attempted(
                 result = body(transaction)
             return result
         except Aborted:
-            if not left:
+            if not left or time.monotonic() >= ends:
                 raise
     raise ValueError("it is to be attempted once at least")
 
