@@ -11,12 +11,12 @@ It may have more. `outcome_within(seconds)` does what `outcome` does, and takes 
 it `outcome` is called, however long it takes. `read_all(keys)` gives by key what `read` gives, for
 those that are there. `exchange(key, value, name)` writes as `write` does and gives what `read` gave
 of the version that it overwrites: nothing may come between the two, at whatever level the store
-runs. `begin_alone(seconds)` begins, in place of `begin`, transactions of one statement each, which end
-within so many seconds; these calls may then raise OutcomeUnknown themselves. `hang_up()`, from any
-thread, has whatever waits for an answer over this connection wait no more, and the next transaction
-begin over another one: it is called where a client waits for what the audit asks. `claim(run_name,
-token)` raises NameTaken where the store knows the name, but for a run with this token. `statement`
-is what it has run last, as who is told of a violation should see it.
+runs. `begin_alone(seconds)` begins, in place of `begin`, transactions of one statement each, which
+end within so many seconds; these calls may then raise OutcomeUnknown themselves. `hang_up()`, from
+any thread, has whatever waits for an answer over this connection wait no more, and the next
+transaction begin over another one: it is called where a client waits for what the audit asks.
+`claim(run_name, token)` raises NameTaken where the store knows the name, but for a run with this
+token. `statement` is what it has run last, as who is told of a violation should see it.
 """
 
 from __future__ import annotations
