@@ -198,6 +198,21 @@ class Elsewhere(test_live.Meetings):
         other.leave()
         self.assertEqual(self.ended(live).kind, "serial")
 
+    def test_what_could_not_be_lent_is_left(self):
+        live, store = self.live(2, every=1000), MemoryStore()
+        a, b = (self.client.session(store.connect()) for _ in range(2))
+        b.run(add_one("x"))
+        b.close()
+        self.wait_for(live._places.numbers)
+        (stuck,) = [it.messages for it in self.server._processes if a.number in it.group.numbers()]
+        plain, stuck.tell = stuck.tell, lambda *_, **__: False  # nothing can be sent
+        live._pace.every = 1
+        self.wait_for(lambda: any("a process has left" in line for line in self.told))
+        stuck.tell = plain
+        self.wait_for(lambda: self.is_cut(live, a))
+        self.wait_for(live._places.numbers)
+        self.assertEqual(self.ended(live).kind, "serial")
+
     def is_cut(self, live, session):
         session.run(add_one("x"))
         return live.cuts > 0

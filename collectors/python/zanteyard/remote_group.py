@@ -135,6 +135,8 @@ class RemoteGroup:
         if self._has_left or not self._messages.tell(
             "call", asked, name, told, seconds=self.patience
         ):
+            for place in lent:
+                place.is_lent = False
             raise Missed("a process has left")
         return lambda ends: self._answer_to(call, ends)
 
