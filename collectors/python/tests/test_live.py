@@ -324,6 +324,19 @@ class Meetings(WithProgram):
         self.assertEqual(audited(small)[0].kind, "violated")
         self.assertIn("none can come first of", reasons(small, called)[-1])
 
+    def failure_by_a_key(self):
+        """Of the audit, where it can't be made bytes; the client goes on."""
+
+        class Key(str):
+            pass
+
+        live, store = self.live(1), MemoryStore()
+        a = live.session(store.connect())
+        a.run(add_one(Key("x")))
+        self.assertEqual(a.run(lambda transaction: transaction.get("x")), 1)
+        self.wait_for(lambda: live.is_over)
+        return live.failure
+
     def test_a_program_that_is_killed(self):
         live, store = self.live(1, every=1), MemoryStore()
         a = live.session(store.connect())
@@ -364,15 +377,7 @@ class MeetingsApart(Meetings):
             auditor.round()
 
     def test_a_key_that_can_not_be_handed_over_ends_the_audit_and_no_client(self):
-        class Key(str):
-            pass
-
-        live, store = self.live(1), MemoryStore()
-        a = live.session(store.connect())
-        a.run(add_one(Key("x")))
-        self.assertEqual(a.run(lambda transaction: transaction.get("x")), 1)
-        self.wait_for(lambda: live.is_over)
-        self.assertIsInstance(live.failure, ValueError)
+        self.assertIsInstance(self.failure_by_a_key(), ValueError)
 
     def test_a_program_that_is_not_there(self):
         with self.assertRaisesRegex(Ended, "nowhere can't be started"):

@@ -15,7 +15,7 @@ import zanteyard
 from zanteyard import Aborted, AuditClient, Auditor, AuditorApart, AuditServer, LiveAuditor, Session
 from zanteyard.auditor import FENCE, PROGRAM
 from zanteyard.memory_store import MemoryStore
-from zanteyard.sessions import whole
+from zanteyard.sessions import Place, whole
 
 from .test_live import add_one, set_to
 
@@ -534,6 +534,20 @@ class Standing(NoHarm):
         self.assertEqual(outcome.kind, "incomplete", outcome)
         self.assertGreater(len(outcome.earlier), 5)
         self.assertGreater(outcome.audited, 0)
+
+
+    def test_who_waits_for_another_place_is_seen_to_wait(self):
+        def renew(session):
+            time.sleep(0.2)
+            return Place(1)
+
+        session = Session(self.auditor(), 0, MemoryStore().connect(), renew=renew)
+        session.run(add_one("x"))
+        self.assertLess(session.waited, 0.2)
+        session.end()
+        session.run(add_one("x"))
+        self.assertGreater(session.longest, 0.19)
+        self.assertGreaterEqual(session.waited, session.longest)
 
 
 class Lifetimes(NoHarm):

@@ -1,4 +1,5 @@
 """The same against a real PostgreSQL, where it is installed."""
+import logging
 import os
 import signal
 import threading
@@ -64,6 +65,10 @@ class Postgres(unittest.TestCase):
         for transaction, coin in ((one, "x"), (other, "y")):
             transaction.get("x"), transaction.get("y")
             transaction.put(coin, "0")
+        return self.committed(one, other)
+
+    def committed(self, one, other):
+        """The second, if the store lets it."""
         one.commit()
         try:
             other.commit()
@@ -77,12 +82,7 @@ class Postgres(unittest.TestCase):
         one, other = a.begin(), b.begin()
         for transaction in (one, other):
             transaction.put("x", str(int(transaction.get("x")) + 1))
-        one.commit()
-        try:
-            other.commit()
-        except Aborted:
-            pass
-        return self.kind()
+        return self.committed(one, other)
 
     def test_write_skew(self):
         for level, wanted in (("serializable", "serial"), ("repeatable read", "violated"), ("read committed", "violated")):
@@ -179,9 +179,97 @@ class Postgres(unittest.TestCase):
             self.assertEqual(auditor.remaining, 0 if attempt else 2)
 
     def test_a_name_of_before_names_were_claimed_is_refused(self):
+        self.admin.cursor().execute("DELETE FROM zanteyard")
         self.admin.cursor().execute("INSERT INTO zanteyard VALUES ('x', '1', 'run', 0, 0)")
+        prepare(self.dsn)
         with self.assertRaises(NameTaken):
             self.sessions()[0].run(lambda t: t.put("x", "1"))
+
+    def test_a_name_is_claimed_without_a_scan(self):
+        admin = self.admin.cursor()
+        admin.execute("INSERT INTO zanteyard SELECT 'key ' || i, '', 'old', 0, i FROM generate_series(1, 20000) AS i")
+        admin.execute("ANALYZE zanteyard")
+        scans = "SELECT seq_scan, idx_scan FROM pg_stat_user_tables WHERE relname = 'zanteyard'"
+        admin.execute(scans)
+        before = admin.fetchone()
+        store = PostgresStore(self.dsn)
+        store.claim("run", "token", 60)
+        store.close()  # it tells what it did
+        until = time.monotonic() + 60
+        while True:
+            admin.execute(scans)
+            after = admin.fetchone()
+            if after != before or time.monotonic() > until:
+                break
+            time.sleep(0.05)
+        self.assertEqual((after[0], after[1] > before[1]), (before[0], True))
+
+    def claiming(self):
+        """A session of a run with a name, over a connection that is there."""
+        auditor = Auditor(1)
+        self.addCleanup(auditor.end)
+        store = PostgresStore(self.dsn)
+        store.connect()
+        self.addCleanup(store.close)
+        return auditor, Session(auditor, 0, store, "run")
+
+    def claimed_late(self, stand_still, go_on):
+        """At least once of three times the client waits for the name no longer than the bound, and
+        half a second more; nothing is audited until it can be claimed, and then all is."""
+        logging.getLogger("zanteyard").setLevel(logging.CRITICAL)
+        self.addCleanup(logging.getLogger("zanteyard").setLevel, logging.NOTSET)
+        least = float("inf")
+        for _ in range(3):
+            auditor, session = self.claiming()
+            with_it = stand_still(session.store)
+            try:
+                began = time.monotonic()
+                session.begin().commit()
+                least = min(least, time.monotonic() - began)
+                self.assertFalse(session.is_claimed)
+                self.assertGreater(session.longest, 0.15)
+            finally:
+                go_on(with_it)
+            outcome = auditor.outcome()
+            self.assertEqual((outcome.kind, outcome.audited, outcome.handed_in), ("incomplete", 0, 1))
+            self.assertIn("can't be found out in time", str(outcome))
+            auditor.start_anew()  # as a LiveAuditor does
+            session.claim_at = 0.0
+            session.place.begun = 0
+            session.run(lambda t: t.get("x"))
+            self.assertEqual((auditor.outcome().kind, session.is_claimed), ("serial", True))
+            self.admin.cursor().execute("DELETE FROM zanteyard")
+        self.assertLess(least, 0.75)
+
+    def test_a_name_for_which_another_transaction_stands_in_the_way(self):
+        def stand_still(store):
+            other = psycopg2.connect(self.dsn)
+            other.cursor().execute("INSERT INTO zanteyard VALUES ('zanteyard run run', '', 'run', -1, 0)")
+            return other
+
+        self.claimed_late(stand_still, lambda other: other.close())
+
+    def test_a_name_of_which_a_server_says_nothing(self):
+        def stand_still(store):
+            pid = store.connection.info.backend_pid
+            os.kill(pid, signal.SIGSTOP)
+            return pid
+
+        self.claimed_late(stand_still, lambda pid: os.kill(pid, signal.SIGCONT))
+
+    def test_a_name_that_turns_out_to_be_anothers_stops_nobody_later(self):
+        auditor, session = self.claiming()
+        other = psycopg2.connect(self.dsn)
+        other.cursor().execute("INSERT INTO zanteyard VALUES ('zanteyard run run', '', 'run', -1, 0)")
+        logging.getLogger("zanteyard").setLevel(logging.CRITICAL)
+        self.addCleanup(logging.getLogger("zanteyard").setLevel, logging.NOTSET)
+        session.run(lambda t: t.get("x"))
+        other.commit()
+        other.close()
+        session.claim_at = 0.0
+        session.run(lambda t: t.get("x"))
+        self.assertIsInstance(session.unclaimed, NameTaken)
+        self.assertEqual((auditor.outcome().kind, auditor.handed_in), ("incomplete", 2))
 
     def test_the_answer_to_a_statement_that_is_a_transaction_is_lost(self):
         class LosesOne(PostgresStore):

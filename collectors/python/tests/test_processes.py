@@ -218,15 +218,8 @@ class Elsewhere(test_live.Meetings):
         return live.cuts > 0
 
     def test_a_key_that_can_not_be_handed_over_ends_the_audit_and_no_client(self):
-        class Key(str):
-            pass
-
-        live, store = self.live(1), MemoryStore()
-        a = live.session(store.connect())
-        a.run(add_one(Key("x")))
-        self.assertEqual(a.run(lambda transaction: transaction.get("x")), 1)
-        self.wait_for(lambda: live.is_over)
-        self.assertIn("transaction 0 of session 0 can't be handed over", str(live.failure))
+        told = "transaction 0 of session 0 can't be handed over"
+        self.assertIn(told, str(self.failure_by_a_key()))
 
     def test_another_program_is_let_in(self):
         live = self.live(1)

@@ -225,5 +225,6 @@ class Group:
         end waits for all threads of pools."""
         self.pool.shutdown(wait=False)
         for session in list(self.sessions):
-            if session.current is None and session.turn.locked():
+            running = session.running
+            if running is not None and not running.holds:
                 session.hang_up()

@@ -98,7 +98,7 @@ class Connection:
                 self.shared.versions.setdefault(key, []).append(version)
             self.shared.moment += 1
 
-    def claim(self, run_name: str, token: str) -> None:
+    def claim(self, run_name: str, token: str, seconds: float) -> None:
         with self.shared.lock:
             if self.shared.runs.setdefault(run_name, token) != token:
                 raise NameTaken(f"the store knows the name {run_name}: an earlier run had it")

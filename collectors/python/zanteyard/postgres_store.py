@@ -6,6 +6,7 @@ from __future__ import annotations
 import os
 import re
 import socket
+import threading
 from typing import Any, Dict, Optional, Sequence, Tuple
 
 import psycopg2
@@ -35,12 +36,18 @@ FIRST = f"""INSERT INTO {{table}} VALUES (%s, %s, %s, %s, %s) ON CONFLICT (key) 
     {TRANSACTION}"""
 STATUS = """SELECT pg_xact_status(%s::text::xid8), EXISTS (SELECT 1 FROM {table}
     WHERE key = %s AND run = %s AND session = %s AND number = %s)"""
-KNOWS = "SELECT EXISTS (SELECT 1 FROM {table} WHERE run = %s)"
+CLAIM = """WITH mine AS (INSERT INTO {table} VALUES (%s, %s, %s, %s, %s)
+    ON CONFLICT (key) DO NOTHING RETURNING value)
+    SELECT value FROM mine UNION ALL SELECT value FROM {table} WHERE key = %s"""
+# The names of runs that claimed none, as earlier versions of this package had them: looked up once.
+CLAIM_ALL = """INSERT INTO {table} SELECT DISTINCT %s || run, '', run, -1, 0 FROM {table}
+    WHERE session >= 0 ON CONFLICT (key) DO NOTHING"""
 READING = "SET TRANSACTION ISOLATION LEVEL SERIALIZABLE, READ ONLY; "
 CONFLICTS = (errors.SerializationFailure, errors.DeadlockDetected)
 PATIENCE = 5.0  # seconds for a connection, and for an outcome
 ATTEMPTS = 10  # at the first row of a key: each fails only where another client has just made it
 RUN = "zanteyard run "  # before a run's name: the key of the row that says whose it is
+RUNS = "zanteyard runs"  # the key of the row that says that each run's name has such a row
 
 
 def quoted(table: str) -> str:
@@ -53,11 +60,16 @@ def quoted(table: str) -> str:
 
 
 def prepare(dsn: str, table: str = "zanteyard") -> None:
-    """Makes the table, where it isn't there."""
+    """Makes the table, where it isn't there; one that is there and wasn't prepared before is read
+    once, for the names of its runs."""
     connection = psycopg2.connect(dsn)
     try:
         with connection:
-            connection.cursor().execute(TABLE.format(table=quoted(table)))
+            cursor, its = connection.cursor(), quoted(table)
+            cursor.execute(TABLE.format(table=its))
+            cursor.execute(FIRST.format(table=its), (RUNS, "", "", -1, 0))
+            if cursor.fetchone() is not None:
+                cursor.execute(CLAIM_ALL.format(table=its), (RUN,))
     finally:
         connection.close()
 
@@ -82,10 +94,11 @@ class PostgresStore:
         self.written: Tuple[Any, ...] = ()  # the key that was written last, and the name beside it
         self.statement: Optional[str] = None  # what was run last, as the server got it
         self.before = ""  # what the transaction's first statement is sent behind
-        self.is_alone = False
+        self.is_alone = self.is_hung_up = False
 
     def connect(self, seconds: Optional[float] = None) -> None:
         """Opens the connection, and raises psycopg2's errors where it can't."""
+        self.is_hung_up = False
         self.connection = connected(self.dsn, self.patience if seconds is None else seconds)
         self.connection.autocommit = True  # transactions are begun here, on the way of a statement
 
@@ -111,6 +124,8 @@ class PostgresStore:
         return cursor
 
     def begin(self, seconds: Optional[float] = None) -> None:
+        if self.is_hung_up:
+            self.close()
         if self.connection is None or self.connection.closed:
             self.connect(seconds)
         self.transaction_id, self.is_alone = None, False
@@ -183,7 +198,7 @@ class PostgresStore:
     def hang_up(self) -> None:
         """From any thread: what waits for the server raises OutcomeUnknown at once, or psycopg2's
         error, and the next transaction opens another connection."""
-        connection = self.connection
+        connection, self.is_hung_up = self.connection, True
         try:
             with socket.socket(fileno=os.dup(connection.fileno())) as same:
                 same.shutdown(socket.SHUT_RDWR)
@@ -209,15 +224,27 @@ class PostgresStore:
             return str(status)
         return "unknown"
 
-    def claim(self, run_name: str, token: str) -> None:
-        """Makes the name that of one run, or raises NameTaken where it is another's."""
-        name: Tuple[Any, ...] = (RUN + run_name, token, run_name, -1, 0)
-        self.begin_alone(60)
-        row = self.ask(READ, name[:1]).fetchone()
-        if row is None:
-            is_known = self.ask(KNOWS, (run_name,)).fetchone()[0]
-            if not is_known and self.ask(FIRST, name).fetchone() is not None:
-                return
-            row = self.ask(READ, name[:1]).fetchone()
-        if row is None or row[0] != token:
+    def claim(self, run_name: str, token: str, seconds: float) -> None:
+        """Makes the name that of one run, or raises NameTaken where it is another's; OutcomeUnknown
+        where the server hasn't answered after so many seconds."""
+        self.begin()  # what connects is waited for by the client, whose connection it is
+        self.begin_alone(0.8 * seconds)  # the server ends it, unless nothing comes through
+        ends = threading.Timer(seconds, self.hang_up)
+        ends.daemon = True
+        ends.start()
+        try:
+            owner = self.owner(RUN + run_name, token, run_name)
+        except errors.QueryCanceled as error:
+            raise OutcomeUnknown(str(error).strip()) from error
+        finally:
+            ends.cancel()
+            ends.join()  # so that it is known by now whether this connection can be used
+        if owner != token:
             raise NameTaken(f"{self.table} knows the name {run_name}: an earlier run had it")
+
+    def owner(self, key: str, token: str, run_name: str) -> str:
+        for _ in range(ATTEMPTS):
+            row = self.ask(CLAIM, (key, token, run_name, -1, 0, key)).fetchone()
+            if row is not None:
+                return str(row[0])
+        raise Aborted(f"{key} came and went {ATTEMPTS} times")

@@ -15,8 +15,9 @@ runs. `begin_alone(seconds)` begins, in place of `begin`, transactions of one st
 end within so many seconds; these calls may then raise OutcomeUnknown themselves. `hang_up()`, from
 any thread, has whatever waits for an answer over this connection wait no more, and the next
 transaction begin over another one: it is called where a client waits for what the audit asks.
-`claim(run_name, token)` raises NameTaken where the store knows the name, but for a run with this
-token. `statement` is what it has run last, as who is told of a violation should see it.
+`claim(run_name, token, seconds)` raises NameTaken where the store knows the name, but for a run
+with this token, and OutcomeUnknown where it hasn't said so after so many seconds. `statement` is
+what it has run last, as who is told of a violation should see it.
 """
 
 from __future__ import annotations
@@ -42,6 +43,7 @@ OutcomeUnknown = OutcomeUnknownError
 NameTaken = NameTakenError
 
 SHORTEST = 0.001  # seconds that the store is given for a transaction
+AGAIN = 1.0  # seconds until a run's name is claimed again
 LEAST = 0.1  # seconds for an outcome, where nobody was promised any
 logger = logging.getLogger("zanteyard")
 Result = TypeVar("Result")
@@ -88,7 +90,9 @@ class Session:
         self.run_name = run_name if run_name is not None else its_name
         self.is_named = self.run_name != its_name or getattr(auditor, "is_named", True)
         self.place: Any = Place(number)  # None where no place is left for it
-        self.is_open, self.is_claimed = True, False
+        self.is_open = True
+        self.is_claimed, self.claim_at = False, 0.0  # the latter is when it is tried again
+        self.unclaimed: Optional[Exception] = None  # why not, once it was tried in vain
         self.wait = getattr(getattr(auditor, "policy", None), "wait", 30.0)
         # Held by a transaction from its begin to its end, and by a meeting.
         self.turn = threading.Lock()
@@ -118,31 +122,38 @@ class Session:
         """Raises what the store does where it can't be reached; then nothing has begun."""
         if self.current is not None:
             raise ValueError(f"session {self.number} is in a transaction: it runs one at a time")
-        self.take_turn()
+        came = time.monotonic()
         try:
-            self.go_on()
-            self.claim_name()
-            return self.start(self.store.begin, holds=True)
+            self.take_turn()
+            self.with_turn(self.get_ready)
+        finally:
+            self.has_waited(came)
+        return self.with_turn(lambda: self.start(self.store.begin, holds=True))
+
+    def with_turn(self, call: Callable[[], Result]) -> Result:
+        """Gives the turn back where it fails."""
+        try:
+            return call()
         except BaseException:
             self.turn.release()
             raise
+
+    def get_ready(self) -> None:
+        self.go_on()
+        self.claim_name()
 
     def take_turn(self) -> None:
         """Who holds it, and the gate, are meetings, which end within the policy's wait; but for a
         statement of theirs that the store hasn't answered over this connection. That is waited for
         as long once more, and then given up."""
-        came = time.monotonic()
-        try:
-            if self.gate.locked() and self.gate.acquire(timeout=self.wait):
-                self.gate.release()
-            if self.turn.acquire(timeout=self.wait):
-                return
-            logger.warning("session %s: the store doesn't answer the audit", self.number)
-            self.hang_up()
-            if not self.turn.acquire(timeout=self.wait):
-                raise StoreLateError(f"session {self.number} waits for the store")
-        finally:
-            self.has_waited(came)
+        if self.gate.locked() and self.gate.acquire(timeout=self.wait):
+            self.gate.release()
+        if self.turn.acquire(timeout=self.wait):
+            return
+        logger.warning("session %s: the store doesn't answer the audit", self.number)
+        self.hang_up()
+        if not self.turn.acquire(timeout=self.wait):
+            raise StoreLateError(f"session {self.number} waits for the store")
 
     def hang_up(self) -> None:
         hang_up = getattr(self.store, "hang_up", None)
@@ -164,12 +175,24 @@ class Session:
             raise ValueError(f"session {self.number} has ended")
 
     def claim_name(self) -> None:
-        """Before the first transaction."""
-        if self.is_named and not self.is_claimed:
-            claim, token = getattr(self.store, "claim", None), getattr(self.auditor, "token", None)
-            if claim is not None and token is not None:
-                claim(self.run_name, token)
-        self.is_claimed = True
+        """Before the first transaction. Where the store doesn't say in time whose the name is, it
+        is asked again after a while, and what is done by then isn't audited. A name that turns out
+        to be another run's then stops nobody any more."""
+        if self.is_claimed or time.monotonic() < self.claim_at:
+            return
+        claim, token = getattr(self.store, "claim", None), getattr(self.auditor, "token", None)
+        try:
+            if self.is_named and claim is not None and token is not None:
+                claim(self.run_name, token, self.wait)
+            self.is_claimed, self.unclaimed = True, None
+        except NameTaken as error:
+            if self.unclaimed is None:
+                raise
+            self.unclaimed, self.claim_at = error, math.inf
+        except (Aborted, OutcomeUnknown) as error:
+            told = f"whether the name {self.run_name} is this run's can't be found out in time"
+            self.unclaimed = AuditLostError(f"{told}: {error}")
+            self.claim_at = time.monotonic() + AGAIN
 
     def start(self, begin: Callable[..., Any], holds: bool, *arguments: Any) -> Transaction:
         """A transaction, which has its number once the store has begun it."""
@@ -471,7 +494,9 @@ class Transaction:
                 session.used_at = time.monotonic()
             # Nothing is known of a fence without its read: who reads from it waits for it then.
             if not (is_last and FENCE in writes):
-                if not session.tell(self.hand_in, reads, writes, outcome):
+                if session.unclaimed is not None:
+                    session.miss(self.number, session.unclaimed)
+                elif not session.tell(self.hand_in, reads, writes, outcome):
                     session.miss(self.number)
             if is_last:
                 session.end()
