@@ -180,8 +180,8 @@ class AfterTheCommit(NoHarm):
         self.assertEqual((outcome.kind, outcome.audited), ("serial", session.begun))
 
     def test_one_that_stands_still_for_long_is_given_up(self):
-        self.addCleanup(setattr, zanteyard.auditor, "LATEST", zanteyard.auditor.LATEST)
-        zanteyard.auditor.LATEST = 0.5
+        self.addCleanup(setattr, zanteyard.taking, "LATEST", zanteyard.taking.LATEST)
+        zanteyard.taking.LATEST = 0.5
         for of in (Auditor, AuditorApart):
             with self.subTest(of=of.__name__):
                 auditor = self.auditor(of=of)
@@ -216,7 +216,7 @@ class Interrupts(NoHarm):
     function is entered, or behind a call."""
 
     KINDS = (KeyboardInterrupt, SystemExit, GeneratorExit)
-    PLACES = ("sessions", "auditor", "apart", "live", "backlog", "audit_client", "handover", "pipes")
+    PLACES = ("sessions", "auditor", "taking", "apart", "live", "backlog", "audit_client", "handover", "pipes")
 
     def interrupted(self, transaction, at):
         """Whether its commit was, at the place of this number."""

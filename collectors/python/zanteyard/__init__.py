@@ -25,7 +25,7 @@ docs/COLLECTORS.md says what is logged, and why.
 from .apart import AuditorApart
 from .audit_client import AuditClient
 from .audit_server import AuditServer
-from .auditor import FENCE, Auditor, Full, NoCut, NoMemory, Refused
+from .auditor import FENCE, Auditor, NoCut, NoMemory, Refused
 from .errors import (
     AbortedError,
     AuditLostError,
@@ -50,6 +50,7 @@ from .pipes import Ended
 from .records import Cut, Logged, Pending, Report, Store
 from .sessions import Aborted, NameTaken, OutcomeUnknown, Session, Transaction
 from .shrinking import audited, from_start, smaller, words
+from .taking import Full
 from .telling import tell_violation
 from .version import VERSION as __version__
 

@@ -14,10 +14,11 @@ import sys
 from multiprocessing.connection import Connection, Pipe
 from typing import Any, List, Optional, Sequence, Tuple
 
-from .auditor import EFFORTS, SECONDS, Auditor, Effort, Fragment, Full, NoCut, Takes
+from .auditor import Auditor, NoCut
 from .coverage import Coverage
 from .pipes import ENDING, Ended, Late
 from .records import Cut, History, Logged, Report
+from .taking import EFFORTS, SECONDS, Effort, Fragment, Full, Takes
 
 PLACE = os.path.dirname(os.path.dirname(os.path.abspath(__file__)))
 START = (

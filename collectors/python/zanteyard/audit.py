@@ -8,12 +8,13 @@ from dataclasses import dataclass
 from typing import Any, Callable, Dict, Iterable, List, Optional, Sequence, Tuple, Union
 
 from .apart import AuditorApart
-from .auditor import LONGEST, Auditor, Fragment, Full, NoCut, never_came
+from .auditor import LONGEST, Auditor, NoCut
 from .backlog import Backlog
 from .coverage import Coverage
 from .outcome import COLLECTOR, PENDING, RUNNING, SERIAL, VIOLATED, Outcome, kind_of
 from .records import Pending, Report
 from .shrinking import is_collectors_own
+from .taking import Fragment, Full, never_came
 
 logger = logging.getLogger("zanteyard")
 AnyAuditor = Union[Auditor, AuditorApart]

@@ -13,7 +13,7 @@ from __future__ import annotations
 import logging
 import threading
 import time
-from dataclasses import dataclass, replace
+from dataclasses import replace
 from typing import Any, Callable, Iterable, List, Optional, Tuple
 
 from .apart import AuditorApart
@@ -25,34 +25,19 @@ from .coverage import Coverage
 from .edges import coverage_from_now
 from .errors import AuditLostError
 from .outcome import RATHER_LOSE_THE_AUDIT, Outcome, Policy
+from .pace import Pace
 from .places import Places
 from .records import Logged, Report, Store
 from .sessions import Place, Session
 from .sessions_here import PATIENCE, SessionsHere
 
 logger = logging.getLogger("zanteyard")
-PATIENT = 30  # times as long a meeting waits where the next one may come too late
 PAUSE = 0.04  # seconds, in which more transactions come: a line each would cost the clients more
 LONGEST_PAUSE = 30.0  # seconds between two attempts to start an auditor that can't be started
 STOPPING = 120.0  # seconds for what was handed in to be audited, as it is stopped
 GIVING_UP = 1.0  # the same, where an exception ends it
 
 Lost = AuditLostError  # the same error under a shorter name
-
-
-@dataclass
-class Pace:
-    """What comes when; `LiveAuditor` says what each of these is."""
-
-    every: int
-    seconds: float
-    idle: float
-    patience: float
-
-    @property
-    def soon(self) -> int:
-        """How many transactions come before the next meeting where one fails."""
-        return max(1, self.every // 4)
 
 
 class LiveAuditor(SessionsHere):
@@ -315,14 +300,12 @@ class LiveAuditor(SessionsHere):
 
     def _is_meeting_due(self) -> bool:
         """Where room asks for it: at a violation nothing is lost by a later one."""
-        pace = self._pace
-        return self._convener.new >= (pace.soon if self._audit.why_no_cut else pace.every)
+        return self._convener.new >= self._pace.until_meeting(bool(self._audit.why_no_cut))
 
     def _meet(self) -> None:
         """With a round behind it, over what came up to its end."""
-        audit, pace = self._audit, self._pace
-        patience = pace.patience if self._has_room() else PATIENT * pace.patience
-        met = self._convener.meet(min(patience, self.policy.wait), pace.idle)
+        audit, patience = self._audit, self._pace.patience_of(is_last=not self._has_room())
+        met = self._convener.meet(min(patience, self.policy.wait), self._pace.idle)
         audit.why_no_cut = met.failure
         audit.take_in_all(met.came)
         if audit.is_violated:  # by a round that was to make room

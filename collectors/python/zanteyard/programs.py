@@ -83,3 +83,6 @@ def sha256_of(path: str) -> str:
         for block in iter(lambda: file.read(1 << 16), b""):
             found.update(block)
     return found.hexdigest()
+
+
+PROGRAM = program_path()  # where nothing else is asked for

@@ -10,9 +10,10 @@ from collections import Counter
 from dataclasses import dataclass, field
 from typing import Any, Dict, Iterable, Iterator, List, Mapping, Sequence
 
-from .auditor import FENCE, never_came
+from .auditor import FENCE
 from .errors import ProgramEndedError, ScriptMistakeError
 from .records import Logged, Pending, TransactionId
+from .taking import never_came
 
 # What a spent round is given again with: nodes of the search, depth, workers.
 WORKERS = max(1, min(16, os.cpu_count() or 1))

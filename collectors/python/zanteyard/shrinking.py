@@ -7,8 +7,9 @@ import time
 from typing import Any, Callable, Container, Dict, Iterable, Iterator, List, Mapping
 from typing import Optional, Set, Tuple
 
-from .auditor import FENCE, LONGEST, PLAIN_FENCE, PROGRAM, Auditor, is_own, written
+from .auditor import FENCE, LONGEST, PLAIN_FENCE, Auditor, is_own, written
 from .outcome import VIOLATED
+from .programs import PROGRAM
 from .records import History, Logged, Names, Report, Source, TransactionId
 
 TOLD = 240  # characters of a statement, at most

@@ -5,10 +5,10 @@ from __future__ import annotations
 import time
 from typing import Callable
 
-from .auditor import PROGRAM
 from .circumstances import circumstances
 from .explain import Explanation, explain_history
 from .picture import draw
+from .programs import PROGRAM
 from .records import History, Names
 from .shrinking import SECONDS, audited, name, smaller, words
 

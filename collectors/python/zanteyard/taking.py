@@ -1,0 +1,247 @@
+"""What an auditor takes from sessions, and what users call, wherever its program is."""
+
+from __future__ import annotations
+
+import logging
+import os
+import secrets
+import threading
+import time
+from collections import deque
+from typing import Any, Deque, Dict, Iterator, List, Optional, Sequence, Tuple
+
+from .coverage import Coverage
+from .errors import FullError
+from .outcome import RATHER_LOSE_THE_AUDIT, Outcome, Policy, kind_of
+from .pipes import Ended, Late
+from .programs import PROGRAM
+from .records import History, Logged, Pending, Report
+
+Full = FullError  # the same error under a shorter name
+
+LIMIT = 4096  # the most transactions that may remain
+# Of a round: how many nodes of the search it may look at, how deep the search is split, and how
+# many workers share it. The next is tried where one hasn't decided.
+EFFORTS = ((4096, 0, 1), (65536, 4, max(1, min(16, os.cpu_count() or 1))))
+SECONDS = 60.0  # for the answer to a line that no client waits for
+LATEST = 10.0  # seconds after which an answer that no client waits for isn't waited for any more
+Effort = Tuple[int, int, int]  # nodes, depth, workers
+Fragment = Tuple[int, int, Sequence[Any]]  # session, number of the first, transactions
+logger = logging.getLogger("zanteyard")
+
+
+def fresh_name() -> str:
+    """A run's name that no other run has."""
+    return f"{time.strftime('%Y-%m-%d %H:%M:%S')} {secrets.token_hex(6)}"
+
+
+class Takes:
+    """What an auditor does wherever its program is: it takes what sessions hand in when the store
+    has answered. That never raises, and waits no longer than the policy says. What can't be taken
+    in ends the audit, which `failure` and the log tell."""
+
+    history: History  # of each session what was taken in and isn't forgotten
+
+    def __init__(
+        self,
+        sessions: int,
+        limit: int = LIMIT,
+        program: str = PROGRAM,
+        run_name: Optional[str] = None,
+        script: Optional[str] = None,
+        policy: Policy = RATHER_LOSE_THE_AUDIT,
+    ) -> None:
+        self.sessions, self.limit, self.path, self.script_path = sessions, limit, program, script
+        self.policy, self.is_named = policy, run_name is not None
+        self.run_name: str = run_name if run_name is not None else fresh_name()
+        self.token = secrets.token_hex(12)  # of this run alone, also where its name isn't
+        self.audits = 0
+        self._waiting: Deque[Tuple[Any, ...]] = deque()
+        self.is_ended = False  # by who has made it
+        self._counting = threading.Lock()
+        self.lock = threading.RLock()  # what is kept here follows the replies in their order
+        self._begin_count()
+        self._start(None)
+
+    # what each kind has of its own
+
+    def _start(self, coverage: Optional[Coverage]) -> None:
+        raise NotImplementedError
+
+    def _end_program(self) -> Optional[int]:
+        raise NotImplementedError
+
+    def offer_all(self, fragments: Sequence[Fragment]) -> List[Fragment]:
+        """Several fragments, each (session, number of the first, transactions): gives those for
+        which there was no room."""
+        raise NotImplementedError
+
+    def _begin_take(self, kind: str, session: int, *offered: Any) -> Any:
+        raise NotImplementedError
+
+    def _end_take(self, kind: str, asked: Any, seconds: float) -> None:
+        raise NotImplementedError
+
+    def _give_up(self) -> None:
+        raise NotImplementedError
+
+    def _is_waiting(self) -> bool:
+        """Whether an answer is waited for, and no part of it was read."""
+        raise NotImplementedError
+
+    def last_round(self, efforts: Sequence[Effort] = EFFORTS) -> Report:
+        """As `round`, over what was taken in by now, whatever was lost."""
+        raise NotImplementedError
+
+    # what users call
+
+    def offer(self, session: int, number: int, *logged: Any) -> None:
+        """Transactions that follow one another, the first of this number. Raises Full where there
+        is no room."""
+        if self.offer_all([(session, number, logged)]):
+            raise Full(f"there is no room for transaction {number} of session {session}")
+
+    def round(self, efforts: Sequence[Effort] = EFFORTS) -> Report:
+        """The report of a round over all that sessions have handed in. One that ends spent is given
+        again with the next effort: then it tells of the last. Raises why, where something that
+        sessions did was lost: `outcome` tells what is known all the same."""
+        self._take_in()
+        if self.failure is not None:
+            raise self.failure
+        return self.last_round(efforts)
+
+    def start_anew(self, coverage: Optional[Coverage] = None) -> None:
+        """Another program, which knows nothing of what the one before it was given. By a Coverage,
+        numbers count from where the audit begins. Raises Ended behind `end`."""
+        with self.lock:
+            self._check_end()
+            self._end_program()
+            self._begin_count()
+            self._start(coverage)
+
+    def end(self) -> Optional[int]:
+        """Ends the program, and gives its status, or None where that isn't known. May be called
+        again."""
+        self.is_ended = True
+        with self.lock:
+            return self._end_program()
+
+    def __exit__(self, *_: object) -> None:
+        self.end()
+
+    # what sessions call
+
+    def _begin_count(self) -> None:
+        self.failure: Optional[Exception] = None
+        self.handed_in, self.taken_in = 0, 0
+        self._seen: Dict[int, int] = {}  # of each session, the number behind the last one counted
+        self._late: Any = None  # what was asked for a session and isn't answered yet, since when
+
+    def take(self, session: int, number: int, logged: Logged) -> None:
+        """Hands in what a transaction did; waits as long as the policy says."""
+        self._count(session, number)
+        self._hand_in(("offer", session, number, logged))
+
+    def _count(self, session: int, number: int) -> None:
+        """Once, also of what is missed after it was handed in."""
+        with self._counting:
+            if self._seen.get(session, 0) <= number:
+                self._seen[session] = number + 1
+                self.handed_in += 1
+
+    def miss(self, session: int, number: int, error: Exception) -> None:
+        """It isn't known whether a session has handed in what it did under this number."""
+        self._count(session, number)
+        self._waiting.clear()
+        self._fail(error)  # what was asked already is answered before a round is
+
+    def take_close(self, session: int) -> None:
+        """Nothing more of this session comes."""
+        self._hand_in(("close", session))
+
+    def _hand_in(self, what: Tuple[Any, ...]) -> None:
+        if self.failure is not None:
+            return
+        self._waiting.append(what)
+        ends = time.monotonic() + self.policy.wait
+        if self.lock.acquire(timeout=self.policy.wait):  # else who has it takes it in
+            try:
+                self._take_in(ends)
+            finally:
+                self.lock.release()
+
+    def _take_in(self, ends: Optional[float] = None) -> None:
+        """All that waits; until then. What isn't answered by then is asked for by who comes next,
+        and those don't wait."""
+        with self.lock:
+            while self.failure is None and (self._late or self._waiting):
+                try:
+                    if self._late is None:
+                        what = self._waiting.popleft()
+                        self._late = (what, self._begin_take(*what), time.monotonic())
+                    elif ends is not None:
+                        ends = min(ends, self._late[2] + self.policy.wait)
+                    self._end_late(SECONDS if ends is None else max(0.0, ends - time.monotonic()))
+                except Late as error:
+                    if ends is None or time.monotonic() > self._late[2] + LATEST:
+                        self._give_up()
+                        self._lose(error)
+                    return
+                except Exception as error:
+                    self._lose(error)
+                except BaseException:  # as Ctrl-C: unless nothing was read just then
+                    if self._late is None or not self._is_waiting():
+                        self._give_up()
+                    raise
+
+    def _check_end(self) -> None:
+        if self.is_ended:
+            raise Ended("the auditor has been ended")
+
+    def _end_late(self, seconds: float) -> None:
+        """The answer to what was asked for a session; raises Late, and may then be called again."""
+        (kind, *_), asked, _ = self._late
+        self._end_take(kind, asked, seconds)
+        self._late = None
+        if kind == "offer":
+            self.taken_in += 1
+
+    def _lose(self, error: Exception) -> None:
+        """Nothing more is audited but what was taken in by now."""
+        self._late = None
+        self._waiting.clear()
+        self._fail(error)
+
+    def _fail(self, error: Exception) -> None:
+        if self.failure is None:
+            self.failure = error
+            logger.error("nothing more is audited: %s", error)
+
+    def outcome(self) -> Outcome:
+        """After a round over all that was handed in. Raises nothing."""
+        report = None
+        try:
+            self._take_in()
+            report = self.last_round()
+        except Exception as error:
+            self._lose(error)
+        is_whole = self.taken_in >= self.handed_in
+        pending = tuple(never_came(self.history)) if report and report.kind == "pending" else ()
+        kind = kind_of(report, self.failure, is_whole)
+        handed_in = max(self.handed_in, self.taken_in)
+        return Outcome(kind, self.taken_in, handed_in, self.failure, pending, report, self.run_name)
+
+
+def never_came(
+    history: History, marks: Optional[Sequence[int]] = None
+) -> Iterator[Pending]:
+    """The reads of a history that name transactions which aren't in it, each a Pending."""
+    marks = marks or [0] * len(history)
+    for session, txns in enumerate(history):
+        for number, logged in enumerate(txns, marks[session]):
+            for key, source in logged.reads:
+                if source != "init":
+                    is_there = source[0] < len(marks)
+                    ended = marks[source[0]] + len(history[source[0]]) if is_there else 0
+                    if source[1] >= ended:
+                        yield Pending((session, number), key, source)
