@@ -114,7 +114,8 @@ class _Rounds:
 
     def __init__(self) -> None:
         self.live: Optional[LiveAuditor] = None
-        self.began, self.seen = time.monotonic(), []  # type: ignore[var-annotated]
+        self.began = time.monotonic()
+        self.seen: List[RoundSeen] = []
 
     def tell(self, line: str) -> None:
         print(line, flush=True)
