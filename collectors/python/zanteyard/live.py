@@ -384,21 +384,21 @@ class LiveAuditor:
     def edges(self):
         """The coverage of an audit that begins now."""
         count = self.auditor.sessions
-        early, first = [0] * count, [None] * count
+        early, first, unknown = [0] * count, [None] * count, [()] * count
         for at in range(2):
             with self.lock:
-                found = [(place.number, place.begun, place.begun) for place in self.left]
+                found = [(it.number, it.begun, it.begun, it.unknown) for it in self.left]
             for group in self.groups:
                 found += group.edges() or ()
-            for session, answered, unsent in found:
+            for session, answered, unsent, its in found:
                 if session < count and at == 0:
                     early[session] = answered
                 elif session < count:
-                    first[session] = unsent
-        self.reopen(first, early)
-        return Coverage(early, first)
+                    first[session], unknown[session] = unsent, its
+        self.reopen(first, early, unknown)
+        return Coverage(early, first, unknown=unknown)
 
-    def reopen(self, first, early):
+    def reopen(self, first, early, unknown):
         """Who had ended goes on; the places of processes that are lost may be used again."""
         for group in self.groups:
             group.reopen()
@@ -407,7 +407,9 @@ class LiveAuditor:
                 if number is None and not self.is_away(session):
                     early[session] = self.seen.get(session, 0)
                     first[session] = early[session] + SKIPPED
-                    self.left.append(Place(session, first[session], is_due=True))
+                    unknown[session] = ((0, first[session]),)  # as its process alone knew
+                    place = Place(session, first[session], is_due=True, unknown=unknown[session])
+                    self.left.append(place)
 
     def is_away(self, session):
         """Whether a process that doesn't answer has it."""

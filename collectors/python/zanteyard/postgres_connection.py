@@ -21,7 +21,12 @@ def connected(dsn: str, seconds: float) -> Any:
     more: Dict[str, Any] = {}
     if "connect_timeout" not in extensions.parse_dsn(dsn):
         more["connect_timeout"] = max(LEAST, math.ceil(seconds))
-    return within(seconds, lambda: psycopg2.connect(dsn, **more), lambda late: late and late.close())
+    return within(seconds, lambda: psycopg2.connect(dsn, **more), closed)
+
+
+def closed(late: Any) -> None:
+    if late is not None:
+        late.close()
 
 
 def answer(dsn: str, text: str, values: Sequence[Any], seconds: float) -> Optional[Sequence[Any]]:
@@ -90,4 +95,3 @@ def within(
     except BaseException:
         found.cancel()
         raise
-

@@ -9,15 +9,15 @@ whether it is "committed", "aborted" or "unknown".
 
 It may have more. `outcome_within(seconds)` does what `outcome` does, and takes no longer; without
 it `outcome` is called, however long it takes. `read_all(keys)` gives by key what `read` gives, for
-those that are there. `exchange(key, value, name)` writes as `write` does and gives what `read` gave of the version that
-it overwrites: nothing may come between the two, at whatever level the store runs.
-`begin_alone(seconds)` begins, in place of `begin`, transactions of one statement each, which end
-within so many seconds; these calls may then raise OutcomeUnknown themselves. `hang_up()`, from any
-thread, has whatever waits for an answer over this connection wait no more, and the next transaction
-begin over another one: it is called where a client waits for what the audit asks. `claim(run_name,
-token, seconds)` raises NameTaken where the store knows the name, but for a run with this token, and
-OutcomeUnknown where it hasn't said so after so many seconds. `statement` is what it has run last,
-as who is told of a violation should see it.
+those that are there. `exchange(key, value, name)` writes as `write` does and gives what `read` gave
+of the version that it overwrites: nothing may come between the two, at whatever level the store
+runs. `begin_alone(seconds)` begins, in place of `begin`, transactions of one statement each, which
+end within so many seconds; these calls may then raise OutcomeUnknown themselves. `hang_up()`, from
+any thread, has whatever waits for an answer over this connection wait no more, and the next
+transaction begin over another one: it is called where a client waits for what the audit asks.
+`claim(run_name, token, seconds)` raises NameTaken where the store knows the name, but for a run
+with this token, and OutcomeUnknown where it hasn't said so after so many seconds. `statement` is
+what it has run last, as who is told of a violation should see it.
 """
 
 from __future__ import annotations
@@ -43,6 +43,7 @@ OutcomeUnknown = OutcomeUnknownError
 NameTaken = NameTakenError
 
 SHORTEST = 0.001  # seconds that the store is given for a transaction
+RANGES = 16  # of numbers that a place keeps
 AGAIN = 1.0  # seconds until a run's name is claimed again
 LEAST = 0.1  # seconds for an outcome, where nobody was promised any
 logger = logging.getLogger("zanteyard")
@@ -53,7 +54,9 @@ Result = TypeVar("Result")
 class Place:
     """A session of the auditor, whoever has it: its number, how many transactions it has had,
     whether any came after its last flag or mark, and whether its flag wasn't read since; whether it
-    is audited at all, has ended for this audit, or is lent to somebody who runs a flag for it."""
+    is audited at all, has ended for this audit, or is lent to somebody who runs a flag for it; and
+    the numbers, each from one to before another one, of those that the store may commit yet, or
+    not."""
 
     number: int
     begun: int = 0
@@ -62,6 +65,12 @@ class Place:
     is_audited: bool = True
     is_ended: bool = False
     is_lent: bool = False
+    unknown: Tuple[Tuple[int, int], ...] = ()
+
+    def leave_open(self, number: int) -> None:
+        """Nobody knows what becomes of the transaction of this number."""
+        ranges = (*self.unknown, (number, number + 1))
+        self.unknown = ranges if len(ranges) <= RANGES else ((ranges[0][0], number + 1),)
 
 
 class Session:
@@ -499,6 +508,7 @@ class Transaction:
                 elif not session.tell(self.hand_in, reads, writes, outcome):
                     session.miss(self.number)
             if is_last:
+                session.place.leave_open(self.number)
                 session.end()
         except BaseException as error:
             told = f"transaction {session.number}.{self.number} was interrupted as it was handed in"
