@@ -11,7 +11,7 @@ import threading
 import time
 import unittest
 
-from zanteyard import Aborted, AuditorApart, AuditServer, LiveAuditor, OutcomeUnknown
+from zanteyard import FENCE, Aborted, AuditorApart, AuditServer, LiveAuditor, OutcomeUnknown
 from zanteyard.auditor import PROGRAM
 from zanteyard.cluster import Cluster, program
 
@@ -47,14 +47,14 @@ from tests.test_faults import add_one
 with AuditClient(sys.argv[2]) as audit:
     session = audit.session(PostgresStore(sys.argv[3]))
     print("begun", flush=True)
-    ends, seen = time.monotonic() + float(sys.argv[4]), 0
+    ends = time.monotonic() + float(sys.argv[4])
     while time.monotonic() < ends:
         try:
             session.run(add_one, attempts=1)
-            seen += 1
+            print("+", end="", flush=True)
         except Aborted:
             pass
-    print(seen, session.longest, flush=True)
+    print(f"\\n{session.longest}", end="", flush=True)
 """
 
 
@@ -160,7 +160,7 @@ class Faults(unittest.TestCase):
         """What all of them owe: no count twice, no violation, nobody who waits."""
         application.end()
         outcome = self.live.stop()
-        self.assertEqual(outcome.kind, kind, str(outcome))
+        self.assertEqual(outcome.kind, kind or self.owed(outcome), str(outcome))
         self.assertGreaterEqual(self.counted(), application.done)
         self.assertLessEqual(self.counted(), application.done + application.unknown)
         self.assertLess(application.longest, BOUND + SLACK)
@@ -169,6 +169,14 @@ class Faults(unittest.TestCase):
         why = next((str(one.failure) for one in outcome.earlier if one.failure), "")
         self.row(fault, saw, outcome, why, application.longest)
         return outcome
+
+    def owed(self, outcome):
+        """Where it isn't known beforehand whether the audit went on. A fence whose outcome can't be
+        found out is the one thing that isn't handed in."""
+        if outcome.earlier:
+            return "incomplete"
+        self.assertLessEqual({one.key for one in outcome.pending}, {FENCE})
+        return "pending" if outcome.pending else "serial"
 
     def row(self, fault, saw, outcome, why, longest):
         path = os.environ.get("ZANTEYARD_FAULTS")
@@ -243,6 +251,37 @@ class Faults(unittest.TestCase):
         for session in sessions:
             session.store.close()
 
+    def test_the_server_of_one_connection_stands_still(self):
+        """As where the network to it is dead: what a meeting asks over it isn't answered."""
+        self.audit()
+        store = PostgresStore(self.cluster.dsn)
+        self.addCleanup(store.close)
+        stuck = self.live.session(store)
+        stuck.run(lambda t: t.get("y"))
+        sessions = [self.live.session(PostgresStore(self.cluster.dsn)) for _ in range(CLIENTS - 1)]
+        pid = store.connection.info.backend_pid
+        os.kill(pid, signal.SIGSTOP)
+        self.addCleanup(self.go_on, pid)
+        self.live._pace.every = 100  # so that a meeting comes soon
+        application = Application(sessions)
+        self.addCleanup(application.end)
+        self.wait_for(lambda: stuck.running is not None)
+        began = time.monotonic()
+        stuck.run(lambda t: t.get("y"))  # over another connection
+        self.assertLess(time.monotonic() - began, 3 * BOUND + SLACK)
+        self.go_on(pid)
+        application.sessions = [*sessions, stuck]
+        self.ended(application, "the server of one connection stands still", None)
+        for session in sessions:
+            session.store.close()
+
+    @staticmethod
+    def go_on(pid):
+        try:
+            os.kill(pid, signal.SIGCONT)
+        except ProcessLookupError:
+            pass
+
     def test_postgresql_is_restarted(self):
         self.audit()
         application = self.application()
@@ -258,11 +297,10 @@ class Faults(unittest.TestCase):
         done = application.done
         self.wait_for(lambda: application.done > done + 100)
         application.end()
-        kind = self.live.stop().kind
-        self.assertIn(kind, ("serial", "pending", "incomplete"))
         self.assertTrue(all(isinstance(error, psycopg2.Error) for error in application.seen))
+        self.assertNotEqual(application.seen, [])
         saw = "the store's own errors, meanwhile"
-        self.ended(application, "PostgreSQL is killed and started", kind, saw)
+        self.ended(application, "PostgreSQL is killed and started", None, saw)
 
     def test_the_disk_is_full(self):
         self.audit(script="/dev/full")
@@ -290,17 +328,25 @@ class Faults(unittest.TestCase):
         return begun
 
     def all_ended(self, processes, fault, kind="incomplete"):
-        counts = [process.communicate(timeout=SOON)[0].split() for process in processes]
+        ends = [self.end_of(process) for process in processes]
         self.server.close()
         outcome = self.live.stop()
-        wanted = kind or ("incomplete" if outcome.earlier else "serial")
-        self.assertEqual(outcome.kind, wanted, str(outcome))
-        self.assertGreaterEqual(self.counted(), sum(int(count) for count, _ in counts))
-        longest = max(float(waited) for _, waited in counts)
+        self.assertEqual(outcome.kind, kind or self.owed(outcome), str(outcome))
+        told = sum(count for count, _ in ends)
+        self.assertGreaterEqual(self.counted(), told)
+        # Who is killed may have one more committed than it could tell.
+        self.assertLessEqual(self.counted(), told + sum(waited is None for _, waited in ends))
+        longest = max(waited for _, waited in ends if waited is not None)
         self.assertLess(longest, BOUND + SLACK)
         why = next((str(one.failure) for one in outcome.earlier if one.failure), "")
         self.row(fault, "nothing", outcome, why, longest)
         return outcome
+
+    @staticmethod
+    def end_of(process):
+        """How many commits it told, and how long it waited at most; None where it was killed."""
+        told, _, waited = process.communicate(timeout=SOON)[0].partition("\n")
+        return told.count("+"), float(waited) if waited else None
 
     def test_no_fault_in_processes(self):
         self.audit()
@@ -312,7 +358,7 @@ class Faults(unittest.TestCase):
         self.wait_for(self.is_audited)
         killed.kill()
         self.wait_for(self.began_anew)
-        outcome = self.all_ended(others, "a client's process is killed")
+        outcome = self.all_ended([killed, *others], "a client's process is killed")
         self.assertIn("is lost", str(outcome.earlier[0].failure))
 
     def test_a_clients_process_stands_still(self):
@@ -354,9 +400,9 @@ with AuditorApart(4) as auditor, LiveAuditor(auditor, tell=lambda line: None) as
         self.assertEqual(client.stdout.readline(), "begun\n")
         time.sleep(1.0)
         server.kill()
-        count, longest = client.communicate(timeout=SOON)[0].split()
-        self.assertEqual(self.counted(), int(count))
-        self.assertLess(float(longest), BOUND + SLACK)
+        count, longest = self.end_of(client)
+        self.assertEqual(self.counted(), count)
+        self.assertLess(longest, BOUND + SLACK)
 
 
 if __name__ == "__main__":

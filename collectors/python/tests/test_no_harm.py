@@ -13,8 +13,11 @@ import unittest
 
 import zanteyard
 from zanteyard import Aborted, AuditClient, Auditor, AuditorApart, AuditServer, LiveAuditor, Session
-from zanteyard.auditor import FENCE, PROGRAM
+from zanteyard.auditor import FENCE, FLAG, MARK, PROGRAM
+from zanteyard.backlog import Backlog
+from zanteyard.edges import coverage_from_now
 from zanteyard.memory_store import MemoryStore
+from zanteyard.places import Places
 from zanteyard.sessions import Place, whole
 
 from .test_live import add_one, set_to
@@ -548,6 +551,78 @@ class Standing(NoHarm):
         session.run(add_one("x"))
         self.assertGreater(session.longest, 0.19)
         self.assertGreaterEqual(session.waited, session.longest)
+
+
+class Late(NoHarm):
+    """What was on its way, and of which nobody knows whether it was written, is written when
+    another audit goes on."""
+
+    def setUp(self):
+        super().setUp()
+        self.auditor_of_all, self.store = self.auditor(3), MemoryStore()
+        self.running = self.live(self.auditor_of_all, seconds=0.05)
+
+    def lost(self, deed, key):
+        """Gives what has it written after all."""
+        a = self.running.session(self.store.connect())
+        number = a.number
+
+        def commit():
+            raise zanteyard.OutcomeUnknown("no answer")
+
+        a.store.commit, a.store.known, a.patience = commit, False, 0.0
+        begun = a.begun
+        with self.assertRaises(zanteyard.OutcomeUnknown):
+            deed(a)
+        self.running.lose(RuntimeError("for the sake of it"))
+        self.wait_for(lambda: self.running.earlier)
+        name = (self.running.run_name, number, begun)
+
+        def write():
+            self.store.moment += 1
+            self.store.versions.setdefault(key, []).append(("late", name, self.store.moment))
+
+        return write
+
+    def test_it_is_neither_taken_as_written_before_nor_as_unwritten(self):
+        rows = (
+            ("x", lambda a: a.run(set_to("x", "1")), lambda b: b.run(add_none("x"))),
+            (MARK, lambda a: a.write_mark(), lambda b: b.write_mark()),
+            (f"{FLAG}1", lambda a: a.flag(), lambda b: b.run(add_none(f"{FLAG}1"))),
+            (FENCE, lambda a: a.fence(), lambda b: b.fence()),
+        )
+        for key, deed, again in rows:
+            with self.subTest(key=key):
+                self.setUp()
+                b = self.running.session(self.store.connect())
+                write_late = self.lost(deed, key)
+                again(b)
+                write_late()
+                again(b)
+                if key == FENCE:  # a fence has to have read another: the audit ends once more
+                    self.wait_for(lambda: len(self.running.earlier) == 2)
+                else:
+                    self.wait_for(lambda: sum(self.running.outcome.counts or ()) >= 2)
+                    self.assertEqual(self.running.report.kind, "serial")
+                    self.assertEqual(self.running.left_out, 1)
+                self.assertEqual(self.running.stop().kind, "incomplete")
+
+    def test_what_a_process_did_that_is_lost(self):
+        """Nothing is known of its last ones."""
+        places, backlog = Places(2), Backlog(8)
+        left, _ = places.take(0.0), places.take(0.0)
+        places.give_back([left])
+        backlog.count(1, 6)
+        coverage = coverage_from_now(2, [], places, backlog)
+        self.assertEqual((coverage.early, coverage.first[0]), ([0, 7], 0))
+        self.assertIsNone(coverage.source(1, 6))
+        self.assertIsNone(coverage.source(1, 7))
+        self.assertEqual(coverage.source(1, coverage.first[1]), (1, 0))
+        self.assertEqual([place.unknown for place in places.lend()], coverage.unknown)
+
+
+def add_none(key):
+    return lambda transaction: transaction.put(key, transaction.get(key))
 
 
 class Lifetimes(NoHarm):

@@ -56,7 +56,7 @@ class Audit:
         self._told_of = 0  # of these, in the last round
         self._behind = 0.0  # seconds that one of them waited, at most, since the last round
         self.report: Optional[Report] = None
-        self._left_out = 0
+        self.left_out = 0  # reads whose source the audit isn't about
         self._pending: Tuple[Pending, ...] = ()
         self._is_collectors_own = False
 
@@ -89,7 +89,7 @@ class Audit:
             self._pending,
             self.report,
             self.name,
-            self._left_out,
+            self.left_out,
             self.earlier,
         )
 
@@ -160,7 +160,7 @@ class Audit:
         then it is told."""
         no_cut = no_cut or self.why_no_cut
         self.report = report = self._auditor.last_round()
-        self._left_out = self._auditor.left_out
+        self.left_out = self._auditor.left_out
         figures = self._figures
         figures.rounds += 1
         cut = f"no cut: {no_cut}" if no_cut else self._cut(report)

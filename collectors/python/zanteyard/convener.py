@@ -3,7 +3,7 @@
 from __future__ import annotations
 
 import time
-from typing import List, NamedTuple, Optional, Protocol, Sequence, Set, Tuple
+from typing import Any, List, NamedTuple, Optional, Protocol, Sequence, Set, Tuple
 
 from .auditor import FLAG, is_own
 from .backlog import Backlog
@@ -42,7 +42,7 @@ class MeetingGroup(Protocol):
     def release(self) -> None:
         ...
 
-    def edges(self) -> Optional[Sequence[Tuple[int, int, int]]]:
+    def edges(self) -> Optional[Sequence[Tuple[Any, ...]]]:
         """None where it doesn't answer: then none of its sessions is audited."""
 
     def reopen(self) -> None:

@@ -19,14 +19,19 @@ SKIPPED = 1 << 32  # numbers that may have been given unseen, by a process that 
 @dataclass
 class Coverage:
     """Of each session: `early`, below which all had been answered; `first`, from which on all are
-    audited, or None where none is; `last`, up to which they are, or None where there is no end."""
+    audited, or None where none is; `last`, up to which they are, or None where there is no end;
+    `unknown`, the numbers, each from one to before another one, of those of before that the store
+    may have committed, or may do so yet: a read from these is neither of the state that the audit
+    begins with nor of anything that is audited."""
 
     early: List[int]
     first: List[Optional[int]]
     last: List[Optional[int]] = field(default_factory=list)
+    unknown: List[Tuple[Tuple[int, int], ...]] = field(default_factory=list)
 
     def __post_init__(self) -> None:
         self.last = self.last or [None] * len(self.early)
+        self.unknown = self.unknown or [()] * len(self.early)
 
     @classmethod
     def of_all(cls, sessions: int) -> "Coverage":
@@ -47,7 +52,8 @@ class Coverage:
         found = self.number(session, number)
         if found is not None:
             return (session, found)
-        return "init" if number < self.early[session] else None
+        is_unknown = any(start <= number < end for start, end in self.unknown[session])
+        return "init" if number < self.early[session] and not is_unknown else None
 
     def moved(self, logged: Logged) -> Tuple[Logged, int]:
         """What was logged, and how many of its reads were left out."""

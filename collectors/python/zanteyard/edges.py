@@ -2,7 +2,7 @@
 
 from __future__ import annotations
 
-from typing import Iterable, List, Optional, Sequence, Tuple
+from typing import Any, Iterable, List, Optional, Sequence, Tuple
 
 from .backlog import Backlog
 from .convener import MeetingGroup
@@ -18,14 +18,15 @@ def coverage_from_now(
     processes that are lost may be used again; a process that doesn't answer has no part."""
     early: List[int] = [0] * sessions
     first: List[Optional[int]] = [None] * sessions
+    unknown: List[Tuple[Tuple[int, int], ...]] = [()] * sessions
     # Asked twice: what had been answered by the end of the first time had been answered before
     # anything was sent that hadn't been in the second.
-    for session, answered, _ in _asked(groups, places):
+    for session, answered, _, _ in _asked(groups, places):
         if session < sessions:
             early[session] = answered
-    for session, _, unsent in _asked(groups, places):
+    for session, _, unsent, its in _asked(groups, places):
         if session < sessions:
-            first[session] = unsent
+            first[session], unknown[session] = unsent, its
     for group in groups:
         group.reopen()
     away = {number for group in groups for number in group.numbers()}
@@ -34,13 +35,14 @@ def coverage_from_now(
             early[session] = backlog.next_number(session)
             begun = early[session] + SKIPPED
             first[session] = begun
-            places.add([Place(session, begun, is_due=True)])
-    return Coverage(early, first)
+            unknown[session] = ((0, begun),)  # as its process alone knew
+            places.add([Place(session, begun, is_due=True, unknown=unknown[session])])
+    return Coverage(early, first, unknown=unknown)
 
 
-def _asked(groups: Sequence[MeetingGroup], places: Places) -> Iterable[Tuple[int, int, int]]:
-    """Of each session: how many of its transactions have been answered, and from which on none has
-    been sent."""
+def _asked(groups: Sequence[MeetingGroup], places: Places) -> Iterable[Tuple[Any, ...]]:
+    """Of each session: how many of its transactions have been answered, from which on none has been
+    sent, and of which of them it isn't known what they were answered."""
     found = places.edges()
     for group in groups:
         found += group.edges() or ()

@@ -69,6 +69,6 @@ class GroupCalls:
         flags, given_back = self._group.gather(meeting, seconds, leads, places, idle)
         return flags, [astuple(place) for place in given_back]
 
-    def _edges(self, _: Sequence[Place]) -> List[Tuple[int, int, int]]:
+    def _edges(self, _: Sequence[Place]) -> List[Tuple[Any, ...]]:
         self._handover.begin_anew()
         return self._group.edges()

@@ -172,6 +172,11 @@ class LiveAuditor(SessionsHere):
         return self._audit.taken_in
 
     @property
+    def left_out(self) -> int:
+        """How many reads of this audit weren't checked, since it isn't about their source."""
+        return self._audit.left_out
+
+    @property
     def rounds(self) -> int:
         """How many there were, in all audits."""
         return self._figures.rounds

@@ -190,11 +190,12 @@ class Group:
             running.add_done_callback(lambda _, turn=session.turn: turn.release())
         self.gate.release()
 
-    def edges(self) -> List[Tuple[Any, int, int]]:
-        """Of each session's number, how many of its transactions have been answered, and from which
-        on none has been sent. To be called twice: all that was answered as the first call ended had
-        been answered when whatever hadn't been sent in the second call was sent."""
-        found = []
+    def edges(self) -> List[Tuple[Any, ...]]:
+        """Of each session's number, how many of its transactions have been answered, from which on
+        none has been sent, and of which of them it isn't known what they were answered. To be
+        called twice: all that was answered as the first call ended had been answered when whatever
+        hadn't been sent in the second call was sent."""
+        found: List[Tuple[Any, ...]] = []
         for session in list(self.sessions):
             place = session.place  # which its client may leave meanwhile
             if place is None:
@@ -202,10 +203,10 @@ class Group:
             begun = place.begun  # before it is seen what runs: if nothing does, all have ended
             running = session.running
             if running is None:
-                found.append((place.number, begun, begun))
+                found.append((place.number, begun, begun, place.unknown))
             else:
                 first = running.number + 1 if running.is_committing else running.number
-                found.append((place.number, running.number, first))
+                found.append((place.number, running.number, first, place.unknown))
         return found
 
     def reopen(self) -> None:

@@ -4,7 +4,7 @@ from __future__ import annotations
 
 import threading
 from collections import deque
-from typing import Deque, Iterable, List, Optional, Tuple
+from typing import Any, Deque, Iterable, List, Optional, Tuple
 
 from .sessions import Place
 
@@ -54,7 +54,7 @@ class Places:
         with self._changed:
             return [place.number for place in self._left]
 
-    def edges(self) -> List[Tuple[int, int, int]]:
+    def edges(self) -> List[Tuple[Any, ...]]:
         """As a Group's: nothing runs in these."""
         with self._changed:
-            return [(place.number, place.begun, place.begun) for place in self._left]
+            return [(it.number, it.begun, it.begun, it.unknown) for it in self._left]

@@ -21,8 +21,12 @@ def connected(dsn: str, seconds: float) -> Any:
     more: Dict[str, Any] = {}
     if "connect_timeout" not in extensions.parse_dsn(dsn):
         more["connect_timeout"] = max(LEAST, math.ceil(seconds))
-    connecting = lambda: psycopg2.connect(dsn, **more)
-    return within(seconds, connecting, lambda late: late and late.close())
+    return within(seconds, lambda: psycopg2.connect(dsn, **more), closed)
+
+
+def closed(late: Any) -> None:
+    if late is not None:
+        late.close()
 
 
 def answer(dsn: str, text: str, values: Sequence[Any], seconds: float) -> Optional[Sequence[Any]]:

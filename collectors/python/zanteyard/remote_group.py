@@ -94,9 +94,9 @@ class RemoteGroup:
     def reopen(self) -> None:
         self._messages.tell("call", 0, "reopen", ([],), seconds=self.patience)
 
-    def edges(self) -> Optional[Sequence[Tuple[int, int, int]]]:
+    def edges(self) -> Optional[Sequence[Tuple[Any, ...]]]:
         try:
-            found: Sequence[Tuple[int, int, int]]
+            found: Sequence[Tuple[Any, ...]]
             found = self._begin("edges")(time.monotonic() + self.patience)
             return found
         except (Missed, ElsewhereError):

@@ -43,6 +43,7 @@ OutcomeUnknown = OutcomeUnknownError
 NameTaken = NameTakenError
 
 SHORTEST = 0.001  # seconds that the store is given for a transaction
+RANGES = 16  # of numbers that a place keeps
 AGAIN = 1.0  # seconds until a run's name is claimed again
 LEAST = 0.1  # seconds for an outcome, where nobody was promised any
 logger = logging.getLogger("zanteyard")
@@ -53,7 +54,9 @@ Result = TypeVar("Result")
 class Place:
     """A session of the auditor, whoever has it: its number, how many transactions it has had,
     whether any came after its last flag or mark, and whether its flag wasn't read since; whether it
-    is audited at all, has ended for this audit, or is lent to somebody who runs a flag for it."""
+    is audited at all, has ended for this audit, or is lent to somebody who runs a flag for it; and
+    the numbers, each from one to before another one, of those that the store may commit yet, or
+    not."""
 
     number: int
     begun: int = 0
@@ -62,6 +65,12 @@ class Place:
     is_audited: bool = True
     is_ended: bool = False
     is_lent: bool = False
+    unknown: Tuple[Tuple[int, int], ...] = ()
+
+    def leave_open(self, number: int) -> None:
+        """Nobody knows what becomes of the transaction of this number."""
+        ranges = (*self.unknown, (number, number + 1))
+        self.unknown = ranges if len(ranges) <= RANGES else ((ranges[0][0], number + 1),)
 
 
 class Session:
@@ -499,6 +508,7 @@ class Transaction:
                 elif not session.tell(self.hand_in, reads, writes, outcome):
                     session.miss(self.number)
             if is_last:
+                session.place.leave_open(self.number)
                 session.end()
         except BaseException as error:
             told = f"transaction {session.number}.{self.number} was interrupted as it was handed in"
