@@ -12,7 +12,7 @@ from .records import Logged
 # more of the session comes), and what was logged. A plain tuple of plain values is nothing to the
 # clients' garbage collector, which would otherwise take its time from them.
 HandedIn = Tuple[float, int, Optional[int], Any]
-DROPPED = -1  # counts what another process couldn't hand over, in place of a session
+DROPPED = -1  # in place of a session: what other processes couldn't hand over is counted there
 
 
 def keys_written_unseen(logged: Logged) -> Sequence[str]:
@@ -29,7 +29,8 @@ class Backlog:
     def __init__(self, most: int) -> None:
         self.most = most
         self.room = most  # how many may wait by now, before clients wait
-        # Not read since. Changed by who has a session's turn, and by a meeting that holds all.
+        # Keys that were written by who hadn't read them, and not read since. Changed by who has a
+        # session's turn, and by a meeting that holds all.
         self._unseen: Set[str] = set()
         self._waiting: queue.SimpleQueue[HandedIn] = queue.SimpleQueue()
         self._next_numbers: Dict[int, int] = {}
@@ -49,6 +50,7 @@ class Backlog:
             self.count(session, number)
 
     def count_dropped(self, count: int) -> None:
+        """So many transactions that another process did and couldn't hand over."""
         with self._dropping:
             self._counts[DROPPED] = self._counts.get(DROPPED, 0) + count
 

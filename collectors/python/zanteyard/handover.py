@@ -19,7 +19,7 @@ Packed = Tuple[float, int, Optional[int], Sequence[str], bytes]
 
 
 class Handover:
-    """For threads. What was lost since, `lost` says why: nothing more is handed over."""
+    """Keeps it until it is sent. For threads. While `lost` says why, nothing more is handed over."""
 
     def __init__(self, messages: Messages, most: int) -> None:
         """At most so many transactions a session are on their way, before clients wait."""
@@ -39,6 +39,7 @@ class Handover:
         self._waiting.put((time.monotonic(), session, number, unseen, packed))
 
     def put_close(self, session: int) -> None:
+        """Nothing more of this session comes."""
         self._waiting.put((time.monotonic(), session, None, (), b""))
 
     def put_behind(self, *message: Any) -> None:
@@ -46,6 +47,7 @@ class Handover:
         self._behind.put(message)
 
     def lose(self, why: str) -> None:
+        """Nothing more is handed over, until `begin_anew`."""
         self.lost = why
         self._wake.set()
 
@@ -54,7 +56,7 @@ class Handover:
         self.lost = None
 
     def is_full(self, sessions: int) -> bool:
-        """Whether clients have to wait; they are waited for no longer, where it is nearly so."""
+        """Whether clients have to wait. From half of that on all is sent at once."""
         most = self._most * sessions
         if self._waiting.qsize() > most // 2:
             self._wake.set()

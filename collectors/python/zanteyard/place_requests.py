@@ -22,7 +22,8 @@ class PlaceRequests:
         self._answers: queue.SimpleQueue[Optional[Answer]] = queue.SimpleQueue()
 
     def ask(self, kind: str, *more: Any, seconds: float) -> Optional[Place]:
-        """None where none is left, or nobody answers within so many seconds."""
+        """A place by a message of this kind: "join" for one that is left, "overflow" for one that
+        no audit is about. None where none is left, or nobody answers within so many seconds."""
         with self._asking:
             if self._has_ended:
                 return None
