@@ -19,7 +19,7 @@ Packed = Tuple[float, int, Optional[int], Sequence[str], bytes]
 
 
 class Handover:
-    """Keeps it until it is sent. For threads. While `lost` says why, nothing more is handed over."""
+    """Keeps it until it is sent. While `lost` says why, nothing more is put. For threads."""
 
     def __init__(self, messages: Messages, most: int) -> None:
         """At most so many transactions a session are on their way, before clients wait."""
