@@ -244,7 +244,7 @@ class Faults(unittest.TestCase):
         sessions = [self.live.session(PostgresStore(self.cluster.dsn)) for _ in range(CLIENTS - 1)]
         transaction = hung.begin()
         transaction.get("y")
-        application = Application(sessions)
+        application = Application(sessions, PACE / 4)
         self.addCleanup(application.end)
         self.wait_for(self.began_anew)
         transaction.put("y", "1")
