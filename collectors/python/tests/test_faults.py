@@ -15,6 +15,8 @@ from zanteyard import FENCE, Aborted, AuditorApart, AuditServer, LiveAuditor, Ou
 from zanteyard.auditor import PROGRAM
 from zanteyard.cluster import Cluster, program
 
+from .lateness import BOUND, Lateness
+
 try:
     import psycopg2
 
@@ -33,28 +35,29 @@ LACKING = [
 ]
 PLACE = os.path.join(os.path.dirname(os.path.abspath(__file__)), "..")
 CLIENTS = 4
-BOUND = 0.25  # seconds that a client waits for the audit at most
-SLACK = 2.0  # seconds more, where other programs have the processors
-SOON = 30.0
+SOON = 120.0  # seconds, beside other programs
+PACE = 0.02  # seconds between two transactions, where the auditor is to keep up beside them
 
 CLIENT = """
 import sys, time
+from contextlib import suppress
 sys.path.insert(0, sys.argv[1])
 import logging; logging.getLogger("zanteyard").setLevel(logging.CRITICAL)
 from zanteyard import Aborted, AuditClient
 from zanteyard.postgres_store import PostgresStore
+from tests.lateness import Lateness
 from tests.test_faults import add_one
 with AuditClient(sys.argv[2]) as audit:
     session = audit.session(PostgresStore(sys.argv[3]))
     print("begun", flush=True)
     ends = time.monotonic() + float(sys.argv[4])
-    while time.monotonic() < ends:
-        try:
-            session.run(add_one, attempts=1)
-            print("+", end="", flush=True)
-        except Aborted:
-            pass
-    print(f"\\n{session.longest}", end="", flush=True)
+    with Lateness() as lateness:
+        while time.monotonic() < ends:
+            with suppress(Aborted):
+                session.run(add_one, attempts=1)
+                print("+", end="", flush=True)
+            time.sleep(float(sys.argv[5]))
+    print(f"\\n{session.longest} {lateness.allowed}", end="", flush=True)
 """
 
 
@@ -67,8 +70,9 @@ class Application:
     that a transaction aborted, and where the store can't be reached; it counts what it was told is
     done."""
 
-    def __init__(self, sessions):
-        self.sessions, self.done, self.unknown, self.seen = sessions, 0, 0, []
+    def __init__(self, sessions, pace=0.0):
+        self.sessions, self.done, self.unknown, self.seen, self.pace = sessions, 0, 0, [], pace
+        self.lateness = Lateness().__enter__()
         self.is_ended, self.lock = False, threading.Lock()
         self.threads = [
             threading.Thread(target=self.client, args=(it,), daemon=True) for it in sessions
@@ -91,11 +95,13 @@ class Application:
                 with self.lock:
                     self.seen.append(error)
                 time.sleep(0.05)
+            time.sleep(self.pace)
 
     def end(self):
         self.is_ended = True
         for thread in self.threads:
             thread.join(SOON)
+        self.lateness.__exit__()
 
     @property
     def longest(self):
@@ -126,12 +132,12 @@ class Faults(unittest.TestCase):
         self.addCleanup(lambda: self.live.stop(1.0))
         self.live = LiveAuditor(self.auditor, seconds=0.3, tell=self.told.append)
 
-    def application(self):
+    def application(self, pace=0.0):
         stores = [PostgresStore(self.cluster.dsn) for _ in range(CLIENTS)]
         sessions = [self.live.session(store, patience=SOON) for store in stores]
         for store in stores:
             self.addCleanup(store.close)
-        application = Application(sessions)
+        application = Application(sessions, pace)
         self.addCleanup(application.end)
         return application
 
@@ -163,7 +169,7 @@ class Faults(unittest.TestCase):
         self.assertEqual(outcome.kind, kind or self.owed(outcome), str(outcome))
         self.assertGreaterEqual(self.counted(), application.done)
         self.assertLessEqual(self.counted(), application.done + application.unknown)
-        self.assertLess(application.longest, BOUND + SLACK)
+        self.assertLess(application.longest, application.lateness.allowed)
         if saw == "nothing":
             self.assertEqual((application.seen, application.unknown), ([], 0))
         why = next((str(one.failure) for one in outcome.earlier if one.failure), "")
@@ -173,7 +179,7 @@ class Faults(unittest.TestCase):
     def owed(self, outcome):
         """Where it isn't known beforehand whether the audit went on. A fence whose outcome can't be
         found out is the one thing that isn't handed in."""
-        if outcome.earlier:
+        if outcome.earlier or outcome.failure:
             return "incomplete"
         self.assertLessEqual({one.key for one in outcome.pending}, {FENCE})
         return "pending" if outcome.pending else "serial"
@@ -189,7 +195,7 @@ class Faults(unittest.TestCase):
 
     def test_no_fault(self):
         self.audit()
-        application = self.application()
+        application = self.application(PACE)
         self.wait_for(self.is_audited)
         self.ended(application, "none", "serial")
 
@@ -230,14 +236,15 @@ class Faults(unittest.TestCase):
         self.ended(application, "the process between stands still")
 
     def test_a_client_hangs_in_a_transaction(self):
-        self.audit()
+        self.audit(limit=1000)  # so that there is no room soon
+        self.live.every = 400
         store = PostgresStore(self.cluster.dsn)
         self.addCleanup(store.close)
         hung = self.live.session(store)
         sessions = [self.live.session(PostgresStore(self.cluster.dsn)) for _ in range(CLIENTS - 1)]
         transaction = hung.begin()
         transaction.get("y")
-        application = Application(sessions)
+        application = Application(sessions, PACE / 4)
         self.addCleanup(application.end)
         self.wait_for(self.began_anew)
         transaction.put("y", "1")
@@ -266,11 +273,9 @@ class Faults(unittest.TestCase):
         application = Application(sessions)
         self.addCleanup(application.end)
         self.wait_for(lambda: stuck.running is not None)
-        began = time.monotonic()
         stuck.run(lambda t: t.get("y"))  # over another connection
-        self.assertLess(time.monotonic() - began, 3 * BOUND + SLACK)
+        self.assertLess(stuck.longest, 2 * BOUND + application.lateness.allowed)
         self.go_on(pid)
-        application.sessions = [*sessions, stuck]
         self.ended(application, "the server of one connection stands still", None)
         for session in sessions:
             session.store.close()
@@ -304,28 +309,36 @@ class Faults(unittest.TestCase):
 
     def test_the_disk_is_full(self):
         self.audit(script="/dev/full")
-        application = self.application()
+        application = self.application(PACE)
         self.wait_for(self.is_audited)
         self.assertIsInstance(self.auditor.script_failure, OSError)
         self.ended(application, "the disk with the script is full", "serial")
 
     # clients in processes of their own
 
-    def processes(self, seconds):
+    def processes(self, seconds, pace=0.0):
         folder = tempfile.TemporaryDirectory()
         self.addCleanup(folder.cleanup)
         self.server = AuditServer(self.live, f"{folder.name}/audit")
         self.addCleanup(self.server.close)
-        more = (PLACE, self.server.path, self.cluster.dsn, str(seconds))
-        call = [sys.executable, "-c", CLIENT, *more]
-        begun = [subprocess.Popen(call, stdout=subprocess.PIPE, text=True) for _ in range(3)]
-        for process in begun:
-            self.addCleanup(process.stdout.close)
-            self.addCleanup(process.wait)
-            self.addCleanup(process.kill)
-        for process in begun:
-            self.assertEqual(process.stdout.readline(), "begun\n")
+        begun = [self.client(folder.name, self.server.path, seconds, pace) for _ in range(3)]
+        self.wait_for(lambda: all("begun" in self.told_by(process) for process in begun))
         return begun
+
+    def client(self, folder, path, seconds, pace=0.0):
+        """Tells what it does in a file, so that it is there also where it is killed."""
+        call = [sys.executable, "-c", CLIENT, PLACE, path, self.cluster.dsn, str(seconds), str(pace)]
+        with tempfile.NamedTemporaryFile(dir=folder, delete=False) as file:
+            process = subprocess.Popen(call, stdout=file)
+        process.told = file.name
+        self.addCleanup(process.wait)
+        self.addCleanup(process.kill)
+        return process
+
+    @staticmethod
+    def told_by(process):
+        with open(process.told, encoding="ascii") as file:
+            return file.read()
 
     def all_ended(self, processes, fault, kind="incomplete"):
         ends = [self.end_of(process) for process in processes]
@@ -336,21 +349,24 @@ class Faults(unittest.TestCase):
         self.assertGreaterEqual(self.counted(), told)
         # Who is killed may have one more committed than it could tell.
         self.assertLessEqual(self.counted(), told + sum(waited is None for _, waited in ends))
-        longest = max(waited for _, waited in ends if waited is not None)
-        self.assertLess(longest, BOUND + SLACK)
+        for _, waited in ends:
+            if waited is not None:
+                self.assertLess(*waited)
+        longest = max(waited[0] for _, waited in ends if waited is not None)
         why = next((str(one.failure) for one in outcome.earlier if one.failure), "")
         self.row(fault, "nothing", outcome, why, longest)
         return outcome
 
-    @staticmethod
-    def end_of(process):
-        """How many commits it told, and how long it waited at most; None where it was killed."""
-        told, _, waited = process.communicate(timeout=SOON)[0].partition("\n")
-        return told.count("+"), float(waited) if waited else None
+    def end_of(self, process):
+        """How many commits it told, and how long it waited at most, and might; or None in place of
+        these, where it was killed."""
+        process.wait(SOON)
+        _, told, waited = f"{self.told_by(process)}\n".split("\n")[:3]
+        return told.count("+"), tuple(map(float, waited.split())) or None
 
     def test_no_fault_in_processes(self):
         self.audit()
-        self.all_ended(self.processes(2), "none, in processes", "serial")
+        self.all_ended(self.processes(2, PACE), "none, in processes", "serial")
 
     def test_a_clients_process_is_killed(self):
         self.audit()
@@ -393,16 +409,13 @@ with AuditorApart(4) as auditor, LiveAuditor(auditor, tell=lambda line: None) as
         self.addCleanup(server.wait)
         self.addCleanup(server.kill)
         self.assertEqual(server.stdout.readline(), "begun\n")
-        call = [sys.executable, "-c", CLIENT, PLACE, path, self.cluster.dsn, "3"]
-        client = subprocess.Popen(call, stdout=subprocess.PIPE, text=True)
-        self.addCleanup(client.stdout.close)
-        self.addCleanup(client.kill)
-        self.assertEqual(client.stdout.readline(), "begun\n")
+        client = self.client(folder.name, path, 3)
+        self.wait_for(lambda: "begun" in self.told_by(client))
         time.sleep(1.0)
         server.kill()
         count, longest = self.end_of(client)
         self.assertEqual(self.counted(), count)
-        self.assertLess(longest, BOUND + SLACK)
+        self.assertLess(*longest)
 
 
 if __name__ == "__main__":

@@ -74,6 +74,14 @@ class Meetings(WithProgram):
         self.assertEqual(len(self.told), live.rounds)
         self.assertRegex(self.told[0], r"^round 1: (serial|pending); \d+ transactions, \d+ a second, \d+\.\d\d s behind; \d+ remain; (no )?cut")
 
+    def test_a_store_whose_commits_take_a_while(self):
+        """So that one client's begin comes between another one's commit and its answer."""
+        live, store = self.live(4), MemoryStore(takes=0.004)
+        run_clients(live, [store.connect() for _ in range(4)], 60, lambda t: (add_one("x")(t), set_to("y", 1)(t)))
+        self.assertEqual(self.ended(live).kind, "serial")
+        self.assertEqual((live.taken_in, live.waiting.qsize()), (live.handed_in, 0))
+        self.assertGreater(live.cuts, 0)
+
     def test_what_is_settled_is_forgotten_so_that_a_run_has_no_end(self):
         live, store = self.live(2, limit=32, every=10), MemoryStore()
         a, b = (live.session(store.connect()) for _ in range(2))

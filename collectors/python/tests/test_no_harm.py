@@ -20,11 +20,10 @@ from zanteyard.memory_store import MemoryStore
 from zanteyard.places import Places
 from zanteyard.sessions import Place, whole
 
+from .lateness import BOUND, Lateness
 from .test_live import add_one, set_to
 
 SOON = 60.0  # seconds, where other programs have the processors
-BOUND = 0.25  # seconds that a client waits for the audit at most
-SLACK = 2.0  # seconds more, where other programs have the processors
 
 
 @unittest.skipUnless(os.path.isfile(PROGRAM), f"{PROGRAM} is not built")
@@ -56,6 +55,21 @@ class NoHarm(unittest.TestCase):
             call()
             longest = max(longest, time.monotonic() - began)
         return longest
+
+    def bounded(self, session, seconds):
+        """None of its calls takes longer than a client may wait, but for what threads that only
+        sleep are late meanwhile."""
+        with Lateness() as lateness:
+            ends, longest = time.monotonic() + seconds, 0.0
+            while time.monotonic() < ends:
+                came = time.monotonic()
+                transaction = session.begin()
+                begun = time.monotonic()
+                add_one("x")(transaction)
+                done = time.monotonic()
+                transaction.commit()
+                longest = max(longest, begun - came, time.monotonic() - done)
+        self.assertLess(longest, lateness.allowed)
 
 
 class Unreachable:
@@ -176,7 +190,7 @@ class AfterTheCommit(NoHarm):
         auditor = self.auditor()
         session = Session(auditor, 0, MemoryStore().connect())
         os.kill(auditor.program.process.pid, signal.SIGSTOP)
-        self.assertLess(self.longest(lambda: session.run(add_one("x")), 1.0), BOUND + SLACK)
+        self.bounded(session, 1.0)
         self.assertGreater(session.begun, 10)  # who comes next doesn't wait
         os.kill(auditor.program.process.pid, signal.SIGCONT)
         outcome = auditor.outcome()
@@ -191,7 +205,7 @@ class AfterTheCommit(NoHarm):
                 session = Session(auditor, 0, MemoryStore().connect())
                 stands = auditor.process if of is AuditorApart else auditor.program.process
                 os.kill(stands.pid, signal.SIGSTOP)
-                self.assertLess(self.longest(lambda: session.run(add_one("x")), 1.0), BOUND + SLACK)
+                self.bounded(session, 1.0)
                 self.wait_for(lambda: session.run(add_one("x")) or auditor.failure)
                 os.kill(stands.pid, signal.SIGCONT)
                 self.assertEqual(auditor.outcome().kind, "incomplete")
@@ -199,11 +213,11 @@ class AfterTheCommit(NoHarm):
     def test_a_client_waits_no_longer_than_the_bound_for_a_round(self):
         auditor = self.auditor()
         session = Session(auditor, 0, MemoryStore().connect())
-        with auditor.lock:
+        with auditor.lock, Lateness() as lateness:
             others = threading.Thread(target=session.run, args=(add_one("x"),))
             others.start()
-            others.join(BOUND + SLACK)
-            self.assertFalse(others.is_alive())
+            others.join(SOON)
+        self.assertLess(session.longest, lateness.allowed)
         self.assertEqual((auditor.round().kind, auditor.taken_in), ("serial", 1))  # it wasn't lost
 
 
@@ -427,8 +441,7 @@ class Standing(NoHarm):
         a, b = (live.session(store.connect()) for _ in range(2))
         hung = b.begin()
         hung.get("y")
-        longest = self.longest(lambda: a.run(add_one("x")), 3.0)
-        self.assertLess(longest, BOUND + SLACK)
+        self.bounded(a, 3.0)
         self.wait_for(lambda: live.outcome.earlier)  # the audit ended full, and another one began
         hung.put("y", 1)
         hung.commit()
@@ -443,9 +456,10 @@ class Standing(NoHarm):
         live, store = self.live(auditor, most=100), MemoryStore()
         session = live.session(store.connect())
         os.kill(auditor.program.process.pid, signal.SIGSTOP)
-        longest = self.longest(lambda: session.run(add_one("x")), 2.0)
-        os.kill(auditor.program.process.pid, signal.SIGCONT)
-        self.assertLess(longest, BOUND + SLACK)
+        try:
+            self.bounded(session, 2.0)
+        finally:
+            os.kill(auditor.program.process.pid, signal.SIGCONT)
         self.wait_for(lambda: live.outcome.earlier)
         self.assertIn("can't keep up", str(live.outcome.earlier[0].failure))
         self.assertNotEqual(live.outcome.earlier[0].name, live.name)
@@ -505,8 +519,13 @@ class Standing(NoHarm):
 
     def test_audits_that_begin_while_clients_run_make_nothing_up(self):
         """Ended as often as they can be, at whatever moment that comes."""
+        for takes in (0.0, 0.004):
+            with self.subTest(takes=takes):
+                self.begin_again_and_again(MemoryStore(takes=takes))
+
+    def begin_again_and_again(self, store):
         policy = zanteyard.Policy(BOUND, True, 0.02)
-        live, store = self.live(self.auditor(5), every=100, policy=policy), MemoryStore()
+        live = self.live(self.auditor(5), every=100, policy=policy)
         ended, errors = threading.Event(), []
 
         def client(session):

@@ -3,7 +3,9 @@ where all that it read is still the newest."""
 
 from __future__ import annotations
 
+import random
 import threading
+import time
 from typing import Any, Dict, List, Optional, Tuple
 
 from .records import Found, Name
@@ -17,10 +19,11 @@ FAULTS = (
 
 class MemoryStore:
     """What is shared by all connections: of each key its versions, oldest first, as (value, name,
-    moment)."""
+    moment). A commit takes up to so many seconds on its way, and as long on the way back."""
 
-    def __init__(self, fault: Optional[str] = None) -> None:
+    def __init__(self, fault: Optional[str] = None, takes: float = 0.0) -> None:
         assert fault is None or fault in FAULTS, fault
+        self.takes = takes
         self.fault, self.moment, self.lock = fault, 0, threading.RLock()
         self.versions: Dict[str, List[Tuple[Any, Name, int]]] = {}
         self.runs: Dict[str, str] = {}  # of each run's name, its token
@@ -62,8 +65,14 @@ class Connection:
         self.writes[key] = (value, name)
 
     def commit(self) -> None:
+        self.go()
         with self.shared.lock:
             self.decide()
+        self.go()
+
+    def go(self) -> None:
+        if self.shared.takes:
+            time.sleep(random.uniform(0.0, self.shared.takes))
 
     def decide(self) -> None:
         shared = self.shared

@@ -1,0 +1,31 @@
+"""How late threads are that only sleep: what a machine with other programs on it adds to a wait."""
+import threading
+import time
+
+BOUND = 0.25  # seconds that a client waits for the audit at most
+SLACK = 0.1  # seconds more, on a machine that does nothing else
+
+
+class Lateness:
+    """Measures in a thread of its own from `with` to the end."""
+
+    def __enter__(self):
+        self.most, self.ended = 0.0, threading.Event()
+        self.thread = threading.Thread(target=self.measure, daemon=True)
+        self.thread.start()
+        return self
+
+    def measure(self):
+        while not self.ended.is_set():
+            began = time.monotonic()
+            time.sleep(0.005)
+            self.most = max(self.most, time.monotonic() - began - 0.005)
+
+    def __exit__(self, *_):
+        self.ended.set()
+        self.thread.join()
+
+    @property
+    def allowed(self):
+        """Seconds: a wait of the audit's comes in a few steps, each of which may be as late."""
+        return BOUND + SLACK + 4 * self.most
