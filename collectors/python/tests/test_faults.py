@@ -237,7 +237,7 @@ class Faults(unittest.TestCase):
 
     def test_a_client_hangs_in_a_transaction(self):
         self.audit(limit=1000)  # so that there is no room soon
-        self.live.every = 400
+        self.live._pace.every = 400
         store = PostgresStore(self.cluster.dsn)
         self.addCleanup(store.close)
         hung = self.live.session(store)

@@ -79,7 +79,7 @@ class Meetings(WithProgram):
         live, store = self.live(4), MemoryStore(takes=0.004)
         run_clients(live, [store.connect() for _ in range(4)], 60, lambda t: (add_one("x")(t), set_to("y", 1)(t)))
         self.assertEqual(self.ended(live).kind, "serial")
-        self.assertEqual((live.taken_in, live.waiting.qsize()), (live.handed_in, 0))
+        self.assertEqual((live.taken_in, len(live._backlog)), (live.handed_in, 0))
         self.assertGreater(live.cuts, 0)
 
     def test_what_is_settled_is_forgotten_so_that_a_run_has_no_end(self):
