@@ -6,11 +6,11 @@ import sys
 import time
 import unittest
 
-from zanteyard import Aborted, Logged, Session, audited, dot_text, smaller, tell_violation
+from zanteyard import Aborted, Logged, Session, audited, dot_text, shrinking, smaller, tell_violation
 from zanteyard.auditor import PROGRAM
 from zanteyard.explain import explain_history
 from zanteyard.memory_store import MemoryStore
-from zanteyard.shrinking import Part, named
+from zanteyard.shrinking import Part, named, refuted
 
 from .test_examples import EXAMPLES
 
@@ -103,6 +103,33 @@ class Shrinking(unittest.TestCase):
         part = Part.of(small)
         for id in part.txns:
             self.assertIsNone(part.only(part.txns.keys() - {id}).report(PROGRAM), id)
+
+    def test_the_whole_is_not_audited_again_where_its_refutation_is_known(self):
+        sizes = []
+
+        def audited_here(history, program):
+            sizes.append(sum(map(len, history)))
+            return audited(history, program)
+
+        self.addCleanup(setattr, shrinking, "audited", audited)
+        history = history_of(workloads()["counter"], "lost-update", 20, count=100)
+        known = named(audited(history)[0].certificate)
+        shrinking.audited = audited_here
+        wanted = smaller(history, seconds=60.0)
+        whole, sizes[:] = sizes[0], []
+        self.assertEqual(smaller(history, seconds=60.0, known=known), wanted)
+        self.assertLess(max(sizes), whole // 4)
+        sizes.clear()
+        self.assertEqual(smaller(history, seconds=60.0, known={(0, 0)}), wanted)  # which isn't violated by itself
+        self.assertEqual(sizes[1], whole)
+
+    def test_what_a_refutation_names_behind_a_cut(self):
+        """Of each session a first transaction stands for what was forgotten of it."""
+
+        class Cut:
+            marks = [3, 5]
+
+        self.assertEqual(refuted(Cut, [["nowrite", 0, 3], ["gone", 1, 7], ["gone", 1, 2]]), {(0, 1), (1, 3), (0, 0)})
 
     def test_what_plays_no_part_is_left_out(self):
         base, aborted = ("x", (0, 0)), Logged((), (), "aborted")

@@ -167,7 +167,8 @@ def _demo(asked: Any) -> int:
         demo.run_demo(asked.name, auditor)
         report = auditor.round()
         if report.kind == "violated":
-            story = violation_story(auditor, program, report.counts)
+            counts, certificate = report.counts, report.certificate
+            story = violation_story(auditor, program, counts, certificate=certificate)
         else:
             order = tuple(f"{session}.{number}" for session, number in report.certificate)
             story = Story(report.kind, tuple(report.counts), order=order)
@@ -190,7 +191,8 @@ def _audit(asked: Any) -> int:
 
 def _story(verdict: Verdict, run: ScriptRun, seconds: float) -> Story:
     if verdict.kind == "violated":
-        return violation_story(run.history, find_program(), verdict.counts, seconds)
+        its = (verdict.counts, seconds, verdict.certificate)
+        return violation_story(run.history, find_program(), *its)
     return verdict_story(verdict, run.history)
 
 

@@ -18,7 +18,7 @@ from .live import LiveAuditor
 from .outcome import RATHER_LOSE_THE_AUDIT, RATHER_WAIT, Outcome
 from .page import page_of
 from .sessions import Session
-from .shrinking import from_start
+from .shrinking import from_start, refuted
 from .stories import Story, story_of
 from .telling import tell_violation
 from .workloads import LEVELS, WORKLOADS, ClientProcesses, Clients, Nothing
@@ -139,7 +139,8 @@ def audited_run(
         outcome = live.stop()
         if live.is_violated:
             history, called = from_start(auditor)
-            small = tell_violation(history, "violation", called)
+            known = refuted(auditor, live.report.certificate if live.report else ())
+            small = tell_violation(history, "violation", called, known=known)
             if asked.html:
                 story = story_of(small, called, _script(), outcome.counts or (), PAGE_SECONDS)
         return live, outcome, clients, story, tuple(rounds.seen)

@@ -84,6 +84,19 @@ def from_start(auditor: Any) -> Tuple[History, Names]:
     return [[after if session else first, *txns] for session, txns in enumerate(history)], renamed
 
 
+def refuted(auditor: Any, certificate: Iterable[Any]) -> Set[TransactionId]:
+    """The transactions that a violated round's refutation names, as the history of `from_start` has
+    them."""
+    marks = auditor.marks
+
+    def moved(id: TransactionId) -> TransactionId:
+        if not any(marks):
+            return id
+        return (id[0], id[1] - marks[id[0]] + 1) if id[1] >= marks[id[0]] else (0, 0)
+
+    return {moved(id) for id in named(certificate)}
+
+
 def is_collectors_own(auditor: Any, program: str = PROGRAM) -> bool:
     """Whether the collector's own transactions have no order by themselves, and the clients' have
     one: then it isn't they who are to look for what went wrong."""
@@ -229,14 +242,23 @@ def wrong_sources(history: History) -> Dict[TransactionId, Logged]:
     }
 
 
-def smaller(history: History, program: str = PROGRAM, seconds: float = SECONDS) -> History:
+def smaller(
+    history: History,
+    program: str = PROGRAM,
+    seconds: float = SECONDS,
+    known: Iterable[TransactionId] = (),
+) -> History:
     """A part of a violated history that is violated too, while nothing that has one thing less is;
     or as small as it got in so many seconds. What a refutation names is kept, as long as that
     leaves something out; then one thing after another is left out. The history itself, where it
-    isn't violated."""
+    isn't violated. Where it is known what a refutation of the whole names, that is tried first:
+    the whole takes longest."""
     ends = time.monotonic() + seconds
-    part = Part.of(history)
+    whole = Part.of(history)
+    part = whole.only(known)
     ids = part.report(program)
+    if ids is None:
+        part, ids = whole, whole.report(program)
     if ids is None:
         return history
     part = by_names(part, ids, program)

@@ -14,7 +14,7 @@ from .circumstances import caller_of, clock_of, values_of
 from .explain import SESSION, Explanation, below, explain_history
 from .records import History, Logged, Names, TransactionId
 from .scripts import ScriptHistory, Verdict
-from .shrinking import SECONDS, audited, from_start, smaller, words
+from .shrinking import SECONDS, audited, from_start, refuted, smaller, words
 from .shrinking import version as version_text
 
 SENTENCES: Mapping[str, str] = {
@@ -106,12 +106,16 @@ def verdict_story(verdict: Verdict, history: ScriptHistory) -> Story:
 
 
 def violation_story(
-    auditor: Any, program: str, counts: Sequence[int] = (), seconds: float = EXPLAINED
+    auditor: Any,
+    program: str,
+    counts: Sequence[int] = (),
+    seconds: float = EXPLAINED,
+    certificate: Sequence[Any] = (),
 ) -> Story:
     """Of a violated history. The auditor is an Auditor, or whatever has its `history`, `marks` and
-    `base`. Takes up to twice so many seconds."""
+    `base`; the certificate is its last round's. Takes up to twice so many seconds."""
     history, names = from_start(auditor)
-    small = smaller(history, program, seconds)
+    small = smaller(history, program, seconds, refuted(auditor, certificate))
     return story_of(small, names, audited(small, program)[1], counts, seconds)
 
 

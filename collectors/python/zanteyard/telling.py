@@ -3,13 +3,13 @@
 from __future__ import annotations
 
 import time
-from typing import Callable
+from typing import Callable, Iterable
 
 from .circumstances import circumstances
 from .explain import Explanation, explain_history
 from .picture import draw
 from .programs import PROGRAM
-from .records import History, Names
+from .records import History, Names, TransactionId
 from .shrinking import SECONDS, audited, name, smaller, words
 
 
@@ -20,19 +20,21 @@ def tell_violation(
     tell: Callable[[str], object] = print,
     seconds: float = SECONDS,
     program: str = PROGRAM,
+    known: Iterable[TransactionId] = (),
 ) -> History:
     """Tells what is left of a violated history without what it is violated without, and why no
     order explains it; then writes that as path.jsonl for cobra_audit, and draws it. What can't be
-    written is told as well, when everything else has been. Gives the small history."""
+    written is told as well, when everything else has been. Gives the small history. `known` is what
+    a refutation of the history names, where one is at hand."""
     ends = time.monotonic() + seconds
-    small = smaller(history, program, max(0.0, ends - time.monotonic()))
+    small = smaller(history, program, max(0.0, ends - time.monotonic()), known)
     tell("violated: of what was logged, no order explains this part, each client's own order kept:")
     for line in words(small, called):
         tell(f"  {line}")
-    known = [*circumstances(small, called)]
-    if known:
+    seen = [*circumstances(small, called)]
+    if seen:
         tell("as the clients saw it")
-    for line in known:
+    for line in seen:
         tell(f"  {line}")
     explanation = explain_history(small, called, max(0.5, ends - time.monotonic()))
     tell("because")
