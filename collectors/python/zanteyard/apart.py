@@ -9,6 +9,8 @@ import marshal
 import os
 import pickle
 import signal
+import socket
+import struct
 import subprocess
 import sys
 from multiprocessing.connection import Connection, Pipe
@@ -95,11 +97,24 @@ class AuditorApart(Takes):
     def is_waiting(self) -> bool:
         return self.waits
 
-    def send(self, name: str, arguments: Sequence[Any]) -> None:
+    def send(self, name: str, arguments: Sequence[Any], seconds: float = SECONDS) -> None:
+        """Where nothing of it is taken for so many seconds, that process is given up."""
         try:
+            self.limit_sending(seconds)
             self.connection.send((name, arguments))
+        except BlockingIOError as error:
+            self.give_up()
+            told = f"it has taken nothing for {seconds:.3g} s"
+            raise Ended(f"{UNREACHABLE}: {told}") from error
         except (OSError, ValueError) as error:
             raise Ended(f"{UNREACHABLE}: {error}") from error
+
+    def limit_sending(self, seconds: float) -> None:
+        """How long what is sent may wait for room on its way."""
+        whole = int(seconds)
+        limit = struct.pack("ll", whole, max(1, int(1e6 * (seconds - whole))))
+        with socket.socket(fileno=os.dup(self.connection.fileno())) as same:
+            same.setsockopt(socket.SOL_SOCKET, socket.SO_SNDTIMEO, limit)
 
     def receive(self, seconds: float) -> Any:
         try:
@@ -116,10 +131,11 @@ class AuditorApart(Takes):
         return result
 
     def begin_take(self, kind: str, session: int, *offered: Any) -> Any:
+        wait = self.policy.wait / 2  # which is waited twice where a part of it has gone
         if kind == "close":
-            self.send("close", (session,))
+            self.send("close", (session,), wait)
         else:
-            self.send("offer_all", ([self.plain((session, offered[0], offered[1:]))],))
+            self.send("offer_all", ([self.plain((session, offered[0], offered[1:]))],), wait)
         return session, *offered
 
     def end_take(self, kind: str, asked: Any, seconds: float) -> None:

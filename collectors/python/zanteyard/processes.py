@@ -368,15 +368,18 @@ class AuditClient(Messages):
         return place or self.ask_for_place("overflow", seconds=wait)
 
     def ask_for_place(self, kind, *more, seconds):
-        with self.asking:
+        if not self.asking.acquire(timeout=seconds):  # others wait for theirs
+            return None
+        try:
             if self.is_gone:
                 return None
             self.joined += 1
-            try:
-                self.send(kind, self.joined, *more, seconds=seconds)
-            except OSError:
-                return None
+            self.send(kind, self.joined, *more, seconds=seconds)
             return self.answered_place(time.monotonic() + seconds)
+        except OSError:
+            return None
+        finally:
+            self.asking.release()
 
     def answered_place(self, ends):
         while True:
