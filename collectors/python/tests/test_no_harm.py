@@ -196,6 +196,17 @@ class AfterTheCommit(NoHarm):
         outcome = auditor.outcome()
         self.assertEqual((outcome.kind, outcome.audited), ("serial", session.begun))
 
+    def test_more_than_one_that_stands_still_has_room_for(self):
+        """The transaction's statement alone doesn't fit on the way to it."""
+        auditor = self.auditor(of=AuditorApart)
+        session = Session(auditor, 0, MemoryStore().connect())
+        os.kill(auditor.process.pid, signal.SIGSTOP)
+        self.addCleanup(auditor.process.kill)
+        with Lateness() as lateness:
+            session.run(lambda t: t.put("x", 1, "x" * 10_000_000))
+        self.assertLess(session.longest, lateness.allowed)
+        self.assertEqual(auditor.outcome().kind, "incomplete")
+
     def test_one_that_stands_still_for_long_is_given_up(self):
         self.addCleanup(setattr, zanteyard.taking, "LATEST", zanteyard.taking.LATEST)
         zanteyard.taking.LATEST = 0.5

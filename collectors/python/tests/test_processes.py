@@ -47,6 +47,13 @@ class Elsewhere(test_live.Meetings):
         with socket.socket(fileno=os.dup(client._messages._connection.fileno())) as same:
             same.shutdown(socket.SHUT_RDWR)
 
+    def test_who_asks_for_a_place_waits_for_others_no_longer_than_was_said(self):
+        self.live(2)
+        with AuditClient(self.server.path) as client, client._requests._asking:
+            began = time.monotonic()
+            self.assertIsNone(client._requests.ask("join", False, seconds=0.1))
+            self.assertLess(time.monotonic() - began, 10)
+
     def test_two_processes_meet(self):
         live, store, other = self.live(4), MemoryStore(), self.another()
         a, b, c, d = (each.session(store.connect()) for each in (self.client, self.client, other, other))

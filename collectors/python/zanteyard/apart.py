@@ -9,6 +9,8 @@ import marshal
 import os
 import pickle
 import signal
+import socket
+import struct
 import subprocess
 import sys
 from multiprocessing.connection import Connection, Pipe
@@ -74,11 +76,24 @@ class AuditorApart(Takes):
     def _is_waiting(self) -> bool:
         return self._waits
 
-    def _send(self, name: str, arguments: Sequence[Any]) -> None:
+    def _send(self, name: str, arguments: Sequence[Any], seconds: float = SECONDS) -> None:
+        """Where nothing of it is taken for so many seconds, that process is given up."""
         try:
+            self._limit_sending(seconds)
             self._connection.send((name, arguments))
+        except BlockingIOError as error:
+            self._give_up()
+            told = f"it has taken nothing for {seconds:.3g} s"
+            raise Ended(f"{UNREACHABLE}: {told}") from error
         except (OSError, ValueError) as error:
             raise Ended(f"{UNREACHABLE}: {error}") from error
+
+    def _limit_sending(self, seconds: float) -> None:
+        """How long what is sent may wait for room on its way."""
+        whole = int(seconds)
+        limit = struct.pack("ll", whole, max(1, int(1e6 * (seconds - whole))))
+        with socket.socket(fileno=os.dup(self._connection.fileno())) as same:
+            same.setsockopt(socket.SOL_SOCKET, socket.SO_SNDTIMEO, limit)
 
     def _receive(self, seconds: float) -> Any:
         try:
@@ -95,10 +110,11 @@ class AuditorApart(Takes):
         return result
 
     def _begin_take(self, kind: str, session: int, *offered: Any) -> Any:
+        wait = self.policy.wait / 2  # which is waited twice where a part of it has gone
         if kind == "close":
-            self._send("close", (session,))
+            self._send("close", (session,), wait)
         else:
-            self._send("offer_all", ([self._plain((session, offered[0], offered[1:]))],))
+            self._send("offer_all", ([self._plain((session, offered[0], offered[1:]))],), wait)
         return session, *offered
 
     def _end_take(self, kind: str, asked: Any, seconds: float) -> None:

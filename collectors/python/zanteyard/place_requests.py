@@ -24,13 +24,17 @@ class PlaceRequests:
     def ask(self, kind: str, *more: Any, seconds: float) -> Optional[Place]:
         """A place by a message of this kind: "join" for one that is left, "overflow" for one that
         no audit is about. None where none is left, or nobody answers within so many seconds."""
-        with self._asking:
+        if not self._asking.acquire(timeout=seconds):  # others wait for theirs
+            return None
+        try:
             if self._has_ended:
                 return None
             self._asked += 1
             if not self._messages.tell(kind, self._asked, *more, seconds=seconds):
                 return None
             return self._answer(time.monotonic() + seconds)
+        finally:
+            self._asking.release()
 
     def take_answer(self, *answer: Any) -> None:
         """The request's number, and a place or None."""

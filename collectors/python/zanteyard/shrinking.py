@@ -3,7 +3,10 @@ script."""
 
 from __future__ import annotations
 
+import os
 import time
+from concurrent.futures import ThreadPoolExecutor
+from itertools import islice
 from typing import Any, Callable, Container, Dict, Iterable, Iterator, List, Mapping
 from typing import Optional, Set, Tuple
 
@@ -14,6 +17,7 @@ from .records import History, Logged, Names, Report, Source, TransactionId
 
 TOLD = 240  # characters of a statement, at most
 SECONDS = 5.0  # to make a history smaller
+SIDE_BY_SIDE = max(1, min(4, os.cpu_count() or 1))  # auditors
 START = "everything before the cut"  # a key that the first transaction behind a cut writes
 
 
@@ -287,15 +291,22 @@ def next_smaller(
     part: Part, needed: Set[Any], program: str, ends: float
 ) -> Optional[Tuple[Part, Set[TransactionId]]]:
     """One that has one thing less, and what its refutation names; None where each thing is needed,
-    or the time is up."""
-    for what, candidate in part.lesser():
-        if time.monotonic() > ends:
-            return None
-        if what not in needed:
-            ids = candidate.report(program)
-            if ids is not None:
-                return candidate, ids
-            needed.add(what)
+    or the time is up. An auditor takes as long to start as for so few, so that some are asked side
+    by side."""
+
+    def report(candidate: Part) -> Optional[Set[TransactionId]]:
+        return candidate.report(program)
+
+    left = ((what, it) for what, it in part.lesser() if what not in needed)
+    with ThreadPoolExecutor(SIDE_BY_SIDE) as pool:
+        while time.monotonic() < ends:
+            some = [*islice(left, SIDE_BY_SIDE)]
+            if not some:
+                break
+            for (what, candidate), ids in zip(some, pool.map(report, (it for _, it in some))):
+                if ids is not None:
+                    return candidate, ids
+                needed.add(what)
     return None
 
 
