@@ -11,6 +11,10 @@ made of the whole, its open choices, a branch of it; the same relation made tran
 which the store fills these; and what a cut of its first half leaves of it, where all sessions make two fences in the middle. Each time is the
 least of three. How fast the machine copies memory stands beside. With a program's path it is that which runs.
 
+The last table is of histories in which the sessions commit in rounds, each once: transactions come one by one in the order of the store, or
+with each round turned round, so that readers come before the writers that they read from. In the row `chain` each transaction reads what the
+one before it wrote, and in the last column one read in twenty is stale, so that its reader has to come before writers that were there.
+
 With --refused nothing is timed: small histories are added transaction by transaction with each allocation of the program refused in turn. What is
 refused is added once more; at the end all pairs that are known and the number of open choices have to be the same, or the program has ended for
 want of memory elsewhere.
@@ -93,6 +97,21 @@ def history(kind, transactions, timed, keys=KEYS):
     return "\n".join([str(timed), *(line_of(session, *next(logs[session])) for session in order)]) + "\n"
 
 
+def in_rounds(kind, transactions, stale, is_turned):
+    """The program's input: transactions one by one, of a store in which each session commits once a round; each round may be turned round."""
+    store = histories.Store(SESSIONS, 1, stale)
+    execute, keys = (histories.counter, 1) if kind == "chain" else (histories.KINDS[kind], KEYS)
+    order = []
+    for _ in range(transactions // SESSIONS):
+        turns = list(range(SESSIONS))
+        store.random.shuffle(turns)
+        for session in turns:
+            store.execute(session, *execute(store.random, keys))
+        order += reversed(turns) if is_turned else turns
+    logs = [iter(log) for log in store.logs]
+    return "\n".join([str(ONE_BY_ONE), *(line_of(session, *next(logs[session])) for session in order)]) + "\n"
+
+
 def peak_of(process):
     """The peak memory so far in KiB."""
     with open(f"/proc/{process.pid}/status", encoding="ascii") as status:
@@ -119,6 +138,11 @@ def least(program, text):
     return {name: min(told[name] for told, _ in runs) for name in runs[0][0]}, max(peak for _, peak in runs)
 
 
+def tables(program):
+    table(program)
+    turned_table(program)
+
+
 def table(program):
     copied, _ = least(program, "")
     print(f"A copy of 64 MiB takes {copied['copy'] / 1000:.1f} ms.\n")
@@ -136,6 +160,14 @@ def table(program):
             one, together, cut = (least(program, history(kind, count, timed))[0] for timed in [ONE_BY_ONE, FRAGMENTS, CUT])
             cut_in = f"{cut['cut'] / 1000:.1f}" if "cut" in cut else "none"
             print(f"| {kind} | {count:,} | {one['add'] / 1e6:.2f} | {together['add'] / 1e6:.2f} | {one['forced']:,} | {cut_in} | {cut['gone']:,} |", flush=True)
+
+
+def turned_table(program):
+    print("\n| Kind | Transactions | Writers first, s | Readers first, s | Times | Writers first, some reads stale, s |")
+    print("|---|---|---|---|---|---|")
+    for kind in ["chain", *histories.KINDS]:
+        ahead, turned, stale = (least(program, in_rounds(kind, 2048, *asked))[0]["add"] for asked in [(0, False), (0, True), (50, False)])
+        print(f"| {kind} | 2,048 | {ahead / 1e6:.2f} | {turned / 1e6:.2f} | {turned / ahead:.2f} | {stale / 1e6:.2f} |", flush=True)
 
 
 def refused(program):
@@ -186,7 +218,7 @@ def main():
     asked.add_argument("--refused", action="store_true")
     asked.add_argument("program", nargs="?")
     asked = asked.parse_args()
-    task = refused if asked.refused else table
+    task = refused if asked.refused else tables
     if asked.program:
         task(asked.program)
         return

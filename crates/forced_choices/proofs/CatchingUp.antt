@@ -16,12 +16,16 @@ use Rattle.order_check.specs.Based.{mark_of, remaining_of, received_count, Remai
 use Rattle.order_check.specs.Good.{IsGood}
 use Rattle.order_check.specs.StandsFor.{parts_with}
 use Rattle.known_graph.specs.Graphs.{GraphState, IsAt}
-use Rattle.forced_choices.specs.Growth.{AreMore, Brings, IsNext, IsOf, GoesOn, ids_of_fragment}
+use Rattle.forced_choices.specs.Growth.{AreMore, Brings, IsNext, GoesOn, ids_of_fragment}
 use Rattle.forced_choices.proofs.Growing.{more_with}
 use Rattle.forced_choices.proofs.Grown.{kept_more_nodes}
 use Rattle.forced_choices.proofs.ListedIds.{bounds_of, bounds_remain, in_ids_from, ids_from_in}
 use Rattle.forced_choices.proofs.Members.{In}
 use Rattle.forced_choices.proofs.Stacked.{with_marks}
+
+-- the id is one of the fragment's, or would come behind them
+abbrev pub IsOf : Fragment → TxnId → Type 0
+IsOf fragment id = (id.session ≡ fragment.session) × (fragment.first ≤ id.number)
 
 -- ids that follow one another
 abbrev pub ids_upto : ℕ → ℕ → ℕ → List TxnId
@@ -86,9 +90,6 @@ old_with parts fragment id next remains not = by_place (eqb_tells id.session fra
     by_place : ((nat_eq s fragment.session ≡ true) × (s ≡ fragment.session)) ⊎ ((nat_eq s fragment.session ≡ false) × (s ≢ fragment.session)) → Remains parts id
     by_place (inl (t, e)) = by_number e (cases_lt id.number fragment.first)
     by_place (inr (t, ne)) = bounds_remain parts id (record { low = low; high = subst (λ (txns : List Txn). id.number - mark_of parts s < length txns) (elsewhere_with parts fragment s ne) (bounds_of (parts_with parts fragment) id remains).high })
-
-pub is_old : (parts more : Parts) (fragment : Fragment) (id : TxnId) → IsNext parts more fragment → Remains more id → (¬ IsOf fragment id) → Remains parts id
-is_old parts more fragment id next remains not = old_with parts fragment id next.next (subst (λ (p : Parts). Remains p id) next.is remains) not
 
 -- the fragment's ids
 in_fragment : (parts : Parts) (fragment : Fragment) (id : TxnId) → fragment.session < length parts.remain → fragment.first ≡ received_count parts fragment.session → Remains (parts_with parts fragment) id → IsOf fragment id → In (ids_of_fragment fragment) id

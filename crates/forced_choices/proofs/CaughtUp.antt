@@ -1,12 +1,11 @@
 -- A relation that caught up: its table, and the arcs that it goes on with.
 use Rattle.std.proofs.Common.{◌≡◌, ◌⊎◌, ◌++◌, List, Option, refl, sym, ap, ◌∙◌, subst, inl, inr}
-use Rattle.std.specs.Prelude.{All, ◌↔◌, Vec}
+use Rattle.std.specs.Prelude.{◌↔◌, Vec}
 use Rattle.std.specs.declared.alloc.Global.{Global}
 use Rattle.txn.specs.declared.transactions.TxnId.{TxnId}
 use Rattle.txn.specs.declared.transactions.Fragment.{Fragment}
 use Rattle.txn.specs.declared.choices.Arc.{Arc}
 use Rattle.txn.specs.declared.choices.ForceStep.{ForceStep}
-use Rattle.txn.specs.Arcs.{start_of, end_of}
 use Rattle.order_check.specs.declared.remainder.Parts.{Parts}
 use Rattle.order_check.specs.Based.{Remains}
 use Rattle.known_graph.specs.Graphs.{GraphState, HasNode}
@@ -15,14 +14,14 @@ use Rattle.forced_choices.specs.declared.kept.Loose.{Loose}
 use Rattle.forced_choices.specs.declared.table.Table.{Table}
 use Rattle.forced_choices.specs.ByKeys.{AreIndexed}
 use Rattle.forced_choices.specs.FreshArcs.{new_arcs}
-use Rattle.forced_choices.specs.Growth.{AreFresh, Brings, GoesOn, IsNext, IsOf, LooksBack, NodesStay, ids_of_fragment}
+use Rattle.forced_choices.specs.Growth.{AreFresh, Brings, GoesOn, IsNext, NodesStay, ids_of_fragment}
 use Rattle.forced_choices.specs.Kept.{IsKept}
-use Rattle.forced_choices.specs.KeptTables.{AreWritersOf, IsKeptTable}
-use Rattle.forced_choices.proofs.CatchingUp.{brings_of, is_new, is_old, more_of}
-use Rattle.forced_choices.proofs.FreshArcs.{back_of, fresh_of, none_first}
+use Rattle.forced_choices.specs.KeptTables.{AreWritersOf, IsKeptTable, WereReadsOf}
+use Rattle.forced_choices.proofs.CatchingUp.{brings_of, more_of}
+use Rattle.forced_choices.proofs.FreshArcs.{fresh_of}
 use Rattle.forced_choices.proofs.Growing.{remains_more}
 use Rattle.forced_choices.proofs.Grown.{kept_more_nodes, key_stays}
-use Rattle.forced_choices.proofs.KeptTables.{PutsReads, kept_grown_table, writers_grow}
+use Rattle.forced_choices.proofs.KeptTables.{PutsReads, kept_grown_table, reads_grow, writers_grow}
 use Rattle.forced_choices.proofs.Members.{In, in_either, in_left, in_right}
 
 -- the fragment's transactions are put to the table, and the arcs that they bring are listed
@@ -35,14 +34,13 @@ pub record Catches (parts more : Parts) (fragment : Fragment) (old_nodes nodes :
   pub same_reads : table.reads ≡ old.table.reads
   pub indexed : AreIndexed old.table.reads.items old.table.by_key → AreIndexed table.reads.items table.by_key
   pub listed : fresh ≡ new_arcs more table.ids.items (ids_of_fragment fragment) old.loose.items
-  pub looks : All (λ arc. IsOf fragment (start_of arc) → IsOf fragment (end_of arc)) fresh
 
 -- the same, of lists that hold what these do
-pub catches_by : (parts more : Parts) (fragment : Fragment) (old_nodes nodes : List (Option TxnId)) (old : KeptTable) (table : Table) (fresh : List Arc) (ids written listed : List TxnId) (loose : List Loose) (looked : List Arc) →
-    ids ≡ ids_of_fragment fragment → written ≡ ids → listed ≡ ids → loose ≡ old.loose.items → looked ≡ fresh →
+pub catches_by : (parts more : Parts) (fragment : Fragment) (old_nodes nodes : List (Option TxnId)) (old : KeptTable) (table : Table) (fresh : List Arc) (ids written listed : List TxnId) (loose : List Loose) →
+    ids ≡ ids_of_fragment fragment → written ≡ ids → listed ≡ ids → loose ≡ old.loose.items →
     IsNext parts more fragment → IsKeptTable parts old_nodes old → NodesStay old_nodes nodes → (AreWritersOf more nodes old.table → AreWritersOf more nodes table) → table.ids.items ≡ old.table.ids.items ++ written → table.reads ≡ old.table.reads → (AreIndexed old.table.reads.items old.table.by_key → AreIndexed table.reads.items table.by_key) →
-    fresh ≡ new_arcs more table.ids.items listed loose → All (λ arc. IsOf fragment (start_of arc) → IsOf fragment (end_of arc)) looked → Catches parts more fragment old_nodes nodes old table fresh
-catches_by parts more fragment old_nodes nodes old table fresh ids written listed loose looked are w l o k next kept stay writers longer same_reads indexed brought looks = record {
+    fresh ≡ new_arcs more table.ids.items listed loose → Catches parts more fragment old_nodes nodes old table fresh
+catches_by parts more fragment old_nodes nodes old table fresh ids written listed loose are w l o next kept stay writers longer same_reads indexed brought = record {
   next = next;
   kept = kept;
   stay = stay;
@@ -51,7 +49,6 @@ catches_by parts more fragment old_nodes nodes old table fresh ids written liste
   same_reads = same_reads;
   indexed = indexed;
   listed = brought ∙ ap (λ (xs : List TxnId). new_arcs more table.ids.items xs loose) (l ∙ are) ∙ ap (λ (xs : List Loose). new_arcs more table.ids.items (ids_of_fragment fragment) xs) o;
-  looks = subst (λ (arcs : List Arc). All (λ arc. IsOf fragment (start_of arc) → IsOf fragment (end_of arc)) arcs) k looks;
 }
 
 -- what remains then is on the graph
@@ -65,6 +62,10 @@ nodes_then parts more fragment old new log ids next kept stay are there id remai
 -- the writers of what was there
 pub writers_then : (parts more : Parts) (fragment : Fragment) (old_nodes nodes : List (Option TxnId)) (old : KeptTable) → IsNext parts more fragment → IsKeptTable parts old_nodes old → NodesStay old_nodes nodes → AreWritersOf more nodes old.table
 writers_then parts more fragment old_nodes nodes old next kept stay = writers_grow parts more old_nodes nodes old.table (λ id. (kept.listed id).0) (more_of parts more fragment next) stay kept.writers
+
+-- and the reads, of which some may have got their writer
+pub were_then : (parts more : Parts) (fragment : Fragment) (old_nodes nodes : List (Option TxnId)) (old : KeptTable) → IsNext parts more fragment → IsKeptTable parts old_nodes old → NodesStay old_nodes nodes → WereReadsOf more nodes old.table.ids.items old.table.reads.items old.loose.items
+were_then parts more fragment old_nodes nodes old next kept stay = reads_grow parts more old_nodes nodes old.table.ids.items old.table.reads.items old.loose.items (λ id. (kept.listed id).0) (more_of parts more fragment next) stay kept.reads
 
 listed_then : (parts more : Parts) (ids new all : List TxnId) → all ≡ ids ++ new → Brings parts more new → ((id : TxnId) → In ids id ↔ Remains parts id) → (id : TxnId) → In all id ↔ Remains more id
 listed_then parts more ids new all are brings listed id = (
@@ -87,9 +88,6 @@ fresh_then parts more fragment old_nodes nodes old table fresh c =
     let ids = old.table.ids.items in
     subst (λ (arcs : List Arc). AreFresh parts more arcs) (sym c.listed) (fresh_of parts more old_nodes ids table.ids.items new old.table.reads.items old.loose.items c.next.good brings c.kept.listed (listed_then parts more ids new table.ids.items c.longer brings c.kept.listed) c.kept.reads)
 
-pub back_then : (parts more : Parts) (fragment : Fragment) (old_nodes nodes : List (Option TxnId)) (old : KeptTable) (table : Table) (fresh : List Arc) → Catches parts more fragment old_nodes nodes old table fresh → All (LooksBack parts) fresh
-back_then parts more fragment old_nodes nodes old table fresh c = back_of parts more fragment fresh (λ id remains of. is_new parts more fragment id c.next of) (λ id remains not. is_old parts more fragment id c.next remains not) (fresh_then parts more fragment old_nodes nodes old table fresh c) c.looks
-
 pub goes_on_then : (parts more : Parts) (fragment : Fragment) (old new : GraphState) (log : List ForceStep) (kept : KeptTable) (table : Table) (fresh : List Arc) → IsKept parts old log → new.arcs ≡ old.arcs → Catches parts more fragment old.nodes new.nodes kept table fresh → GoesOn parts more new log fresh
 goes_on_then parts more fragment old new log kept table fresh is same c = record {
   are = more_of parts more fragment c.next;
@@ -101,7 +99,5 @@ goes_on_then parts more fragment old new log kept table fresh is same c = record
 pub table_then : (parts more : Parts) (fragment : Fragment) (old_nodes nodes : List (Option TxnId)) (old : KeptTable) (table last : Table) (fresh : List Arc) (loose : Vec Loose Global) (new : List TxnId) → new ≡ ids_of_fragment fragment → Catches parts more fragment old_nodes nodes old table fresh →
     PutsReads more nodes table last old.loose.items loose.items new → IsKeptTable more nodes (record { table = last; loose = loose })
 table_then parts more fragment old_nodes nodes old table last fresh loose new are c put =
-    let brought = fresh_then parts more fragment old_nodes nodes old table fresh c in
-    let back = back_then parts more fragment old_nodes nodes old table fresh c in
     let ids = ids_of_fragment fragment in
-    kept_grown_table parts more old_nodes nodes old table last loose ids ids new refl are (brings_of parts more fragment c.next) c.stay (none_first parts more fresh brought back) c.kept c.writers c.longer c.same_reads c.indexed put
+    kept_grown_table parts more old_nodes nodes old table last loose ids ids new refl are (brings_of parts more fragment c.next) c.stay c.kept c.writers c.longer c.same_reads c.indexed put

@@ -1,11 +1,9 @@
 -- The arcs that new transactions bring are those of them, and those between reads that were there and new writers.
-use Rattle.std.proofs.Common.{◌≡◌, ◌≢◌, ℕ, ◌<◌, ◌≤◌, ◌⊎◌, ◌++◌, Bool, true, false, cond, List, [], ◌∷◌, get_or, refl, sym, ap, ◌∙◌, inl, inr, subst, arith, Option, Some, is_some, nat_lt, not}
-use Rattle.std.specs.Prelude.{All, Contains, filter, nat_eq, ◌↔◌}
+use Rattle.std.proofs.Common.{◌≡◌, ◌≢◌, ℕ, ◌<◌, ◌≤◌, ◌⊎◌, ◌++◌, Bool, true, false, cond, List, [], ◌∷◌, refl, sym, ap, ◌∙◌, inl, inr, subst, arith, Option, Some, is_some, nat_lt, not}
+use Rattle.std.specs.Prelude.{All, Contains, filter, ◌↔◌}
 use Rattle.std.specs.List.{flat_map}
-use Rattle.std.proofs.lemmas.Bool.{false≢true, lt-ltb, cases_lt}
-use Rattle.std.proofs.lemmas.Bool.Decides.{eqb_tells}
+use Rattle.std.proofs.lemmas.Bool.{false≢true, lt-ltb}
 use Rattle.txn.specs.declared.transactions.TxnId.{TxnId}
-use Rattle.txn.specs.declared.transactions.Fragment.{Fragment}
 use Rattle.txn.specs.declared.transactions.Source.{Source}
 use Rattle.txn.specs.declared.transactions.Source.TheVariants.{By}
 use Rattle.txn.specs.declared.choices.Arc.{Arc}
@@ -20,16 +18,16 @@ use Rattle.order_check.specs.Cycles.{IsArc}
 use Rattle.forced_choices.specs.declared.kept.Loose.{Loose}
 use Rattle.forced_choices.specs.declared.reads.Placed.{Placed}
 use Rattle.forced_choices.specs.FreshArcs.{arcs_of_loose, new_arcs}
-use Rattle.forced_choices.specs.Growth.{AreMore, Brings, AreFresh, LooksBack, IsOf, is_fresh}
+use Rattle.forced_choices.specs.Growth.{AreMore, Brings, AreFresh, is_fresh}
 use Rattle.forced_choices.specs.KeptTables.{AreReadsOf, IsAmong}
 use Rattle.forced_choices.specs.Listing.{all_ids, reads_of, writes_here, is_other, one_before, session_arc, session_arcs, base_arcs, is_base_source, arcs_from_writer, arcs_of_read, arcs_of_reads}
 use Rattle.forced_choices.specs.Tables.{IsPlaced}
 use Rattle.forced_choices.proofs.Growing.{reads_more, reads_less, base_less}
-use Rattle.forced_choices.proofs.LookingBack.{LeadsToNext, plain_next, ends_remain}
-use Rattle.forced_choices.proofs.ListedArcs.{plain_arcs, plain_right, read_listed, of_read_listed, base_source_test, arc_remains}
+use Rattle.forced_choices.proofs.LookingBack.{LeadsToNext, plain_next}
+use Rattle.forced_choices.proofs.ListedArcs.{plain_arcs, plain_right, of_read_listed, base_source_test}
 use Rattle.forced_choices.proofs.ListedChoices.{and_both, apart_test, in_reads, reads_has, writer_remains, reader_remains}
 use Rattle.forced_choices.proofs.ListedIds.{bounds_of, remaining_listed}
-use Rattle.forced_choices.proofs.Members.{In, contains_from_in, in_left, in_right, in_either, in_flat_map, flat_map_in, in_map, map_in, in_filter, filter_in, in_place}
+use Rattle.forced_choices.proofs.Members.{In, contains_from_in, in_left, in_right, in_either, in_flat_map, flat_map_in, in_map, map_in, in_filter, filter_in}
 
 -- the arcs of a read, with more ids to look for other writers among
 base_among : (parts : Parts) (ids more : List TxnId) (reader : TxnId) (key : ℕ) (arc : Arc) → ((id : TxnId) → In ids id → In more id) → In (base_arcs parts ids reader key) arc → In (base_arcs parts more reader key) arc
@@ -190,32 +188,3 @@ fresh_of parts more nodes ids all new reads loose good brings old_listed listed 
   right = λ arc h. fresh_right parts more nodes ids all new reads loose arc brings (λ id. (listed id).0) of_these h;
   all = λ arc h fresh. fresh_all parts more nodes ids all new reads loose arc good brings (λ id. (old_listed id).1) (λ id. (listed id).1) of_these h fresh;
 }
-
--- where the fresh arcs look back, no read of what was there is from a new writer
-pub none_first : (parts more : Parts) (fresh : List Arc) → AreFresh parts more fresh → All (LooksBack parts) fresh → (reader writer : TxnId) (key : ℕ) → Remains parts reader → ReadsKey more reader key (By writer) → WritesKey more writer key → Remains parts writer
-none_first parts more fresh are back reader writer key here reading writes = by_test (is_fresh parts arc) refl
-  where
-    arc : Arc
-    arc = Read key writer reader
-
-    by_test : (t : Bool) → is_fresh parts arc ≡ t → Remains parts writer
-    by_test true e = of_all (LooksBack parts) fresh arc back (are.all arc (read_listed more reader writer key reading writes) e) here
-    by_test false e = (ends_remain parts arc e).0
-
--- arcs look back where none leads from the fragment to another transaction, and the fragment's are just the new ones
-pub back_of : (parts more : Parts) (fragment : Fragment) (fresh : List Arc) → ((id : TxnId) → Remains more id → IsOf fragment id → ¬ Remains parts id) → ((id : TxnId) → Remains more id → (¬ IsOf fragment id) → Remains parts id) → AreFresh parts more fresh → All (λ arc. IsOf fragment (start_of arc) → IsOf fragment (end_of arc)) fresh → All (LooksBack parts) fresh
-back_of parts more fragment fresh of_new others are back k d within end = by_session (eqb_tells start.session fragment.session) (cases_lt start.number fragment.first)
-  where
-    arc : Arc
-    arc = get_or fresh k d
-
-    start : TxnId
-    start = start_of arc
-
-    remain : Remains more (start_of arc) × Remains more (end_of arc)
-    remain = arc_remains more arc (plain_right more arc (are.right arc (in_place fresh k d within)))
-
-    by_session : ((nat_eq start.session fragment.session ≡ true) × (start.session ≡ fragment.session)) ⊎ ((nat_eq start.session fragment.session ≡ false) × (start.session ≢ fragment.session)) → (start.number < fragment.first) ⊎ (fragment.first ≤ start.number) → Remains parts start
-    by_session (inr (t, other)) place = others start remain.0 (λ is. other is.0)
-    by_session (inl (t, same)) (inl below) = others start remain.0 (λ is. let not_below = is.1 in omega arith)
-    by_session (inl (t, same)) (inr after) = absurd (of_new (end_of arc) remain.1 (back k d within (same, after)) end)

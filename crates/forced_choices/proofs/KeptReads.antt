@@ -65,35 +65,46 @@ own_more reads more loose others reader some read wider looser own here key sour
     by_part (inr (inl same)) = subst (λ (x : ℕ × Source). IsKept more others reader x) same here
     by_part (inr (inr never)) = absurd never
 
-pub placed_more : (parts : Parts) (nodes : List (Option TxnId)) (ids : List TxnId) (reader : TxnId) (some : List (ℕ × Source)) (old new : List Placed) (loose : List Loose) (read : ℕ × Source) (writer : TxnId) → read.1 ≡ By writer → ReadsKey parts reader read.0 read.1 → WritesKey parts writer read.0 →
-    (placed : Placed) × (placed.read ≡ record { reader = reader; key = read.0; writer = writer }) × IsAtColumns nodes placed × (new ≡ old ++ placed ∷ []) →
-    AreReadsAnd parts nodes ids reader some old loose → AreReadsAnd parts nodes ids reader (some ++ read ∷ []) new loose
-placed_more parts nodes ids reader some old new loose read writer from reads written (placed, same, at, pushed) are = record {
-  placed = subst (λ (xs : List Placed). All (IsPlaced parts nodes) xs) (sym pushed) (All-push (IsPlaced parts nodes) old placed are.placed is);
-  are_loose = are.are_loose;
-  of_these = are.of_these;
-  each = λ other key source h is. kept_more old new loose loose other (key, source) wider (λ one h. h) (are.each other key source h is);
-  own = own_more old new loose loose reader some read wider (λ one h. h) are.own (inl among);
-}
-  where
-    wider : (other : Placed) → In old other → In new other
-    wider other h = subst (λ (xs : List Placed). In xs other) (sym pushed) (in_left old (placed ∷ []) other h)
+-- a read is put at the end, with its columns
+abbrev pub Pushes : List (Option TxnId) → List Placed → List Placed → Read → Type 0
+Pushes nodes old new read = (placed : Placed) × (placed.read ≡ read) × IsAtColumns nodes placed × (new ≡ old ++ placed ∷ [])
 
+-- where it is one from a writer of its key, it is placed as the others are
+pub placed_pushed : (parts : Parts) (nodes : List (Option TxnId)) (old new : List Placed) (reader : TxnId) (key : ℕ) (source : Source) (writer : TxnId) → source ≡ By writer → ReadsKey parts reader key source → WritesKey parts writer key → Pushes nodes old new (record { reader = reader; key = key; writer = writer }) → All (IsPlaced parts nodes) old → All (IsPlaced parts nodes) new
+placed_pushed parts nodes old new reader key source writer from reads written (placed, same, at, pushed) all = subst (λ (xs : List Placed). All (IsPlaced parts nodes) xs) (sym pushed) (All-push (IsPlaced parts nodes) old placed all is)
+  where
     is : IsPlaced parts nodes placed
     is = record {
-      reads = subst (λ (r : Read). ReadsKey parts r.reader r.key (By r.writer)) (sym same) (subst (λ source. ReadsKey parts reader read.0 source) from reads);
+      reads = subst (λ (r : Read). ReadsKey parts r.reader r.key (By r.writer)) (sym same) (subst (λ source. ReadsKey parts reader key source) from reads);
       written = subst (λ (r : Read). WritesKey parts r.writer r.key) (sym same) written;
       columns = at;
     }
 
-    among : IsAmong new reader read.0 read.1
-    among = record {
-      placed = placed;
-      among = subst (λ (xs : List Placed). In xs placed) (sym pushed) (in_right old (placed ∷ []) placed (inl refl));
-      same_reader = ap (λ (r : Read). r.reader) same;
-      same_key = ap (λ (r : Read). r.key) same;
-      same_source = from ∙ ap (λ (r : Read). By r.writer) (sym same);
-    }
+pub among_pushed : (nodes : List (Option TxnId)) (old new : List Placed) (reader : TxnId) (key : ℕ) (source : Source) (writer : TxnId) → source ≡ By writer → Pushes nodes old new (record { reader = reader; key = key; writer = writer }) → IsAmong new reader key source
+among_pushed nodes old new reader key source writer from (placed, same, at, pushed) = record {
+  placed = placed;
+  among = subst (λ (xs : List Placed). In xs placed) (sym pushed) (in_right old (placed ∷ []) placed (inl refl));
+  same_reader = ap (λ (r : Read). r.reader) same;
+  same_key = ap (λ (r : Read). r.key) same;
+  same_source = from ∙ ap (λ (r : Read). By r.writer) (sym same);
+}
+
+pub wider_pushed : (nodes : List (Option TxnId)) (old new : List Placed) (read : Read) (other : Placed) → Pushes nodes old new read → In old other → In new other
+wider_pushed nodes old new read other (placed, same, at, pushed) h = subst (λ (xs : List Placed). In xs other) (sym pushed) (in_left old (placed ∷ []) other h)
+
+pub placed_more : (parts : Parts) (nodes : List (Option TxnId)) (ids : List TxnId) (reader : TxnId) (some : List (ℕ × Source)) (old new : List Placed) (loose : List Loose) (read : ℕ × Source) (writer : TxnId) → read.1 ≡ By writer → ReadsKey parts reader read.0 read.1 → WritesKey parts writer read.0 →
+    Pushes nodes old new (record { reader = reader; key = read.0; writer = writer }) →
+    AreReadsAnd parts nodes ids reader some old loose → AreReadsAnd parts nodes ids reader (some ++ read ∷ []) new loose
+placed_more parts nodes ids reader some old new loose read writer from reads written pushed are = record {
+  placed = placed_pushed parts nodes old new reader read.0 read.1 writer from reads written pushed are.placed;
+  are_loose = are.are_loose;
+  of_these = are.of_these;
+  each = λ other key source h is. kept_more old new loose loose other (key, source) wider (λ one h. h) (are.each other key source h is);
+  own = own_more old new loose loose reader some read wider (λ one h. h) are.own (inl (among_pushed nodes old new reader read.0 read.1 writer from pushed));
+}
+  where
+    wider : (other : Placed) → In old other → In new other
+    wider other h = wider_pushed nodes old new (record { reader = reader; key = read.0; writer = writer }) other pushed h
 
 pub loose_more : (parts : Parts) (nodes : List (Option TxnId)) (ids : List TxnId) (reader : TxnId) (some : List (ℕ × Source)) (reads : List Placed) (old new : List Loose) (read : ℕ × Source) → ReadsKey parts reader read.0 read.1 → ((writer : TxnId) → read.1 ≡ By writer → ¬ WritesKey parts writer read.0) → new ≡ old ++ loose_of reader read ∷ [] →
     AreReadsAnd parts nodes ids reader some reads old → AreReadsAnd parts nodes ids reader (some ++ read ∷ []) reads new

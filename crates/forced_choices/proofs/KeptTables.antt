@@ -3,14 +3,13 @@ use Rattle.std.proofs.Common.{◌≡◌, ◌⊎◌, ℕ, Bool, cond, List, [], �
 use Rattle.std.specs.Prelude.{Vec, filter}
 use Rattle.std.specs.declared.alloc.Global.{Global}
 use Rattle.txn.specs.declared.transactions.TxnId.{TxnId}
-use Rattle.txn.specs.declared.transactions.Source.{Source}
 use Rattle.txn.specs.declared.transactions.Source.TheVariants.{By}
 use Rattle.txn.specs.declared.choices.Choice.{Choice}
 use Rattle.txn.specs.History.{writes_key}
 use Rattle.txn.specs.Transactions.{same_id}
 use Rattle.order_check.specs.declared.remainder.Parts.{Parts}
 use Rattle.order_check.specs.Based.{Remains}
-use Rattle.order_check.specs.Known.{IsChoice, ReadsKey, WritesKey}
+use Rattle.order_check.specs.Known.{IsChoice}
 use Rattle.known_graph.specs.Bits.{HasBit}
 use Rattle.forced_choices.specs.declared.kept.KeptTable.{KeptTable}
 use Rattle.forced_choices.specs.declared.kept.Loose.{Loose}
@@ -21,7 +20,7 @@ use Rattle.forced_choices.specs.declared.table.Table.{Table}
 use Rattle.forced_choices.specs.declared.writers.Writers.{Writers}
 use Rattle.forced_choices.specs.ByKeys.{AreIndexed, AreRows}
 use Rattle.forced_choices.specs.Growth.{AreMore, Brings, NodesStay}
-use Rattle.forced_choices.specs.KeptTables.{AreReadsOf, AreWritersOf, IsAmong, IsKeptTable, IsLoose}
+use Rattle.forced_choices.specs.KeptTables.{AreReadsOf, AreWritersOf, IsAmong, IsKeptTable, WereReadsOf}
 use Rattle.forced_choices.specs.Listing.{is_other, writes_here}
 use Rattle.forced_choices.specs.Masks.{AreWriters, choice_of, choices_in, is_third, mask_of}
 use Rattle.forced_choices.specs.Tables.{IsLookup, IsPlaced, choices_at}
@@ -68,7 +67,7 @@ writers_grow parts more old_nodes nodes table remain are stay writers = record {
 -- what putting the reads of some readers to a table tells
 abbrev pub PutsReads : Parts → List (Option TxnId) → Table → Table → List Loose → List Loose → List TxnId → Type 0
 PutsReads parts nodes old new old_loose loose readers = record {
-  kept : (ids : List TxnId) → AreReadsOf parts nodes ids old.reads.items old_loose → AreReadsOf parts nodes (ids ++ readers) new.reads.items loose;
+  kept : (ids : List TxnId) → WereReadsOf parts nodes ids old.reads.items old_loose → AreReadsOf parts nodes (ids ++ readers) new.reads.items loose;
   indexed : AreIndexed old.reads.items old.by_key → AreIndexed new.reads.items new.by_key;
   rows : (key j : ℕ) → HasBit (mask_of old.by_key.rows key) j → HasBit (mask_of new.by_key.rows key) j;
   ids : new.ids ≡ old.ids;
@@ -77,20 +76,18 @@ PutsReads parts nodes old new old_loose loose readers = record {
 }
 
 -- its writers stay
-pub writers_stay : (parts : Parts) (nodes : List (Option TxnId)) (old new : Table) (old_loose loose : List Loose) (readers : List TxnId) → PutsReads parts nodes old new old_loose loose readers → AreWritersOf parts nodes old → AreWritersOf parts nodes new
-writers_stay parts nodes old new old_loose loose readers put are = record {
-  writers = subst₂ (λ (ids : Vec TxnId Global) (writers : Writers). AreWriters parts nodes ids.items writers) (sym put.ids) (sym put.writers) are.writers;
-  places = subst₂ (λ (ids : Vec TxnId Global) (places : Places). ArePlaces parts ids.items places) (sym put.ids) (sym put.places) are.places;
-  rows = rows_kept parts nodes new.ids.items old.by_key new.by_key put.rows (subst (λ (ids : Vec TxnId Global). AreRows parts nodes ids.items old.by_key) (sym put.ids) are.rows);
+pub writers_stay : (parts : Parts) (nodes : List (Option TxnId)) (old new : Table) → ((key j : ℕ) → HasBit (mask_of old.by_key.rows key) j → HasBit (mask_of new.by_key.rows key) j) → new.ids ≡ old.ids → new.writers ≡ old.writers → new.places ≡ old.places → AreWritersOf parts nodes old → AreWritersOf parts nodes new
+writers_stay parts nodes old new rows same_ids same_writers same_places are = record {
+  writers = subst₂ (λ (ids : Vec TxnId Global) (writers : Writers). AreWriters parts nodes ids.items writers) (sym same_ids) (sym same_writers) are.writers;
+  places = subst₂ (λ (ids : Vec TxnId Global) (places : Places). ArePlaces parts ids.items places) (sym same_ids) (sym same_places) are.places;
+  rows = rows_kept parts nodes new.ids.items old.by_key new.by_key rows (subst (λ (ids : Vec TxnId Global). AreRows parts nodes ids.items old.by_key) (sym same_ids) are.rows);
 }
 
--- and so are their reads, where none of them names a new writer of its key
-pub reads_grow : (parts more : Parts) (old_nodes nodes : List (Option TxnId)) (ids : List TxnId) (reads : List Placed) (loose : List Loose) → ((id : TxnId) → In ids id → Remains parts id) → AreMore parts more → NodesStay old_nodes nodes →
-    ((reader writer : TxnId) (key : ℕ) → Remains parts reader → ReadsKey more reader key (By writer) → WritesKey more writer key → Remains parts writer) →
-    AreReadsOf parts old_nodes ids reads loose → AreReadsOf more nodes ids reads loose
-reads_grow parts more old_nodes nodes ids reads loose remain are stay none_new so = record {
+-- and so are their reads, but that the writers of some may have come
+pub reads_grow : (parts more : Parts) (old_nodes nodes : List (Option TxnId)) (ids : List TxnId) (reads : List Placed) (loose : List Loose) → ((id : TxnId) → In ids id → Remains parts id) → AreMore parts more → NodesStay old_nodes nodes → AreReadsOf parts old_nodes ids reads loose → WereReadsOf more nodes ids reads loose
+reads_grow parts more old_nodes nodes ids reads loose remain are stay so = record {
   placed = λ k d within. placed (get_or reads k d) (so.placed k d within);
-  are_loose = λ one h. is_loose one (so.are_loose one h);
+  are_reads = λ one h. reads_more parts more one.reader one.key one.source are (so.are_loose one h).reads;
   of_these = so.of_these;
   each = λ reader key source h is. so.each reader key source h (reads_less parts more reader key source are (remain reader h) is);
 }
@@ -100,15 +97,6 @@ reads_grow parts more old_nodes nodes ids reads loose remain are stay none_new s
       reads = reads_more parts more one.read.reader one.read.key (By one.read.writer) are is.reads;
       written = writes_more parts more one.read.writer one.read.key are is.written;
       columns = record { reader = stay one.reader_at one.read.reader is.columns.reader; writer = stay one.writer_at one.read.writer is.columns.writer };
-    }
-
-    is_loose : (one : Loose) → IsLoose parts one → IsLoose more one
-    is_loose one is = record {
-      reads = reads_more parts more one.reader one.key one.source are is.reads;
-      none = λ writer from writes.
-          let reads = subst (λ (source : Source). ReadsKey more one.reader one.key source) from (reads_more parts more one.reader one.key one.source are is.reads) in
-          let there = none_new one.reader writer one.key (reader_remains parts one.reader one.key one.source is.reads) reads writes in
-          is.none writer from (writes_less parts more writer one.key are there writes);
     }
 
 -- a choice is among those of its read
@@ -149,16 +137,16 @@ kept_lookup parts nodes kept is = record {
 
 -- the kept table, with the writers and the reads of new transactions: the two lists are theirs
 pub kept_grown_table : (parts more : Parts) (old_nodes nodes : List (Option TxnId)) (old : KeptTable) (table last : Table) (loose : Vec Loose Global) (new writing reading : List TxnId) → writing ≡ new → reading ≡ new →
-    Brings parts more new → NodesStay old_nodes nodes → ((reader writer : TxnId) (key : ℕ) → Remains parts reader → ReadsKey more reader key (By writer) → WritesKey more writer key → Remains parts writer) → IsKeptTable parts old_nodes old →
+    Brings parts more new → NodesStay old_nodes nodes → IsKeptTable parts old_nodes old →
     (AreWritersOf more nodes old.table → AreWritersOf more nodes table) → table.ids.items ≡ old.table.ids.items ++ writing → table.reads ≡ old.table.reads →
     (AreIndexed old.table.reads.items old.table.by_key → AreIndexed table.reads.items table.by_key) → PutsReads more nodes table last old.loose.items loose.items reading →
     IsKeptTable more nodes (record { table = last; loose = loose })
-kept_grown_table parts more old_nodes nodes old table last loose new writing reading wrote read brings stay none_new is add_writers longer same_reads add_rows put = record {
+kept_grown_table parts more old_nodes nodes old table last loose new writing reading wrote read brings stay is add_writers longer same_reads add_rows put = record {
   listed = λ id. (
     λ h. by_part id (in_either ids new id (subst (λ (xs : List TxnId). In xs id) all h)),
     λ remains. subst (λ (xs : List TxnId). In xs id) (sym all) (by_old id (brings.all id remains)),
   );
-  writers = writers_stay more nodes table last old.loose.items loose.items reading put (add_writers (writers_grow parts more old_nodes nodes old.table remain brings.are stay is.writers));
+  writers = writers_stay more nodes table last put.rows put.ids put.writers put.places (add_writers (writers_grow parts more old_nodes nodes old.table remain brings.are stay is.writers));
   reads = subst (λ (xs : List TxnId). AreReadsOf more nodes xs last.reads.items loose.items) (ap (λ xs. ids ++ xs) read ∙ sym all) (put.kept ids old_reads);
   indexed = put.indexed (add_rows is.indexed);
 }
@@ -172,8 +160,8 @@ kept_grown_table parts more old_nodes nodes old table last loose new writing rea
     remain : (id : TxnId) → In ids id → Remains parts id
     remain id h = (is.listed id).0 h
 
-    old_reads : AreReadsOf more nodes ids table.reads.items old.loose.items
-    old_reads = subst (λ (xs : Vec Placed Global). AreReadsOf more nodes ids xs.items old.loose.items) (sym same_reads) (reads_grow parts more old_nodes nodes ids old.table.reads.items old.loose.items remain brings.are stay none_new is.reads)
+    old_reads : WereReadsOf more nodes ids table.reads.items old.loose.items
+    old_reads = subst (λ (xs : Vec Placed Global). WereReadsOf more nodes ids xs.items old.loose.items) (sym same_reads) (reads_grow parts more old_nodes nodes ids old.table.reads.items old.loose.items remain brings.are stay is.reads)
 
     by_part : (id : TxnId) → In ids id ⊎ In new id → Remains more id
     by_part id (inl h) = remains_more parts more id brings.are (remain id h)

@@ -32,6 +32,7 @@ pub mod FreshArcs
 pub mod KeptWriters
 pub mod KeptReads
 pub mod KeptTables
+pub mod ReadsMoved
 pub mod CutBack
 pub mod ByKeys
 pub mod KeysLooked

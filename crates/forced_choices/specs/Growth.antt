@@ -1,5 +1,5 @@
 -- For private clauses: parts with more transactions, and the arcs that these bring.
-use Rattle.std.specs.Prelude.{◌≡◌, ◌<◌, ◌≤◌, ◌⊎◌, ℕ, Bool, ◌&&◌, not, is_some, List, Option, true, length, map}
+use Rattle.std.specs.Prelude.{◌≡◌, ◌<◌, ◌⊎◌, ℕ, Bool, ◌&&◌, not, is_some, List, Option, true, length, map}
 use Rattle.std.specs.List.{range_with_len}
 use Rattle.txn.specs.declared.transactions.TxnId.{TxnId}
 use Rattle.txn.specs.declared.transactions.Fragment.{Fragment}
@@ -27,10 +27,6 @@ pub record Brings (parts more : Parts) (new : List TxnId) : Type 0 where
   pub brought : (id : TxnId) → In new id → Remains more id × (¬ Remains parts id)
   pub all : (id : TxnId) → Remains more id → Remains parts id ⊎ In new id
 
--- the id is one of the fragment's, or would come behind them
-abbrev pub IsOf : Fragment → TxnId → Type 0
-IsOf fragment id = (id.session ≡ fragment.session) × (fragment.first ≤ id.number)
-
 -- the ids of its transactions, in order
 abbrev pub ids_of_fragment : Fragment → List TxnId
 ids_of_fragment fragment = map (λ number. record { session = fragment.session; number = number }) (range_with_len fragment.first (length fragment.txns))
@@ -50,10 +46,6 @@ is_fresh parts arc = not (is_some (remaining_at parts (start_of arc)) && is_some
 pub record AreFresh (parts more : Parts) (fresh : List Arc) : Type 0 where
   pub right : (arc : Arc) → In fresh arc → In (plain_arcs more) arc
   pub all : (arc : Arc) → In (plain_arcs more) arc → is_fresh parts arc ≡ true → In fresh arc
-
--- the arc doesn't lead from what is new to what was there
-abbrev pub LooksBack : Parts → Arc → Type 0
-LooksBack parts arc = Remains parts (end_of arc) → Remains parts (start_of arc)
 
 -- what is at a key stays there
 abbrev pub NodesStay : List (Option TxnId) → List (Option TxnId) → Type 0

@@ -1,8 +1,8 @@
 -- For private clauses: a table that is kept as transactions arrive, in the order in which they came.
-use Rattle.std.specs.Prelude.{◌≡◌, ◌⊎◌, ◌↔◌, ℕ, List, [], ◌∷◌, ◌++◌, Option, All}
+use Rattle.std.specs.Prelude.{◌≡◌, ◌⊎◌, ◌↔◌, ℕ, Bool, false, List, [], ◌∷◌, ◌++◌, Option, All}
 use Rattle.txn.specs.declared.transactions.TxnId.{TxnId}
 use Rattle.txn.specs.declared.transactions.Source.{Source}
-use Rattle.txn.specs.declared.transactions.Source.TheVariants.{By}
+use Rattle.txn.specs.declared.transactions.Source.TheVariants.{Init, By}
 use Rattle.order_check.specs.declared.remainder.Parts.{Parts}
 use Rattle.order_check.specs.Based.{Remains}
 use Rattle.order_check.specs.Known.{ReadsKey, WritesKey}
@@ -12,6 +12,7 @@ use Rattle.forced_choices.specs.declared.reads.Placed.{Placed}
 use Rattle.forced_choices.specs.declared.table.Table.{Table}
 use Rattle.forced_choices.specs.Ascending.{In}
 use Rattle.forced_choices.specs.ByKeys.{AreIndexed, AreRows}
+use Rattle.forced_choices.specs.Listing.{writes_here}
 use Rattle.forced_choices.specs.Masks.{AreWriters}
 use Rattle.forced_choices.specs.Tables.{IsPlaced}
 use Rattle.forced_choices.specs.WriterPlaces.{ArePlaces}
@@ -41,6 +42,22 @@ pub record AreReadsOf (parts : Parts) (nodes : List (Option TxnId)) (ids : List 
   pub are_loose : (one : Loose) → In loose one → IsLoose parts one
   pub of_these : (one : Loose) → In loose one → In ids one.reader
   pub each : (reader : TxnId) (key : ℕ) (source : Source) → In ids reader → ReadsKey parts reader key source → IsAmong reads reader key source ⊎ In loose (record { reader = reader; key = key; source = source })
+
+-- the same where the writers of some loose reads may have come since
+pub record WereReadsOf (parts : Parts) (nodes : List (Option TxnId)) (ids : List TxnId) (reads : List Placed) (loose : List Loose) : Type 0 where
+  pub placed : All (IsPlaced parts nodes) reads
+  pub are_reads : (one : Loose) → In loose one → ReadsKey parts one.reader one.key one.source
+  pub of_these : (one : Loose) → In loose one → In ids one.reader
+  pub each : (reader : TxnId) (key : ℕ) (source : Source) → In ids reader → ReadsKey parts reader key source → IsAmong reads reader key source ⊎ In loose (record { reader = reader; key = key; source = source })
+
+-- whether the source is a remaining writer of the key
+abbrev pub is_writer : Parts → ℕ → Source → Bool
+is_writer parts key Init = false
+is_writer parts key (By writer) = writes_here parts key writer
+
+-- whether a read's source is a remaining writer of its key
+abbrev pub has_come : Parts → Loose → Bool
+has_come parts one = is_writer parts one.key one.source
 
 -- the reads of these readers, and some of one more reader
 pub record AreReadsAnd (parts : Parts) (nodes : List (Option TxnId)) (ids : List TxnId) (reader : TxnId) (some : List (ℕ × Source)) (reads : List Placed) (loose : List Loose) : Type 0 where

@@ -1,5 +1,5 @@
 -- What contracts see of a saturation, how its log goes on, and the fragment of one transaction.
-use Rattle.std.specs.Prelude.{◌≡◌, ◌⊎◌, List, [], ◌∷◌, ◌++◌, All, Contains}
+use Rattle.std.specs.Prelude.{◌≡◌, List, [], ◌∷◌, ◌++◌, All, Contains}
 use Rattle.txn.specs.declared.transactions.TxnId.{TxnId}
 use Rattle.txn.specs.declared.transactions.Txn.{Txn}
 use Rattle.txn.specs.declared.transactions.Fragment.{Fragment}
@@ -15,10 +15,6 @@ pub record SaturatedState : Type 0 where
 -- behind these steps stand more, each of them new where the sides of all before it are taken
 abbrev pub AreNewBehind : Parts → List ForceStep → List ForceStep → Type 0
 AreNewBehind parts kept log = (steps : List ForceStep) × (log ≡ kept ++ steps) × AreNew parts (sides_after [] kept) steps
-
--- new steps are logged behind all that were logged, or the log is made anew
-abbrev pub LogsOn : Parts → List ForceStep → List ForceStep → Type 0
-LogsOn parts old new = AreNewBehind parts old new ⊎ AreNewBehind parts [] new
 
 -- new steps are logged behind some of those that were logged
 abbrev pub LogsOnBehindSome : Parts → List ForceStep → List ForceStep → Type 0

@@ -1,5 +1,5 @@
 // A relation that catches up with parts to which a fragment was added.
-ghost use Rattle.std.specs.Prelude.{◌≡◌, ◌+◌, ◌<◌, ◌^◌, length, IfOk, IfSome, OnOk, OnErr};
+ghost use Rattle.std.specs.Prelude.{◌≡◌, ◌+◌, ◌<◌, ◌^◌, length, IfOk, OnOk, OnErr};
 ghost use Rattle.txn.specs.declared.transactions.TxnId.{TxnId};
 ghost use Rattle.order_check.specs.declared.remainder.Parts.{Parts};
 ghost use Rattle.order_check.specs.Based.{Remains};
@@ -8,14 +8,14 @@ ghost use Rattle.known_graph.specs.Graphs.{HasNode, last_mark};
 ghost use Rattle.forced_choices.specs.Growth.{GoesOn, IsNext, NodesStay, ids_of_fragment};
 ghost use Rattle.forced_choices.specs.Kept.{IsKept};
 ghost use Rattle.forced_choices.specs.KeptTables.{IsKeptTable};
-ghost use Rattle.forced_choices.specs.SaturatedState.{AreNewBehind, LogsOn};
+ghost use Rattle.forced_choices.specs.SaturatedState.{AreNewBehind};
 ghost use Rattle.forced_choices.specs.Tables.{IsLookup};
 
 use crate::fresh::fresh_arcs;
-use crate::growth::{add_nodes, all_look_back, go_on_with};
-use crate::kept::{KeptTable, add_reads, add_writers};
+use crate::growth::{add_nodes, go_on_with};
+use crate::kept::{KeptTable, add_writers};
+use crate::sources::put_reads;
 use crate::table::Table;
-use crate::whole::saturation_of;
 use known_graph::Graph;
 use order_check::Parts;
 use std::alloc::Global;
@@ -91,9 +91,8 @@ fn go_on(
     }
 }
 
-/// Makes the relation that of more parts. It goes on from that of the parts, unless one of the fragment has to come before what was
-/// there: then a read of what was there may have got its writer, which the table hasn't, and the relation is made anew; its table is
-/// then left to the next call.
+/// Makes the relation that of more parts. It goes on from that of the parts, also where one of the fragment has to come before what
+/// was there.
 pub fn catch_up(
     alloc: Global,
     more: &Parts,
@@ -101,12 +100,12 @@ pub fn catch_up(
     kept: KeptTable,
     graph: &mut Graph,
     log: &mut Sequence<ForceStep>,
-) -> Result<Option<KeptTable>, NoMemory>
+) -> Result<KeptTable, NoMemory>
     requires good { IsGood more.now }
     requires next { (parts : Parts) × IsNext parts more.now fragment.now × IsKept parts graph.old log.old × IsKeptTable parts graph.old.nodes kept }
-    ensures kept { IfOk result (λ left. IsKept more.now graph.new log.new) }
-    ensures logged { OnOk result (LogsOn more.now log.old log.new) }
-    ensures table { IfOk result (λ left. IfSome left (IsKeptTable more.now graph.new.nodes)) }
+    ensures kept { OnOk result (IsKept more.now graph.new log.new) }
+    ensures logged { OnOk result (AreNewBehind more.now log.old log.new) }
+    ensures table { IfOk result (IsKeptTable more.now graph.new.nodes) }
     ensures err { OnErr result ((log.new ≡ log.old) × (graph.new.arcs ≡ graph.old.arcs) × NodesStay graph.old.nodes graph.new.nodes) }
 {
     let new = ids_of(alloc, fragment)?;
@@ -117,13 +116,7 @@ pub fn catch_up(
     add_nodes(graph, &new)?;
     add_writers(alloc, &mut table, more, graph, &new)?;
     let fresh = fresh_arcs(alloc, more, &table, &loose, &new)?;
-    if !all_look_back(fragment, &fresh) {
-        let (anew, steps) = saturation_of(alloc, more)?;
-        *graph = anew;
-        *log = Sequence::new(steps);
-        return Ok(None);
-    }
-    add_reads(alloc, &mut table, &mut loose, more, graph, &new)?;
+    put_reads(alloc, &mut table, &mut loose, more, graph, &new)?;
     go_on(alloc, more, &table, graph, log, &fresh)?;
-    Ok(Some(KeptTable { table, loose }))
+    Ok(KeptTable { table, loose })
 }

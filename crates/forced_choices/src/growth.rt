@@ -1,9 +1,8 @@
-// A relation that goes on with more transactions, none of which has to come before one that was there.
-ghost use Rattle.std.specs.Prelude.{◌≡◌, ◌∷◌, [], ◌++◌, ◌↔◌, List, All, IfOk, OnOk, IsTrue};
+// A relation that goes on with more transactions.
+ghost use Rattle.std.specs.Prelude.{◌≡◌, ◌∷◌, [], ◌++◌, List, All, IfOk, OnOk};
 ghost use Rattle.txn.specs.declared.transactions.TxnId.{TxnId};
 ghost use Rattle.txn.specs.declared.choices.Arc.{Arc};
 ghost use Rattle.txn.specs.declared.choices.ForceStep.{ForceStep};
-ghost use Rattle.txn.specs.Arcs.{start_of, end_of};
 ghost use Rattle.order_check.specs.declared.remainder.Parts.{Parts};
 ghost use Rattle.order_check.specs.Based.{Remains};
 ghost use Rattle.order_check.specs.Cycles.{AreNew, sides_after};
@@ -11,7 +10,7 @@ ghost use Rattle.order_check.specs.Good.{IsGood};
 ghost use Rattle.known_graph.specs.Graphs.{HasNode, last_mark};
 ghost use Rattle.forced_choices.specs.Ascending.{In};
 ghost use Rattle.forced_choices.specs.Between.{IsBetween};
-ghost use Rattle.forced_choices.specs.Growth.{GoesOn, IsOf, NodesStay};
+ghost use Rattle.forced_choices.specs.Growth.{GoesOn, NodesStay};
 ghost use Rattle.forced_choices.specs.Kept.{IsKept};
 ghost use Rattle.forced_choices.specs.Tables.{IsLookup};
 ghost use Rattle.forced_choices.specs.Touching.{AreNoted};
@@ -22,33 +21,7 @@ use crate::touched::{Touched, note, untouched};
 use known_graph::Graph;
 use order_check::Parts;
 use std::alloc::Global;
-use txn::{Arc, ForceStep, Fragment, NoMemory, TxnId};
-
-/// Whether the id is one of the fragment's, or would come behind them.
-fn is_of(fragment: &Fragment, id: TxnId) -> bool
-    ensures { IsTrue result ↔ IsOf fragment.now id }
-{
-    id.session == fragment.session && fragment.first <= id.number
-}
-
-/// Whether the arc doesn't lead from one of the fragment's transactions to another's.
-fn looks_back(fragment: &Fragment, arc: Arc) -> bool
-    ensures { IsTrue result → IsOf fragment.now (start_of arc) → IsOf fragment.now (end_of arc) }
-{
-    is_of(fragment, arc.end()) || !is_of(fragment, arc.start())
-}
-
-/// Whether none of the arcs leads from one of the fragment's transactions to another's.
-pub fn all_look_back(fragment: &Fragment, arcs: &[Arc]) -> bool
-    ensures { IsTrue result → All (λ arc. IsOf fragment.now (start_of arc) → IsOf fragment.now (end_of arc)) arcs.now }
-{
-    for arc in arcs {
-        if !looks_back(fragment, *arc) {
-            return false;
-        }
-    }
-    true
-}
+use txn::{Arc, ForceStep, NoMemory, TxnId};
 
 /// Adds the transaction where it isn't there yet.
 fn add_missing(graph: &mut Graph, id: TxnId) -> Result<(), NoMemory>

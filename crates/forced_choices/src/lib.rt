@@ -20,6 +20,7 @@ mod rules;
 mod saturated;
 mod saturation;
 mod since;
+mod sources;
 mod table;
 mod touched;
 mod whole;

@@ -11,7 +11,7 @@ ghost use Rattle.order_check.specs.Cycles.{AreNew, IsFullLog};
 ghost use Rattle.order_check.specs.Good.{IsGood};
 ghost use Rattle.order_check.specs.Known.{Known, AreOpenChoices};
 ghost use Rattle.order_check.specs.StandsFor.{parts_with};
-ghost use Rattle.forced_choices.specs.SaturatedState.{LogsOn, LogsOnBehindSome, fragment_of};
+ghost use Rattle.forced_choices.specs.SaturatedState.{AreNewBehind, LogsOnBehindSome, fragment_of};
 ghost use Rattle.forced_choices.specs.SoFar.{IsRelation};
 
 use crate::catching_up::catch_up;
@@ -186,7 +186,7 @@ impl Saturated {
         requires next { id.number ≡ received_count self.old.parts id.session }
         requires good { IsGood (parts_with self.old.parts (fragment_of id txn.now)) }
         ensures ok { OnOk result (self.new.parts ≡ parts_with self.old.parts (fragment_of id txn.now)) }
-        ensures logged { OnOk result (LogsOn self.new.parts self.old.log self.new.log) }
+        ensures logged { OnOk result (AreNewBehind self.new.parts self.old.log self.new.log) }
         ensures err { OnErr result (self.new ≡ self.old) }
     {
         let mut txns = Vec::with_capacity(alloc, 1)?;
@@ -205,7 +205,7 @@ impl Saturated {
         requires next { fragment.now.first ≡ received_count self.old.parts fragment.now.session }
         requires good { IsGood (parts_with self.old.parts fragment.now) }
         ensures ok { OnOk result (self.new.parts ≡ parts_with self.old.parts fragment.now) }
-        ensures logged { OnOk result (LogsOn self.new.parts self.old.log self.new.log) }
+        ensures logged { OnOk result (AreNewBehind self.new.parts self.old.log self.new.log) }
         ensures err { OnErr result (self.new ≡ self.old) }
     {
         let kept = match self.kept.take() {
@@ -225,7 +225,7 @@ impl Saturated {
             &mut self.log,
         ) {
             Ok(kept) => {
-                self.kept = kept;
+                self.kept = Some(kept);
                 Ok(())
             }
             Err(error) => {

@@ -171,6 +171,35 @@ pub fn stored_by(alloc: Global, dice: &mut Dice, count: u64) -> Result<Parts, No
     Ok(parts)
 }
 
+/// A transaction that reads one key of the initial state.
+fn old_read_of(alloc: Global, key: u64) -> Result<Txn, NoMemory> {
+    let reads = [(key, Init)].to_vec(alloc)?;
+    Ok(Txn {
+        reads: Sequence::new(reads),
+        writes: Sequence::new(Vec::new(alloc)),
+    })
+}
+
+/// As many transactions of two sessions, as a store would answer them, and of a third one that reads the initial state, whatever was
+/// written since.
+pub fn beside_old_reads_by(alloc: Global, dice: &mut Dice, count: u64) -> Result<Parts, NoMemory> {
+    let mut parts = nothing(alloc)?;
+    parts.limit = 4096;
+    let mut last = [Init; KEYS];
+    for number in 0..count {
+        for session in 0..2u8 {
+            let read = dice.roll(12) as usize;
+            let write = dice.roll(12) as usize;
+            let source = last[read];
+            let txn = pair_of(alloc, (5 + read as u64, source), 5 + write as u64)?;
+            append(alloc, &mut parts, session, txn)?;
+            last[write] = By(TxnId { session, number });
+        }
+        append(alloc, &mut parts, 2, old_read_of(alloc, 5 + dice.roll(12))?)?;
+    }
+    Ok(parts)
+}
+
 /// Fences of sessions, each behind the one before it.
 static FENCES: [(u8, Source); 5] = [
     (0, Init),

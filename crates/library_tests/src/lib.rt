@@ -40,4 +40,6 @@ mod tables;
 #[cfg(test)]
 mod trees;
 #[cfg(test)]
+mod turned;
+#[cfg(test)]
 mod waiting;

@@ -1,15 +1,12 @@
-use Rattle.std.proofs.Common.{◌≡◌, ◌∙◌, List, Option, Result, Ok, Err, get_or, inr, sym, subst}
+use Rattle.std.proofs.Common.{◌≡◌, ◌∙◌, List, Option, Result, Ok, Err, get_or, sym, subst}
 use Rattle.std.specs.Prelude.{OnErr}
 use Rattle.txn.specs.declared.transactions.TxnId.{TxnId}
 use Rattle.txn.specs.declared.choices.Arc.{Arc}
-use Rattle.txn.specs.declared.choices.ForceStep.{ForceStep}
 use Rattle.forced_choices.specs.declared.kept.KeptTable.{KeptTable}
 use Rattle.forced_choices.specs.Growth.{GoesOn, NodesStay}
-use Rattle.forced_choices.specs.Kept.{IsKept}
 use Rattle.forced_choices.specs.KeptTables.{IsKeptTable}
 use Rattle.forced_choices.proofs.CatchingUp.{low_numbers}
-use Rattle.forced_choices.proofs.CaughtUp.{catches_by, goes_on_then, nodes_then, table_then, writers_then}
-use Rattle.forced_choices.proofs.Keeping.{kept_of, new_of}
+use Rattle.forced_choices.proofs.CaughtUp.{catches_by, goes_on_then, nodes_then, table_then, were_then, writers_then}
 use Rattle.forced_choices.proofs.KeptTables.{kept_lookup}
 use Rattle.forced_choices.proofs.Members.{In, in_place}
 use Rattle.forced_choices.proofs.catching_up.catch_up.Goals as goal
@@ -28,16 +25,14 @@ fresh_arcs-requires-clause-places c =
     let were = writers_then parts c.args.more.now c.args.fragment.now c.args.graph.now.nodes c.add_nodes.new.graph.nodes c.args.kept next table c.in_ok-add_nodes.ensures.stay in
     (c.in_ok-add_writers.ensures.writers were).places
 
-pub returns-then-not-all_look_back-clause-kept : goal.returns-then-not-all_look_back-clause-kept
-returns-then-not-all_look_back-clause-kept c =
-    let more = c.args.more.now in
-    let graph = c.in_ok-anew.anew in
-    subst (λ (log : List ForceStep). IsKept more graph log) (sym c.new.ensures) (kept_of more graph c.in_ok-anew.steps.items c.requires.good c.in_ok-anew.ensures)
-
-pub add_reads-requires : goal.add_reads-requires
-add_reads-requires c =
+pub put_reads-requires : goal.put_reads-requires
+put_reads-requires c =
     let (parts, next, kept, table) = c.requires.next in
-    record { nodes = nodes_then parts c.args.more.now c.args.fragment.now c.args.graph.now c.add_nodes.new.graph c.args.log.now c.deref.result.now next kept c.in_ok-add_nodes.ensures.stay (c.deref.ensures.value ∙ c.in_ok-new.ensures) c.in_ok-add_nodes.ensures.nodes }
+    let more = c.args.more.now in
+    record {
+      reads = (were_then parts more c.args.fragment.now c.args.graph.now.nodes c.add_nodes.new.graph.nodes c.args.kept next table c.in_ok-add_nodes.ensures.stay).are_reads;
+      nodes = nodes_then parts more c.args.fragment.now c.args.graph.now c.add_nodes.new.graph c.args.log.now c.deref.result.now next kept c.in_ok-add_nodes.ensures.stay (c.deref.ensures.value ∙ c.in_ok-new.ensures) c.in_ok-add_nodes.ensures.nodes;
+    }
 
 pub go_on-requires-clause-nodes : goal.go_on-requires-clause-nodes
 go_on-requires-clause-nodes c =
@@ -51,8 +46,8 @@ go_on-requires-clause-table c =
     let fragment = c.args.fragment.now in
     let graph = c.args.graph.now in
     let new = c.add_nodes.new.graph in
-    let catches = catches_by parts more fragment graph.nodes new.nodes c.args.kept c.add_writers.new.table c.in_ok-fresh.fresh.items c.in_ok-new.new.items c.deref-2.result.now c.deref-4.result.now c.deref-3.result.now c.deref-5.result.now c.in_ok-new.ensures c.deref-2.ensures.value c.deref-4.ensures.value c.deref-3.ensures.value c.deref-5.ensures.value next table c.in_ok-add_nodes.ensures.stay c.in_ok-add_writers.ensures.writers c.in_ok-add_writers.ensures.ids c.in_ok-add_writers.ensures.reads c.in_ok-add_writers.ensures.indexed c.in_ok-fresh.ensures (c.all_look_back.ensures c.if-not-all_look_back.false) in
-    let grown = table_then parts more fragment graph.nodes new.nodes c.args.kept c.add_writers.new.table c.add_reads.new.table c.in_ok-fresh.fresh.items c.add_reads.new.loose c.deref-6.result.now (c.deref-6.ensures.value ∙ c.in_ok-new.ensures) catches c.in_ok-add_reads.ensures in
+    let catches = catches_by parts more fragment graph.nodes new.nodes c.args.kept c.add_writers.new.table c.in_ok-fresh.fresh.items c.in_ok-new.new.items c.deref-2.result.now c.deref-4.result.now c.deref-3.result.now c.in_ok-new.ensures c.deref-2.ensures.value c.deref-4.ensures.value c.deref-3.ensures.value next table c.in_ok-add_nodes.ensures.stay c.in_ok-add_writers.ensures.writers c.in_ok-add_writers.ensures.ids c.in_ok-add_writers.ensures.reads c.in_ok-add_writers.ensures.indexed c.in_ok-fresh.ensures in
+    let grown = table_then parts more fragment graph.nodes new.nodes c.args.kept c.add_writers.new.table c.put_reads.new.table c.in_ok-fresh.fresh.items c.put_reads.new.loose c.deref-5.result.now (c.deref-5.ensures.value ∙ c.in_ok-new.ensures) catches c.in_ok-put_reads.ensures in
     kept_lookup more new.nodes _ grown
 
 pub go_on-requires-clause-goes_on : goal.go_on-requires-clause-goes_on
@@ -62,8 +57,8 @@ go_on-requires-clause-goes_on c =
     let fragment = c.args.fragment.now in
     let graph = c.args.graph.now in
     let new = c.add_nodes.new.graph in
-    let catches = catches_by parts more fragment graph.nodes new.nodes c.args.kept c.add_writers.new.table c.in_ok-fresh.fresh.items c.in_ok-new.new.items c.deref-2.result.now c.deref-4.result.now c.deref-3.result.now c.deref-5.result.now c.in_ok-new.ensures c.deref-2.ensures.value c.deref-4.ensures.value c.deref-3.ensures.value c.deref-5.ensures.value next table c.in_ok-add_nodes.ensures.stay c.in_ok-add_writers.ensures.writers c.in_ok-add_writers.ensures.ids c.in_ok-add_writers.ensures.reads c.in_ok-add_writers.ensures.indexed c.in_ok-fresh.ensures (c.all_look_back.ensures c.if-not-all_look_back.false) in
-    (parts, subst (λ (fresh : List Arc). GoesOn parts more new c.args.log.now fresh) (sym c.deref-7.ensures.value) (goes_on_then parts more fragment graph new c.args.log.now c.args.kept c.add_writers.new.table c.in_ok-fresh.fresh.items kept c.in_ok-add_nodes.ensures.arcs catches))
+    let catches = catches_by parts more fragment graph.nodes new.nodes c.args.kept c.add_writers.new.table c.in_ok-fresh.fresh.items c.in_ok-new.new.items c.deref-2.result.now c.deref-4.result.now c.deref-3.result.now c.in_ok-new.ensures c.deref-2.ensures.value c.deref-4.ensures.value c.deref-3.ensures.value next table c.in_ok-add_nodes.ensures.stay c.in_ok-add_writers.ensures.writers c.in_ok-add_writers.ensures.ids c.in_ok-add_writers.ensures.reads c.in_ok-add_writers.ensures.indexed c.in_ok-fresh.ensures in
+    (parts, subst (λ (fresh : List Arc). GoesOn parts more new c.args.log.now fresh) (sym c.deref-6.ensures.value) (goes_on_then parts more fragment graph new c.args.log.now c.args.kept c.add_writers.new.table c.in_ok-fresh.fresh.items kept c.in_ok-add_nodes.ensures.arcs catches))
 
 -- what holds either way holds where there is an error
 either_way : {T E P : Type 0} (result : Result T E) → P → OnErr result P
@@ -84,12 +79,7 @@ returns-clause-table c =
     let fragment = c.args.fragment.now in
     let graph = c.args.graph.now in
     let new = c.add_nodes.new.graph in
-    let catches = catches_by parts more fragment graph.nodes new.nodes c.args.kept c.add_writers.new.table c.in_ok-fresh.fresh.items c.in_ok-new.new.items c.deref-2.result.now c.deref-4.result.now c.deref-3.result.now c.deref-5.result.now c.in_ok-new.ensures c.deref-2.ensures.value c.deref-4.ensures.value c.deref-3.ensures.value c.deref-5.ensures.value next table c.in_ok-add_nodes.ensures.stay c.in_ok-add_writers.ensures.writers c.in_ok-add_writers.ensures.ids c.in_ok-add_writers.ensures.reads c.in_ok-add_writers.ensures.indexed c.in_ok-fresh.ensures (c.all_look_back.ensures c.if-not-all_look_back.false) in
-    let grown = table_then parts more fragment graph.nodes new.nodes c.args.kept c.add_writers.new.table c.add_reads.new.table c.in_ok-fresh.fresh.items c.add_reads.new.loose c.deref-6.result.now (c.deref-6.ensures.value ∙ c.in_ok-new.ensures) catches c.in_ok-add_reads.ensures in
-    let then : KeptTable = record { table = c.add_reads.new.table; loose = c.add_reads.new.loose } in
+    let catches = catches_by parts more fragment graph.nodes new.nodes c.args.kept c.add_writers.new.table c.in_ok-fresh.fresh.items c.in_ok-new.new.items c.deref-2.result.now c.deref-4.result.now c.deref-3.result.now c.in_ok-new.ensures c.deref-2.ensures.value c.deref-4.ensures.value c.deref-3.ensures.value next table c.in_ok-add_nodes.ensures.stay c.in_ok-add_writers.ensures.writers c.in_ok-add_writers.ensures.ids c.in_ok-add_writers.ensures.reads c.in_ok-add_writers.ensures.indexed c.in_ok-fresh.ensures in
+    let grown = table_then parts more fragment graph.nodes new.nodes c.args.kept c.add_writers.new.table c.put_reads.new.table c.in_ok-fresh.fresh.items c.put_reads.new.loose c.deref-5.result.now (c.deref-5.ensures.value ∙ c.in_ok-new.ensures) catches c.in_ok-put_reads.ensures in
+    let then : KeptTable = record { table = c.put_reads.new.table; loose = c.put_reads.new.loose } in
     subst (λ (nodes : List (Option TxnId)). IsKeptTable more nodes then) (sym c.in_ok-go_on.ensures.nodes) grown
-
-pub returns-then-not-all_look_back-clause-logged : goal.returns-then-not-all_look_back-clause-logged
-returns-then-not-all_look_back-clause-logged c =
-    let steps = c.in_ok-anew.steps.items in
-    inr (steps, c.new.ensures, new_of c.args.more.now c.in_ok-anew.anew steps c.in_ok-anew.ensures)

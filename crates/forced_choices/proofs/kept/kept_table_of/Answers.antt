@@ -34,7 +34,7 @@ returns c =
         λ h. listed_remains parts id (subst (λ (xs : List TxnId). In xs id) (same ∙ all) h),
         λ h. subst (λ (xs : List TxnId). In xs id) (sym (same ∙ all)) (remaining_listed parts id h),
       );
-      writers = writers_stay parts nodes c.add_writers.new.table c.add_reads.new.table c.new-loose.result.items c.add_reads.new.loose.items c.deref-2.result.now put writers;
+      writers = writers_stay parts nodes c.add_writers.new.table c.add_reads.new.table put.rows put.ids put.writers put.places writers;
       reads = subst (λ (xs : List TxnId). AreReadsOf parts nodes xs c.add_reads.new.table.reads.items c.add_reads.new.loose.items) (c.deref-2.ensures.value ∙ c.in_ok-ids.ensures ∙ sym (same ∙ all)) (put.kept [] none);
       indexed = put.indexed (c.in_ok-add_writers.ensures.indexed (subst (λ (xs : List Placed). AreIndexed xs c.empty_table-table.result.by_key) (sym c.empty_table-table.ensures.reads) c.empty_table-table.ensures.indexed));
     }
