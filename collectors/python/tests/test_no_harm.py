@@ -687,7 +687,7 @@ class Scripts(NoHarm):
             ended = subprocess.run([PROGRAM], stdin=script, **more)
         return [json.loads(line) for line in ended.stdout.splitlines()]
 
-    def test_each_place_is_kept(self):
+    def test_each_line_is_kept(self):
         for of in (Auditor, AuditorApart):
             with self.subTest(of=of.__name__), tempfile.TemporaryDirectory() as folder:
                 path = os.path.join(folder, "script.jsonl")

@@ -215,6 +215,7 @@ class Group:
             place = session.place
             if place is not None:
                 session.is_open, place.is_due = place.is_audited, True
+                place.is_ended = False  # what had ended was the place in the audit before
 
     def numbers(self) -> List[Any]:
         """Of the sessions' places."""
