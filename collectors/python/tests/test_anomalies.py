@@ -38,6 +38,8 @@ ROWS = (
     ("half", "fractured read", [[txn(writes="xy")], [txn(("x", FIRST), ("y", "init"))]]),
     ("aborted", "dirty read", [[txn(outcome="aborted")], [txn(("x", FIRST))]]),
     ("told as empty", "dirty read", [[txn()], [txn(("x", FIRST))]]),
+    ("overwritten", "intermediate read", [[txn(outcome="unfinished")], [txn(("x", FIRST))]]),
+    ("no write's", "impossible read", [[txn(outcome="impossible"), txn(("x", FIRST))]]),
     (
         "never written",
         "read of what was never written",

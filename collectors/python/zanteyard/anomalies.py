@@ -31,6 +31,8 @@ class Anomaly:
 
 MEANINGS: Mapping[str, str] = {
     "dirty read": "a read from an attempt that was aborted, or that never wrote what was read",
+    "intermediate read": "a read of what its writer hadn't finished with",
+    "impossible read": "a read that no order could give its reader, whatever the others did",
     "lost update": "two transactions read one version of a key, and both overwrote it",
     "fractured read": "a transaction saw one part of another's work and not the rest",
     "stale read": "a read of a version that the reader has to come behind",
@@ -105,15 +107,23 @@ def _dirty_reads(table: Table, _: object, name: Names) -> Iterator[Anomaly]:
     for reader, logged in table.items():
         for key, source in logged.reads:
             if source in table and key not in table[source].writes:
-                is_aborted = table[source].outcome == "aborted" or not table[source].writes
-                why = (
-                    "which was aborted, or wrote nothing" if is_aborted else "which didn't write it"
-                )
+                kind, why = _wrong_read(table[source])
                 yield Anomaly(
-                    "dirty read" if is_aborted else "read of what was never written",
+                    kind,
                     f"{name(reader)} read {_told(key)} from {name(source)}, {why}",
                     (source, reader),
                 )
+
+
+def _wrong_read(source: Logged) -> Tuple[str, str]:
+    """The name of a read from what didn't write the key, and why it is none that may be."""
+    if source.outcome == "unfinished":
+        return "intermediate read", "which wrote more of it before it ended"
+    if source.outcome == "impossible":
+        return "impossible read", "which no write has left"
+    if source.outcome == "aborted" or not source.writes:
+        return "dirty read", "which was aborted, or wrote nothing"
+    return "read of what was never written", "which didn't write it"
 
 
 def _lost_updates(table: Table, _: object, name: Names) -> Iterator[Anomaly]:

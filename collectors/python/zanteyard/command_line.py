@@ -9,11 +9,12 @@ import sys
 import traceback
 from typing import Any, Callable, Iterator, List, Mapping, Optional, Sequence
 
-from . import demo, postgres_audit
+from . import demo, importing, postgres_audit
 from .auditor import Auditor
-from .errors import ProgramEndedError, ScriptMistakeError, ZanteyardError
+from .errors import ImportRefusedError, ProgramEndedError, ScriptMistakeError, ZanteyardError
 from .page import page_of
 from .programs import find_program, origin_of, program_path
+from .script_names import ScriptNames, read_names
 from .scripts import MORE, ScriptRun, Verdict
 from .stories import EXPLAINED, Story, story_lines, verdict_story, violation_story
 from .version import VERSION
@@ -35,6 +36,9 @@ def main(words: Optional[Sequence[str]] = None) -> int:
     except ProgramEndedError as error:
         print(f"undecided: {error}", file=sys.stderr)
         return UNDECIDED
+    except ImportRefusedError as error:
+        print(f"refused: {error}", file=sys.stderr)
+        return MISTAKE
     except (ZanteyardError, OSError) as error:
         print(f"mistake: {error}", file=sys.stderr)
         return MISTAKE
@@ -89,6 +93,8 @@ def parser() -> argparse.ArgumentParser:
         "--html", metavar="FILE", help="where the page is written (zanteyard-NAME.html)"
     )
     shown.add_argument("--no-html", action="store_true", help="writes no page")
+    made = command("import", importing.run, "makes a script of a history of another tool's")
+    importing.add_arguments(made)
     audit = command("audit", _audit, "audits clients of a server while they run")
     audit.add_argument("server", choices=("postgres",), help="which kind of server")
     postgres_audit.add_arguments(audit)
@@ -131,9 +137,17 @@ def _lines(path: str) -> Iterator[bytes]:
             yield from file
 
 
+def _names(path: str) -> Optional[ScriptNames]:
+    """The names beside the script, where it has some."""
+    names, why_not = read_names(path) if path != "-" else (None, "")
+    if why_not:
+        print(f"({why_not})")
+    return names
+
+
 def _check(asked: Any) -> int:
     is_told = False
-    with ScriptRun(find_program(), asked.nodes) as run:
+    with ScriptRun(find_program(), asked.nodes, _names(asked.script)) as run:
         for verdict in run.verdicts(_lines(asked.script)):
             print(_where(verdict), end=" ")
             if verdict.kind == "violated" and is_told:
@@ -146,7 +160,7 @@ def _check(asked: Any) -> int:
 
 
 def _explain(asked: Any) -> int:
-    with ScriptRun(find_program(), asked.nodes) as run:
+    with ScriptRun(find_program(), asked.nodes, _names(asked.script)) as run:
         for verdict in run.verdicts(_lines(asked.script)):
             if verdict.kind == "violated":
                 break  # violated is final

@@ -77,3 +77,13 @@ class ScriptMistakeError(ZanteyardError):
         self.advice = advice
         more = f": {advice}" if advice else ""
         super().__init__(f"line {line_number} was answered {refusal}{more}")
+
+
+class ImportRefusedError(ZanteyardError):
+    """Nothing sound can be made of a file of another tool's: nothing is said of the store.
+    `line_number` is that of what it can't be made of, from 1; 0 where it is the file as a whole."""
+
+    def __init__(self, line_number: int, why: str) -> None:
+        self.line_number = line_number
+        self.why = why
+        super().__init__(f"line {line_number}: {why}" if line_number else why)

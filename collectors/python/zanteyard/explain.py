@@ -28,6 +28,12 @@ class Arc(NamedTuple):
 Table = Dict[TransactionId, Logged]
 ArcsFrom = Dict[TransactionId, List[Arc]]
 SESSION = "they are in one session"
+# Why a transaction of such an outcome can't be read from.
+NO_WRITE = {
+    "aborted": "which aborted",
+    "unfinished": "which wrote more of it before it ended",
+    "impossible": "which no write has left",
+}
 
 
 @dataclass(frozen=True)
@@ -53,8 +59,8 @@ def wrong_reads(history: History, name: Names = name) -> Iterator[str]:
     for reader, logged in txns.items():
         for key, source in logged.reads:
             if source in txns and key not in txns[source].writes:
-                why = "aborted" if txns[source].outcome == "aborted" else "didn't write it"
-                yield f"{name(reader)} read {key} from {name(source)}, which {why}"
+                why = NO_WRITE.get(txns[source].outcome, "which didn't write it")
+                yield f"{name(reader)} read {key} from {name(source)}, {why}"
 
 
 def session_arcs(txns: Table) -> Iterator[Arc]:

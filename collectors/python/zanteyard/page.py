@@ -186,6 +186,7 @@ def _table(steps: Sequence[Step]) -> Iterable[str]:
     has_statements = any(deed.statement for step in steps for deed in step.deeds)
     has_returned = any(deed.returned for step in steps for deed in step.deeds)
     has_places = any(step.clock or step.caller for step in steps)
+    is_numbered = any(step.name == "{}.{}".format(*step.id) for step in steps)
     yield "<h2>What each transaction did</h2>"
     yield "<table><thead><tr><th>Transaction</th><th>Did</th>"
     yield "<th>Value</th>" * has_returned + "<th>Statement</th>" * has_statements
@@ -211,8 +212,9 @@ def _table(steps: Sequence[Step]) -> Iterable[str]:
             yield "</tr>"
     yield "</tbody></table>"
     yield (
-        '<p class="soft">Transaction 2.7 is number 7 of session 2, counted from 0. All is left out '
-        "that the history is violated without."
+        '<p class="soft">'
+        + "Transaction 2.7 is number 7 of session 2, counted from 0. " * is_numbered
+        + "All is left out that the history is violated without."
     )
     if any(step.outcome == "forgotten" for step in steps):
         yield " “The cut” stands for all that the auditor had forgotten by then."

@@ -8,11 +8,12 @@ import subprocess
 import time
 from collections import Counter
 from dataclasses import dataclass, field
-from typing import Any, Dict, Iterable, Iterator, List, Mapping, Sequence
+from typing import Any, Callable, Dict, Iterable, Iterator, List, Mapping, Optional, Sequence
 
 from .auditor import FENCE
 from .errors import ProgramEndedError, ScriptMistakeError
 from .records import Logged, Pending, TransactionId
+from .script_names import NamedTransaction, ScriptNames
 from .taking import never_came
 
 # What a spent round is given again with: nodes of the search, depth, workers.
@@ -54,8 +55,10 @@ class Verdict:
 
 @dataclass
 class ScriptHistory:
-    """What a script has offered, and what of it remains. Keys are told as `key 5`."""
+    """What a script has offered, and what of it remains. Keys are told as `key 5`, and transactions
+    as `0.1`, where there are no names for them."""
 
+    names: ScriptNames = field(default_factory=lambda: ScriptNames(""))
     history: List[List[Logged]] = field(default_factory=list)
     marks: List[int] = field(default_factory=list)  # of each session, how many are forgotten
     base: Dict[str, TransactionId] = field(default_factory=dict)  # of a key the last one gone
@@ -66,11 +69,22 @@ class ScriptHistory:
 
     def take_in(self, session: int, transactions: Iterable[Any]) -> None:
         """What an accepted `offer` has said."""
-        self.history[session] += [logged_of(*transaction) for transaction in transactions]
+        for reads, keys in transactions:
+            number = self.marks[session] + len(self.history[session])
+            named = self.names.transaction(session, number)
+            self.history[session].append(logged_of(reads, keys, self.key_name, named))
+
+    def called(self, id: TransactionId) -> str:
+        """How the transaction is told."""
+        return self.names.name(id)
+
+    def key_name(self, number: int) -> str:
+        """How the key is told."""
+        return self.names.key(number) if number else FENCE
 
     def forget(self, gone: Sequence[Sequence[int]], last: Sequence[Sequence[int]]) -> None:
         """What a `cut` has told."""
-        self.base.update((key_name(key), (session, number)) for key, session, number in last)
+        self.base.update((self.key_name(key), (session, number)) for key, session, number in last)
         for session, count in Counter(session for session, _ in gone).items():
             del self.history[session][:count]
             self.marks[session] += count
@@ -85,26 +99,38 @@ class ScriptHistory:
         return sum(map(len, self.history))
 
 
-def key_name(number: int) -> str:
-    """How a key of a script is told."""
-    return f"key {number}" if number else FENCE
+def logged_of(
+    reads: Iterable[Any],
+    keys: Iterable[int],
+    key_name: Callable[[int], str],
+    named: Optional[NamedTransaction] = None,
+) -> Logged:
+    """A transaction of a script. One that did nothing may be an attempt that was aborted, which its
+    names tell where it has some."""
 
+    def deed_of(key: int, *source: Any) -> Any:
+        if not source:
+            return (key_name(key),)
+        return (key_name(key), "init" if source[0] == "init" else tuple(source))
 
-def logged_of(reads: Iterable[Any], keys: Iterable[int]) -> Logged:
-    """A transaction of a script. One that did nothing may be an attempt that was aborted."""
-    sources = [
-        (key_name(key), "init" if rest[0] == "init" else tuple(rest)) for key, *rest in reads
-    ]
-    return Logged(sources, tuple(map(key_name, keys)))
+    sources = [deed_of(*read) for read in reads]
+    written_keys = tuple(map(key_name, keys))
+    if named is None:
+        return Logged(sources, written_keys)
+    texts = [(deed_of(*deed), text) for deed, text in named.texts]
+    return Logged(sources, written_keys, named.outcome, texts, caller=named.where)
 
 
 class ScriptRun:
     """The auditor, which is given a script line by line. Not for several threads."""
 
-    def __init__(self, program: str, most_nodes: int = MORE[1][0]) -> None:
-        """`most_nodes` is the greatest budget that a spent round is given again with."""
+    def __init__(
+        self, program: str, most_nodes: int = MORE[1][0], names: Optional[ScriptNames] = None
+    ) -> None:
+        """`most_nodes` is the greatest budget that a spent round is given again with; `names` are
+        those of the script's transactions and keys, where there are some."""
         self.most_nodes = most_nodes
-        self.history = ScriptHistory()
+        self.history = ScriptHistory(names or ScriptNames(""))
         self.verdict: Verdict | None = None  # the last one
         self.no_cut_lines: List[int] = []  # where `truncate` found nothing to forget
         self._is_open = False

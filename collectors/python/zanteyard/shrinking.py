@@ -49,6 +49,7 @@ def from_start(auditor: Any) -> Tuple[History, Names]:
     transactions. Where something is forgotten, a first transaction stands for it: it writes the
     last version of each key, and every session begins with one that reads from it."""
     marks, base, history = auditor.marks, auditor.base, auditor.history
+    called: Names = getattr(auditor, "called", name)  # a script may have names of its own
     gone, some_gone = (0, 0), any(marks)
 
     def moved(key: str, source: Source) -> Source:
@@ -74,13 +75,13 @@ def from_start(auditor: Any) -> Tuple[History, Names]:
 
     history = [[without_cut(one) for one in txns] for txns in history]
     if not some_gone:
-        return history, name
+        return history, called
     first = Logged((), (START, *sorted(map(plain, base))), "forgotten")
     after = Logged(((START, gone),), (), "forgotten")
 
     def renamed(id: TransactionId) -> str:
         if id[1]:
-            return f"{id[0]}.{id[1] - 1 + marks[id[0]]}"
+            return called((id[0], id[1] - 1 + marks[id[0]]))
         return "the cut" if id == gone else f"the cut in {id[0]}"
 
     older = {plain(key): "in a version older than that at the cut" for key in base}

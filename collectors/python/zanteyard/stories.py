@@ -96,9 +96,9 @@ def verdict_story(verdict: Verdict, history: ScriptHistory) -> Story:
     """Of a verdict that isn't violated."""
     order: Tuple[str, ...] = ()
     if verdict.kind in ("serial", "pending"):
-        order = tuple(f"{session}.{number}" for session, number in verdict.certificate)
+        order = tuple(history.called((session, number)) for session, number in verdict.certificate)
     waiting = tuple(
-        f"{one.reader[0]}.{one.reader[1]} read {one.key} from {one.source[0]}.{one.source[1]}, "
+        f"{history.called(one.reader)} read {one.key} from {history.called(one.source)}, "
         "which hasn't come"
         for one in history.pending()
     )
@@ -197,7 +197,8 @@ def story_lines(story: Story) -> Iterator[str]:
     for line in story.because:
         yield f"    {line}"
     if story.order:
-        yield f"  one such order: {_front(story.order, ' ')}"
+        between = ", " if any(" " in name for name in story.order) else " "
+        yield f"  one such order: {_front(story.order, between)}"
     for line in story.waiting[:SHOWN]:
         yield f"    {line}"
     if len(story.waiting) > SHOWN:
