@@ -8,6 +8,7 @@ import tempfile
 import unittest
 from collections import Counter
 
+from zanteyard import import_script
 from zanteyard.auditor import PROGRAM
 from zanteyard.command_line import main
 from zanteyard.edn import EdnReader, Keyword
@@ -16,7 +17,7 @@ from zanteyard.importing import FORMS, import_text
 from zanteyard.import_script import script_of
 from zanteyard.recorded import ABORTED, COMMITTED, UNKNOWN
 
-from . import recordings
+from . import plain_readers, recordings
 from .recordings import attempts_of, judged, judged_script, seeded
 
 TOP = os.path.normpath(os.path.join(os.path.dirname(os.path.abspath(__file__)), "../../.."))
@@ -32,6 +33,15 @@ WRITERS = {
 }
 SAID = {"dbcop": (COMMITTED, ABORTED), "polysi": (COMMITTED,)}  # else all outcomes
 VERDICTS = ("serial", "violated", "pending")
+PLAIN = {
+    "jepsen-registers as EDN": plain_readers.read_edn,
+    "jepsen-registers as JSON": plain_readers.read_json,
+    "jepsen-lists as EDN": plain_readers.read_edn,
+    "jepsen-lists as JSON": plain_readers.read_json,
+    "dbcop": plain_readers.read_dbcop,
+    "polysi": plain_readers.read_polysi,
+    "csv": plain_readers.read_csv,
+}
 
 
 def wanted(form, seed):
@@ -90,6 +100,158 @@ class Generated(unittest.TestCase):
                     self.assertEqual(deeds_of(found), deeds_of(attempts_of(
                         attempts, form == "jepsen-lists"
                     )))
+
+
+def mutated(text, random_):
+    """With a small change or two."""
+    for _ in range(random_.randint(1, 2)):
+        if not text.strip():
+            break
+        at = random_.randrange(len(text))
+        lines = text.splitlines(keepends=True)
+        one, other = random_.randrange(len(lines)), random_.randrange(len(lines))
+        words = [*re.finditer(r"\w+|\S", text)]
+        first, second = random_.choice(words), random_.choice(words)
+        text = random_.choice((
+            lambda: text[:at] + text[at + 1 :],
+            lambda: text[:at] + random_.choice('01239"[]{}(),:; nrwx\n') + text[at:],
+            lambda: text[:at] + random_.choice("0123") + text[at + 1 :],
+            lambda: text[:at],
+            lambda: "".join(lines[:one] + lines[one + 1 :]),
+            lambda: "".join(lines[: one + 1] + lines[one:]),
+            lambda: "".join([*lines[:one], lines[other], *lines[one + 1 :]]),
+            lambda: text[: first.start()] + second[0] + text[first.end() :],
+            lambda: re.sub(r"\b\d+\b", str(random_.randrange(6)), text, count=1),
+            lambda: text.replace("ok", random_.choice(("fail", "info")), 1),
+        ))()
+    return text
+
+
+class Mutated(unittest.TestCase):
+    def test_a_thousand_files_are_refused_with_a_line_or_right(self):
+        told, random_ = Counter(), seeded(1)
+        texts = {
+            told: [written(*wanted(form, seed)) for seed in range(40)]
+            for told, (form, written) in WRITERS.items()
+        }
+        for form, name, _ in Samples().shown():
+            kind = {"edn": " as EDN", "json": " as JSON"}.get(name.split(".")[1], "")
+            texts[form + kind if form + kind in texts else form].append(sample(name))
+        for count in range(1000):
+            kind = random_.choice([*WRITERS])
+            text = mutated(random_.choice(texts[kind]), random_)
+            with self.subTest(count=count, kind=kind, text=text):
+                told[self.outcome_of(kind, text)] += 1
+        for outcome in ("refused", *VERDICTS):
+            self.assertGreaterEqual(told[outcome], 15, told)
+
+    def outcome_of(self, kind, text):
+        form = WRITERS[kind][0]
+        try:
+            found = FORMS[form].read(text)
+            verdict = judged_script(script_of(found).lines)
+        except ImportRefusedError as error:
+            if not re.search("nothing was committed", error.why):
+                self.assertIn(error.line_number, range(1, text.count("\n") + 2), error)
+            return "refused"
+        self.assertIn(verdict, judged(found.attempts))
+        is_of_lists = form == "jepsen-lists"
+        plain = attempts_of(PLAIN[kind](text), is_of_lists)
+        self.assertEqual(deeds_of(found.attempts), deeds_of(plain))
+        return verdict
+
+
+class Refusals(unittest.TestCase):
+    def test_each_has_its_line(self):
+        ok = "{:process 0 :type :%s :f :txn :value [%s]}\n"
+
+        def edn(*micros):
+            """Operations of processes 0, 1 and so on, one behind another."""
+            return "".join(
+                (ok % ("invoke", it) + ok % ("ok", it)).replace(":process 0", f":process {at}")
+                for at, it in enumerate(micros)
+            )
+
+        w1, r1 = "[:w :x 1]", "[:r :x 1]"
+        csv = "session,number,operation,key,value\n"
+        event = '{"write": true, "variable": 0, "value": %s, "success": %s}'
+        dbcop = '[\n[{"events": [%s], "success": true}]]'
+        rows = (
+            ("jepsen-registers", edn(w1, w1, r1), 6, "lines 2, 4"),
+            ("jepsen-registers", (ok % ("invoke", w1) + ok % ("fail", w1)) + edn(w1, r1), 6, "once"),
+            ("jepsen-registers", edn("[:w :x nil]"), 1, "what is written"),
+            ("jepsen-registers", edn("[:w 1.5 1]"), 1, "a key"),
+            ("jepsen-registers", edn("[:append :x 1]"), 1, "r and w"),
+            ("jepsen-registers", edn("[:r :x [1]]"), 1, "a value"),
+            ("jepsen-registers", edn("[:r :x]"), 1, "micro-operation"),
+            ("jepsen-registers", edn(w1).replace("txn", "read"), 1, "function"),
+            ("jepsen-registers", edn(w1).replace(":process 0", ":process :a"), 1, "process"),
+            ("jepsen-registers", edn(w1).replace(":ok", ":oops"), 2, "type"),
+            ("jepsen-registers", ok % ("ok", w1), 1, "hasn't invoked"),
+            ("jepsen-registers", (ok % ("invoke", w1)) * 2, 2, "in flight"),
+            ("jepsen-registers", ok % ("invoke", w1) + ok % ("ok", r1), 2, "another operation"),
+            ("jepsen-registers", ok % ("invoke", w1) + ok % ("ok", ""), 2, "another operation"),
+            ("jepsen-registers", edn(w1) + "17", 3, "a map"),
+            ("jepsen-registers", edn(w1) + "{", 3, "no end"),
+            ("jepsen-registers", "", 1, "no operation"),
+            (
+                "jepsen-registers",
+                ok % ("invoke", w1) + ok % ("info", w1) + ok % ("invoke", r1) + ok % ("ok", r1),
+                4,
+                "goes on behind its attempt of line 1",
+            ),
+            ("jepsen-lists", edn("[:append 1 1]", "[:append 1 1]", "[:r 1 [1]]"), 6, "once"),
+            ("jepsen-lists", edn("[:append 1 1] [:append 1 1]", "[:r 1 [1]]"), 4, "once"),
+            ("jepsen-lists", edn("[:r 1 1]"), 1, "a list"),
+            ("jepsen-lists", edn("[:r 1 [nil]]"), 1, "an element"),
+            ("jepsen-lists", edn("[:w 1 1]"), 1, "r and append"),
+            ("jepsen-registers", '{"process": 0, "process": 0}', 1, "twice"),
+            ("jepsen-registers", '[{"process": 0.5}]', 1, "process"),
+            ("jepsen-registers", '{"process": true}', 1, "process"),
+            ("jepsen-registers", '[\n{"process": NaN}]', 2, "no JSON"),
+            ("csv", "a,b\n", 1, "first line"),
+            ("csv", csv + "a,0,read,x\n", 2, "fields"),
+            ("csv", csv + "a,0,look,x,1\n", 2, "one of read, write"),
+            ("csv", csv + "a,-1,read,x,1\n", 2, "whole numbers"),
+            ("csv", csv + "a,1,read,x,\na,0,read,x,\n", 3, "ascend"),
+            ("csv", csv + "a,0,commit,,\na,0,read,x,\n", 3, "ended"),
+            ("csv", csv + "a,0,commit,x,\n", 2, "neither"),
+            ("csv", csv + "a,0,write,x,\n", 2, "no value"),
+            ("csv", csv + 'a,0,write,x,"1\n', 2, "no CSV"),
+            ("csv", csv, 1, "no transaction"),
+            ("polysi", "w(1,1,0,0)\nw(1,1,0)\n", 2, "a line is"),
+            ("polysi", "w(1,1,0,0)\nw(1,2,1,0)\n", 2, "in session 0"),
+            ("polysi", "w(1,1,0,0)\nw(1,2,0,1)\nw(2,2,0,0)\n", 3, "ended"),
+            ("polysi", "w(1,0,0,0)\n", 1, "at first"),
+            ("dbcop", dbcop % (event % (1, "false")), 2, "its events did not"),
+            ("dbcop", dbcop % (event % ("0", "true")), 2, "at first"),
+            ("dbcop", dbcop % (event % ("null", "true")), 2, "no value"),
+            ("dbcop", dbcop % '{"write": true}', 2, "an event has"),
+            ("dbcop", '{"data": 1}', 1, "list of sessions"),
+            ("dbcop", '{"data": []} 1', 1, "behind"),
+        )
+        for form, text, line, why in rows:
+            with self.subTest(form=form, text=text):
+                with self.assertRaisesRegex(ImportRefusedError, why) as raised:
+                    import_text(form, text)
+                self.assertEqual(raised.exception.line_number, line, raised.exception)
+
+    def test_it_is_told_and_nothing_is_written(self):
+        with tempfile.TemporaryDirectory() as folder:
+            path, script = os.path.join(folder, "a.csv"), os.path.join(folder, "a.jsonl")
+            with open(path, "wb") as file:
+                file.write(b"session,number,operation,key,value\na,0,read,\xff,\n")
+            status, out, err = run("import", "csv", path, "-o", script)
+            self.assertEqual((status, out, err), (2, "", "refused: line 2: a.csv is no UTF-8\n"))
+            self.assertEqual(os.listdir(folder), ["a.csv"])
+
+    def test_the_initial_value(self):
+        text = "session,number,operation,key,value\na,0,read,x,7\n"
+        self.assertEqual(verdict_of("csv", text), "pending")
+        self.assertEqual(verdict_of("csv", text, initial="7"), "serial")
+        self.assertEqual(verdict_of("polysi", "r(1,-1,0,0)\n", initial="-1"), "serial")
+        with self.assertRaises(ImportRefusedError):
+            import_text("jepsen-lists", sample("lists.edn"), initial="7")
 
 
 def deeds_of(attempts):
@@ -178,6 +340,75 @@ class Edn(unittest.TestCase):
             with self.subTest(text=text), self.assertRaises(ImportRefusedError) as raised:
                 [*EdnReader(text).forms()]
             self.assertEqual(raised.exception.line_number, line)
+
+
+class Limits(unittest.TestCase):
+    def test_a_part_is_violated_only_where_the_whole_is(self):
+        verdicts = Counter()
+        for told, (form, written) in WRITERS.items():
+            for seed in range(100):
+                attempts, random_ = wanted(form, seed)
+                text = written(attempts, random_)
+                right = judged(attempts_of(attempts, form == "jepsen-lists"))
+                first = random_.randint(1, 3)
+                with self.subTest(form=told, seed=seed, first=first, text=text):
+                    try:
+                        verdict = verdict_of(form, text, first=first)
+                    except ImportRefusedError:
+                        continue
+                    verdicts[verdict] += 1
+                    if verdict != "pending":
+                        self.assertTrue(verdict in right and "violated" in right | {verdict}
+                                        or first >= len(attempts))
+                        self.assertIn(verdict, right)
+        self.assertGreaterEqual(verdicts["violated"], 10)
+
+    def test_few_sessions_are_shared_by_who_comes_behind(self):
+        """Where there are too many clients; the verdict stays."""
+        self.addCleanup(setattr, import_script, "SESSIONS", import_script.SESSIONS)
+        import_script.SESSIONS = 2
+        shared = Counter()
+        for told, (form, written) in WRITERS.items():
+            for seed in range(200):
+                attempts, random_ = wanted(form, seed)
+                text = written(attempts, random_)
+                try:
+                    imported = import_text(form, text)
+                except ImportRefusedError as error:
+                    shared["at most 2" in str(error)] += 1
+                    continue
+                with self.subTest(form=told, seed=seed, text=text):
+                    right = judged(attempts_of(attempts, form == "jepsen-lists"))
+                    self.assertIn(judged_script(imported.lines), right)
+                    shared["shared"] += "in the session of another" in " ".join(imported.about)
+        self.assertGreaterEqual(shared["shared"], 20)
+        self.assertGreaterEqual(shared[True], 20)
+
+    def test_seventy_clients(self):
+        head = "session,number,operation,key,value\n"
+        chain = "".join(
+            f"s{at},0,read,x,{at or ''}\ns{at},0,write,x,{at + 1}\n" for at in range(70)
+        )
+        imported = import_text("csv", head + chain)
+        self.assertIn("6 clients in the session of another one", " ".join(imported.about))
+        self.assertEqual(json.loads(imported.lines[0])[1], 64)
+        apart = "".join(f"s{at},0,write,x,{at + 1}\n" for at in range(70))
+        with self.assertRaisesRegex(ImportRefusedError, "70 clients .* at most 64"):
+            import_text("csv", head + apart)
+        self.assertEqual(json.loads(import_text("csv", head + apart, 60).lines[0])[1], 60)
+
+    def test_many_transactions(self):
+        head = "session,number,operation,key,value\n"
+        many = "".join(f"a,{at},write,x,{at + 1}\n" for at in range(4097))
+        with self.assertRaisesRegex(ImportRefusedError, "4,097 transactions"):
+            import_text("csv", head + many)
+        with self.assertRaisesRegex(ImportRefusedError, "4,097 transactions"):
+            import_text("csv", head + many, 4096)  # and one that waits for the rest
+        lines = import_text("csv", head + many, 4095).lines
+        self.assertEqual(json.loads(lines[0]), ["open", 1, 4096])
+        wide = "".join(f"a,0,write,x{at},1\n" for at in range(257))
+        with self.assertRaisesRegex(ImportRefusedError, "line 2: .* at most 256"):
+            import_text("csv", head + wide)
 
 
 if __name__ == "__main__":

@@ -130,7 +130,7 @@ class _Pairs:
             _, invoked, _ = self._open[process]
             self._complete(Operation(invoked.line, "info", process, None, invoked.micros), NEVER)
         if not self._attempts:
-            raise ImportRefusedError(last_line, "the file has no operation of a client")
+            raise ImportRefusedError(max(1, last_line), "the file has no operation of a client")
         return Recording(form, tuple(self._named()), True, self._unused)
 
     def _named(self) -> Iterator[Attempt]:

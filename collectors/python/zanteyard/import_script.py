@@ -112,7 +112,8 @@ class _ScriptMaker:
         after = self._known_after()
         plan = _Plan()
         for items in clients:
-            self._place(items, plan, after)
+            is_needed = plan.shared < len(clients) - SESSIONS
+            self._place(items, plan, after if is_needed else {})
         if len(plan.sessions) > SESSIONS:
             raise ImportRefusedError(
                 0,

@@ -68,7 +68,7 @@ class _Transactions:
     def recording(self, form: str, last_line: int) -> Recording:
         """Reads of what didn't commit for certain are left out, and counted."""
         if not self._all:
-            raise ImportRefusedError(last_line, "the file has no transaction")
+            raise ImportRefusedError(max(1, last_line), "the file has no transaction")
         unused = 0
         attempts: List[Attempt] = []
         for one in self._all:
