@@ -79,7 +79,12 @@ def read_edn(text):
 def read_json(text):
     if text.lstrip().startswith("["):
         return jepsen_of(json.loads(text), "")
-    return jepsen_of([*map(json.loads, filter(str.strip, text.split("\n")))], "")
+    found, text = [], text.strip()
+    while text:
+        one, end = json.JSONDecoder().raw_decode(text)
+        found.append(one)
+        text = text[end:].strip()
+    return jepsen_of(found, "")
 
 
 def read_dbcop(text):

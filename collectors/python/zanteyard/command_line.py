@@ -12,6 +12,7 @@ from typing import Any, Callable, Iterator, List, Mapping, Optional, Sequence
 from . import demo, importing, postgres_audit
 from .auditor import Auditor
 from .errors import ImportRefusedError, ProgramEndedError, ScriptMistakeError, ZanteyardError
+from .import_times import time_line
 from .page import page_of
 from .programs import find_program, origin_of, program_path
 from .script_names import ScriptNames, read_names
@@ -153,7 +154,7 @@ def _check(asked: Any) -> int:
             if verdict.kind == "violated" and is_told:
                 print("violated, still")
                 continue
-            _tell(_story(verdict, run, asked.seconds))
+            _tell(_story(verdict, run, asked.seconds), run.history.names)
             is_told = verdict.kind == "violated"
         _tell_no_cuts(run)
     return _status(run)
@@ -167,7 +168,7 @@ def _explain(asked: Any) -> int:
         assert run.verdict is not None
         story = _story(run.verdict, run, asked.seconds)
         print(_where(run.verdict), end=" ")
-        _tell(story)
+        _tell(story, run.history.names)
     if asked.html:
         about = os.path.basename(asked.script) if asked.script != "-" else "a script"
         _write_page(story, about, asked.html)
@@ -217,9 +218,11 @@ def _where(verdict: Verdict) -> str:
     return f"{line}{again if verdict.rounds > 1 else ''}:"
 
 
-def _tell(story: Story) -> None:
+def _tell(story: Story, names: Optional[ScriptNames] = None) -> None:
     for line in story_lines(story):
         print(line)
+    if names is not None and names.asks_time:
+        print(time_line(story, names))
 
 
 def _tell_no_cuts(run: ScriptRun) -> None:

@@ -24,6 +24,7 @@ class Operation:
     type: str
     process: str
     index: Optional[int]
+    time: Optional[int]
     micros: Tuple[Micro, ...]
 
 
@@ -72,13 +73,17 @@ def _operations(text: str, is_of_lists: bool) -> Iterator[Operation]:
         if _word(one.get("f")) != "txn":
             raise ImportRefusedError(line, "a client's operation has another function than txn, "
                                      "and what it did isn't known")
-        index = one.get("index")
-        if index is not None and (not isinstance(index, int) or isinstance(index, bool)):
-            raise ImportRefusedError(line, "an index is a whole number")
+        index, time = (_whole(one.get(name), name, line) for name in ("index", "time"))
         value = one.get("value")
         has_none = value is None and type in ("fail", "info")
         micros = () if has_none else tuple(_micros(value, line, is_of_lists))
-        yield Operation(line, type, str(process), index, micros)
+        yield Operation(line, type, str(process), index, time, micros)
+
+
+def _whole(value: Any, name: str, line: int) -> Optional[int]:
+    if value is None or (isinstance(value, int) and not isinstance(value, bool)):
+        return value
+    raise ImportRefusedError(line, f"the {name} is a whole number")
 
 
 def _micros(value: Any, line: int, is_of_lists: bool) -> Iterator[Micro]:
@@ -119,19 +124,24 @@ class _Pairs:
         self._unused = 0
 
     def recording(self, operations: Iterator[Operation], form: str) -> Recording:
-        last_line, place = 0, 0
+        last_line, goes_back = 0, 0
+        latest: Optional[int] = None
         for place, one in enumerate(operations, 1):
             last_line = max(last_line, one.line)
+            if one.time is not None:
+                if latest is not None and one.time < latest:
+                    goes_back = goes_back or one.line
+                latest = one.time
             if one.type == "invoke":
                 self._invoke(one, place)
             else:
                 self._complete(one, place)
         for process in [*self._open]:
             _, invoked, _ = self._open[process]
-            self._complete(Operation(invoked.line, "info", process, None, invoked.micros), NEVER)
+            self._complete(replace(invoked, type="info"), NEVER)
         if not self._attempts:
             raise ImportRefusedError(max(1, last_line), "the file has no operation of a client")
-        return Recording(form, tuple(self._named()), True, self._unused)
+        return Recording(form, tuple(self._named()), True, self._unused, goes_back)
 
     def _named(self) -> Iterator[Attempt]:
         """By their lines; by their indexes or places where several stand on one line."""

@@ -8,6 +8,7 @@ from dataclasses import dataclass, field
 from typing import Any, Dict, Iterator, List, Optional, Sequence, Set, Tuple, Union
 
 from .errors import ImportRefusedError
+from .import_times import EVERY, Times, check_times, part_of
 from .recorded import ABORTED, COMMITTED, UNKNOWN, Attempt, Recording, counted
 from .records import TransactionId
 from .script_names import NamedTransaction, ScriptNames
@@ -18,8 +19,23 @@ LIMIT = 4096  # transactions that remain at a time
 LONGEST = 256  # transactions of a line, and reads or writes of a transaction
 NEVER_OFFERED = 1_000_000_000  # numbers from here on are those of transactions that don't come
 ROUND = ["round", 4096, 0, 1]
-Item = Union[int, Stub]  # an attempt's place, or what wrote nothing
 REST = "the rest of the file"  # a key that stands for what wasn't imported
+
+
+@dataclass(frozen=True)
+class Fence:
+    """One that a session makes at a pause: as its first there, or its second."""
+
+    pause: int  # from 1
+    session: int
+    is_first: bool
+
+    def name(self) -> str:
+        """How it is told."""
+        return f"{'before' if self.is_first else 'after'} pause {self.pause} in {self.session}"
+
+
+Item = Union[int, Stub, Fence]  # an attempt's place, or what wrote nothing, or a fence
 
 
 @dataclass(frozen=True)
@@ -37,6 +53,8 @@ class _Plan:
 
     sessions: List[List[Item]] = field(default_factory=list)
     shared: int = 0  # clients that go on in the session of another one
+    by_time: Set[int] = field(default_factory=set)  # sessions in which one does by the file's time
+    fences: List[List[Fence]] = field(default_factory=list)  # of each pause, in their order
 
     def places(self) -> Dict[Item, TransactionId]:
         """Of each item its session and number."""
@@ -47,19 +65,29 @@ class _Plan:
         }
 
 
-def script_of(recording: Recording, first: Optional[int] = None) -> Imported:
-    """The script of the whole recording, or of so many attempts from its begin on. Raises
-    ImportRefusedError where there is none that is sound, or that the auditor can take."""
-    return _ScriptMaker(recording, first).imported()
+def script_of(
+    recording: Recording, first: Optional[int] = None, asks_time: bool = False, every: int = EVERY
+) -> Imported:
+    """The script of the whole recording, or of so many attempts from its begin on. With `asks_time`
+    the order of time is asked for, at pauses between which at least so many transactions lie.
+    Raises ImportRefusedError where there is none that is sound, or that the auditor can take."""
+    if asks_time:
+        check_times(recording)
+    return _ScriptMaker(recording, first, asks_time, every).imported()
 
 
 class _ScriptMaker:
-    def __init__(self, recording: Recording, first: Optional[int]) -> None:
+    def __init__(
+        self, recording: Recording, first: Optional[int], asks_time: bool, every: int
+    ) -> None:
         self._recording = recording
         self._attempts = recording.attempts
         self._of = Sources(recording).of
         self._is_part = first is not None and first < len(self._attempts)
         self._kept = self._front(first) if first is not None else set(range(len(self._attempts)))
+        offered = {at: its for at, its in self._of.items() if at in self._kept}
+        self._times = Times(self._attempts, offered) if asks_time else None
+        self._pauses = self._times.pauses(every) if self._times else []
         self._keys: Dict[str, int] = {}
         self._absent: Dict[object, TransactionId] = {}
         self._absent_names: Dict[TransactionId, str] = {}
@@ -77,29 +105,97 @@ class _ScriptMaker:
     def imported(self) -> Imported:
         """All of it."""
         self._plan = self._planned()
+        self._put_fences()
         self._places = self._plan.places()
         offered = [
             [self._offered(item) for item in items] for items in self._plan.sessions
         ]
         if self._is_part:
             offered[0].append(self._rest())
-        count = sum(map(len, offered))
-        if count > LIMIT:
-            raise ImportRefusedError(0, too_many(count))
-        lines: List[List[Any]] = [["open", len(offered), max(1, count)]]
-        for session, transactions in enumerate(offered):
-            for start in range(0, len(transactions), LONGEST):
-                part = transactions[start : start + LONGEST]
-                lines.append(["offer", session, start, [it for it, _ in part]])
-        lines.append(ROUND)
+        lines = self._lines([[it for it, _ in transactions] for transactions in offered])
         names = ScriptNames(
             self._recording.form,
             {number: key for key, number in self._keys.items()},
             [[named for _, named in transactions] for transactions in offered],
             self._absent_names,
+            self._times is not None,
+            tuple(sorted(self._plan.by_time)),
         )
         texts = tuple(json.dumps(line, separators=(",", ":")) for line in lines)
         return Imported(texts, names, tuple(self._about()))
+
+    def _lines(self, offered: List[List[Any]]) -> Iterator[List[Any]]:
+        """The script. Where all doesn't fit there is a round at each pause, behind which what is
+        settled is forgotten; else one at the end."""
+        count = sum(map(len, offered))
+        if count > LIMIT and not self._pauses:
+            raise ImportRefusedError(0, too_many(count))
+        yield ["open", len(offered), min(LIMIT, count)]
+        given = [0] * len(offered)
+        for pause, fences in enumerate(self._plan.fences):
+            ends = {fence.session: self._places[fence][1] + 1 for fence in fences}
+            if count > LIMIT:
+                self._check_room(sum(ends[it] - given[it] for it in ends), pause)
+            for session, end in ends.items():
+                yield from _offers(session, given[session], offered[session][:end])
+                given[session] = end
+            for session in {fence.session for fence in fences if fence.is_first}:
+                if given[session] == len(offered[session]):
+                    yield ["close", session]
+            if count > LIMIT:
+                yield ROUND
+                yield ["truncate"]
+        if count > LIMIT:
+            self._check_room(count - sum(given), len(self._pauses))
+        for session, transactions in enumerate(offered):
+            yield from _offers(session, given[session], transactions)
+        yield ROUND
+
+    def _check_room(self, count: int, pause: int) -> None:
+        """For so many transactions in front of that pause, counted from 0."""
+        if count > LIMIT - SESSIONS:  # what remains of the pause before are second fences
+            line = self._line_at(self._pauses[pause - 1]) if pause else 1
+            raise ImportRefusedError(
+                line,
+                f"from here on {count:,} transactions come without a moment at which nothing is in "
+                f"flight, and at most {LIMIT:,} remain at a time",
+            )
+
+    def _line_at(self, place: int) -> int:
+        return next(it.line for it in self._attempts if it.began == place)
+
+    def _put_fences(self) -> None:
+        """At each pause every session that has done something makes a fence, one behind another,
+        and then every one that will do something makes a second one."""
+        if not self._pauses:
+            return
+        parts = [self._parts_of(items) for items in self._plan.sessions]
+        self._plan.sessions = [its[0] for its in parts]
+        for pause in range(1, len(self._pauses) + 1):
+            first = [
+                Fence(pause, session, True)
+                for session, its in enumerate(parts)
+                if any(its[:pause]) and (any(its[pause:]) or its[pause - 1])
+            ]
+            second = [
+                Fence(pause, session, False)
+                for session, its in enumerate(parts)
+                if any(its[pause:])
+            ]
+            self._plan.fences.append([*first, *second])
+            for fence in self._plan.fences[-1]:
+                self._plan.sessions[fence.session].append(fence)
+            for session, its in enumerate(parts):
+                self._plan.sessions[session] += its[pause]
+
+    def _parts_of(self, items: List[Item]) -> List[List[Item]]:
+        """A session's items between the pauses."""
+        found: List[List[Item]] = [[] for _ in range(len(self._pauses) + 1)]
+        for item in items:
+            at = item.owner if isinstance(item, Stub) else item
+            assert isinstance(at, int)
+            found[part_of(self._attempts[at].began, self._pauses)].append(item)
+        return found
 
     def _planned(self) -> _Plan:
         """Each client in a session of its own; where they are too many, one that certainly comes
@@ -109,11 +205,11 @@ class _ScriptMaker:
             raise ImportRefusedError(0, "nothing was committed, so that nothing can be judged")
         if len(clients) <= SESSIONS:
             return _Plan(clients)
-        after = self._known_after()
+        before = self._known_before()
         plan = _Plan()
         for items in clients:
             is_needed = plan.shared < len(clients) - SESSIONS
-            self._place(items, plan, after if is_needed else {})
+            self._place(items, plan, _all_before(before, items[0]) if is_needed else set())
         if len(plan.sessions) > SESSIONS:
             raise ImportRefusedError(
                 0,
@@ -124,14 +220,27 @@ class _ScriptMaker:
             )
         return plan
 
-    @staticmethod
-    def _place(items: List[Item], plan: _Plan, after: Dict[Item, List[Item]]) -> None:
-        for session in plan.sessions:
-            if _reaches(after, session[-1], items[0]):
+    def _place(self, items: List[Item], plan: _Plan, before: Set[Item]) -> None:
+        """In the session of one that comes before; `before` is all that does in every order."""
+        for number, session in enumerate(plan.sessions):
+            is_known = session[-1] in before
+            if is_known or (before and self._is_before_in_time(session, items)):
                 session += items
                 plan.shared += 1
+                if self._times is not None:
+                    plan.by_time.add(number)
                 return
         plan.sessions.append(items[:])
+
+    def _is_before_in_time(self, session: List[Item], items: List[Item]) -> bool:
+        """Whether a pause that is used lies between."""
+        if self._times is None:
+            return False
+        last = [self._times.ended[it] for it in session if isinstance(it, int)]
+        first = [self._times.began[it] for it in items if isinstance(it, int)]
+        if not last or not first:  # what wrote nothing may stand anywhere
+            return True
+        return part_of(max(last), self._pauses) < part_of(min(first), self._pauses)
 
     def _items_of_clients(self) -> Dict[str, List[Item]]:
         """Of each client what is offered, in order. Raises ImportRefusedError where a client goes
@@ -170,24 +279,26 @@ class _ScriptMaker:
                             its.append(origin)
         return found
 
-    def _known_after(self) -> Dict[Item, List[Item]]:
-        """What comes behind each transaction in every order: the next one of its client, and who
-        has read from it."""
+    def _known_before(self) -> Dict[Item, List[Item]]:
+        """What comes before each transaction in every order: the one before of its client, and
+        those from which it has read."""
         found: Dict[Item, List[Item]] = {}
         for items in self._items_of_clients().values():
             for one, following in zip(items, items[1:]):
-                found.setdefault(one, []).append(following)
+                found.setdefault(following, []).append(one)
         for at in self._of:
             if at in self._kept:
                 for _, origin in self._of[at].reads:
                     if isinstance(origin, int):
-                        found.setdefault(origin, []).append(at)
+                        found.setdefault(at, []).append(origin)
         return found
 
     def _offered(self, item: Item) -> Tuple[List[Any], NamedTransaction]:
         """A transaction as a line has it, and as it is told."""
         if isinstance(item, Stub):
             return [[], []], _named_stub(item, self._attempts)
+        if isinstance(item, Fence):
+            return self._fence(item), NamedTransaction(item.name(), COMMITTED)
         attempt, its = self._attempts[item], self._of[item]
         if len(its.reads) > LONGEST or len(its.writes) > LONGEST:
             raise ImportRefusedError(
@@ -204,6 +315,13 @@ class _ScriptMaker:
         return offered, NamedTransaction(
             attempt.name, attempt.outcome, tuple(texts), attempt.where
         )
+
+    def _fence(self, fence: Fence) -> List[Any]:
+        """It reads from the one before it, whoever made that."""
+        row = [it for fences in self._plan.fences for it in fences]
+        at = row.index(fence)
+        source = self._places[row[at - 1]] if at else ("init",)
+        return [[[0, *source]], [0]]
 
     def _key(self, key: str) -> int:
         return self._keys.setdefault(key, len(self._keys) + 1)
@@ -249,8 +367,9 @@ class _ScriptMaker:
             its = [at for at in self._kept if self._attempts[at].outcome == outcome]
             taken = {at for at in its if at in self._of or Stub(at, ABORTED) in self._places}
             if its:
+                left = len(its) - len(taken)
                 yield (
-                    f"{counted(len(its), 'attempt')} {told}: {len(its) - len(taken)} left out, from which "
+                    f"{counted(len(its), 'attempt')} {told}: {left} left out, from which "
                     "nobody has read"
                 )
         if self._recording.unused:
@@ -261,7 +380,12 @@ class _ScriptMaker:
         if self._plan.shared:
             yield (
                 f"{counted(self._plan.shared, 'client')} in the session of another one, behind "
-                "which they come in every order"
+                f"which they come in {'time' if self._plan.by_time else 'every order'}"
+            )
+        if self._times is not None:
+            yield (
+                f"the order of time is asked for at {counted(len(self._pauses), 'pause')}, which "
+                "is more than serializability"
             )
 
 
@@ -270,16 +394,22 @@ def _ascending(one: Tuple[Sequence[Any], str]) -> Tuple[int, ...]:
     return (key, -1, -1) if source[0] == "init" else (key, *source)
 
 
-def _reaches(after: Dict[Item, List[Item]], start: Item, end: Item) -> bool:
-    seen, waiting = {start}, [start]
+def _all_before(before: Dict[Item, List[Item]], end: Item) -> Set[Item]:
+    """Whatever leads there."""
+    seen: Set[Item] = {end}
+    waiting = [end]
     while waiting:
-        for item in after.get(waiting.pop(), ()):
-            if item == end:
-                return True
+        for item in before.get(waiting.pop(), ()):
             if item not in seen:
                 seen.add(item)
                 waiting.append(item)
-    return False
+    return seen
+
+
+def _offers(session: int, first: int, transactions: List[Any]) -> Iterator[List[Any]]:
+    """The lines that offer a session's transactions, but for so many that were offered before."""
+    for start in range(first, len(transactions), LONGEST):
+        yield ["offer", session, start, transactions[start : start + LONGEST]]
 
 
 def _named_stub(stub: Stub, attempts: Tuple[Attempt, ...]) -> NamedTransaction:

@@ -11,6 +11,7 @@ from .errors import ImportRefusedError
 from .import_jepsen import read_jepsen
 from .import_script import Imported, script_of
 from .import_sessions import read_csv, read_dbcop, read_polysi
+from .import_times import EVERY
 from .recorded import Recording
 from .script_names import write_names
 
@@ -59,6 +60,16 @@ def add_arguments(command: argparse.ArgumentParser) -> None:
         metavar="N",
         help="takes the first N attempts of the file alone; what isn't violated is then pending",
     )
+    _add_realtime(command)
+
+
+def _add_realtime(command: argparse.ArgumentParser) -> None:
+    command.add_argument(
+        "--realtime",
+        action="store_true",
+        help="asks for the order of time as well, at moments at which nothing was in flight: more "
+        "than serializability, and room for more than 4,096 transactions",
+    )
 
 
 def _count(text: str) -> int:
@@ -72,7 +83,7 @@ def run(asked: Any) -> int:
     """Writes the script and its names, and tells what was done; gives 0. Raises ImportRefusedError
     where nothing sound can be made of the file, and writes nothing then."""
     text = _text_of(asked.file)
-    imported = import_text(asked.form, text, asked.first, asked.initial)
+    imported = import_text(asked.form, text, asked.first, asked.initial, asked.realtime)
     with open(asked.script, "w", encoding="utf-8") as file:
         file.writelines(f"{line}\n" for line in imported.lines)
     write_names(imported.names, asked.script)
@@ -83,15 +94,18 @@ def run(asked: Any) -> int:
 
 
 def import_text(
-    form: str, text: str, first: Optional[int] = None, initial: Optional[str] = None
+    form: str,
+    text: str,
+    first: Optional[int] = None,
+    initial: Optional[str] = None,
+    asks_time: bool = False,
 ) -> Imported:
     """The script of a file's text. Raises ImportRefusedError."""
     its = FORMS[form]
-    if initial is None:
-        return script_of(its.read(text), first)
-    if not its.has_initial:
+    if initial is not None and not its.has_initial:
         raise ImportRefusedError(0, f"in {form} the initial state is nil, and nothing else")
-    return script_of(its.read(text, initial), first)
+    recording = its.read(text) if initial is None else its.read(text, initial)
+    return script_of(recording, first, asks_time, EVERY)
 
 
 def _text_of(path: str) -> str:

@@ -53,6 +53,7 @@ class Recording:
     attempts: Tuple[Attempt, ...]
     has_times: bool = False
     unused: int = 0
+    time_goes_back: int = 0  # the line at which it does; 0 where it doesn't
 
 
 def counted(count: int, what: str) -> str:

@@ -36,6 +36,8 @@ class ScriptNames:
     keys: Mapping[int, str] = field(default_factory=dict)
     transactions: Sequence[Sequence[NamedTransaction]] = ()
     absent: Mapping[TransactionId, str] = field(default_factory=dict)
+    asks_time: bool = False  # whether fences ask for an order of time
+    timed: Sequence[int] = ()  # sessions that several clients share by the order of time
 
     def name(self, id: TransactionId) -> str:
         """How the transaction is told."""
@@ -62,6 +64,8 @@ def write_names(names: ScriptNames, script: str) -> str:
         "version": VERSION,
         "script": _sum_of(script),
         "form": names.form,
+        "asks_time": names.asks_time,
+        "timed": names.timed,
         "keys": [[number, key] for number, key in sorted(names.keys.items())],
         "absent": [[*id, name] for id, name in sorted(names.absent.items())],
         "transactions": [
@@ -106,6 +110,8 @@ def _names_of(whole: Any) -> ScriptNames:
         {int(number): str(key) for number, key in whole["keys"]},
         transactions,
         {(int(session), int(number)): str(name) for session, number, name in whole["absent"]},
+        bool(whole["asks_time"]),
+        [int(session) for session in whole["timed"]],
     )
 
 
