@@ -270,8 +270,14 @@ def judged(attempts):
     if not ignored:
         return {"serial"}
     is_of_lists = any(it.kind == READ_LIST for one in attempts for it in one.accesses)
-    # of a list with an element of nobody's the rest still tells the order of its writers
-    return {"pending", "violated"} if is_of_lists else {"pending"}
+    kind = APPEND if is_of_lists else WRITE
+    others = [
+        Attempt("", f"somebody {at}", UNKNOWN, (Access(kind, key, value, ""),), 0)
+        for at, (key, value) in enumerate(sorted(ignored))
+    ]
+    # whoever wrote it, the rest of a list tells the order of its writers
+    is_possible = is_explained([*attempts, *others])
+    return {"pending"} if is_possible or not is_of_lists else {"pending", "violated"}
 
 
 def judged_script(lines):

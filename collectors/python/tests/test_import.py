@@ -396,6 +396,25 @@ class Realtime(unittest.TestCase):
         for wanted_ in (("serial", "serial"), ("serial", "violated"), ("violated", "violated")):
             self.assertGreaterEqual(told[(*wanted_, True)], 4, told)
 
+    def test_a_part_asks_for_no_more_than_the_whole(self):
+        verdicts = Counter()
+        for seed in range(200):
+            text = recordings.as_edn(*wanted("jepsen-registers", seed))
+            try:
+                found = FORMS["jepsen-registers"].read(text)
+                whole, part = (
+                    judged_script(script_of(found, first, True, 1).lines)
+                    for first in (None, len(found.attempts) - 1)
+                )
+            except ImportRefusedError:
+                continue
+            with self.subTest(seed=seed, text=text):
+                self.assertIn(part, ("pending", "violated"))
+                if part == "violated":
+                    self.assertEqual(whole, part)
+                verdicts[part] += 1
+        self.assertGreaterEqual(verdicts["violated"], 5)
+
     def test_who_tells_nothing_of_time(self):
         with self.assertRaisesRegex(ImportRefusedError, "csv tells nothing of time"):
             import_text("csv", sample("sessions.csv"), asks_time=True)

@@ -85,8 +85,7 @@ class _ScriptMaker:
         self._of = Sources(recording).of
         self._is_part = first is not None and first < len(self._attempts)
         self._kept = self._front(first) if first is not None else set(range(len(self._attempts)))
-        offered = {at: its for at, its in self._of.items() if at in self._kept}
-        self._times = Times(self._attempts, offered) if asks_time else None
+        self._times = Times(self._attempts, self._of) if asks_time else None  # of the whole file
         self._pauses = self._times.pauses(every) if self._times else []
         self._keys: Dict[str, int] = {}
         self._absent: Dict[object, TransactionId] = {}
@@ -384,8 +383,9 @@ class _ScriptMaker:
             )
         if self._times is not None:
             yield (
-                f"the order of time is asked for at {counted(len(self._pauses), 'pause')}, which "
-                "is more than serializability"
+                "the order of time is asked for at "
+                f"{counted(sum(map(bool, self._plan.fences)), 'pause')}, which is more than "
+                "serializability"
             )
 
 
