@@ -87,5 +87,3 @@ def time_line(story: Story, names: ScriptNames) -> str:
 def part_of(place: int, pauses: Sequence[int]) -> int:
     """In front of how many pauses it doesn't lie."""
     return sum(place >= pause for pause in pauses)
-
-
