@@ -2,7 +2,7 @@ ghost use Rattle.std.specs.Prelude.{◌<◌, ◌≤◌, IfOk};
 
 use cobra::{
     Asked, ByteSink, ByteSource, DeviceFault, Failure, LONGEST_LINE, LineReader, MemorySink,
-    MemorySource, Next, Pace, ReaderSource, WriterSink, asked_of, demo, exit_of, serve, write_all,
+    MemorySource, Next, Pace, ReaderSource, WriterSink, asked_of, exit_of, serve, write_all,
 };
 use polygraph::Single;
 use std::alloc::{AllocError, Global};
@@ -207,28 +207,6 @@ fn goes_on_after_each_failed_read(rt: HostRuntime) -> Result<(), Fail> {
     Ok(())
 }
 
-/// Bytes a call, which write fails, and how much of the line is written.
-fn paces() -> &'static [(usize, u64, usize)] {
-    &[(4096, 0, 40), (7, 0, 40), (4096, 1, 0), (7, 3, 14)]
-}
-
-#[test]
-fn demonstration(rt: HostRuntime) {
-    let line = b"[\"report\",1,\"serial\",[2],[[0,0],[0,1]]]\n";
-    for (most, fails_at, count) in paces() {
-        let mut sink = MemorySink {
-            bytes: Vec::new(rt.alloc()),
-            pace: Pace::new((*most).max(1), *fails_at),
-        };
-        let end = demo(rt.alloc(), &mut sink);
-        assert_eq!(rt; end.is_ok(), *fails_at == 0);
-        assert!(rt;
-            line.get(..*count) == Some(sink.bytes.as_slice()),
-            "by {most}, failing at {fails_at}"
-        );
-    }
-}
-
 /// The script `three_rounds.jsonl` of the examples.
 const SCRIPT: &str = r#"["open",2,16]
 ["offer",1,0,[[[[5,0,0]],[]]]]
@@ -269,6 +247,21 @@ fn served(
     };
     let end = serve(alloc, &mut source, &mut sink, &Single);
     (end, sink.bytes)
+}
+
+/// A transaction that writes a key and one that reads it from there are offered, and a round is made.
+const FIRST_RUN: &str = r#"["open",1,8]
+["offer",0,0,[[[],[5]],[[[5,0,0]],[]]]]
+["round",32,0,1]
+"#;
+
+#[test]
+fn first_run(rt: HostRuntime) -> Result<(), Fail> {
+    let (end, written) = served(rt.alloc(), FIRST_RUN.as_bytes(), 4096, 0, 0);
+    assert_eq!(rt; end, Ok(()));
+    let replies = b"[\"ok\"]\n[\"ok\"]\n[\"report\",1,\"serial\",[2],[[0,0],[0,1]]]\n";
+    assert_eq!(rt; written.as_slice(), replies.as_slice());
+    Ok(())
 }
 
 #[test]

@@ -1,4 +1,3 @@
-pub mod Demonstration
 pub mod Outputs
 pub mod Programs
 pub mod Scripts

@@ -1,7 +1,6 @@
 //! The commands of the auditor, over devices that give and take bytes.
 #![tactic(auto)]
 
-mod demonstration;
 mod open_engine;
 mod programs;
 mod replies;
@@ -13,6 +12,5 @@ pub use byte_lines::{
     ByteSink, ByteSource, DeviceFault, Failure, LONGEST_LINE, LineReader, MemorySink, MemorySource,
     Next, Pace, ReaderSource, StandardInput, StandardOutput, WriterSink, write_all,
 };
-pub use demonstration::demo;
 pub use programs::{Asked, Exit, asked_of, exit_of};
 pub use serving::serve;

@@ -4,6 +4,7 @@
 use cobra::{
     Asked, ByteSink, Exit, Failure, ReaderSource, WriterSink, asked_of, exit_of, serve, write_all,
 };
+use guided_search::Guided;
 use shared_search::{OpenGate, Shared};
 use std::env;
 use std::io::ErrorKind;
@@ -65,7 +66,7 @@ fn main(rt: HostRuntime) -> ExitCode {
     let mut input = ReaderSource::new(rt.stdin());
     let mut output = WriterSink::new(rt.stdout());
     let alloc = rt.alloc();
-    let solver = Shared::new(&rt, OpenGate);
+    let solver = Guided::new(Shared::new(&rt, OpenGate));
     let exit = match asked(&rt) {
         Ok(Asked::Work) => exit_of(serve(alloc, &mut input, &mut output, &solver)),
         Ok(Asked::Help) => exit_of(told(&mut output, HELP)),

@@ -4,6 +4,7 @@
 ghost use Rattle.std.specs.Prelude.{◌<◌};
 
 use cobra::{MemorySink, MemorySource, Pace, serve};
+use guided_search::Guided;
 use polygraph::Single;
 use std::alloc::Global;
 use std::{env, fs, io};
@@ -20,7 +21,8 @@ fn is_answered(alloc: Global, script: &[u8], replies: &[u8], most: usize) -> boo
         bytes: Vec::new(alloc),
         pace: Pace::new(most, 0),
     };
-    let end = serve(alloc, &mut source, &mut sink, &Single);
+    let solver = Guided::new(Single);
+    let end = serve(alloc, &mut source, &mut sink, &solver);
     end.is_ok() && sink.bytes.as_slice() == replies
 }
 

@@ -74,7 +74,7 @@ right_any parts taken (Read key from to) right = right
 right_any parts taken (Base key from to) right = right
 right_any parts taken (Taken from to) (k, within, is) = absurd (omega arith)
 
-right_known : (parts : Parts) (arc : Arc) → IsArc parts [] arc → Known parts [] (start_of arc) (end_of arc)
+pub right_known : (parts : Parts) (arc : Arc) → IsArc parts [] arc → Known parts [] (start_of arc) (end_of arc)
 right_known parts arc right = links_known parts [] [] (start_of arc) (end_of arc) (λ side h. absurd h) (arc, [], refl, right, refl)
 
 -- what holds of the relation holds with the fresh arcs
@@ -107,12 +107,12 @@ so_far_grown parts more graph fresh log goes = record {
     by_known arc (inl h) = known_grows parts more [] (start_of arc) (end_of arc) goes.are (so.known arc h)
     by_known arc (inr h) = right_known more arc (fresh_right arc h)
 
-    by_test : (arc : Arc) (t : Bool) → is_fresh parts arc ≡ t → In (plain_arcs more) arc → In (arcs ++ fresh) arc
-    by_test arc true e h = in_right arcs fresh arc (goes.arcs.all arc h e)
-    by_test arc false e h = let ends = ends_remain parts arc e in in_left arcs fresh arc (so.plain arc (plain_before parts more arc goes.are h ends.0 ends.1))
+    by_test : (arc : Arc) (t : Bool) → is_fresh parts arc ≡ t → In (plain_arcs more) arc → Reaches (arcs ++ fresh) (start_of arc) (end_of arc)
+    by_test arc true e h = reaches_by (arcs ++ fresh) arc (in_right arcs fresh arc (goes.arcs.all arc h e))
+    by_test arc false e h = let ends = ends_remain parts arc e in reaches_on arcs fresh (start_of arc) (end_of arc) (so.plain arc (plain_before parts more arc goes.are h ends.0 ends.1))
 
 -- what reaches and what is reached remains
-reached_remain : (parts : Parts) (graph : GraphState) (log : List ForceStep) (a b : TxnId) → IsKept parts graph log → Reaches graph.arcs a b → Remains parts a × Remains parts b
+pub reached_remain : (parts : Parts) (graph : GraphState) (log : List ForceStep) (a b : TxnId) → IsKept parts graph log → Reaches graph.arcs a b → Remains parts a × Remains parts b
 reached_remain parts graph log a b kept r =
     let listed = known_listed parts log [] graph a b kept.relation ((kept.exact a b).0 r) in
     (listed_remains parts a (in_from_contains _ a listed.0), listed_remains parts b (in_from_contains _ b listed.1))
@@ -129,7 +129,7 @@ settled_grown parts more graph log nodes fresh none since goes noted choice is i
     grown = so_far_grown parts more graph fresh log goes
 
     was_read : Reaches graph.arcs choice.writer choice.reader
-    was_read = joined_before nodes graph.arcs none (graph.arcs ++ fresh) since i j choice.writer choice.reader noted at_writer at_reader no_read (reaches_by (graph.arcs ++ fresh) (Read choice.key choice.writer choice.reader) (grown.plain (Read choice.key choice.writer choice.reader) (read_listed more choice.reader choice.writer choice.key is.reads is.written)))
+    was_read = joined_before nodes graph.arcs none (graph.arcs ++ fresh) since i j choice.writer choice.reader noted at_writer at_reader no_read (grown.plain (Read choice.key choice.writer choice.reader) (read_listed more choice.reader choice.writer choice.key is.reads is.written))
 
     ends : Remains parts choice.writer × Remains parts choice.reader
     ends = reached_remain parts graph log choice.writer choice.reader kept was_read

@@ -37,3 +37,5 @@ pub mod CutBack
 pub mod ByKeys
 pub mod KeysLooked
 pub mod CaughtUp
+pub mod LeftByCut
+pub mod Flagged

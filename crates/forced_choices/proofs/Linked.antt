@@ -24,11 +24,11 @@ pub reaches_by : (arcs : List Arc) (arc : Arc) → In arcs arc → Reaches arcs 
 reaches_by arcs arc h = reach.by_arc arc (contains_from_in arcs arc h)
 
 -- one session's transactions reach one another in order
-session_reached : (parts : Parts) (arcs : List Arc) (n : ℕ) (a b : TxnId) → ((arc : Arc) → In (plain_arcs parts) arc → In arcs arc) → Remains parts a → Remains parts b → a.session ≡ b.session → a.number + suc n ≡ b.number → Reaches arcs a b
+session_reached : (parts : Parts) (arcs : List Arc) (n : ℕ) (a b : TxnId) → ((arc : Arc) → In (plain_arcs parts) arc → Reaches arcs (start_of arc) (end_of arc)) → Remains parts a → Remains parts b → a.session ≡ b.session → a.number + suc n ≡ b.number → Reaches arcs a b
 session_reached parts arcs zero a b plain ra rb same e =
     let before : one_before b ≡ a = same_fields (one_before b) a (sym same) (omega arith) in
     let remains = subst (λ id. Remains parts id) (sym before) ra in
-    subst (λ id. Reaches arcs id b) before (reaches_by arcs (Session (one_before b) b) (plain (Session (one_before b) b) (next_listed parts b rb remains (omega arith))))
+    subst (λ id. Reaches arcs id b) before (plain (Session (one_before b) b) (next_listed parts b rb remains (omega arith)))
 session_reached parts arcs (suc n) a b plain ra rb same e =
     let ba = bounds_of parts a ra in
     let bb = bounds_of parts b rb in
@@ -36,10 +36,10 @@ session_reached parts arcs (suc n) a b plain ra rb same e =
     let high = bb.high in
     let remains = bounds_remain parts (one_before b) (record { low = omega arith; high = omega arith }) in
     reach.through (session_reached parts arcs n a (one_before b) plain ra remains same (omega arith))
-    (reaches_by arcs (Session (one_before b) b) (plain (Session (one_before b) b) (next_listed parts b rb remains (omega arith))))
+    (plain (Session (one_before b) b) (next_listed parts b rb remains (omega arith)))
 
 -- of two in one session the first reaches the second
-pub ordered_reached : (parts : Parts) (arcs : List Arc) (a b : TxnId) → ((arc : Arc) → In (plain_arcs parts) arc → In arcs arc) → Remains parts a → Remains parts b → a.session ≡ b.session → a.number < b.number → Reaches arcs a b
+pub ordered_reached : (parts : Parts) (arcs : List Arc) (a b : TxnId) → ((arc : Arc) → In (plain_arcs parts) arc → Reaches arcs (start_of arc) (end_of arc)) → Remains parts a → Remains parts b → a.session ≡ b.session → a.number < b.number → Reaches arcs a b
 ordered_reached parts arcs a b plain ra rb same below = session_reached parts arcs (b.number - a.number - 1) a b plain ra rb same (omega arith)
 
 -- a right arc is known, where the sides taken are
@@ -83,11 +83,11 @@ reached_links parts taken arcs a b right (reach.through {b = m} first second) = 
     join : Links parts taken a m → Links parts taken m b → Links parts taken a b
     join (x, xs, bx, rx, px) (y, ys, by, ry, py) = (x, xs ++ y ∷ ys, bx, rx, path_append parts taken (end_of x) xs (y ∷ ys) m b px (by, ry, py))
 
--- the start of a right arc reaches its end, where the plain arcs are there and the sides taken are reached
-arc_reached : (parts : Parts) (taken : Sides) (arcs : List Arc) (arc : Arc) → ((arc : Arc) → In (plain_arcs parts) arc → In arcs arc) → ((side : TxnId × TxnId) → In taken side → Reaches arcs side.0 side.1) → IsArc parts taken arc → Reaches arcs (start_of arc) (end_of arc)
+-- the start of a right arc reaches its end, where the plain arcs and the sides taken are reached
+arc_reached : (parts : Parts) (taken : Sides) (arcs : List Arc) (arc : Arc) → ((arc : Arc) → In (plain_arcs parts) arc → Reaches arcs (start_of arc) (end_of arc)) → ((side : TxnId × TxnId) → In taken side → Reaches arcs side.0 side.1) → IsArc parts taken arc → Reaches arcs (start_of arc) (end_of arc)
 arc_reached parts taken arcs (Session from to) plain sides right = ordered_reached parts arcs from to plain right.0 right.1 right.2 right.3
-arc_reached parts taken arcs (Read key from to) plain sides right = reaches_by arcs (Read key from to) (plain (Read key from to) (read_listed parts to from key right.0 right.1))
-arc_reached parts taken arcs (Base key from to) plain sides right = reaches_by arcs (Base key from to) (plain (Base key from to) (base_listed parts from to key right.0 right.1 right.2))
+arc_reached parts taken arcs (Read key from to) plain sides right = plain (Read key from to) (read_listed parts to from key right.0 right.1)
+arc_reached parts taken arcs (Base key from to) plain sides right = plain (Base key from to) (base_listed parts from to key right.0 right.1 right.2)
 arc_reached parts taken arcs (Taken from to) plain sides right = sides (from, to) (in_from_contains taken (from, to) right)
 
 path_reached : (parts : Parts) (taken : Sides) (arcs : List Arc) (start : TxnId) (path : List Arc) (goal : TxnId) → ((arc : Arc) → IsArc parts taken arc → Reaches arcs (start_of arc) (end_of arc)) → IsPath parts taken start path goal → (start ≡ goal) ⊎ Reaches arcs start goal
@@ -101,8 +101,8 @@ path_reached parts taken arcs start (arc ∷ path) goal reached (begins, right, 
     by_rest (inl e) = subst (λ id. Reaches arcs start id) e first
     by_rest (inr more) = reach.through first more
 
--- what right arcs link is reached, where the plain arcs are there and the sides taken are reached
-pub links_reached : (parts : Parts) (taken : Sides) (arcs : List Arc) (a b : TxnId) → ((arc : Arc) → In (plain_arcs parts) arc → In arcs arc) → ((side : TxnId × TxnId) → In taken side → Reaches arcs side.0 side.1) → Links parts taken a b → Reaches arcs a b
+-- what right arcs link is reached, where the plain arcs and the sides taken are reached
+pub links_reached : (parts : Parts) (taken : Sides) (arcs : List Arc) (a b : TxnId) → ((arc : Arc) → In (plain_arcs parts) arc → Reaches arcs (start_of arc) (end_of arc)) → ((side : TxnId × TxnId) → In taken side → Reaches arcs side.0 side.1) → Links parts taken a b → Reaches arcs a b
 links_reached parts taken arcs a b plain sides (arc, path, begins, right, rest) = by_rest (path_reached parts taken arcs (end_of arc) path b reached rest)
   where
     reached : (arc : Arc) → IsArc parts taken arc → Reaches arcs (start_of arc) (end_of arc)

@@ -42,6 +42,9 @@ base_source_from parts key None (By writer) e h = absurd (false≢true h)
 base_source_from parts key (Some last) Init e h = absurd (false≢true h)
 base_source_from parts key (Some last) (By writer) e h = e ∙ ap Some (same_from_test last writer h)
 
+pub base_source_of_test : (parts : Parts) (key : ℕ) (source : Source) → is_base_source parts key source ≡ true → IsBaseSource parts key source
+base_source_of_test parts key source h = base_source_from parts key (last_gone parts key) source refl h
+
 pub base_source_test : (parts : Parts) (key : ℕ) (source : Source) → IsBaseSource parts key source → is_base_source parts key source ≡ true
 base_source_test parts key Init h = ap (λ last. is_last last Init) h
 base_source_test parts key (By writer) h = ap (λ last. is_last last (By writer)) h ∙ same_id_true writer writer refl

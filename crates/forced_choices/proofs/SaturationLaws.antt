@@ -19,7 +19,7 @@ use Rattle.known_graph.specs.Reach as reach
 use Rattle.forced_choices.specs.Rules.{premise_of, arc_of_side, premise, conclusion}
 use Rattle.forced_choices.specs.SoFar.{IsSoFar}
 use Rattle.forced_choices.specs.Forcing.{IsReady, IsReached, IsLeft, taken_arc, IsStepOf, Forces, unforced, forced}
-use Rattle.forced_choices.proofs.Members.{In, in_place, in_from_contains, contains_from_in, in_left, in_right, in_either}
+use Rattle.forced_choices.proofs.Members.{In, in_place, in_from_contains, contains_from_in, in_right, in_either}
 use Rattle.forced_choices.proofs.Linked.{reaches_more, reaches_by, ordered_reached, links_known, reached_links, links_reached}
 use Rattle.forced_choices.proofs.ListedArcs.{plain_arcs, plain_right, read_listed, base_listed}
 
@@ -38,7 +38,7 @@ pub so_far_first : (parts : Parts) → IsSoFar parts [] [] (plain_arcs parts) []
 so_far_first parts = record {
   right = plain_right parts;
   known = λ arc h. plain_known parts arc (plain_right parts arc h);
-  plain = λ arc h. h;
+  plain = λ arc h. reaches_by (plain_arcs parts) arc h;
   there = λ side h. absurd h;
   sides = λ side h. absurd h;
   reached = λ side h. absurd h;
@@ -57,11 +57,11 @@ forced_known parts assumed choice Second is known = forces_after choice is known
 forced_known parts assumed choice First is known = forces_before choice is known
 
 -- the sides of a step
-step_takes : (choice : Choice) (side : Side) (cycle : List Arc) → side_taken (record { choice = choice; side = side; cycle = cycle }) ≡ arc_of_side choice side
+pub step_takes : (choice : Choice) (side : Side) (cycle : List Arc) → side_taken (record { choice = choice; side = side; cycle = cycle }) ≡ arc_of_side choice side
 step_takes choice Second cycle = refl
 step_takes choice First cycle = refl
 
-step_rules_out : (choice : Choice) (side : Side) (cycle : List Arc) → side_not_taken (record { choice = choice; side = side; cycle = cycle }) ≡ ((premise_of choice side).1, (premise_of choice side).0)
+pub step_rules_out : (choice : Choice) (side : Side) (cycle : List Arc) → side_not_taken (record { choice = choice; side = side; cycle = cycle }) ≡ ((premise_of choice side).1, (premise_of choice side).0)
 step_rules_out choice Second cycle = refl
 step_rules_out choice First cycle = refl
 
@@ -107,7 +107,7 @@ fired : (parts : Parts) (assumed start : Sides) (arcs : List Arc) (log : List Fo
 fired parts assumed start arcs log rule step a_choice left is so = record {
   right = λ arc h. by_arc arc (in_either arcs (taken_arc rule ∷ []) arc h);
   known = λ arc h. arc_known arc (in_either arcs (taken_arc rule ∷ []) arc h);
-  plain = λ arc h. in_left arcs (taken_arc rule ∷ []) arc (so.plain arc h);
+  plain = λ arc h. reaches_more arcs (taken_arc rule) (start_of arc) (end_of arc) (so.plain arc h);
   there = λ side h. reaches_more arcs (taken_arc rule) side.0 side.1 (so.there side h);
   sides = λ side h. side_known side (subst (λ sides. In sides side) pushed h);
   reached = λ side h. side_reached side (subst (λ sides. In sides side) pushed h);
@@ -203,7 +203,7 @@ pub so_far_assumed : (parts : Parts) (assumed start : Sides) (arcs : List Arc) (
 so_far_assumed parts assumed start arcs log side so = record {
   right = λ arc h. by_arc arc (in_either arcs (own ∷ []) arc h);
   known = λ arc h. arc_known arc (in_either arcs (own ∷ []) arc h);
-  plain = λ arc h. in_left arcs (own ∷ []) arc (so.plain arc h);
+  plain = λ arc h. reaches_more arcs own (start_of arc) (end_of arc) (so.plain arc h);
   there = λ other h. side_there other h;
   sides = λ other h. side_known other h;
   reached = λ other h. side_reached other h;
@@ -253,8 +253,8 @@ pub record IsEnd (parts : Parts) (assumed start : Sides) (arcs : List Arc) (log 
 -- what is known is reached in the end
 pub known_reached : (parts : Parts) (assumed start : Sides) (arcs : List Arc) (log : List ForceStep) (a b : TxnId) → IsEnd parts assumed start arcs log → Known parts assumed a b → Reaches arcs a b
 known_reached parts assumed start arcs log a b end (by_session ra rb same below) = ordered_reached parts arcs a b end.so_far.plain ra rb same below
-known_reached parts assumed start arcs log a b end (by_read key reads writes) = reaches_by arcs (Read key a b) (end.so_far.plain (Read key a b) (read_listed parts b a key reads writes))
-known_reached parts assumed start arcs log a b end (by_base key reads writes apart) = reaches_by arcs (Base key a b) (end.so_far.plain (Base key a b) (base_listed parts a b key reads writes apart))
+known_reached parts assumed start arcs log a b end (by_read key reads writes) = end.so_far.plain (Read key a b) (read_listed parts b a key reads writes)
+known_reached parts assumed start arcs log a b end (by_base key reads writes apart) = end.so_far.plain (Base key a b) (base_listed parts a b key reads writes apart)
 known_reached parts assumed start arcs log a b end (by_taken h) = end.so_far.there (a, b) (in_from_contains assumed (a, b) h)
 known_reached parts assumed start arcs log a b end (through {b = m} first second) = reach.through (known_reached parts assumed start arcs log a m end first) (known_reached parts assumed start arcs log m b end second)
 known_reached parts assumed start arcs log a b end (forces_after choice is before) = end.closed (record { choice = choice; side = Second }) is (known_reached parts assumed start arcs log choice.writer choice.other end before)

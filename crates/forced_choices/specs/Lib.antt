@@ -21,3 +21,4 @@ pub mod OrderedAmong
 pub mod Picked
 pub mod FreshArcs
 pub mod KeptTables
+pub mod LeftByCut

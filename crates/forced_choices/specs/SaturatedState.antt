@@ -1,10 +1,13 @@
 -- What contracts see of a saturation, how its log goes on, and the fragment of one transaction.
-use Rattle.std.specs.Prelude.{◌≡◌, List, [], ◌∷◌, ◌++◌, All, Contains}
+use Rattle.std.specs.Prelude.{◌≡◌, ◌⊎◌, Bool, ◌&&◌, is_some, List, [], ◌∷◌, ◌++◌, map, filter}
 use Rattle.txn.specs.declared.transactions.TxnId.{TxnId}
 use Rattle.txn.specs.declared.transactions.Txn.{Txn}
 use Rattle.txn.specs.declared.transactions.Fragment.{Fragment}
+use Rattle.txn.specs.declared.choices.Choice.{Choice}
+use Rattle.txn.specs.declared.choices.Side.{Side}
 use Rattle.txn.specs.declared.choices.ForceStep.{ForceStep}
 use Rattle.order_check.specs.declared.remainder.Parts.{Parts}
+use Rattle.order_check.specs.Based.{remaining_at}
 use Rattle.order_check.specs.Cycles.{AreNew, sides_after}
 
 -- the parts that it is about, and the sides that were forced, in order
@@ -16,9 +19,17 @@ pub record SaturatedState : Type 0 where
 abbrev pub AreNewBehind : Parts → List ForceStep → List ForceStep → Type 0
 AreNewBehind parts kept log = (steps : List ForceStep) × (log ≡ kept ++ steps) × AreNew parts (sides_after [] kept) steps
 
--- new steps are logged behind some of those that were logged
-abbrev pub LogsOnBehindSome : Parts → List ForceStep → List ForceStep → Type 0
-LogsOnBehindSome parts old new = (kept : List ForceStep) × All (Contains old) kept × AreNewBehind parts kept new
+-- whether the reader and both writers of the choice remain
+abbrev pub choice_remains : Parts → Choice → Bool
+choice_remains parts choice = (is_some (remaining_at parts choice.reader) && is_some (remaining_at parts choice.writer)) && is_some (remaining_at parts choice.other)
+
+-- which side each step takes of its choice
+abbrev pub sides_logged : List ForceStep → List (Choice × Side)
+sides_logged steps = map (λ step. (step.choice, step.side)) steps
+
+-- of the sides that were logged those stay of whose choices all three remain, in the same order, or the log is made anew
+abbrev pub LogsOnAfterCut : Parts → List ForceStep → List ForceStep → Type 0
+LogsOnAfterCut parts old new = (sides_logged new ≡ filter (λ one. choice_remains parts one.0) (sides_logged old)) ⊎ AreNewBehind parts [] new
 
 -- the one transaction, at the place that its id says
 abbrev pub fragment_of : TxnId → Txn → Fragment

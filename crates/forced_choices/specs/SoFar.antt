@@ -18,7 +18,7 @@ use Rattle.forced_choices.specs.Listing.{plain_arcs}
 pub record IsSoFar (parts : Parts) (assumed start : Sides) (arcs : List Arc) (log : List ForceStep) : Type 0 where
   pub right : (arc : Arc) → In arcs arc → IsArc parts (sides_after start log) arc
   pub known : (arc : Arc) → In arcs arc → Known parts assumed (start_of arc) (end_of arc)
-  pub plain : (arc : Arc) → In (plain_arcs parts) arc → In arcs arc
+  pub plain : (arc : Arc) → In (plain_arcs parts) arc → Reaches arcs (start_of arc) (end_of arc)
   pub there : (side : TxnId × TxnId) → In assumed side → Reaches arcs side.0 side.1
   pub sides : (side : TxnId × TxnId) → In (sides_after start log) side → Known parts assumed side.0 side.1
   pub reached : (side : TxnId × TxnId) → In (sides_after start log) side → Reaches arcs side.0 side.1

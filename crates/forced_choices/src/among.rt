@@ -19,7 +19,7 @@ use txn::{NoMemory, TxnId};
 
 /// The columns of these ids.
 #[tactic(auto, using(crate::proofs::OrderedAll::no_columns, crate::proofs::OrderedAll::all_columns))]
-fn columns_of(alloc: Global, graph: &Graph, ids: &[TxnId]) -> Result<Vec<u64>, NoMemory>
+pub fn columns_of(alloc: Global, graph: &Graph, ids: &[TxnId]) -> Result<Vec<u64>, NoMemory>
     requires { All (HasNode graph.now) ids.now }
     ensures { IfOk result (λ row. AreColumnsOf graph.now.nodes ids.now row.items) }
 {

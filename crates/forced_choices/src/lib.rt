@@ -7,6 +7,7 @@ mod building;
 mod by_key;
 mod catching_up;
 mod columns;
+mod cutting;
 mod fresh;
 mod growth;
 mod kept;

@@ -58,7 +58,7 @@ pub fn reads_of(parts: &Parts, id: TxnId) -> &[(u64, Source)]
     }
 }
 
-fn is_other(parts: &Parts, reader: TxnId, key: u64, other: TxnId) -> bool
+pub fn is_other(parts: &Parts, reader: TxnId, key: u64, other: TxnId) -> bool
     ensures { result ≡ is_other parts.now reader key other }
 {
     other != reader && writes(parts, key, other)
@@ -120,7 +120,7 @@ fn push_base_arcs(
     Ok(())
 }
 
-fn is_base_source(parts: &Parts, key: u64, source: Source) -> bool
+pub fn is_base_source(parts: &Parts, key: u64, source: Source) -> bool
     ensures { result ≡ is_base_source parts.now key source }
 {
     match (parts.last_gone(key), source) {

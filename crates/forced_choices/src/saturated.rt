@@ -10,18 +10,19 @@ ghost use Rattle.order_check.specs.Cuts.{IsContentCutOff};
 ghost use Rattle.order_check.specs.Cycles.{AreNew, IsFullLog};
 ghost use Rattle.order_check.specs.Good.{IsGood};
 ghost use Rattle.order_check.specs.Known.{Known, AreOpenChoices};
-ghost use Rattle.order_check.specs.StandsFor.{parts_with};
-ghost use Rattle.forced_choices.specs.SaturatedState.{AreNewBehind, LogsOnBehindSome, fragment_of};
+ghost use Rattle.order_check.specs.StandsFor.{parts_with, parts_closed};
+ghost use Rattle.forced_choices.specs.SaturatedState.{AreNewBehind, LogsOnAfterCut, fragment_of};
 ghost use Rattle.forced_choices.specs.SoFar.{IsRelation};
 
 use crate::catching_up::catch_up;
+use crate::cutting::{drop_gone, left_by_cut};
 use crate::kept::{KeptTable, kept_table_of};
 use crate::listing::remaining_ids_of;
 use crate::open::open_in;
 use crate::table::table_of;
 use crate::whole::saturation_of;
 use known_graph::Graph;
-use order_check::Parts;
+use order_check::{Parts, cut_keeps_known, cut_leaves_the_rest, cut_moves_base};
 use std::alloc::Global;
 use std::marker::Model;
 use txn::{Choice, ForceStep, Fragment, NoMemory, Sequence, Txn, TxnId};
@@ -235,17 +236,28 @@ impl Saturated {
         }
     }
 
-    /// Goes on with the parts that a cut leaves. It asks nothing of which sessions are closed, nor of the limit: the cut may be one
-    /// of the same transactions over the same base, closed since.
+    /// Goes on with the parts that a cut leaves, in place unless something that stays is known to come before what goes, which is
+    /// so on a cycle alone. It asks nothing of which sessions are closed, nor of the limit: the cut may be one of the same
+    /// transactions over the same base, closed since.
     pub fn cut(&mut self, alloc: Global, gone: &[TxnId], parts: &Parts) -> Result<(), NoMemory>
         requires good { IsGood parts.now }
         requires cut_off { IsContentCutOff self.old.parts gone.now parts.now }
         ensures ok { OnOk result (self.new.parts ≡ parts.now) }
-        ensures logged { OnOk result (LogsOnBehindSome self.new.parts self.old.log self.new.log) }
+        ensures logged { OnOk result (LogsOnAfterCut self.new.parts self.old.log self.new.log) }
         ensures err { OnErr result (self.new ≡ self.old) }
     {
+        cut_leaves_the_rest();
+        cut_moves_base();
+        cut_keeps_known();
         let copy = copy_of_parts(parts)?;
-        self.go_on(alloc, copy)
+        let Some(left) = left_by_cut(alloc, parts, &self.graph, self.log.as_slice(), gone)? else {
+            return self.go_on(alloc, copy);
+        };
+        drop_gone(&mut self.graph, parts, left.arcs, gone);
+        self.log = Sequence::new(left.log);
+        self.parts = copy;
+        self.kept = None;
+        Ok(())
     }
 
     /// Goes on with the parts.
@@ -257,6 +269,30 @@ impl Saturated {
     {
         *self = of_whole(alloc, parts)?;
         Ok(())
+    }
+}
+
+impl Saturated {
+    /// Closes a session: it receives no more. It takes no memory.
+    pub fn close(&mut self, session: u8)
+        requires { session < length self.old.parts.remain }
+        ensures { self.new ≡ record self.old { parts = parts_closed self.old.parts session } }
+    {
+        self.parts.closed.set(usize::from(session), true);
+        self.kept = None;
+    }
+
+    /// The parts, without what is known of them.
+    pub fn into_parts(self) -> Parts
+        ensures { result ≡ self.parts }
+    {
+        let Saturated {
+            parts,
+            graph: _,
+            log: _,
+            kept: _,
+        } = self;
+        parts
     }
 }
 

@@ -30,6 +30,22 @@ same_in_whole front whole is id r = by_found (remaining_at front id) refl r
     by_found None e some = absurd (false≢true some)
     by_found (Some txn) e some = still_remains front whole is id txn e ∙ sym e
 
+-- the last gone writer of each key that what goes writes
+pub last_of_key : (front whole : Parts) (fence : TxnId) (gone : List TxnId) (last : FinMap nat_cmp TxnId) (is_open : ℕ → Type 0) → IsFront front whole → IsSettled front is_open fence → IsCutAt front fence gone last → (key : ℕ) → LastOf front whole gone last key
+last_of_key front whole fence gone last is_open is settled cut key = by_key (get last key) refl
+  where
+    writes_front : (id : TxnId) → Contains gone id → WritesKey whole id key → WritesKey front id key
+    writes_front id has writes = sym (ap (λ o. writes_key o key) (same_in_whole front whole is id (fronts_remain front fence id settled.remains ((cut.front id).0 has)))) ∙ writes
+
+    by_key : (o : Option TxnId) → get last key ≡ o → LastOf front whole gone last key
+    by_key None e = silent e (λ id has writes. no_writer id has (settled.last_writers id key ((cut.front id).0 has) (writes_front id has writes)))
+      where
+        no_writer : (id : TxnId) → Contains gone id → (writer : TxnId) × IsLastIn front fence key writer → ⊥
+        no_writer id has (writer, is_last) = let some = (cut.last_of key writer).1 is_last in absurd cc
+    by_key (Some writer) e =
+        let is_last = (cut.last_of key writer).0 e in
+        written writer e ((cut.front writer).1 is_last.front) (writes_whole front whole is writer key is_last.written) (λ other has writes apart. is_last.last other ((cut.front other).0 has) (writes_front other has writes) apart)
+
 -- where a fence splits an order of parts behind the front, what stands ahead is what a cut takes out
 pub gone_ahead : (front whole new parts : Parts) (fence : TxnId) (gone : List TxnId) (last : FinMap nat_cmp TxnId) (is_open : ℕ → Type 0) (before after : List TxnId) → HasGoneBase whole → HasGoneBase parts → IsFront front whole → IsFront front parts → IsSettled front is_open fence → IsCutAt front fence gone last → IsCutOf whole new gone last → Explains parts (before ++ fence ∷ after) → ((id : TxnId) → Contains before id → InFront front fence id) → ((id : TxnId) → Contains after id → ¬ InFront front fence id) → Gone front whole new gone last (before ++ fence ∷ [])
 gone_ahead front whole new parts fence gone last is_open before after base base_parts is is_parts settled cut leaves h in_before in_after = record {
@@ -40,7 +56,7 @@ gone_ahead front whole new parts fence gone last is_open before after base base_
   remain = λ id has. remains_whole front whole is id (fronts_remain front fence id settled.remains ((cut.front id).0 has));
   known = λ a b k has_a has_b. known_ahead a b (keeps_taken parts [] order base_parts h (λ x y (j, within, at). absurd (omega arith)) a b (known_whole front parts is_parts a b k)) (at_place ahead a (ahead_has a ((cut.front a).0 has_a))) (at_place ahead b (ahead_has b ((cut.front b).0 has_b)));
   once = λ id twice. kept_never_twice parts order id h.sessions (subst (λ ids. Precedes ids id id) seam (precedes_left ahead after id id twice));
-  key_of = λ key. by_key key (get last key) refl;
+  key_of = last_of_key front whole fence gone last is_open is settled cut;
 }
   where
     ahead : List TxnId
@@ -89,15 +105,3 @@ gone_ahead front whole new parts fence gone last is_open before after base base_
         let ea = kept_one_place parts order a i k h.sessions here (in_order a k ak) in
         let eb = kept_one_place parts order b j l h.sessions there (in_order b l bl) in
         (k, l, omega arith, ak, bl)
-
-    writes_front : (id : TxnId) (key : ℕ) → Contains gone id → WritesKey whole id key → WritesKey front id key
-    writes_front id key has writes = sym (ap (λ o. writes_key o key) (same_in_whole front whole is id (fronts_remain front fence id settled.remains ((cut.front id).0 has)))) ∙ writes
-
-    by_key : (key : ℕ) (o : Option TxnId) → get last key ≡ o → LastOf front whole gone last key
-    by_key key None e = silent e (λ id has writes. no_writer id has (settled.last_writers id key ((cut.front id).0 has) (writes_front id key has writes)))
-      where
-        no_writer : (id : TxnId) → Contains gone id → (writer : TxnId) × IsLastIn front fence key writer → ⊥
-        no_writer id has (writer, is_last) = let some = (cut.last_of key writer).1 is_last in absurd cc
-    by_key key (Some writer) e =
-        let is_last = (cut.last_of key writer).0 e in
-        written writer e ((cut.front writer).1 is_last.front) (writes_whole front whole is writer key is_last.written) (λ other has writes apart. is_last.last other ((cut.front other).0 has) (writes_front other key has writes) apart)

@@ -128,7 +128,7 @@ pub at_contains : (ids : List TxnId) (id : TxnId) → IsAt ids id → Contains i
 at_contains ids id (k, at) = (k, slice_get_within ids k id at, get_or_from_slice_get ids k id id at)
 
 -- what is known to come before or after remains
-known_remain : (parts : Parts) (a b : TxnId) → Known parts [] a b → Remains parts a × Remains parts b
+pub known_remain : (parts : Parts) (a b : TxnId) → Known parts [] a b → Remains parts a × Remains parts b
 known_remain parts a b (by_session ra rb same below) = (ra, rb)
 known_remain parts a b (by_read key reads writes) = (writer_remains parts a key writes, reader_remains parts b key (By a) reads)
 known_remain parts a b (by_base key (source, reads, of) writes apart) = (reader_remains parts a key source reads, writer_remains parts b key writes)

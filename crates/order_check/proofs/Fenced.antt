@@ -82,7 +82,7 @@ known_whole front whole is a b (forces_after choice c known) = forces_after choi
 known_whole front whole is a b (forces_before choice c known) = forces_before choice (choice_whole front whole is choice c) (known_whole front whole is choice.other choice.reader known)
 
 -- what remains of the whole remains of the front, or its session goes on past the front, and it stands behind all of the front
-in_front_or_behind : (front whole : Parts) → IsFront front whole → (id : TxnId) → Remains whole id → Remains front id ⊎ (GoesOn front whole id.session × ((other : TxnId) → other.session ≡ id.session → Remains front other → other.number < id.number))
+pub in_front_or_behind : (front whole : Parts) → IsFront front whole → (id : TxnId) → Remains whole id → Remains front id ⊎ (GoesOn front whole id.session × ((other : TxnId) → other.session ≡ id.session → Remains front other → other.number < id.number))
 in_front_or_behind front whole is id remains = by_place (cases_lt (id.number - mark) (length (remaining_of front id.session)))
   where
     mark : ℕ

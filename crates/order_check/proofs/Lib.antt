@@ -3,6 +3,7 @@ pub mod CutAhead
 pub mod CutCounts
 pub mod CutFits
 pub mod CutGood
+pub mod CutKnown
 pub mod CutOrders
 pub mod CutReads
 pub mod CutStands

@@ -1,17 +1,18 @@
 -- Laws of cuts.
-use Rattle.std.specs.Prelude.{◌≡◌, ◌↔◌, ℕ, List, ◌∷◌, ◌++◌, Contains}
+use Rattle.std.specs.Prelude.{◌≡◌, ◌↔◌, ◌⊎◌, ℕ, List, [], ◌∷◌, ◌++◌, Contains}
 use Rattle.std.specs.Ordering.{nat_cmp}
 use Rattle.std.specs.FinMap.{FinMap}
+use Rattle.txn.specs.declared.transactions.Source.{Source}
 use Rattle.txn.specs.declared.transactions.Source.TheVariants.{By}
 use Rattle.txn.specs.declared.transactions.TxnId.{TxnId}
 use Rattle.txn.specs.History.{History}
 use Rattle.order_check.specs.declared.remainder.Parts.{Parts}
-use Rattle.order_check.specs.Based.{HasGoneBase, HasPending, IsReceived, received_count}
-use Rattle.order_check.specs.Cuts.{IsFront, GoesOn, MayGoOn, IsCutBehind}
+use Rattle.order_check.specs.Based.{HasGoneBase, HasPending, IsReceived, Remains, received_count, remaining_at}
+use Rattle.order_check.specs.Cuts.{IsFront, GoesOn, MayGoOn, IsCutBehind, IsContentCutOff}
 use Rattle.order_check.specs.Cutting.{CanBeApplied}
 use Rattle.order_check.specs.Explains.{Explains}
 use Rattle.order_check.specs.Good.{IsGood}
-use Rattle.order_check.specs.Known.{ReadsKey}
+use Rattle.order_check.specs.Known.{Known, ReadsKey, WritesKey, IsBaseSource}
 use Rattle.order_check.specs.Settled.{IsSettled, IsCutAt, IsCutOf, InFront}
 use Rattle.order_check.specs.StandsFor.{StandsFor}
 use Rattle.order_check.specs.Verdict.{HasOrder}
@@ -50,3 +51,24 @@ CutKeepsReceived = (front whole new : Parts) (gone : List TxnId) (last : FinMap 
 -- A cut of a front leaves the same reads waiting, for the same ids.
 abbrev pub CutKeepsWaiting : Type 0
 CutKeepsWaiting = (front whole new : Parts) (gone : List TxnId) (last : FinMap nat_cmp TxnId) → IsCutBehind front whole gone last new → (reader writer : TxnId) (key : ℕ) → (ReadsKey whole reader key (By writer) × (¬ IsReceived whole writer)) ↔ (ReadsKey new reader key (By writer) × (¬ IsReceived new writer))
+
+-- What goes by a cut remained. What remains after it is what remained and doesn't go, and is as it was.
+abbrev pub CutLeavesTheRest : Type 0
+CutLeavesTheRest = (old new : Parts) (gone : List TxnId) → IsContentCutOff old gone new → (id : TxnId) → (Contains gone id → Remains old id) × (Remains new id ↔ (Remains old id × (¬ Contains gone id))) × (Remains new id → remaining_at new id ≡ remaining_at old id)
+
+-- nothing that stays is known to come before what goes
+abbrev pub LeadsNotBack : Parts → List TxnId → Type 0
+LeadsNotBack parts gone = (id other : TxnId) → (¬ Contains gone id) → Contains gone other → ¬ Known parts [] id other
+
+-- the source of a read of the key is a writer of it that goes
+abbrev pub IsFromGone : Parts → List TxnId → ℕ → Source → Type 0
+IsFromGone parts gone key source = (writer : TxnId) × (source ≡ By writer) × Contains gone writer × WritesKey parts writer key
+
+-- Where nothing that stays is known to come before what goes, a read that stays is one of the base after a cut exactly where it
+-- was one, or is from a writer that goes.
+abbrev pub CutMovesBase : Type 0
+CutMovesBase = (old new : Parts) (gone : List TxnId) → IsContentCutOff old gone new → LeadsNotBack old gone → (reader : TxnId) (key : ℕ) (source : Source) → ReadsKey new reader key source → IsBaseSource new key source ↔ (IsBaseSource old key source ⊎ IsFromGone old gone key source)
+
+-- Where nothing that stays is known to come before what goes, what is known of what stays is what was known of it.
+abbrev pub CutKeepsKnown : Type 0
+CutKeepsKnown = (old new : Parts) (gone : List TxnId) → IsContentCutOff old gone new → LeadsNotBack old gone → (a b : TxnId) → Known new [] a b ↔ (Known old [] a b × (¬ Contains gone a) × (¬ Contains gone b))

@@ -1,5 +1,5 @@
 //! Laws of cuts. The functions do nothing.
-ghost use Rattle.order_check.specs.CutLaws.{FenceSplitsOrders, SplitLaw, CutKeepsStandsFor, CutsOfFrontsFit, CutKeepsGood, CutKeepsReceived, CutKeepsWaiting};
+ghost use Rattle.order_check.specs.CutLaws.{FenceSplitsOrders, SplitLaw, CutKeepsStandsFor, CutsOfFrontsFit, CutKeepsGood, CutKeepsReceived, CutKeepsWaiting, CutLeavesTheRest, CutMovesBase, CutKeepsKnown};
 
 /// A fence that is settled in a front splits every order that explains the whole.
 pub fn fence_splits_orders()
@@ -34,4 +34,19 @@ pub fn cut_keeps_received()
 /// A cut of a front leaves the same reads waiting.
 pub fn cut_keeps_waiting()
     ensures { CutKeepsWaiting }
+{}
+
+/// A cut takes out what remained, and leaves the rest as it was.
+pub fn cut_leaves_the_rest()
+    ensures { CutLeavesTheRest }
+{}
+
+/// After a cut a read is one of the base where it was one, or was from a writer that is gone.
+pub fn cut_moves_base()
+    ensures { CutMovesBase }
+{}
+
+/// A cut leaves known of the rest what was known of it.
+pub fn cut_keeps_known()
+    ensures { CutKeepsKnown }
 {}

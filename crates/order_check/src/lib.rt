@@ -14,10 +14,11 @@ mod search_laws;
 mod taken_laws;
 mod trial;
 mod waiting;
+mod writer_map;
 
 pub use cut_laws::{
-    cut_keeps_good, cut_keeps_received, cut_keeps_stands_for, cut_keeps_waiting,
-    cuts_of_fronts_fit, fence_splits_orders, split_law,
+    cut_keeps_good, cut_keeps_known, cut_keeps_received, cut_keeps_stands_for, cut_keeps_waiting,
+    cut_leaves_the_rest, cut_moves_base, cuts_of_fronts_fit, fence_splits_orders, split_law,
 };
 pub use explaining::explains;
 pub use facts::{

@@ -1,20 +1,26 @@
 ghost use Rattle.std.specs.Prelude.{◌≡◌, ◌↔◌, IfOk, OnOk, OnErr, IsTrue};
 ghost use Rattle.std.specs.FinMap as map;
-ghost use Rattle.order_check.specs.Rules.{IsBelowMark, AreBelowMarks};
+ghost use Rattle.order_check.specs.Rules.{AreBelowMarks};
 
+use crate::writer_map::WriterMap;
 use std::alloc::Global;
-use std::collections::BTreeMap;
 use std::marker::Model;
+use std::sync::Arc;
 use txn::{NoMemory, Sequence, Txn, TxnId};
 
-/// The last writer of each key. Contracts see a finite map.
-#[derive(Clone, Drop, Debug)]
+/// The last writer of each key. Contracts see a finite map. A clone shares the entries, until a writer is inserted into one of
+/// the two: who has them alone doesn't copy them.
+#[derive(Drop, Debug)]
 pub struct LastWriters {
-    entries: BTreeMap<u64, TxnId>,
+    alloc: Global,
+    /// None where no key has a writer.
+    shared: Option<Arc<WriterMap>>,
 }
 
 impl Model for LastWriters {
+    ghost use Rattle.std.specs.Arc.{arc_value};
     ghost use Rattle.std.specs.FinMap as map;
+    ghost use Rattle.std.specs.Option.{option_map_or};
     ghost use Rattle.std.specs.Ordering.{nat_cmp};
     ghost use Rattle.std.specs.Coded.{coded_ℕ};
     ghost use Rattle.txn.specs.declared.transactions.TxnId.{TxnId};
@@ -24,7 +30,7 @@ impl Model for LastWriters {
 
     ghost coded = { map.code coded_ℕ coded_id };
 
-    ghost view = { λ a. map.from_entries a.entries.entries };
+    ghost view = { λ a. option_map_or (λ shared. arc_value shared) a.shared map.empty };
 }
 
 impl LastWriters {
@@ -32,14 +38,18 @@ impl LastWriters {
         ensures { result ≡ map.empty }
     {
         LastWriters {
-            entries: BTreeMap::new(alloc),
+            alloc,
+            shared: None,
         }
     }
 
     pub fn get(&self, key: u64) -> Option<TxnId>
         ensures { result ≡ map.get self.now key }
     {
-        self.entries.get(&key).copied()
+        match &self.shared {
+            Some(writers) => writers.get(key),
+            None => None,
+        }
     }
 
     /// Makes the id the key's last writer.
@@ -47,38 +57,51 @@ impl LastWriters {
         ensures ok { OnOk result (self.new ≡ map.insert self.old key writer) }
         ensures err { OnErr result (self.new ≡ self.old) }
     {
-        self.entries.insert(key, writer)?;
-        Ok(())
+        let Some(shared) = &mut self.shared else {
+            let mut writers = WriterMap::new(self.alloc);
+            writers.insert(key, writer)?;
+            self.shared = Some(Arc::new(self.alloc, writers)?);
+            return Ok(());
+        };
+        let writers = Arc::make_mut(shared)?;
+        writers.insert(key, writer)
     }
 
     /// Each key with its last writer, keys rising.
     pub fn entries(&self, alloc: Global) -> Result<Sequence<(u64, TxnId)>, NoMemory>
         ensures { IfOk result (λ entries. entries ≡ map.entries self.now) }
     {
-        let entries = self
-            .entries
-            .iter()
-            .map(|(key, writer)| (*key, *writer))
-            .collect(alloc)?;
-        Ok(Sequence::new(entries))
+        match &self.shared {
+            Some(writers) => writers.entries(alloc),
+            None => Ok(Sequence::new(Vec::new(alloc))),
+        }
     }
 
     /// Whether each writer's number is below the mark of its session.
     pub fn are_below(&self, marks: &[u64]) -> bool
         ensures { IsTrue result ↔ AreBelowMarks marks.now self.now }
     {
-        self.entries
-            .iter()
-            .all(|(_, writer)| is_below_mark(marks, *writer))
+        match &self.shared {
+            Some(writers) => writers.are_below(marks),
+            None => true,
+        }
     }
 }
 
-fn is_below_mark(marks: &[u64], id: TxnId) -> bool
-    ensures { IsTrue result ↔ IsBelowMark marks.now id }
-{
-    match marks.get(usize::from(id.session)) {
-        Some(mark) => id.number < *mark,
-        None => false,
+impl Clone for LastWriters {
+    ghost use Rattle.std.specs.Prelude.{◌≡◌};
+
+    ghost is_clone = { λ old new. new ≡ old };
+
+    fn clone(&self) -> Result<Self, NoMemory> {
+        let shared = match &self.shared {
+            Some(writers) => Some(writers.clone()?),
+            None => None,
+        };
+        Ok(LastWriters {
+            alloc: self.alloc,
+            shared,
+        })
     }
 }
 

@@ -152,6 +152,80 @@ pub fn history_by(alloc: Global, dice: &mut Dice) -> Result<Parts, NoMemory> {
     whole(alloc, remain)
 }
 
+/// Which of three keys each of eight transactions writes, one in two of them.
+fn writes_by(alloc: Global, dice: &mut Dice) -> Result<Vec<Vec<u64>>, NoMemory> {
+    let mut written = Vec::new(alloc);
+    for _ in 0..8u8 {
+        let mut keys = Vec::new(alloc);
+        for key in 1..4u64 {
+            if dice.roll(2) == 0 {
+                keys.push(key)?;
+            }
+        }
+        written.push(keys)?;
+    }
+    Ok(written)
+}
+
+/// What the transaction at the place writes: each two of them are a session.
+fn written_at(written: &[Vec<u64>], place: u64) -> &[u64] {
+    match written.get(place as usize) {
+        Some(keys) => keys.as_slice(),
+        None => &[],
+    }
+}
+
+/// Reads of two in three of the keys, each from a transaction of another session, if that one writes the key.
+fn reads_by(
+    alloc: Global,
+    dice: &mut Dice,
+    session: u8,
+    written: &[Vec<u64>],
+) -> Result<Vec<(u64, Source)>, NoMemory> {
+    let mut reads = Vec::new(alloc);
+    for key in 1..4u64 {
+        let place = dice.roll(8);
+        let writer = TxnId {
+            session: (place / 2) as u8,
+            number: place % 2,
+        };
+        let writes = written_at(written, place).contains(&key);
+        if dice.roll(3) > 0 && writer.session != session && writes {
+            reads.push((key, Source::By(writer)))?;
+        }
+    }
+    Ok(reads)
+}
+
+fn session_by(
+    alloc: Global,
+    dice: &mut Dice,
+    session: u8,
+    written: &[Vec<u64>],
+) -> Result<Sequence<Txn>, NoMemory>
+    requires { session < 4 }
+{
+    let mut txns = Vec::new(alloc);
+    for number in 0..2u64 {
+        let writes = written_at(written, 2 * u64::from(session) + number);
+        txns.push(Txn {
+            reads: Sequence::new(reads_by(alloc, dice, session, written)?),
+            writes: Sequence::new(writes.to_vec(alloc)?),
+        })?;
+    }
+    Ok(Sequence::new(txns))
+}
+
+/// Four sessions of two transactions each, that read and write three keys in any way.
+pub fn small_history_by(alloc: Global, dice: &mut Dice) -> Result<Parts, NoMemory> {
+    let written = writes_by(alloc, dice)?;
+    let mut remain = Vec::new(alloc);
+    for session in 0..4u8 {
+        remain.push(session_by(alloc, dice, session, &written)?)?;
+    }
+    whole(alloc, remain)
+}
+
 pub fn problem_of(rt: &impl Abort, alloc: Global, parts: &Parts) -> Result<Problem, NoMemory> {
     assert!(rt; parts.is_good());
     let known = Saturated::of(alloc, parts)?;

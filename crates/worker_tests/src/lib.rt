@@ -1,4 +1,4 @@
-//! Tests of workers that share cubes, by the public calls of shared_search and of the libraries below it.
+//! Tests of workers that share cubes, and of the guided search over them, by the public calls of these libraries and of those below.
 #![tactic(auto)]
 
 #[cfg(test)]
@@ -7,6 +7,8 @@ mod agreement;
 mod boards;
 #[cfg(test)]
 mod cubes;
+#[cfg(test)]
+mod guided;
 #[cfg(test)]
 mod histories;
 #[cfg(test)]

@@ -1,9 +1,9 @@
 use Rattle.std.proofs.Common.{sym, ap, ◌∙◌}
 use Rattle.std.specs.FinMap as map
-use Rattle.order_check.proofs.Writers.{get-entry_at}
+use Rattle.std.specs.Ordering.{nat_cmp}
+use Rattle.std.specs.Arc.{arc_value}
+use Rattle.std.specs.Option.{option_map_or}
 use Rattle.order_check.proofs.remainder.LastWriters.get.Goals as goal
 
-pub returns : goal.returns
-returns c =
-    c.copied.ensures ∙ c.get.ensures.value ∙ sym (get-entry_at c.self.inside.entries.entries c.args.key)
-    ∙ ap (λ m. map.get m c.args.key) c.self.view_is
+pub returns-in-None : goal.returns-in-None
+returns-in-None c = sym (map.get-empty nat_cmp c.args.key) ∙ ap (λ m. map.get m c.args.key) (sym (ap (λ shared. option_map_or (λ one. arc_value one) shared map.empty) c.in-None.is) ∙ c.self.view_is)

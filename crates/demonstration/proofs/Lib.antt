@@ -1,0 +1,6 @@
+mod Asking
+mod Audits
+mod LastKinds
+mod Lines
+mod Sending
+mod Spaces

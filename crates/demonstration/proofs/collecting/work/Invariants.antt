@@ -1,0 +1,6 @@
+-- A parcel was submitted for each step so far.
+use Rattle.std.proofs.Common.{◌≡◌, length}
+use Rattle.demonstration.proofs.collecting.work.Given as goal
+
+abbrev pub invariant-loop-step : goal.invariant-loop-step
+invariant-loop-step g l = (l.pass.0 ≡ l.fn.pass.0) × (l.pass.1 ≡ l.fn.pass.1) × (length l.pass.2 ≡ l.step)

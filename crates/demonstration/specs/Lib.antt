@@ -1,0 +1,7 @@
+pub mod Commands
+pub mod Failures
+pub mod Names
+pub mod Reading
+pub mod Runs
+pub mod Texts
+pub mod Work

@@ -1,0 +1,92 @@
+-- What a run comes to.
+use Rattle.std.specs.Prelude.{◌≡◌, true, List, [], ◌∷◌, length, map, All}
+use Rattle.fragment_intake.specs.Collectors.{AreCollectorsOf, Collector, Counts}
+use Rattle.fragment_intake.specs.declared.rules.Parcel.{Parcel}
+use Rattle.report_queue.specs.Rings.{Receiving}
+use Rattle.report_queue.specs.declared.entries.Entry.{Entry}
+use Rattle.live_audit.specs.declared.live.AuditorSide.{AuditorSide}
+use Rattle.live_audit.specs.CoreState.{Search}
+use Rattle.live_audit.specs.Live.{Live}
+use Rattle.live_audit.specs.Running.{IsLastCount}
+use Rattle.live_audit.specs.Truth.{IsTrueEntry, accepted_history}
+use Rattle.demonstration.specs.declared.collecting.Collected.{Collected}
+use Rattle.demonstration.specs.declared.reading.Heard.{Heard}
+use Rattle.demonstration.specs.declared.halls.Hall.{Hall}
+use Rattle.demonstration.specs.declared.texts.Shown.{Shown}
+use Rattle.demonstration.specs.declared.threads.Returned.{Returned}
+use Rattle.demonstration.specs.Reading.{last_kind}
+
+-- how much the search of a round may cost
+abbrev pub demo_search : Search
+demo_search = record { budget = 4096; depth = 2 }
+
+-- The auditor of four sessions took these parcels and sent these entries: each report is true of what was accepted, and the last counts all of it.
+pub record HasAudited (taken : List Parcel) (sent : List Entry) : Type 0 where
+  pub live : Live 4 4096 demo_search taken sent
+  pub reports : All (IsTrueEntry (accepted_history 4 taken sent)) sent
+  pub last : IsLastCount (map length (accepted_history 4 taken sent)) sent
+
+-- What is shown of a run whose auditor sent these entries: each collector submitted its 9 items, of which so many were taken; the auditor audited
+-- these; the last of its reports has this kind.
+pub record IsRunOf (sent : List Entry) (shown : Shown) : Type 0 where
+  pub taken : List Parcel
+  pub submitted : shown.tally.submitted ≡ 9 ∷ 9 ∷ 9 ∷ 9 ∷ []
+  pub counts : Counts shown.tally.taken taken
+  pub audited : HasAudited taken sent
+  pub last : shown.last ≡ last_kind sent
+
+-- what is shown of some run
+abbrev pub IsRun : Shown → Type 0
+IsRun shown = (sent : List Entry) × IsRunOf sent shown
+
+-- For private clauses.
+
+-- the pass is the collector's again, and where it is done 9 items were submitted
+abbrev pub HasCollected : Collector → Collected → Type 0
+HasCollected pass collected = (collected.pass.0 ≡ pass.0) × (collected.pass.1 ≡ pass.1) × (collected.is_done ≡ true → length collected.pass.2 ≡ 9)
+
+-- the side is the auditor's again
+abbrev pub IsSameSide : AuditorSide → AuditorSide → Type 0
+IsSameSide old new = (new.pass.0 ≡ old.pass.0) × (new.sender.ring ≡ old.sender.ring) × (new.seat.word ≡ old.seat.word)
+
+-- the reader is back, and tells the kind of the last report that it has received, and what it has received where that is whole
+abbrev pub HasHeard : Receiving → Heard → Type 0
+HasHeard old heard = (heard.reader.ring ≡ old.ring) × (heard.last ≡ last_kind heard.reader.received) × (heard.is_whole ≡ true → heard.entries ≡ heard.reader.received)
+
+-- nothing was submitted yet
+abbrev pub AreFresh : Collector × Collector × Collector × Collector → Type 0
+AreFresh passes = (passes.0.2 ≡ []) × (passes.1.2 ≡ []) × (passes.2.2 ≡ []) × (passes.3.2 ≡ [])
+
+-- the auditor's side of the hall, by which nothing was done yet
+pub record IsFreshSide (hall : Hall) (side : AuditorSide) : Type 0 where
+  pub desk : side.pass.0 ≡ hall.desk.0
+  pub word : side.seat.word ≡ hall.latest
+  pub taken : side.pass.1 ≡ []
+  pub sent : side.sender.sent ≡ []
+  pub published : side.seat.published ≡ []
+
+-- the pass is the collector's again, by which 9 items were submitted
+abbrev pub IsDone : Collector → Collector → Type 0
+IsDone old new = (new.0 ≡ old.0) × (new.1 ≡ old.1) × (length new.2 ≡ 9)
+
+-- all came back, and did all of their work; the reader tells what it has received, and the kind of the last report among that
+pub record HasReturned (passes : Collector × Collector × Collector × Collector) (side : AuditorSide) (reader : Receiving) (returned : Returned) : Type 0 where
+  pub first : IsDone passes.0 returned.passes.0
+  pub second : IsDone passes.1 returned.passes.1
+  pub third : IsDone passes.2 returned.passes.2
+  pub fourth : IsDone passes.3 returned.passes.3
+  pub side_is : IsSameSide side returned.side
+  pub audited : HasAudited returned.side.pass.1 returned.side.sender.sent
+  pub ring : returned.reader.ring ≡ reader.ring
+  pub heard : returned.last ≡ last_kind returned.reader.received
+  pub entries : returned.entries ≡ returned.reader.received
+
+-- what came back is of this hall
+pub record IsOfHall (hall : Hall) (returned : Returned) : Type 0 where
+  pub collectors : AreCollectorsOf hall.desk returned.passes
+  pub auditor : returned.side.pass.0 ≡ hall.desk.0
+  pub ring : returned.reader.ring ≡ returned.side.sender.ring
+
+-- each collector's pass has submitted its 9 items
+abbrev pub HaveSubmitted : Collector × Collector × Collector × Collector → Type 0
+HaveSubmitted passes = (length passes.0.2 ≡ 9) × (length passes.1.2 ≡ 9) × (length passes.2.2 ≡ 9) × (length passes.3.2 ≡ 9)

@@ -1,0 +1,134 @@
+ghost use Rattle.std.specs.Prelude.{◌≡◌, ◌+◌, ◌<◌, ◌^◌, [], length, OnOk};
+ghost use Rattle.demonstration.specs.Runs.{HasCollected};
+
+use crate::halls::Hall;
+use crate::work::{STEPS, request_of};
+use demo_store::{Request, Store};
+use fragment_intake::{CollectorPass, Desk, Item};
+use std::alloc::{AllocError, Global};
+use std::snapshot::Snapshot;
+use std::sync::{Mutex, Wait};
+use std::thread;
+use std::thread::Promise;
+use txn::{Fragment, NoMemory, Sequence, Txn};
+
+/// What a collector comes back with: its pass, and whether it did all of its work.
+#[derive(Drop)]
+pub struct Collected {
+    pub pass: CollectorPass,
+    pub is_done: bool,
+}
+
+/// That this pass comes back.
+#[derive(Drop)]
+pub struct CollectionOf(pub Snapshot<CollectorPass>);
+
+impl Promise<Collected> for CollectionOf {
+    ghost use Rattle.demonstration.specs.Runs.{HasCollected};
+
+    ghost kept_by = { λ promise collected. HasCollected promise.0.value collected };
+}
+
+/// More transactions of a session than the store takes.
+const TOO_MANY: u64 = 1 << 48;
+
+/// Has the request executed, and tells the transaction's number in its session.
+fn execute(alloc: Global, store: &mut Store, request: Request) -> Result<(u64, Txn), NoMemory>
+    requires { request.session < 64 }
+{
+    let number = store.executed(request.session);
+    if number >= TOO_MANY {
+        return Err(AllocError);
+    }
+    let txn = store.exec(alloc, request)?;
+    Ok((number, txn))
+}
+
+/// Has the store execute the request of this step, and makes a fragment of it.
+fn fragment<R: Wait>(
+    rt: &R,
+    alloc: Global,
+    store: &Mutex<Store>,
+    session: u8,
+    step: u64,
+) -> Result<Fragment, NoMemory>
+    requires { (session < 4) × (step < 7) }
+{
+    let request = request_of(alloc, session, step)?;
+    let mut txns = Vec::with_capacity(alloc, 1)?;
+    let (first, txn) = execute(alloc, &mut *store.lock(rt), request)?;
+    txns.push(txn)?;
+    Ok(Fragment {
+        session,
+        first,
+        txns: Sequence::new(txns),
+    })
+}
+
+/// Submits the item, once there is room for it.
+fn submit<R: Wait>(rt: &R, desk: &Desk, pass: &mut CollectorPass, item: Item)
+    requires desk { pass.old.0 ≡ desk.now.0 }
+    requires few { length pass.old.2 < 2 ^ 48 }
+    ensures same { (pass.new.0 ≡ pass.old.0) × (pass.new.1 ≡ pass.old.1) }
+    ensures one { length pass.new.2 ≡ length pass.old.2 + 1 }
+{
+    let mut item = item;
+    for _ in rt.forever() {
+        match desk.submit(rt, pass, item) {
+            Ok(()) => return,
+            Err(back) => item = back,
+        }
+        thread::yield_now();
+    }
+    unreachable!()
+}
+
+/// Executes the request of each step, and submits it before the next.
+fn work<R: Wait>(
+    rt: &R,
+    alloc: Global,
+    hall: &Hall,
+    session: u8,
+    pass: &mut CollectorPass,
+) -> Result<(), NoMemory>
+    requires session { session < 4 }
+    requires desk { pass.old.0 ≡ hall.now.desk.0 }
+    requires fresh { pass.old.2 ≡ [] }
+    ensures same { (pass.new.0 ≡ pass.old.0) × (pass.new.1 ≡ pass.old.1) }
+    ensures few { length pass.new.2 < 8 }
+    ensures all { OnOk result (length pass.new.2 ≡ 7) }
+{
+    for step in 0..STEPS {
+        let fragment = fragment(rt, alloc, &hall.store, session, step)?;
+        submit(rt, &hall.desk, pass, Item::Fragment(fragment));
+    }
+    Ok(())
+}
+
+/// A collector's whole work, once it is called. Where memory is refused it ends at once.
+pub fn collect<R: Wait>(
+    rt: &R,
+    alloc: Global,
+    hall: &Hall,
+    session: u8,
+    pass: CollectorPass,
+) -> Collected
+    requires session { session < 4 }
+    requires desk { pass.0 ≡ hall.now.desk.0 }
+    requires fresh { pass.2 ≡ [] }
+    ensures { HasCollected pass result }
+{
+    let mut pass = pass;
+    if !hall.start.wait(rt) {
+        return Collected {
+            pass,
+            is_done: false,
+        };
+    }
+    let is_done = work(rt, alloc, hall, session, &mut pass).is_ok();
+    if is_done {
+        submit(rt, &hall.desk, &mut pass, Item::Close(session));
+    }
+    submit(rt, &hall.desk, &mut pass, Item::End);
+    Collected { pass, is_done }
+}

@@ -1,0 +1,144 @@
+ghost use Rattle.std.specs.Prelude.{◌≡◌, ◌≤◌, None, [], IfOk, IsTrue};
+ghost use Rattle.round_state.specs.Opening.{fresh_state};
+ghost use Rattle.round_state.specs.Runs.{Holds};
+ghost use Rattle.demonstration.specs.Reading.{last_kind};
+ghost use Rattle.demonstration.specs.Runs.{IsRunOf, IsOfHall, HaveSubmitted, HasAudited};
+
+use crate::halls::Hall;
+use crate::starting::Start;
+use crate::texts::Shown;
+use crate::threads::{Returned, run_threads};
+use demo_store::{Executed, Fault, Store};
+use fragment_intake::Desk;
+use live_audit::AuditorSide;
+use order_check::Kind;
+use polygraph::Solver;
+use report_queue::{Entry, Latest, ReaderSeat, ReportReader, ReportSender, ring};
+use round_state::Engine;
+use std::alloc::{AllocError, Global};
+use std::sync::{Mutex, Wait};
+use std::thread::Threads;
+use txn::{NoMemory, Sequence};
+
+/// An engine of four sessions.
+fn open_engine(alloc: Global) -> Result<Engine, NoMemory>
+    ensures none_open { IfOk result (λ engine. engine.asked ≡ None) }
+    ensures holds { IfOk result (λ engine. Holds engine (fresh_state 4 4096)) }
+{
+    match Engine::open(alloc, 4, 4096) {
+        Ok(engine) => Ok(engine),
+        Err(_) => Err(AllocError),
+    }
+}
+
+/// The kind of the latest report.
+fn latest_kind(latest: &Latest, seat: &mut ReaderSeat) -> Option<Kind>
+    requires { seat.old.word ≡ latest.now }
+{
+    let (_, kind) = latest.latest(seat)?;
+    Some(kind)
+}
+
+/// Whether the reader has heard all that was sent.
+fn has_heard_all(sender: ReportSender, reader: &mut ReportReader) -> bool
+    requires { reader.old.ring ≡ sender.ring }
+    ensures received { reader.new.received ≡ reader.old.received }
+    ensures all { IsTrue result → reader.new.received ≡ sender.sent }
+{
+    match sender.end() {
+        Some(mut end) => reader.left(&mut end) == 0,
+        None => false,
+    }
+}
+
+/// What a run came to: what is shown of it, the entries that the auditor sent, and what the store executed, in order.
+#[derive(Drop)]
+pub struct Outcome {
+    pub shown: Shown,
+    pub entries: Sequence<Entry>,
+    pub executed: Sequence<Executed>,
+}
+
+/// What the store executed, in order.
+fn executed<R: Wait>(
+    rt: &R,
+    alloc: Global,
+    store: &Mutex<Store>,
+) -> Result<Sequence<Executed>, NoMemory> {
+    let log = store.lock(rt).log().to_vec(alloc)?;
+    Ok(Sequence::new(log))
+}
+
+/// What a run came to, once its threads have ended.
+fn outcome_of<R: Wait>(
+    rt: &R,
+    alloc: Global,
+    fault: Fault,
+    hall: Hall,
+    returned: Returned,
+    seat: &mut ReaderSeat,
+) -> Result<Outcome, NoMemory>
+    requires hall { IsOfHall hall returned }
+    requires submitted { HaveSubmitted returned.passes }
+    requires audited { HasAudited returned.side.pass.1 returned.side.sender.sent }
+    requires heard { returned.last ≡ last_kind returned.reader.received }
+    requires entries { returned.entries ≡ returned.reader.received }
+    requires word { seat.old.word ≡ hall.latest }
+    ensures fault { IfOk result (λ outcome. outcome.shown.fault ≡ fault) }
+    ensures run { IfOk result (λ outcome. IsRunOf outcome.entries outcome.shown) }
+{
+    let Returned {
+        passes,
+        side,
+        mut reader,
+        last,
+        entries,
+    } = returned;
+    let latest = latest_kind(&hall.latest, seat);
+    if !has_heard_all(side.sender, &mut reader) {
+        return Err(AllocError);
+    }
+    let executed = executed(rt, alloc, &hall.store)?;
+    let tally = hall.desk.tally(rt, passes, side.pass);
+    let shown = Shown {
+        fault,
+        tally,
+        last,
+        latest,
+    };
+    Ok(Outcome {
+        shown,
+        entries,
+        executed,
+    })
+}
+
+/// Runs the store with this fault, four collectors and the auditor, to their end.
+pub fn run<R: Threads + Wait + Sync, S: Solver + Sync>(
+    rt: &R,
+    alloc: Global,
+    solver: &S,
+    fault: Fault,
+    desk_capacity: usize,
+    ring_capacity: usize,
+) -> Result<Outcome, NoMemory>
+    requires ready { S.ready }
+    requires desk { (1 ≤ desk_capacity) × (desk_capacity ≤ 1024) }
+    requires ring { (1 ≤ ring_capacity) × (ring_capacity ≤ 1024) }
+    ensures fault { IfOk result (λ outcome. outcome.shown.fault ≡ fault) }
+    ensures run { IfOk result (λ outcome. IsRunOf outcome.entries outcome.shown) }
+{
+    let (desk, passes, pass) = Desk::new(alloc, desk_capacity)?;
+    let (sender, reader) = ring(alloc, ring_capacity)?;
+    let (latest, seat, mut seats) = Latest::new(alloc, 1)?;
+    let engine = open_engine(alloc)?;
+    let hall = Hall {
+        start: Start::new(),
+        store: Mutex::new(Store::new(alloc, fault)),
+        desk,
+        latest,
+    };
+    let side = AuditorSide { pass, sender, seat };
+    let returned = run_threads(rt, alloc, &hall, engine, solver, passes, side, reader)?;
+    outcome_of(rt, alloc, fault, hall, returned, &mut seats[0])
+}

@@ -1,0 +1,2 @@
+pub mod DecidedKinds
+pub mod Believing

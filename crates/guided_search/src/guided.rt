@@ -1,0 +1,112 @@
+ghost use Rattle.std.specs.Prelude.{◌≡◌, IfOk};
+ghost use Rattle.order_check.specs.Effort.{IsEffort};
+ghost use Rattle.order_check.specs.Good.{IsGood};
+ghost use Rattle.polygraph.specs.Solving.{IsLawful};
+ghost use Rattle.guided_search.specs.Believed.{IsBelieved};
+
+use crate::running::run_of;
+use crate::searching::{Found, search_within};
+use forced_choices::Branch;
+use order_check::{Parts, explains};
+use polygraph::{Answer, Problem, Solver};
+use refutation::{Tree, check};
+use std::alloc::Global;
+use txn::{NoMemory, Sequence, TxnId};
+
+/// The order, if it explains the parts.
+fn believed_order(alloc: Global, parts: &Parts, order: Sequence<TxnId>) -> Result<Answer, NoMemory>
+    requires { IsGood parts.now }
+    ensures { IfOk result (IsBelieved parts.now) }
+{
+    if explains(alloc, parts, order.as_slice())? {
+        return Ok(Answer::Yes(order));
+    }
+    Ok(Answer::Spent)
+}
+
+/// The tree, if it refutes the parts.
+fn believed_tree(alloc: Global, parts: &Parts, tree: Tree) -> Result<Answer, NoMemory>
+    requires { IsGood parts.now }
+    ensures { IfOk result (IsBelieved parts.now) }
+{
+    if check(alloc, parts, &tree)? {
+        return Ok(Answer::No(tree));
+    }
+    Ok(Answer::Spent)
+}
+
+/// What of it is believed.
+fn believed(alloc: Global, parts: &Parts, found: Found) -> Result<Answer, NoMemory>
+    requires { IsGood parts.now }
+    ensures { IfOk result (IsBelieved parts.now) }
+{
+    match found {
+        Found::Order(order) => believed_order(alloc, parts, order),
+        Found::Refutation(tree) => believed_tree(alloc, parts, tree),
+        Found::Nothing => Ok(Answer::Spent),
+    }
+}
+
+/// The order of a store's run, or else what the search finds.
+fn answer_from(
+    alloc: Global,
+    parts: &Parts,
+    branch: &mut Branch,
+    budget: u64,
+) -> Result<Answer, NoMemory>
+    requires { IsGood parts.now }
+    ensures { IfOk result (IsBelieved parts.now) }
+{
+    let order = run_of(alloc, branch, false)?;
+    if explains(alloc, parts, order.as_slice())? {
+        return Ok(Answer::Yes(order));
+    }
+    let order = run_of(alloc, branch, true)?;
+    if explains(alloc, parts, order.as_slice())? {
+        return Ok(Answer::Yes(order));
+    }
+    let found = search_within(alloc, branch, order.as_slice(), budget)?;
+    believed(alloc, parts, found)
+}
+
+/// The answer where another solver was spent.
+fn answer_within(alloc: Global, problem: &Problem, budget: u64) -> Result<Answer, NoMemory>
+    ensures { IfOk result (IsBelieved problem.now.known.parts) }
+{
+    let mut branch = Branch::of(alloc, problem.known())?;
+    answer_from(alloc, problem.parts(), &mut branch, budget)
+}
+
+/// The solver that asks another one, and where that is spent searches again, within the same budget: what its conflicts used comes first. It
+/// tells an order or a tree only once it is checked. It has no use for workers itself.
+#[derive(Drop)]
+pub struct Guided<S: Solver + Drop> {
+    below: S,
+}
+
+impl<S: Solver + Drop> Guided<S> {
+    pub fn new(below: S) -> Guided<S> {
+        Guided { below }
+    }
+}
+
+impl<S: Solver + Drop> Solver for Guided<S> {
+    ghost ready = { S.ready };
+
+    fn solve(
+        &self,
+        alloc: Global,
+        problem: &Problem,
+        budget: u64,
+        depth: u64,
+        workers: u64,
+    ) -> Answer {
+        match self.below.solve(alloc, problem, budget, depth, workers) {
+            Answer::Spent => match answer_within(alloc, problem, budget) {
+                Ok(answer) => answer,
+                Err(_) => Answer::NoMemory,
+            },
+            answer => answer,
+        }
+    }
+}

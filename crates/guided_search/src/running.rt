@@ -1,0 +1,248 @@
+//! A lucky order: what a store would do that takes one transaction after another. Nothing is promised of it.
+use forced_choices::Branch;
+use order_check::Parts;
+use std::alloc::Global;
+use std::collections::BTreeMap;
+use txn::{NoMemory, Sequence, Source, Txn, TxnId};
+
+/// What stands at a place of the run.
+#[derive(Drop)]
+struct Run {
+    /// How many of each session were taken.
+    taken: Vec<usize>,
+    /// Of each session, how many sessions have nothing left that is known to come before its next transaction.
+    clear: Vec<usize>,
+    /// Who wrote each key last.
+    last: BTreeMap<u64, Source>,
+    /// How many that aren't taken read the key from the source.
+    readers: BTreeMap<(u64, Source), usize>,
+    order: Vec<TxnId>,
+}
+
+fn count_readers(alloc: Global, parts: &Parts) -> Result<BTreeMap<(u64, Source), usize>, NoMemory> {
+    let mut readers = BTreeMap::new(alloc);
+    for txns in parts.remain.as_slice() {
+        for txn in txns.as_slice() {
+            for read in txn.reads.as_slice() {
+                let count = readers.entry(*read)?.or_insert(0usize);
+                *count = count.saturating_add(1);
+            }
+        }
+    }
+    Ok(readers)
+}
+
+/// The id of a session's transaction at this place of what remains.
+fn id_at(parts: &Parts, session: usize, place: usize) -> Option<TxnId> {
+    let session = u8::try_from(session).ok()?;
+    if place >= parts.remaining_of(session).len() {
+        return None;
+    }
+    let number = parts.mark_of(session).checked_add(place as u64)?;
+    Some(TxnId { session, number })
+}
+
+/// How far a place is in the session, of 2^32.
+fn progress(parts: &Parts, session: usize, place: usize) -> u64 {
+    match parts.remain.as_slice().get(session) {
+        Some(txns) => (place as u64)
+            .saturating_mul(4_294_967_296)
+            .checked_div(txns.len() as u64)
+            .unwrap_or(0),
+        None => 0,
+    }
+}
+
+impl Run {
+    fn new(alloc: Global, parts: &Parts) -> Result<Run, NoMemory> {
+        Ok(Run {
+            taken: vec![in alloc; 0; parts.sessions()]?,
+            clear: vec![in alloc; 0; parts.sessions()]?,
+            last: BTreeMap::new(alloc),
+            readers: count_readers(alloc, parts)?,
+            order: Vec::new(alloc),
+        })
+    }
+
+    /// The session's next transaction.
+    fn next_of(&self, parts: &Parts, session: usize) -> Option<TxnId> {
+        id_at(parts, session, self.taken.get(session).copied()?)
+    }
+
+    /// Whether nothing that isn't taken is known to come before the session's next transaction. What is next of a session comes before
+    /// the rest of it, so that a session that is clear stays so.
+    fn is_ready(&mut self, branch: &Branch, session: usize, id: TxnId) -> bool {
+        let sessions = self.sessions();
+        let blocking = self.blocking(branch, session, id);
+        self.set_clear(session, blocking);
+        blocking >= sessions
+    }
+
+    /// The first session that is known to hold the transaction up; where none does, how many there are.
+    fn blocking(&self, branch: &Branch, session: usize, id: TxnId) -> usize {
+        for other in self.clear_of(session)..self.sessions() {
+            if let Some(next) = self.next_of(branch.parts(), other)
+                && other != session
+                && branch.reaches(next, id)
+            {
+                return other;
+            }
+        }
+        self.sessions()
+    }
+
+    fn clear_of(&self, session: usize) -> usize {
+        self.clear.get(session).copied().unwrap_or(0)
+    }
+
+    fn sessions(&self) -> usize {
+        self.taken.len()
+    }
+
+    fn set_clear(&mut self, session: usize, sessions: usize) {
+        if let Some(clear) = self.clear.get_mut(session) {
+            *clear = sessions;
+        }
+    }
+
+    /// Who wrote the key last, in front or of what is gone.
+    fn last_of(&self, parts: &Parts, key: u64) -> Source {
+        match self.last.get(&key) {
+            Some(source) => *source,
+            None => match parts.last_gone(key) {
+                Some(writer) => Source::By(writer),
+                None => Source::Init,
+            },
+        }
+    }
+
+    /// How many of the transaction's reads aren't of what is current, and how many others that aren't taken read what it overwrites.
+    fn misses(&self, parts: &Parts, txn: &Txn) -> usize {
+        let mut misses = 0usize;
+        for (key, source) in txn.reads.as_slice() {
+            if self.last_of(parts, *key) != *source && !is_pending(parts, *source) {
+                misses = misses.saturating_add(1);
+            }
+        }
+        for key in txn.writes.as_slice() {
+            let read = (*key, self.last_of(parts, *key));
+            let own = usize::from(txn.reads.as_slice().contains(&read));
+            let others = self.readers.get(&read).copied().unwrap_or(0);
+            misses = misses.saturating_add(others.saturating_sub(own));
+        }
+        misses
+    }
+
+    /// Of how many keys the transaction's write is read by what isn't taken.
+    fn begun(&self, id: TxnId, txn: &Txn) -> usize {
+        let mut begun = 0usize;
+        for key in txn.writes.as_slice() {
+            if self
+                .readers
+                .get(&(*key, Source::By(id)))
+                .copied()
+                .unwrap_or(0)
+                > 0
+            {
+                begun = begun.saturating_add(1);
+            }
+        }
+        begun
+    }
+
+    /// The best session to take from.
+    fn best(&mut self, branch: &Branch, careful: bool) -> Option<(usize, TxnId)> {
+        let mut best = None;
+        for session in 0..self.sessions() {
+            let Some(id) = self.next_of(branch.parts(), session) else {
+                continue;
+            };
+            if !self.is_ready(branch, session, id) {
+                continue;
+            }
+            let value = self.value(branch.parts(), session, id, careful);
+            best = match best {
+                Some((least, found)) if least <= value => Some((least, found)),
+                _ => Some((value, (session, id))),
+            };
+        }
+        match best {
+            Some((_, found)) => Some(found),
+            None => None,
+        }
+    }
+
+    /// The less the better.
+    fn value(
+        &self,
+        parts: &Parts,
+        session: usize,
+        id: TxnId,
+        careful: bool,
+    ) -> (usize, usize, u64) {
+        let Some(txn) = parts.remaining_at(id) else {
+            return (0, 0, 0);
+        };
+        let begun = if careful { self.begun(id, txn) } else { 0 };
+        let place = self.taken.get(session).copied().unwrap_or(0);
+        (
+            self.misses(parts, txn),
+            begun,
+            progress(parts, session, place),
+        )
+    }
+
+    /// Takes the session's next transaction.
+    fn take(&mut self, parts: &Parts, session: usize, id: TxnId) -> Result<(), NoMemory> {
+        if let Some(taken) = self.taken.get_mut(session) {
+            *taken = taken.saturating_add(1);
+        }
+        self.set_clear(session, 0);
+        self.order.push(id)?;
+        let Some(txn) = parts.remaining_at(id) else {
+            return Ok(());
+        };
+        for read in txn.reads.as_slice() {
+            if let Some(count) = self.readers.get_mut(read) {
+                *count = count.saturating_sub(1);
+            }
+        }
+        for key in txn.writes.as_slice() {
+            self.last.insert(*key, Source::By(id))?;
+        }
+        Ok(())
+    }
+}
+
+/// Whether the source wasn't received.
+fn is_pending(parts: &Parts, source: Source) -> bool {
+    match source {
+        Source::Init => false,
+        Source::By(writer) => {
+            writer.number >= parts.mark_of(writer.session) && parts.remaining_at(writer).is_none()
+        }
+    }
+}
+
+/// How many transactions remain.
+fn count_remaining(parts: &Parts) -> usize {
+    let mut count = 0usize;
+    for txns in parts.remain.as_slice() {
+        count = count.saturating_add(txns.len());
+    }
+    count
+}
+
+/// The order of a store's run: next comes what may by what is known, misses the fewest reads, where it is careful begins the fewest versions
+/// that others read, and stands foremost in its session.
+pub fn run_of(alloc: Global, branch: &Branch, careful: bool) -> Result<Sequence<TxnId>, NoMemory> {
+    let parts = branch.parts();
+    let mut run = Run::new(alloc, parts)?;
+    for _ in 0..count_remaining(parts) {
+        let Some((session, id)) = run.best(branch, careful) else {
+            break;
+        };
+        run.take(parts, session, id)?;
+    }
+    Ok(Sequence::new(run.order))
+}
