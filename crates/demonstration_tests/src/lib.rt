@@ -1,0 +1,9 @@
+//! Tests of the demonstration and of the running auditor in threads, by public calls alone.
+#![tactic(auto)]
+
+#[cfg(test)]
+mod crowds;
+#[cfg(test)]
+mod demonstrations;
+#[cfg(test)]
+mod judging;
