@@ -1,41 +1,62 @@
 //! Four collectors with 2,000 items each, in threads of their own, over a desk with three places and a ring with one.
 ghost use Rattle.std.specs.Prelude.{◌≡◌, ◌+◌, ◌<◌, ◌^◌, None, [], IfOk, length};
 ghost use Rattle.fragment_intake.specs.Collectors.{AreCollectorsOf};
+ghost use Rattle.demonstration_tests.specs.Crowds.{AreFresh, IsFreshSide};
 
-use fragment_intake::{AuditorPass, CollectorPass, CollectorPasses, Desk, Item, Tally};
+use fragment_intake::{CollectorPass, CollectorPasses, Desk, Item, Tally};
 use live_audit::{AuditorSide, Effort, audit_live};
 use order_check::Kind;
 use polygraph::Single;
 use report_queue::{Entry, Latest, ReportReader, ring};
 use round_state::{Engine, Report};
 use std::alloc::{AllocError, Global};
-use std::sync::Wait;
+use std::snapshot::Snapshot;
+use std::sync::atomic::{AtomicU64, Ordering};
+use std::sync::{OnceLock, Wait};
 use std::test::*;
 use std::thread;
-use std::thread::Threads;
+use std::thread::{JoinHandle, Promise, PromisedHandle, Scope, Threads};
 use txn::{Fragment, NoMemory, Sequence, Source, Txn, TxnId};
 
 /// How many transactions a collector submits, before it closes its session and ends.
 const TXNS: u64 = 1998;
 
-/// Each so many transactions of a session the last one is a fence.
-const BETWEEN: u64 = 64;
+/// Of each so many transactions of a session the last two are fences: with two of each session, one is known to stand before or behind each
+/// transaction, so that a cut comes.
+const BETWEEN: u64 = 16;
 
-/// The transaction that wrote key 0 before this fence: those of the four sessions take turns.
-fn before_fence(session: u8, number: u64) -> Source {
-    let turn = (number / BETWEEN)
-        .saturating_mul(4)
-        .saturating_add(u64::from(session));
-    if turn == 0 {
-        return Source::Init;
+/// Whether the session's transaction of this number is a fence.
+fn is_fence(number: u64) -> bool {
+    BETWEEN - 2 <= number % BETWEEN && number < TXNS
+}
+
+/// Which fence of all sessions this one is: the sessions take turns with their first fence, and then with their second.
+fn turn_of(session: u8, number: u64) -> u64 {
+    let second = number % BETWEEN == BETWEEN - 1;
+    let half = (number / BETWEEN)
+        .saturating_mul(2)
+        .saturating_add(u64::from(second));
+    half.saturating_mul(4).saturating_add(u64::from(session))
+}
+
+/// The fence of this turn.
+fn fence_of(turn: u64) -> TxnId {
+    let half = turn / 4;
+    let first = (half / 2)
+        .saturating_mul(BETWEEN)
+        .saturating_add(BETWEEN - 2);
+    TxnId {
+        session: (turn % 4) as u8,
+        number: first.saturating_add(half % 2),
     }
-    let before = turn.saturating_sub(1);
-    Source::By(TxnId {
-        session: (before % 4) as u8,
-        number: (before / 4)
-            .saturating_mul(BETWEEN)
-            .saturating_add(BETWEEN - 1),
-    })
+}
+
+/// The fence before this turn's.
+fn before_fence(turn: u64) -> Source {
+    match turn {
+        0 => Source::Init,
+        _ => Source::By(fence_of(turn.saturating_sub(1))),
+    }
 }
 
 /// The transaction of the session that wrote its own key before this one.
@@ -44,7 +65,7 @@ fn before_own(session: u8, number: u64) -> Source {
         0 => Source::Init,
         _ if number % BETWEEN == 0 => Source::By(TxnId {
             session,
-            number: number.saturating_sub(2),
+            number: number.saturating_sub(3),
         }),
         _ => Source::By(TxnId {
             session,
@@ -65,8 +86,8 @@ fn update(alloc: Global, key: u64, source: Source) -> Result<Txn, NoMemory> {
 
 /// A session's transaction: a fence, or one on a key that is the session's own.
 fn txn_of(alloc: Global, session: u8, number: u64) -> Result<Txn, NoMemory> {
-    if number % BETWEEN == BETWEEN - 1 {
-        update(alloc, 0, before_fence(session, number))
+    if is_fence(number) {
+        update(alloc, 0, before_fence(turn_of(session, number)))
     } else {
         let key = u64::from(session).saturating_add(10);
         update(alloc, key, before_own(session, number))
@@ -113,22 +134,87 @@ fn submit<R: Wait>(rt: &R, desk: &Desk, pass: &mut CollectorPass, item: Item)
     unreachable!()
 }
 
-/// A collector's whole work.
-fn submit_all<R: Wait>(
+/// What the threads share: whether they are to work, how many fences were submitted, the desk, and the word.
+#[derive(Drop)]
+struct Hall {
+    start: OnceLock<bool>,
+    fences: AtomicU64,
+    desk: Desk,
+    latest: Latest,
+}
+
+/// Waits until so many fences were submitted, so that no session is far behind the others.
+fn wait_turn<R: Wait>(rt: &R, hall: &Hall, turn: u64) {
+    for _ in rt.forever() {
+        if turn <= hall.fences.load(Ordering::SeqCst) {
+            return;
+        }
+        thread::yield_now();
+    }
+    unreachable!()
+}
+
+/// Submits a session's item at this place, a fence in its turn.
+fn submit_in_turn<R: Wait>(
     rt: &R,
     alloc: Global,
-    desk: &Desk,
+    hall: &Hall,
+    session: u8,
+    place: u64,
+    pass: &mut CollectorPass,
+)
+    requires desk { pass.old.0 ≡ hall.now.desk.0 }
+    requires few { length pass.old.2 < 2 ^ 48 }
+    ensures same { (pass.new.0 ≡ pass.old.0) × (pass.new.1 ≡ pass.old.1) }
+    ensures one { length pass.new.2 ≡ length pass.old.2 + 1 }
+{
+    let item = item_of(alloc, session, place);
+    if is_fence(place) {
+        let turn = turn_of(session, place);
+        wait_turn(rt, hall, turn);
+        submit(rt, &hall.desk, pass, item);
+        hall.fences.store(turn.saturating_add(1), Ordering::SeqCst);
+    } else {
+        submit(rt, &hall.desk, pass, item);
+    }
+}
+
+/// A collector's whole work.
+fn submit_all<R: Wait>(rt: &R, alloc: Global, hall: &Hall, session: u8, pass: &mut CollectorPass)
+    requires { (pass.old.0 ≡ hall.now.desk.0) × (pass.old.2 ≡ []) }
+    ensures { (pass.new.0 ≡ pass.old.0) × (pass.new.1 ≡ pass.old.1) }
+{
+    for place in 0..1999u64 {
+        submit_in_turn(rt, alloc, hall, session, place, pass);
+    }
+    submit(rt, &hall.desk, pass, Item::End);
+}
+
+/// That this pass comes back.
+#[derive(Drop)]
+struct PassOf(Snapshot<CollectorPass>);
+
+impl Promise<CollectorPass> for PassOf {
+    ghost use Rattle.std.specs.Prelude.{◌≡◌};
+
+    ghost kept_by = { λ promise pass. (pass.0 ≡ promise.0.value.0) × (pass.1 ≡ promise.0.value.1) };
+}
+
+/// A collector's whole work, once it is called.
+fn collect<R: Wait>(
+    rt: &R,
+    alloc: Global,
+    hall: &Hall,
     session: u8,
     pass: CollectorPass,
 ) -> CollectorPass
-    requires { (pass.0 ≡ desk.now.0) × (pass.2 ≡ []) }
+    requires { (pass.0 ≡ hall.now.desk.0) × (pass.2 ≡ []) }
     ensures { (result.0 ≡ pass.0) × (result.1 ≡ pass.1) }
 {
     let mut pass = pass;
-    for place in 0..1999u64 {
-        submit(rt, desk, &mut pass, item_of(alloc, session, place));
+    if *hall.start.wait(rt) {
+        submit_all(rt, alloc, hall, session, &mut pass);
     }
-    submit(rt, desk, &mut pass, Item::End);
     pass
 }
 
@@ -194,8 +280,7 @@ impl Heard {
 }
 
 /// Reads to the end.
-fn hear<R: Wait>(rt: &R, reader: ReportReader) -> Heard {
-    let mut reader = reader;
+fn hear<R: Wait>(rt: &R, reader: &mut ReportReader) -> Heard {
     let mut heard = Heard::nothing();
     for _ in rt.forever() {
         match reader.next() {
@@ -207,58 +292,51 @@ fn hear<R: Wait>(rt: &R, reader: ReportReader) -> Heard {
     unreachable!()
 }
 
-/// Two collectors submit, each in a thread.
-fn submit_two<R: Threads + Wait + Sync>(
-    rt: &R,
-    alloc: Global,
-    desk: &Desk,
-    session: u8,
-    one: CollectorPass,
-    other: CollectorPass,
-) -> (CollectorPass, CollectorPass)
-    requires session { session < 4 }
-    requires one { (one.0 ≡ desk.now.0) × (one.2 ≡ []) }
-    requires other { (other.0 ≡ desk.now.0) × (other.2 ≡ []) }
-    ensures one { (result.0.0 ≡ one.0) × (result.0.1 ≡ one.1) }
-    ensures other { (result.1.0 ≡ other.0) × (result.1.1 ≡ other.1) }
-{
-    thread::join(
-        rt,
-        move ||
-            requires { (one.0 ≡ desk.now.0) × (one.2 ≡ []) }
-            ensures { (result.0 ≡ one.0) × (result.1 ≡ one.1) }
-        { submit_all(rt, alloc, desk, session, one) },
-        move ||
-            requires { (session < 4) × (other.0 ≡ desk.now.0) × (other.2 ≡ []) }
-            ensures { (result.0 ≡ other.0) × (result.1 ≡ other.1) }
-        { submit_all(rt, alloc, desk, session + 1, other) },
-    )
+/// The reader's whole work, once it is called.
+fn listen<R: Wait>(rt: &R, hall: &Hall, reader: ReportReader) -> Heard {
+    let mut reader = reader;
+    if *hall.start.wait(rt) {
+        hear(rt, &mut reader)
+    } else {
+        Heard::nothing()
+    }
 }
 
-/// Four collectors submit, each in a thread.
-fn submit_four<R: Threads + Wait + Sync>(
-    rt: &R,
+type Collecting = PromisedHandle<CollectorPass, PassOf>;
+
+/// Starts a collector.
+fn start_collector<'s, E, R: Threads + Wait + Sync>(
+    scope: &Scope<'s, E>,
+    rt: &'s R,
     alloc: Global,
-    desk: &Desk,
-    passes: CollectorPasses,
-) -> CollectorPasses
-    requires desk { AreCollectorsOf desk.now passes }
-    requires none { (passes.0.2 ≡ []) × (passes.1.2 ≡ []) × (passes.2.2 ≡ []) × (passes.3.2 ≡ []) }
-    ensures { AreCollectorsOf desk.now result }
+    hall: &'s Hall,
+    session: u8,
+    pass: CollectorPass,
+) -> Result<Collecting, NoMemory>
+    requires desk { pass.0 ≡ hall.now.desk.0 }
+    requires fresh { pass.2 ≡ [] }
+    ensures { IfOk result (λ thread. thread.promise.0.value ≡ pass) }
 {
-    let (first, second, third, fourth) = passes;
-    let ((first, second), (third, fourth)) = thread::join(
-        rt,
-        move ||
-            requires { (first.0 ≡ desk.now.0) × (first.1 ≡ 0) × (first.2 ≡ []) × (second.0 ≡ desk.now.0) × (second.1 ≡ 1) × (second.2 ≡ []) }
-            ensures { (result.0.0 ≡ desk.entry.now.0) × (result.0.1 ≡ 0) × (result.1.0 ≡ desk.entry.now.0) × (result.1.1 ≡ 1) }
-        { submit_two(rt, alloc, desk, 0, first, second) },
-        move ||
-            requires { (third.0 ≡ desk.now.0) × (third.1 ≡ 2) × (third.2 ≡ []) × (fourth.0 ≡ desk.now.0) × (fourth.1 ≡ 3) × (fourth.2 ≡ []) }
-            ensures { (result.0.0 ≡ desk.entry.now.0) × (result.0.1 ≡ 2) × (result.1.0 ≡ desk.entry.now.0) × (result.1.1 ≡ 3) }
-        { submit_two(rt, alloc, desk, 2, third, fourth) },
-    );
-    (first, second, third, fourth)
+    let promise = PassOf(Snapshot::of(&pass));
+    let thread = scope.spawn_with(
+        promise,
+        move || -> CollectorPass
+            requires { (pass.0 ≡ hall.now.desk.0) × (pass.2 ≡ []) }
+            ensures { (result.0 ≡ pass.0) × (result.1 ≡ pass.1) }
+        { collect(rt, alloc, hall, session, pass) },
+    )?;
+    Ok(thread)
+}
+
+/// Starts the reader.
+fn start_reader<'s, E, R: Threads + Wait + Sync>(
+    scope: &Scope<'s, E>,
+    rt: &'s R,
+    hall: &'s Hall,
+    reader: ReportReader,
+) -> Result<JoinHandle<Heard>, NoMemory> {
+    let thread = scope.spawn(move || -> Heard { listen(rt, hall, reader) })?;
+    Ok(thread)
 }
 
 const EFFORT: Effort = Effort {
@@ -267,10 +345,12 @@ const EFFORT: Effort = Effort {
     workers: 1,
 };
 
-/// What the auditor comes back with: its pass, and whether its last round was made.
+/// What the threads come back with: the collectors' passes and the auditor's, what was heard, and whether the last round was made.
 #[derive(Drop)]
-struct Audited {
-    pass: AuditorPass,
+struct Returned {
+    passes: CollectorPasses,
+    side: AuditorSide,
+    heard: Heard,
     is_made: bool,
 }
 
@@ -278,57 +358,101 @@ struct Audited {
 fn audit<R: Wait>(
     rt: &R,
     alloc: Global,
-    desk: &Desk,
-    latest: &Latest,
+    hall: &Hall,
     engine: Engine,
-    side: AuditorSide,
-) -> Audited
+    side: &mut AuditorSide,
+) -> bool
     requires none_open { engine.asked ≡ None }
-    requires desk { side.pass.0 ≡ desk.now.0 }
-    requires word { side.seat.word ≡ latest.now }
-    requires fresh { (side.pass.1 ≡ []) × (side.sender.sent ≡ []) × (side.seat.published ≡ []) }
-    ensures { result.pass.0 ≡ side.pass.0 }
+    requires side { IsFreshSide hall.now.desk hall.now.latest side.old }
+    ensures { side.new.pass.0 ≡ side.old.pass.0 }
 {
-    let mut side = side;
-    let is_made = audit_live(rt, alloc, engine, &Single, EFFORT, desk, latest, &mut side).is_ok();
-    Audited {
-        pass: side.pass,
-        is_made,
-    }
+    audit_live(
+        rt,
+        alloc,
+        engine,
+        &Single,
+        EFFORT,
+        &hall.desk,
+        &hall.latest,
+        side,
+    )
+    .is_ok()
 }
 
-/// The auditor and the reader, each in a thread.
-fn audit_and_hear<R: Threads + Wait + Sync>(
+/// Each collector and the reader work in a thread of their own, and the auditor in this one. Where one of the threads can't be made none works.
+fn run_threads<R: Threads + Wait + Sync>(
     rt: &R,
     alloc: Global,
-    desk: &Desk,
-    latest: &Latest,
+    hall: &Hall,
     engine: Engine,
+    passes: CollectorPasses,
     side: AuditorSide,
     reader: ReportReader,
-) -> (Audited, Heard)
+) -> Result<Returned, NoMemory>
+    requires passes { AreCollectorsOf hall.now.desk passes }
+    requires none { AreFresh passes }
     requires none_open { engine.asked ≡ None }
-    requires desk { side.pass.0 ≡ desk.now.0 }
-    requires word { side.seat.word ≡ latest.now }
-    requires fresh { (side.pass.1 ≡ []) × (side.sender.sent ≡ []) × (side.seat.published ≡ []) }
-    ensures { result.0.pass.0 ≡ desk.now.0 }
+    requires side { IsFreshSide hall.now.desk hall.now.latest side }
+    ensures passes { IfOk result (λ returned. AreCollectorsOf hall.now.desk returned.passes) }
+    ensures side { IfOk result (λ returned. returned.side.pass.0 ≡ hall.now.desk.0) }
 {
-    thread::join(
+    thread::scope(
+        thread::scope_env(),
         rt,
-        move ||
-            requires { (engine.asked ≡ None) × (side.pass.0 ≡ desk.now.0) × (side.seat.word ≡ latest.now) × (side.pass.1 ≡ []) × (side.sender.sent ≡ []) × (side.seat.published ≡ []) }
-            ensures { result.pass.0 ≡ desk.entry.now.0 }
-        { audit(rt, alloc, desk, latest, engine, side) },
-        move || -> Heard { hear(rt, reader) },
+        move |scope| -> Result<Returned, NoMemory>
+            requires { AreCollectorsOf hall.now.desk passes × AreFresh passes × (engine.asked ≡ None) × IsFreshSide hall.now.desk hall.now.latest side }
+            ensures { IfOk result (λ returned. AreCollectorsOf hall.entry.now.desk returned.passes × (returned.side.pass.0 ≡ hall.entry.now.desk.0)) }
+        {
+            let (first, second, third, fourth) = passes;
+            let reading = start_reader(scope, rt, hall, reader);
+            let first = start_collector(scope, rt, alloc, hall, 0, first);
+            let second = start_collector(scope, rt, alloc, hall, 1, second);
+            let third = start_collector(scope, rt, alloc, hall, 2, third);
+            let fourth = start_collector(scope, rt, alloc, hall, 3, fourth);
+            match (reading, first, second, third, fourth) {
+                (Ok(reading), Ok(first), Ok(second), Ok(third), Ok(fourth)) => {
+                    let _ = hall.start.set(rt, true);
+                    let mut side = side;
+                    let is_made = audit(rt, alloc, hall, engine, &mut side);
+                    let first = first.join(rt);
+                    let second = second.join(rt);
+                    let third = third.join(rt);
+                    let fourth = fourth.join(rt);
+                    Ok(Returned {
+                        passes: (first, second, third, fourth),
+                        side,
+                        heard: reading.join(rt),
+                        is_made,
+                    })
+                }
+                _ => {
+                    let _ = hall.start.set(rt, false);
+                    Err(AllocError)
+                }
+            }
+        },
     )
 }
 
 /// What a crowd came to.
-#[derive(Drop)]
+#[derive(Clone, Copy, Debug)]
 struct Crowd {
     tally: Tally,
     heard: Heard,
     is_made: bool,
+}
+
+/// What the desk tells, once the threads have ended.
+fn crowd_of<R: Wait>(rt: &R, hall: Hall, returned: Returned) -> Crowd
+    requires passes { AreCollectorsOf hall.desk returned.passes }
+    requires side { returned.side.pass.0 ≡ hall.desk.0 }
+{
+    let tally = hall.desk.tally(rt, returned.passes, returned.side.pass);
+    Crowd {
+        tally,
+        heard: returned.heard,
+        is_made: returned.is_made,
+    }
 }
 
 fn open_engine(alloc: Global) -> Result<Engine, NoMemory>
@@ -340,75 +464,45 @@ fn open_engine(alloc: Global) -> Result<Engine, NoMemory>
     }
 }
 
-/// All six work: each collector, the auditor and the reader in a thread of its own.
-fn work<R: Threads + Wait + Sync>(
-    rt: &R,
-    alloc: Global,
-    desk: Desk,
-    passes: CollectorPasses,
-    latest: &Latest,
-    engine: Engine,
-    side: AuditorSide,
-    reader: ReportReader,
-) -> Crowd
-    requires passes { AreCollectorsOf desk passes }
-    requires none { (passes.0.2 ≡ []) × (passes.1.2 ≡ []) × (passes.2.2 ≡ []) × (passes.3.2 ≡ []) }
-    requires none_open { engine.asked ≡ None }
-    requires desk { side.pass.0 ≡ desk.0 }
-    requires word { side.seat.word ≡ latest.now }
-    requires fresh { (side.pass.1 ≡ []) × (side.sender.sent ≡ []) × (side.seat.published ≡ []) }
-{
-    let line = &desk;
-    let (passes, (audited, heard)) = thread::join(
-        rt,
-        move ||
-            requires { AreCollectorsOf line.now passes × (passes.0.2 ≡ []) × (passes.1.2 ≡ []) × (passes.2.2 ≡ []) × (passes.3.2 ≡ []) }
-            ensures { AreCollectorsOf line.entry.now result }
-        { submit_four(rt, alloc, line, passes) },
-        move ||
-            requires { (engine.asked ≡ None) × (side.pass.0 ≡ line.now.0) × (side.seat.word ≡ latest.now) × (side.pass.1 ≡ []) × (side.sender.sent ≡ []) × (side.seat.published ≡ []) }
-            ensures { result.0.pass.0 ≡ line.entry.now.0 }
-        { audit_and_hear(rt, alloc, line, latest, engine, side, reader) },
-    );
-    let Audited { pass, is_made } = audited;
-    let tally = desk.tally(rt, passes, pass);
-    Crowd {
-        tally,
-        heard,
-        is_made,
-    }
-}
-
-fn crowd<R: Threads + Wait + Sync>(rt: &R, alloc: Global) -> Result<Crowd, NoMemory> {
-    let desk = Desk::new(alloc, 3);
-    let ring = ring(alloc, 1);
-    let word = Latest::new(alloc, 0);
-    let engine = open_engine(alloc);
-    match (desk, ring, word, engine) {
+fn run_crowd<R: Threads + Wait + Sync>(rt: &R, alloc: Global) -> Result<Crowd, NoMemory> {
+    match (
+        Desk::new(alloc, 3),
+        ring(alloc, 1),
+        Latest::new(alloc, 1),
+        open_engine(alloc),
+    ) {
         (Ok((desk, passes, pass)), Ok((sender, reader)), Ok((latest, seat, _)), Ok(engine)) => {
+            let start = OnceLock::new();
+            let hall = Hall {
+                start,
+                fences: AtomicU64::new(0),
+                desk,
+                latest,
+            };
             let side = AuditorSide { pass, sender, seat };
-            Ok(work(rt, alloc, desk, passes, &latest, engine, side, reader))
+            match run_threads(rt, alloc, &hall, engine, passes, side, reader) {
+                Ok(returned) => Ok(crowd_of(rt, hall, returned)),
+                Err(refused) => Err(refused),
+            }
         }
         _ => Err(AllocError),
     }
 }
 
-/// Each collector's items are taken, each is answered, no report is wrong, and the last one counts all that was accepted. Where nothing was refused
-/// it is serial; what isn't serial before is pending, since fences come before those that they read.
+/// Each collector's items are taken, none is refused, no report is wrong, and the last one counts all that was accepted, and is serial. What isn't
+/// serial before is pending: a parcel may be taken before that of another collector which it has read from.
 #[test]
 fn four_threads_with_2000_items_each(rt: HostRuntime) -> Result<(), Fail> {
-    let crowd = crowd(&rt, rt.alloc())?;
+    let crowd = run_crowd(&rt, rt.alloc())?;
     let heard = crowd.heard;
     assert!(rt; crowd.is_made);
     assert_eq!(rt; crowd.tally.submitted, [2000; 4]);
     assert_eq!(rt; crowd.tally.taken, [2000; 4]);
     assert_eq!(rt; crowd.tally.left, [0; 4]);
-    assert_eq!(rt; heard.wrong, 0, "{heard:?}");
+    assert_eq!(rt; (heard.refused, heard.wrong), (0, 0), "{heard:?}");
+    assert_eq!(rt; heard.accepted, [TXNS; 4], "{heard:?}");
     assert_eq!(rt; heard.counts, heard.accepted, "{heard:?}");
-    if heard.refused == 0 {
-        assert_eq!(rt; heard.accepted, [TXNS; 4]);
-        assert_eq!(rt; heard.last, Some(Kind::Serial), "{heard:?}");
-        assert!(rt; 0 < heard.cuts, "{heard:?}");
-    }
+    assert_eq!(rt; heard.last, Some(Kind::Serial), "{heard:?}");
+    assert!(rt; 0 < heard.cuts, "{heard:?}");
     Ok(())
 }
