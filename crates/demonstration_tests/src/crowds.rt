@@ -447,11 +447,28 @@ fn crowd_of<R: Wait>(rt: &R, hall: Hall, returned: Returned) -> Crowd
     requires passes { AreCollectorsOf hall.desk returned.passes }
     requires side { returned.side.pass.0 ≡ hall.desk.0 }
 {
-    let tally = hall.desk.tally(rt, returned.passes, returned.side.pass);
+    let Hall {
+        start: _,
+        fences: _,
+        desk,
+        latest: _,
+    } = hall;
+    let Returned {
+        passes,
+        side,
+        heard,
+        is_made,
+    } = returned;
+    let AuditorSide {
+        pass,
+        sender: _,
+        seat: _,
+    } = side;
+    let tally = desk.tally(rt, passes, pass);
     Crowd {
         tally,
-        heard: returned.heard,
-        is_made: returned.is_made,
+        heard,
+        is_made,
     }
 }
 
