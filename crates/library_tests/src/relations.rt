@@ -102,16 +102,38 @@ fn is_as_defined(rt: &impl Abort, alloc: Global, saturated: &Saturated) -> Resul
     Ok(())
 }
 
+/// The cut that is found behind an order that explains the problem's parts.
+fn cut_behind(
+    rt: &impl Abort,
+    alloc: Global,
+    problem: &Problem,
+    order: &[TxnId],
+) -> Result<Option<Cut>, NoMemory>
+    ensures { IfOk result (λ found. IfSome found (λ cut. IsFound problem.now.known.parts (Some cut))) }
+{
+    is_explained(rt, alloc, problem, order)?;
+    find(alloc, problem, order)
+}
+
+/// The cut that is found in the problem, where an order explains its parts.
+fn cut_in(rt: &impl Abort, alloc: Global, problem: &Problem) -> Result<Option<Cut>, NoMemory>
+    ensures { IfOk result (λ found. IfSome found (λ cut. IsFound problem.now.known.parts (Some cut))) }
+{
+    match solve_cube(alloc, problem, 0, 0, 1000) {
+        Ok(Cube::Yes(order)) => cut_behind(rt, alloc, problem, order.as_slice()),
+        Ok(_) => Ok(None),
+        Err(refused) => Err(refused),
+    }
+}
+
 /// The cut that is found, where an order explains the parts.
 fn cut_of(rt: &impl Abort, alloc: Global, saturated: &Saturated) -> Result<Option<Cut>, NoMemory>
     ensures { IfOk result (λ found. IfSome found (λ cut. IsFound saturated.now.parts (Some cut))) }
 {
-    let problem = Problem::of(alloc, saturated)?;
-    let Cube::Yes(order) = solve_cube(alloc, &problem, 0, 0, 1000)? else {
-        return Ok(None);
-    };
-    is_explained(rt, alloc, &problem, order.as_slice())?;
-    find(alloc, &problem, order.as_slice())
+    match Problem::of(alloc, saturated) {
+        Ok(problem) => cut_in(rt, alloc, &problem),
+        Err(refused) => Err(refused),
+    }
 }
 
 /// Goes on with what the cut leaves, with every session closed since.

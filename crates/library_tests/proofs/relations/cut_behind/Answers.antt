@@ -1,10 +1,10 @@
--- The cut is one of the relation's parts, which are the problem's.
-use Rattle.std.proofs.Common.{Option, Some, None, Result, IfSome, IfOk, subst}
+-- The cut is one of the problem's parts.
+use Rattle.std.proofs.Common.{Option, Some, None, Result, IfSome, IfOk}
 use Rattle.std.proofs.lemmas.Result.{IfOk-weaker}
 use Rattle.order_check.specs.declared.remainder.Parts.{Parts}
 use Rattle.settle.specs.Found.{IsFound}
 use Rattle.settle.specs.declared.cuts.Cut.{Cut}
-use Rattle.library_tests.proofs.relations.cut_of.Goals as goal
+use Rattle.library_tests.proofs.relations.cut_behind.Goals as goal
 
 some_found : (parts : Parts) (found : Option Cut) → IsFound parts found → IfSome found (λ cut. IsFound parts (Some cut))
 some_found parts None is = search
@@ -14,4 +14,4 @@ if_found : {E : Type 0} (parts : Parts) (found : Result (Option Cut) E) → IfOk
 if_found parts found = IfOk-weaker found (IsFound parts) (λ found. IfSome found (λ cut. IsFound parts (Some cut))) (some_found parts)
 
 pub returns : goal.returns
-returns g c = if_found c.args.saturated.now.parts c.find.result (subst (λ state. IfOk c.find.result (IsFound state.parts)) c.in_ok-problem.ensures.known c.find.ensures)
+returns g c = if_found c.args.problem.now.known.parts c.find.result c.find.ensures
