@@ -31,7 +31,7 @@ PIPE = 1 << 20  # bytes that wait in a pipe before its writer has to
 SECONDS = 120.0  # for the replies to a chunk
 GENERATORS = {"bytes": (Bytes, 35), "grammar": (Grammar, 35), "scripts": (Scripts, 30)}
 EACH = 600  # lines of a script, about
-FEW = 20000  # lines for each script of the longest lines
+FEW = 50000  # lines for each script of the longest lines
 
 
 class Program:
@@ -175,7 +175,7 @@ def fuzz(start, seed, most, until=None, only="", table=None, tell=None):
     while table.lines() < most and (until is None or time.monotonic() < until):
         dice = random.Random(f"{seed} {number}")
         kind = dice.choices(kinds, weights)[0]
-        if not only and table.lines() >= longest * FEW:
+        if not only and table.lines() >= (longest + 1) * FEW:
             kind, longest = Longest, longest + 1
         try_script(kind(dice), dice, start, table, min(EACH, most))
         number += 1
