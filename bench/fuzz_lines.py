@@ -50,28 +50,37 @@ class Store:
         self.keys = [*range(1, dice.choice((1, 2, 3, 4, 6, 12)) + 1)]
         if dice.random() < 0.1:
             self.keys[-1] = WHOLE - 1
-        self.lies = dice.choice((0.0, 0.0, 0.0, 0.02, 0.15))
+        self.lies = dice.choice((0.0, 0.0, 0.0, 0.0, 0.02, 0.15))
         self.ahead = dice.choice((0.0, 0.0, 0.0, 0.03))  # reads of what no one has run yet
         self.blind = dice.choice((0.0, 0.1, 0.5, 0.9))
-        self.fences = dice.choice((0.0, 0.1, 0.3))
+        self.meets = dice.choice((0.0, 0.1, 0.2)) if sessions < 7 else 0.0
+        self.torn = sessions > 7 and dice.random() < 0.7
+        if self.torn:  # who reads doesn't write, and reads anything: what takes a search
+            self.keys, self.lies = [1, 2, 3, 4][:dice.choice((2, 3, 4))], 0.5
         self.last, self.writers = {}, defaultdict(list)
         self.waiting = [[] for _ in range(sessions)]  # the first has the number `first`
         self.first = [0] * sessions
-        self.next = 0
 
     def execute(self):
-        """One more transaction, which waits in its session."""
+        """One more transaction, which waits in its session; or a meeting, at which each session runs
+        two fences."""
         dice = self.dice
-        session = dice.randrange(self.sessions)
-        if dice.random() < self.fences:  # turn about, so that each session goes past
-            session, self.next = self.next, (self.next + 1) % self.sessions
-            keys, writes = [0], [0]
+        if dice.random() < self.meets:
+            for session in [*range(self.sessions)] * 2:
+                self.log(session, [0], [0])
+        elif self.torn:
+            keys = sorted(dice.sample(self.keys, dice.choice((1, 2, 2, 3)) % len(self.keys) + 1))
+            is_reader = dice.random() < 0.5
+            self.log(dice.randrange(self.sessions), *((keys, []) if is_reader else ([], keys)))
         else:
             keys = sorted(dice.sample(self.keys, min(len(self.keys), dice.choice((0, 1, 1, 2)))))
             writes = {key for key in keys if dice.random() < 0.6}
             if dice.random() < self.blind:
                 writes.add(dice.choice(self.keys))
-            writes = sorted(writes)
+            self.log(dice.randrange(self.sessions), keys, sorted(writes))
+
+    def log(self, session, keys, writes):
+        """A transaction of the session, which reads and writes these keys."""
         me = session, self.first[session] + len(self.waiting[session])
         reads = [[key, *self.source(key, me)] for key in keys]
         for key in writes:
@@ -88,7 +97,11 @@ class Store:
         return ("init",) if found is None or found == me else found
 
     def go_on(self, received):
-        """What was taken in waits no more."""
+        """What was taken in waits no more. Another number of sessions may have been opened."""
+        if len(received) != self.sessions:
+            self.sessions = len(received)
+            self.waiting = [[] for _ in received]
+            self.first = list(received)
         for session, count in enumerate(received):
             taken = count - self.first[session]
             if taken > len(self.waiting[session]):  # another line was taken in
@@ -103,18 +116,19 @@ class Scripts:
 
     def __init__(self, dice):
         self.dice = dice
-        self.sessions = dice.choice((1, 2, 2, 3, 3, 4, 6, 64 if dice.random() < 0.1 else 5))
-        self.limit = dice.choice((1, 4, 8, 12, 20, 20, 30, 40, 4096))
+        self.sessions = dice.choice((1, 2, 2, 3, 3, 4, 6, 12, 16, 64 if dice.random() < 0.1 else 5))
+        self.limit = dice.choice((1, 4, 8, 16, 20, 30, 40, 50, 4096, 4096))
         self.store = Store(dice, self.sessions)
         self.most = dice.choice((10, 16, 24, 36))  # what remains goes little above it
-        self.is_open, self.odd = False, dice.choice((0.0, 0.05, 0.2))
+        self.is_open, self.odd = False, dice.choice((0.0, 0.0, 0.05, 0.2))
+        self.full = 0  # chunks that began with so much, one after another
 
     def opening(self):
         return [("script: open", compact(["open", self.sessions, self.limit]))]
 
-    def is_over(self, model):
-        """Whether too much remains for a quick model, and nothing of it is settled."""
-        return bool(model.parts) and sum(map(len, model.parts.remaining)) > 2 * self.most + 8
+    def is_over(self, _):
+        """Whether much remains, and nothing of it is settled."""
+        return self.full > 2
 
     def chunk(self, model):
         """Some thirty lines."""
@@ -126,18 +140,19 @@ class Scripts:
         self.is_open = model.snapshot is not None
         sent, lines = [0] * self.sessions, []
         remaining = sum(map(len, model.parts.remaining))
+        most = min(self.most, self.limit)
+        self.full = self.full + 1 if remaining >= most else 0
         for _ in range(dice.choice((8, 30))):
-            turn = dice.random()
-            if turn < 0.55 and remaining < self.most:
+            if dice.random() < 0.5 and (remaining < most or dice.random() < 0.05):
                 line = self.offer(sent)
                 remaining += len(line[3])
             else:
-                line = self.other(turn)
+                line = self.other()
             kind = f"script: {line[0]}"
             if dice.random() < self.odd:
                 line, kind = odd(dice, line), f"script: odd {line[0]}"
             lines.append((kind, compact(line)))
-        if remaining >= self.most:
+        if remaining >= most:
             lines += [("script: round", compact(["round", 64, 0, 1])),
                       ("script: truncate", compact(["truncate"]))]
         return lines
@@ -158,18 +173,19 @@ class Scripts:
         sent[session] += len(txns)
         return ["offer", session, first, txns]
 
-    def other(self, turn):
+    def other(self):
         dice = self.dice
-        if turn < 0.62:
+        turn = dice.random()
+        if turn < 0.2:
             return ["show"]
-        if turn < 0.75:
+        if turn < 0.45:
             self.is_open = not self.is_open
             return ["begin"] if self.is_open else ["finish", *effort(dice)]
-        if turn < 0.9:
+        if turn < 0.75:
             return ["finish" if self.is_open else "round", *effort(dice)]
-        if turn < 0.97:
+        if turn < 0.95:
             return ["truncate"]
-        if turn < 0.985:
+        if turn < 0.98:
             return ["rebuild"]
         return ["close", dice.randrange(self.sessions + 1)] if dice.random() < 0.3 else ["show"]
 
@@ -216,7 +232,7 @@ class Mutated:
         self.sessions = dice.choice((1, 2, 3, 64))
         self.limit = dice.choice((1, 5, 10, 16))
         self.store = Store(dice, self.sessions)
-        self.count = dice.choice((16, 64))
+        self.count = dice.choice((16, 100))
 
     def is_over(self, _):
         return False
@@ -229,16 +245,14 @@ class Mutated:
             return ["open", self.sessions, self.limit]
         if turn < 0.65:
             store.go_on(model.parts.received())
-            session = dice.randrange(self.sessions)
             store.execute()
-            while not store.waiting[session]:
-                session = dice.randrange(self.sessions)
+            session = dice.choice([at for at, its in enumerate(store.waiting) if its])
             return ["offer", session, store.first[session], store.waiting[session][:4]]
         if turn < 0.8:
             return [dice.choice(("round", "finish")), *effort(dice)]
-        if turn < 0.85:
+        if turn < 0.81:
             return ["close", dice.randrange(self.sessions)]
-        return [dice.choice(("show", "show", "begin", "truncate", "rebuild"))]
+        return [dice.choice(("show", "show", "show", "begin", "truncate", "rebuild"))]
 
     def chunk(self, model):
         lines = []
