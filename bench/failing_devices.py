@@ -10,10 +10,10 @@ Each worked script whose name has the word (first_cut, where none is told) is gi
 by devices that move 1, 7 and 4,096 bytes a call, whose k-th read fails, for each k that there is,
 and then whose k-th write fails: by an error, by a signal, by having to wait, by a full device, and
 by taking no byte of what is written. What was written has to be a front of what is owed, with every
-reply of the lines before; the status 1, and the word `device failed`. Without a failure all is told,
-with status 0. Then the script is cut off at every byte, and what is told of that has to be what the
-plain model owes (`judge.py`). It prints a line for each size, and ends with status 1 where one is
-wrong.
+reply of the lines before; the status 1, and the words `device failed`. Without a failure all is
+told, with status 0. Then the script is cut off at every byte, and what is told of that has to be
+what the plain model owes (`judge.py`). It prints a line for each size, and ends with status 1 where
+one is wrong.
 """
 import argparse
 import os

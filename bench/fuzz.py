@@ -6,9 +6,9 @@ program, or with COBRA_AUDIT naming another one:
 
     python3 bench/fuzz.py [--lines N] [--seed S] [--minutes M] [--only WORD] [--keep FILE] [PROGRAM]
 
-Three generators: bytes mutated, lines mutated by their grammar, and whole scripts (`fuzz_lines.py`).
-Each reply is held against the one that the plain model owes (`judge.py`), and each program has to
-end with status 0 and no word more. It prints a table of what was tried by kind of line and by
+Three generators: bytes mutated, lines mutated by their grammar, and whole scripts
+(`fuzz_lines.py`). Each reply is held against the one that the plain model owes (`judge.py`), and
+each program has to end with status 0 and no word more. It prints a table of what was tried by kind of line and by
 reply. At the first difference it stops, makes the script smaller while a difference stays, writes
 it to FILE (fuzz-difference.jsonl) and ends with status 1. --only takes the generators alone whose
 name has the word. The same seed gives the same lines to programs that answer alike.
@@ -153,7 +153,8 @@ def judge_line(model, line, reply, given):
 
 def end_script(model, program, given, table, dice):
     """Half of all scripts end with a line without LF."""
-    rest = dice.choice((b"", b"", b'["show"]', b'["show"', b" ", b"\r", b"\xff", b'["round",9,0,1]'))
+    rest = dice.choice((b"", b"", b'["show"]', b'["show"', b" ", b"\r", b"\xff",
+                        b'["round",9,0,1]'))
     told, why = program.end(rest)
     if why:
         raise Difference(list(given), why)

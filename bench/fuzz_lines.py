@@ -16,16 +16,17 @@ NO_NUMBERS = ("-0", "-1", "-5", "00", "01", "007", "+1", "5.0", "0.0", "5e0", "5
               "1e999", "0x5", "0b1", "5.", ".5", "5_0", "5n", "NaN", "Infinity", "-Infinity", "-",
               "1" * 400, "-" + "9" * 30, "0." + "3" * 60, "18446744073709551616.0", "1e", "--1",
               "5 5", "\u0665", "\uff15", "1" + "0" * 5000)
-OTHERS = ("null", "true", "false", '""', '"init"', '"Init"', '"5"', "{}", '{"a":1}', '{"a":1,"a":1}',
-          '{"init":{"init":[]}}', "[]", "[[]]", '[""]', '"\\u0000"', '"\\ud800"', '"\\udc00\\ud800"',
-          '"\\ud83d\\ude00"', "undefined", "'init'", "nul", "tru", '{"a"}', "{1:2}", '{"a":1,}')
+OTHERS = ("null", "true", "false", '""', '"init"', '"Init"', '"5"', "{}", '{"a":1}',
+          '{"a":1,"a":1}', '{"init":{"init":[]}}', "[]", "[[]]", '[""]', '"\\u0000"', '"\\ud800"',
+          '"\\udc00\\ud800"', '"\\ud83d\\ude00"', "undefined", "'init'", "nul", "tru", '{"a"}', "{1:2}", '{"a":1,}')
 SPACES = (" ", "\t", "\r", "  ", " \t\r ")
-NO_SPACES = ("\x0b", "\x0c", "\xa0", "\u2028", "\ufeff", "\x00", "/**/", "\\", ";", ",", ":", "\x85")
-NO_TEXT = (b"\xff", b"\xfe\xff", b"\xc3", b"\xc0\x80", b"\xed\xa0\x80", b"\xf4\x90\x80\x80", b"\x80",
-           b"\xe2\x28\xa1", b"\xf8\x88\x80\x80\x80", b"\xef\xbb\xbf", b"\x00", b"\r", b"\x1b", b"\x7f",
-           b"\xef\xbb", b"\xf0\x9f\x98")
+NO_SPACES = ("\x0b", "\x0c", "\xa0", "\u2028", "\ufeff", "\x00", "/**/", "\\", ";", ",", ":",
+             "\x85")
+NO_TEXT = (b"\xff", b"\xfe\xff", b"\xc3", b"\xc0\x80", b"\xed\xa0\x80", b"\xf4\x90\x80\x80",
+           b"\x80", b"\xe2\x28\xa1", b"\xf8\x88\x80\x80\x80", b"\xef\xbb\xbf", b"\x00", b"\r",
+           b"\x1b", b"\x7f", b"\xef\xbb", b"\xf0\x9f\x98")
 WORDS = ("open", "offer", "close", "begin", "finish", "round", "truncate", "rebuild", "show")
-BUDGETS = (1, 1, 2, 3, 4, 5, 7, 8, 15, 16, 31, 32, 33, 64, 64, 128, 256, 512, 4096)
+BUDGETS = (1, 1, 1, 2, 2, 3, 4, 5, 7, 8, 15, 16, 31, 32, 33, 64, 64, 128, 256)
 
 
 class Raw(str):
@@ -62,8 +63,8 @@ class Store:
         self.first = [0] * sessions
 
     def execute(self):
-        """One more transaction, which waits in its session; or a meeting, at which each session runs
-        two fences."""
+        """One more transaction, which waits in its session; or a meeting, at which each session
+        runs two fences."""
         dice = self.dice
         if dice.random() < self.meets:
             for session in [*range(self.sessions)] * 2:
@@ -119,7 +120,9 @@ class Scripts:
         self.sessions = dice.choice((1, 2, 2, 3, 3, 4, 6, 12, 16, 64 if dice.random() < 0.1 else 5))
         self.limit = dice.choice((1, 4, 8, 16, 20, 30, 40, 50, 4096, 4096))
         self.store = Store(dice, self.sessions)
-        self.most = dice.choice((10, 16, 24, 36))  # what remains goes little above it
+        self.most = dice.choice((8, 12, 16, 30))  # what remains goes little above it
+        if self.store.torn:
+            self.most = dice.choice((12, 16))
         self.is_open, self.odd = False, dice.choice((0.0, 0.0, 0.05, 0.2))
         self.full = 0  # chunks that began with so much, one after another
 
@@ -302,7 +305,8 @@ class Bytes(Mutated):
         del line[place:]
 
     def make_spliced(self, line, at, place):
-        line[place:] = compact([self.dice.choice(WORDS), 0, 0, [[[], [5]]]])[self.dice.randrange(20):]
+        other = compact([self.dice.choice(WORDS), 0, 0, [[[], [5]]]])
+        line[place:] = other[self.dice.randrange(20):]
 
     def make_moved(self, line, at, place):
         piece = line[at:at + self.dice.randrange(1, 6)]
@@ -318,9 +322,9 @@ class Grammar(Mutated):
     """Lines changed by their grammar: numbers, fields, nesting, escapes, white space, lengths."""
 
     name = "grammar"
-    kinds = ("number", "no number", "other value", "field out", "field twice", "nested", "flattened",
-             "word", "escape", "white space", "no space", "no text", "comma", "bracket", "two lines",
-             "around", "odd")
+    kinds = ("number", "no number", "other value", "field out", "field twice", "nested",
+             "flattened", "word", "escape", "white space", "no space", "no text", "comma",
+             "bracket", "two lines", "around", "odd")
 
     def mutate(self, command):
         dice = self.dice
@@ -385,8 +389,8 @@ class Grammar(Mutated):
         def escaped(old):
             place = dice.randrange(max(len(old), 1))
             code = ord(old[place]) if old else 0
-            one = dice.choice((f"\\u{code:04x}", f"\\u{code:04X}", f"\\u{code:04x}", f"\\u{code:03x}",
-                               f"\\x{code:02x}", "\\" + chr(code), f"\\U{code:04x}", "\\/",
+            one = dice.choice((f"\\u{code:04x}", f"\\u{code:04X}", f"\\u{code:04x}",
+                               f"\\u{code:03x}", f"\\x{code:02x}", "\\" + chr(code), f"\\U{code:04x}", "\\/",
                                f"\\u{{{code:x}}}", "\\ud83d\\ude00", "\\ud800", f"\\u+{code:03x}"))
             return Raw('"' + old[:place] + one + old[place + 1:] + '"')
         return self.put(command, escaped, str)
@@ -426,14 +430,16 @@ class Grammar(Mutated):
         return self.swapped(command, "[]", ("", "[[", "]]", "{", "}", "(", "],", ",]", "[,"))
 
     def make_two_lines(self, command):
-        return write(command) + self.dice.choice(("", " ", ",", "\r", "\t", "\r\n", "\n\n")) + write(
-            self.dice.choice((["show"], ["begin"], [], command)))
+        between = self.dice.choice(("", " ", ",", "\r", "\t", "\r\n", "\n\n"))
+        other = self.dice.choice((["show"], ["begin"], [], command))
+        return write(command) + between + write(other)
 
     def make_around(self, command):
         front, end = self.dice.choice((
             ("", "\r"), (" ", ""), ("", " "), ("\t\r ", "\r\r"), ("\ufeff", ""), ("", "\ufeff"),
-            ("", "\0"), ("\0", ""), ("", ","), ("", "#"), ("//", ""), ("", "\x0c"), ('"', '"'), ("[", "]"),
-            ("{", "}"), ("", "\r" * 300), (" " * 5000, ""), ("", "x"), ('{"a":', "}"), ("", "null")))
+            ("", "\0"), ("\0", ""), ("", ","), ("", "#"), ("//", ""), ("", "\x0c"), ('"', '"'),
+            ("[", "]"), ("{", "}"), ("", "\r" * 300), (" " * 5000, ""), ("", "x"), ('{"a":', "}"),
+            ("", "null")))
         return front + write(command) + end
 
     def make_odd(self, command):
@@ -485,7 +491,7 @@ class Longest:
             line = compact(command)
             place = dice.choice((0, 1, len(line)))
             lines.append((kind, line[:place] + fill * (room - len(line)) + line[place:]))
-            lines.append((kind, dice.choice((b"x", b"[", b" ", b"\0", b'["', b"1", b"\xff"))[:1] * room))
+            lines.append((kind, dice.choice((b"x", b"[", b" ", b"\0", b'"', b"1", b"\xff")) * room))
             keys = b'["offer",1,0,[[[],[' + b"7," * (room // 2)
             lines.append((kind, keys[:room - 4] + b"]]]]"))
         return lines + [(kind, b'["show"]')]

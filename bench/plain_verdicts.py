@@ -1,4 +1,4 @@
-"""Verdicts in plain Python: what follows for every order, whether there is one, and which cut is lawful.
+"""Verdicts in plain Python: what holds in every order, whether there is one, and which cut is owed.
 
 Written from docs/DEFINITIONS.md and docs/FORMATS.md alone, and never from the auditor's code. It is
 for small remainders: rows of bits are Python's whole numbers, and a search copies them.
@@ -98,9 +98,9 @@ def is_fence(txn):
 
 class Relation:
     """What is known to come before what (DEFINITIONS, "The known relation"): the least transitive
-    relation with each session's order, writers before readers, readers of what was before everything
-    in front of each other writer of the key, the sides taken, and of each choice the side that is
-    left where the other one is ruled out."""
+    relation with each session's order, writers before readers, readers of what was before
+    everything in front of each other writer of the key, the sides taken, and of each choice the
+    side that is left where the other one is ruled out."""
 
     def __init__(self, parts):
         self.ids = parts.ids()

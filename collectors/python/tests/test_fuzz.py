@@ -2,6 +2,7 @@
 would be wrong is found, by lies that are told between the auditor and the model."""
 import json
 import os
+import re
 import sys
 import time
 import unittest
@@ -17,7 +18,7 @@ import judge  # noqa: E402
 
 LINES, SECONDS = 40000, 40.0  # what is tried, at most
 SEED = 1
-FOUND = 3000  # lines within which each lie is found
+FOUND = 1500  # lines within which each lie is found
 LEFT = 3  # lines, at most, that the script of a lie is made small to
 
 
@@ -147,7 +148,7 @@ def same(line):
 
 def swallowed(line):
     """An offer that is answered ok, and isn't kept."""
-    return b'["begin"]' if line.startswith(b'["offer"') else line
+    return b'["show"]' if line.startswith(b'["offer"') else line
 
 
 def told_ok(line, reply):
@@ -155,12 +156,12 @@ def told_ok(line, reply):
 
 
 def rebuilds(line):
-    """A refusal that changes the state: what is no line makes the auditor anew."""
-    return line if line.startswith(b"[") else b'["rebuild"]'
+    """A refusal that changes the state: what is no command makes the auditor anew."""
+    return line if judge.command_of(line) else b'["rebuild"]'
 
 
 def told_bad(line, reply):
-    return [reply] if line.startswith(b"[") else [judge.REFUSALS[1]]
+    return [reply] if judge.command_of(line) else [judge.REFUSALS[1]]
 
 
 def no_cut(line, reply):
@@ -174,13 +175,26 @@ def more_room(line):
     return line
 
 
-def not_begun(line):
-    """A round that counts what came after its begin."""
-    return b'["show"]' if line == b'["begin"]' else line.replace(b'["finish"', b'["round"')
+class LateBegin:
+    """A round that counts what came after its begin, and is otherwise told as it has to be."""
 
+    def __init__(self):
+        self.is_open, self.told = False, {}
 
-def told_begun(line, reply):
-    return [judge.OK] if line == b'["begin"]' else [reply]
+    def given(self, line):
+        word = (judge.command_of(line) or [""])[0]
+        if word == "finish" and self.is_open:
+            self.is_open = False
+            return line.replace(b"finish", b"round")
+        if word == "begin" or self.is_open and word in ("round", "truncate", "rebuild"):
+            self.told.setdefault(line, []).append(judge.REFUSALS[10] if self.is_open else judge.OK)
+            self.is_open = True
+            return b'["show"]'
+        return line
+
+    def answer(self, line, reply):
+        told = self.told.get(line)
+        return [told.pop(0) if told and reply.startswith(b'["show"') else reply]
 
 
 def replaced(old, new):
@@ -227,13 +241,13 @@ LIES = {
     "an offer that isn't kept": ("scripts", swallowed, told_ok),
     "a refusal that changed the state": ("bytes", rebuilds, told_bad),
     "a place more than the limit": ("scripts", more_room, always),
-    "what came after a begin is counted": ("scripts", not_begun, told_begun),
+    "what came after a begin is counted": ("scripts", LateBegin, None),
     "minus zero is zero": ("grammar", read_as(b"-0", b"0"), always),
     "a float is a number": ("grammar", read_as(b"5.0", b"5"), always),
     "a byte order mark is skipped": ("grammar", read_as(b"\xef\xbb\xbf", b""), always),
     "what is no text is skipped": ("bytes", without_no_text, always),
     "a comma at the end": ("grammar", read_as(b",]", b"]"), always),
-    "a leading zero": ("grammar", read_as(b"01", b"1"), always),
+    "a leading zero": ("grammar", lambda line: re.sub(rb"(?<=[\[,])0+(?=\d)", b"", line), always),
     "an escape isn't read": ("grammar", read_as(b"\\u0", b"\\v0"), always),
 }
 
@@ -257,6 +271,9 @@ class Liar(fuzz.Program):
 
     def __init__(self, given, answer):
         super().__init__(PROGRAM)
+        if given is LateBegin:
+            late = LateBegin()
+            given, answer = late.given, late.answer
         self.given, self.answer = given, answer
 
     def ask(self, lines):
@@ -269,6 +286,16 @@ def recorded(only):
     scripts = []
     fuzz.fuzz(lambda: Recorded(scripts), SEED, FOUND, only=only)
     return scripts
+
+
+def worked():
+    """What the worked scripts give and are told; the last line may have no LF."""
+    for name in sorted(os.listdir(WORKED)):
+        if name.endswith(".jsonl"):
+            with open(os.path.join(WORKED, name), "rb") as file:
+                lines = judge.lines_of(file.read())
+            with open(os.path.join(WORKED, name[:-5] + "replies"), "rb") as file:
+                yield list(zip(lines, judge.lines_of(file.read())))
 
 
 def found_in(scripts, answer):
@@ -298,7 +325,7 @@ class Fuzz(unittest.TestCase):
         self.assertGreater(table.lines(), 0)
 
     def test_lies_about_replies_are_found(self):
-        scripts = {only: recorded(only) for only in ("scripts", "bytes")}
+        scripts = {"scripts": [*recorded("scripts"), *worked()], "bytes": recorded("bytes")}
         for name, (only, given, answer) in LIES.items():
             if given is same:
                 with self.subTest(lie=name):
@@ -323,13 +350,9 @@ class Fuzz(unittest.TestCase):
         self.assertIn("BadLine", why)
 
     def test_worked_scripts_are_answered_so(self):
-        for name in sorted(os.listdir(WORKED)):
-            if name.endswith(".jsonl"):
-                with self.subTest(name=name):
-                    with open(os.path.join(WORKED, name), "rb") as file:
-                        script = file.read()
-                    with open(os.path.join(WORKED, name[:-5] + "replies"), "rb") as file:
-                        self.assertIsNone(judge.first_difference(script, file.read()))
+        for pairs in worked():
+            with self.subTest(first=pairs[:3]):
+                self.assertIsNone(found_in([pairs], always))
 
 
 if __name__ == "__main__":
