@@ -8,10 +8,10 @@ program, or with COBRA_AUDIT naming another one:
 
 Three generators: bytes mutated, lines mutated by their grammar, and whole scripts
 (`fuzz_lines.py`). Each reply is held against the one that the plain model owes (`judge.py`), and
-each program has to end with status 0 and no word more. It prints a table of what was tried by kind of line and by
-reply. At the first difference it stops, makes the script smaller while a difference stays, writes
-it to FILE (fuzz-difference.jsonl) and ends with status 1. --only takes the generators alone whose
-name has the word. The same seed gives the same lines to programs that answer alike.
+each program has to end with status 0 and no word more. It prints a table of what was tried by kind
+of line and by reply. At the first difference it stops, makes the script smaller while a difference
+stays, writes it to FILE (fuzz-difference.jsonl) and ends with status 1. --only takes the generators
+alone whose name has the word. The same seed gives the same lines to programs that answer alike.
 """
 import argparse
 import fcntl

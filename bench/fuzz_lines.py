@@ -18,7 +18,8 @@ NO_NUMBERS = ("-0", "-1", "-5", "00", "01", "007", "+1", "5.0", "0.0", "5e0", "5
               "5 5", "\u0665", "\uff15", "1" + "0" * 5000)
 OTHERS = ("null", "true", "false", '""', '"init"', '"Init"', '"5"', "{}", '{"a":1}',
           '{"a":1,"a":1}', '{"init":{"init":[]}}', "[]", "[[]]", '[""]', '"\\u0000"', '"\\ud800"',
-          '"\\udc00\\ud800"', '"\\ud83d\\ude00"', "undefined", "'init'", "nul", "tru", '{"a"}', "{1:2}", '{"a":1,}')
+          '"\\udc00\\ud800"', '"\\ud83d\\ude00"', "undefined", "'init'", "nul", "tru",
+          '{"a"}', "{1:2}", '{"a":1,}')
 SPACES = (" ", "\t", "\r", "  ", " \t\r ")
 NO_SPACES = ("\x0b", "\x0c", "\xa0", "\u2028", "\ufeff", "\x00", "/**/", "\\", ";", ",", ":",
              "\x85")
@@ -390,7 +391,8 @@ class Grammar(Mutated):
             place = dice.randrange(max(len(old), 1))
             code = ord(old[place]) if old else 0
             one = dice.choice((f"\\u{code:04x}", f"\\u{code:04X}", f"\\u{code:04x}",
-                               f"\\u{code:03x}", f"\\x{code:02x}", "\\" + chr(code), f"\\U{code:04x}", "\\/",
+                               f"\\u{code:03x}", f"\\x{code:02x}", "\\" + chr(code),
+                               f"\\U{code:04x}", "\\/",
                                f"\\u{{{code:x}}}", "\\ud83d\\ude00", "\\ud800", f"\\u+{code:03x}"))
             return Raw('"' + old[:place] + one + old[place + 1:] + '"')
         return self.put(command, escaped, str)

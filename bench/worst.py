@@ -10,8 +10,8 @@ Each row begins a program, gives it what leads up to the dear line, and then tha
 what it is answered, its seconds, by how many MiB the program grew while it was served, and the
 program's peak. --size says how many transactions remain (4,096); --some takes the rows alone whose
 name has the word. A line that takes longer than S seconds (120) or has the program grow past M MiB
-(4,096) is given up, and told so. Wanted is that no line takes over 2 seconds or 64 MiB, and no round of a
-budget up to 65,536 over 10 seconds or 128 MiB; a row that does is marked.
+(4,096) is given up, and told so. Wanted is that no line takes over 2 seconds or 64 MiB, and no
+round of a budget up to 65,536 over 10 seconds or 128 MiB; a row that does is marked.
 """
 import argparse
 import json
