@@ -4,6 +4,7 @@
 from __future__ import annotations
 
 import argparse
+import contextlib
 import os
 import sys
 import traceback
@@ -30,25 +31,27 @@ STATUS_WORDS = (
 
 def main(words: Optional[Sequence[str]] = None) -> int:
     """Runs the command, and gives its exit status. Mistakes are told on standard error."""
-    asked = parser().parse_args(words)
     try:
+        asked = parser().parse_args(words)
         status: int = asked.run(asked)
         return status
     except ProgramEndedError as error:
-        print(f"undecided: {error}", file=sys.stderr)
-        return UNDECIDED
+        return _told(UNDECIDED, f"undecided: {error}")
     except ImportRefusedError as error:
-        print(f"refused: {error}", file=sys.stderr)
-        return MISTAKE
+        return _told(MISTAKE, f"refused: {error}")
     except (ZanteyardError, OSError) as error:
-        print(f"mistake: {error}", file=sys.stderr)
-        return MISTAKE
+        return _told(MISTAKE, f"mistake: {error}")
     except KeyboardInterrupt:
-        print("undecided: it was interrupted", file=sys.stderr)
-        return UNDECIDED
+        return _told(UNDECIDED, "undecided: it was interrupted")
     except Exception:  # Python's own status would be 1, which says violated
-        traceback.print_exc()
-        return UNDECIDED
+        return _told(UNDECIDED, traceback.format_exc().rstrip())
+
+
+def _told(status: int, words: str) -> int:
+    """The status, also where standard error can't take the words: Python's own would be 1."""
+    with contextlib.suppress(OSError):
+        print(words, file=sys.stderr, flush=True)
+    return status
 
 
 class _Version(argparse.Action):
@@ -56,7 +59,7 @@ class _Version(argparse.Action):
 
     def __call__(self, parser: argparse.ArgumentParser, *_: Any) -> None:
         print(f"zanteyard {VERSION}")
-        print(f"auditor {origin_of(program_path()).sentence()}")
+        print(f"auditor {origin_of(program_path()).sentence()}", flush=True)
         parser.exit()
 
 
@@ -132,6 +135,8 @@ def _nodes(text: str) -> int:
 
 def _lines(path: str) -> Iterator[bytes]:
     if path == "-":
+        if sys.stdin is None:  # so Python has it where it is closed
+            raise OSError("standard input is closed")
         yield from sys.stdin.buffer
     else:
         with open(path, "rb") as file:

@@ -1,0 +1,499 @@
+"""Lines for bench/fuzz.py: bytes mutated, lines mutated by their grammar, and whole scripts.
+
+Each generator is made for one script, from dice, and asked for chunk after chunk: a list of pairs
+of a kind, which is a word for the table, and a line without its LF. It looks at the plain model for
+what was taken in so far; within a chunk it goes on as if all were accepted.
+"""
+import json
+from collections import defaultdict
+
+from judge import LONGEST, NUMBERS, WHOLE
+
+EDGES = (0, 1, 2, 3, 5, 6, 7, 8, 15, 16, 17, 63, 64, 65, 127, 128, 255, 256, 257, 4095, 4096, 4097,
+         2**31 - 1, 2**31, 2**32 - 1, 2**32, 2**32 + 1, NUMBERS - 257, NUMBERS - 256, NUMBERS - 1,
+         NUMBERS, NUMBERS + 1, 2**53, 2**53 + 1, 2**63 - 1, 2**63, WHOLE - 1, WHOLE, WHOLE + 1)
+NO_NUMBERS = ("-0", "-1", "-5", "00", "01", "007", "+1", "5.0", "0.0", "5e0", "5E0", "5e-1", "1e1",
+              "1e999", "0x5", "0b1", "5.", ".5", "5_0", "5n", "NaN", "Infinity", "-Infinity", "-",
+              "1" * 400, "-" + "9" * 30, "0." + "3" * 60, "18446744073709551616.0", "1e", "--1",
+              "5 5", "\u0665", "\uff15", "1" + "0" * 5000)
+OTHERS = ("null", "true", "false", '""', '"init"', '"Init"', '"5"', "{}", '{"a":1}',
+          '{"a":1,"a":1}', '{"init":{"init":[]}}', "[]", "[[]]", '[""]', '"\\u0000"', '"\\ud800"',
+          '"\\udc00\\ud800"', '"\\ud83d\\ude00"', "undefined", "'init'", "nul", "tru",
+          '{"a"}', "{1:2}", '{"a":1,}')
+SPACES = (" ", "\t", "\r", "  ", " \t\r ")
+NO_SPACES = ("\x0b", "\x0c", "\xa0", "\u2028", "\ufeff", "\x00", "/**/", "\\", ";", ",", ":",
+             "\x85")
+NO_TEXT = (b"\xff", b"\xfe\xff", b"\xc3", b"\xc0\x80", b"\xed\xa0\x80", b"\xf4\x90\x80\x80",
+           b"\x80", b"\xe2\x28\xa1", b"\xf8\x88\x80\x80\x80", b"\xef\xbb\xbf", b"\x00", b"\r",
+           b"\x1b", b"\x7f", b"\xef\xbb", b"\xf0\x9f\x98")
+WORDS = ("open", "offer", "close", "begin", "finish", "round", "truncate", "rebuild", "show")
+BUDGETS = (1, 1, 1, 2, 2, 3, 4, 5, 7, 8, 15, 16, 31, 32, 33, 64, 64, 128, 256)
+
+
+class Raw(str):
+    """A piece of a line that is written as it stands."""
+
+
+def compact(told):
+    return json.dumps(told, separators=(",", ":")).encode()
+
+
+def effort(dice):
+    depth = dice.choice((0, 0, 0, 0, 1, 2, 3, 6))
+    return [dice.choice(BUDGETS), depth, dice.choice((1, 1, 1, 1, 1, 1, 2, 16)) if depth else 1]
+
+
+class Store:
+    """A store that runs transactions one after another, and lies now and then; what it has logged
+    waits in its session until it is offered."""
+
+    def __init__(self, dice, sessions):
+        self.dice, self.sessions = dice, sessions
+        self.keys = [*range(1, dice.choice((1, 2, 3, 4, 6, 12)) + 1)]
+        if dice.random() < 0.1:
+            self.keys[-1] = WHOLE - 1
+        self.lies = dice.choice((0.0, 0.0, 0.0, 0.0, 0.02, 0.15))
+        self.ahead = dice.choice((0.0, 0.0, 0.0, 0.03))  # reads of what no one has run yet
+        self.blind = dice.choice((0.0, 0.1, 0.5, 0.9))
+        self.meets = dice.choice((0.0, 0.1, 0.2)) if sessions < 7 else 0.0
+        self.torn = sessions > 7 and dice.random() < 0.7
+        if self.torn:  # who reads doesn't write, and reads anything: what takes a search
+            self.keys, self.lies = [1, 2, 3, 4][:dice.choice((2, 3, 4))], 0.5
+        self.last, self.writers = {}, defaultdict(list)
+        self.waiting = [[] for _ in range(sessions)]  # the first has the number `first`
+        self.first = [0] * sessions
+
+    def execute(self):
+        """One more transaction, which waits in its session; or a meeting, at which each session
+        runs two fences."""
+        dice = self.dice
+        if dice.random() < self.meets:
+            for session in [*range(self.sessions)] * 2:
+                self.log(session, [0], [0])
+        elif self.torn:
+            keys = sorted(dice.sample(self.keys, dice.choice((1, 2, 2, 3)) % len(self.keys) + 1))
+            is_reader = dice.random() < 0.5
+            self.log(dice.randrange(self.sessions), *((keys, []) if is_reader else ([], keys)))
+        else:
+            keys = sorted(dice.sample(self.keys, min(len(self.keys), dice.choice((0, 1, 1, 2)))))
+            writes = {key for key in keys if dice.random() < 0.6}
+            if dice.random() < self.blind:
+                writes.add(dice.choice(self.keys))
+            self.log(dice.randrange(self.sessions), keys, sorted(writes))
+
+    def log(self, session, keys, writes):
+        """A transaction of the session, which reads and writes these keys."""
+        me = session, self.first[session] + len(self.waiting[session])
+        reads = [[key, *self.source(key, me)] for key in keys]
+        for key in writes:
+            self.last[key] = me
+            self.writers[key].append(me)
+        self.waiting[session].append([reads, writes])
+
+    def source(self, key, me):
+        dice, found = self.dice, self.last.get(key)
+        if dice.random() < self.lies and self.writers[key]:
+            found = dice.choice((None, dice.choice(self.writers[key])))
+        if dice.random() < self.ahead:
+            found = dice.randrange(self.sessions + 1), dice.randrange(30)
+        return ("init",) if found is None or found == me else found
+
+    def go_on(self, received):
+        """What was taken in waits no more. Another number of sessions may have been opened."""
+        if len(received) != self.sessions:
+            self.sessions = len(received)
+            self.waiting = [[] for _ in received]
+            self.first = list(received)
+        for session, count in enumerate(received):
+            taken = count - self.first[session]
+            if taken > len(self.waiting[session]):  # another line was taken in
+                self.waiting[session] = []
+            elif taken > 0:
+                del self.waiting[session][:taken]
+            self.first[session] = max(count, self.first[session])
+
+
+class Scripts:
+    """Whole scripts: several sessions, whose fragments come in any order, rounds, cuts and all."""
+
+    def __init__(self, dice):
+        self.dice = dice
+        self.sessions = dice.choice((1, 2, 2, 3, 3, 4, 6, 12, 16, 64 if dice.random() < 0.1 else 5))
+        self.limit = dice.choice((1, 4, 8, 16, 20, 30, 40, 50, 4096, 4096))
+        self.store = Store(dice, self.sessions)
+        self.most = dice.choice((8, 12, 16, 30))  # what remains goes little above it
+        if self.store.torn:
+            self.most = dice.choice((12, 16))
+        self.is_open, self.odd = False, dice.choice((0.0, 0.0, 0.05, 0.2))
+        self.full = 0  # chunks that began with so much, one after another
+
+    def opening(self):
+        return [("script: open", compact(["open", self.sessions, self.limit]))]
+
+    def is_over(self, _):
+        """Whether much remains, and nothing of it is settled."""
+        return self.full > 2
+
+    def chunk(self, model):
+        """Some thirty lines."""
+        dice, store = self.dice, self.store
+        if model.parts is None:
+            return self.opening()
+        received = model.parts.received()
+        store.go_on(received)
+        self.is_open = model.snapshot is not None
+        sent, lines = [0] * self.sessions, []
+        remaining = sum(map(len, model.parts.remaining))
+        most = min(self.most, self.limit)
+        self.full = self.full + 1 if remaining >= most else 0
+        for _ in range(dice.choice((8, 30))):
+            if dice.random() < 0.5 and (remaining < most or dice.random() < 0.05):
+                line = self.offer(sent)
+                remaining += len(line[3])
+            else:
+                line = self.other()
+            kind = f"script: {line[0]}"
+            if dice.random() < self.odd:
+                line, kind = odd(dice, line), f"script: odd {line[0]}"
+            lines.append((kind, compact(line)))
+        if remaining >= most:
+            lines += [("script: round", compact(["round", 64, 0, 1])),
+                      ("script: truncate", compact(["truncate"]))]
+        return lines
+
+    def offer(self, sent):
+        """The next fragment of some session, as if all that was sent were taken in."""
+        dice, store = self.dice, self.store
+        for _ in range(dice.choice((0, 1, 2, 3))):
+            store.execute()
+        full = [at for at in range(self.sessions) if len(store.waiting[at]) > sent[at]]
+        if not full:
+            store.execute()
+            full = [at for at in range(self.sessions) if len(store.waiting[at]) > sent[at]]
+        session = dice.choice(full)
+        waits = store.waiting[session][sent[session]:]
+        txns = waits[: dice.choice((1, 1, 2, 3, 8))]
+        first = store.first[session] + sent[session]
+        sent[session] += len(txns)
+        return ["offer", session, first, txns]
+
+    def other(self):
+        dice = self.dice
+        turn = dice.random()
+        if turn < 0.2:
+            return ["show"]
+        if turn < 0.45:
+            self.is_open = not self.is_open
+            return ["begin"] if self.is_open else ["finish", *effort(dice)]
+        if turn < 0.75:
+            return ["finish" if self.is_open else "round", *effort(dice)]
+        if turn < 0.95:
+            return ["truncate"]
+        if turn < 0.98:
+            return ["rebuild"]
+        return ["close", dice.randrange(self.sessions + 1)] if dice.random() < 0.3 else ["show"]
+
+
+def odd(dice, line):
+    """The line with one of its parts, or a part of a part, moved by a little or to a limit."""
+    line = json.loads(json.dumps(line))
+    holder, place = dice.choice(places(line))
+    old = holder[place]
+    if type(old) is int:
+        holder[place] = dice.choice((old + 1, abs(old - 1), dice.choice(EDGES), 0))
+    elif type(old) is list:
+        turn = dice.randrange(5)
+        if turn == 0 or not old:
+            holder[place] = []
+        elif turn == 1:
+            old.append(dice.choice(old))
+        elif turn == 2:
+            old.pop(dice.randrange(len(old)))
+        elif turn == 3:
+            old.reverse()
+        else:
+            old.insert(0, dice.choice((0, [], "init", [[], []], [[], [5]], [5, "init"])))
+    else:
+        holder[place] = dice.choice(("init", *WORDS))
+    return line
+
+
+def places(value):
+    """Each part of a list, and of the lists in it: the list and the place."""
+    found = []
+    for place, part in enumerate(value):
+        found.append((value, place))
+        if type(part) is list:
+            found += places(part)
+    return found
+
+
+class Mutated:
+    """Lines that are nearly commands that may stand there."""
+
+    def __init__(self, dice):
+        self.dice = dice
+        self.sessions = dice.choice((1, 2, 3, 64))
+        self.limit = dice.choice((1, 5, 10, 16))
+        self.store = Store(dice, self.sessions)
+        self.count = dice.choice((16, 100))
+
+    def is_over(self, _):
+        return False
+
+    def base(self, model):
+        """A command that may well be accepted."""
+        dice, store = self.dice, self.store
+        turn = dice.random()
+        if model.parts is None or turn < 0.05:
+            return ["open", self.sessions, self.limit]
+        if turn < 0.65:
+            store.go_on(model.parts.received())
+            store.execute()
+            session = dice.choice([at for at, its in enumerate(store.waiting) if its])
+            return ["offer", session, store.first[session], store.waiting[session][:4]]
+        if turn < 0.8:
+            return [dice.choice(("round", "finish")), *effort(dice)]
+        if turn < 0.81:
+            return ["close", dice.randrange(self.sessions)]
+        return [dice.choice(("show", "show", "show", "begin", "truncate", "rebuild"))]
+
+    def chunk(self, model):
+        lines = []
+        if model.parts is None and self.dice.random() < 0.5:
+            lines.append((f"{self.name}: open", compact(["open", self.sessions, self.limit])))
+            self.count -= 1
+        for _ in range(self.count):
+            lines += self.mutate(self.base(model))
+        return lines
+
+
+class Bytes(Mutated):
+    """Lines with bytes changed, taken out, put in, and spliced."""
+
+    name = "bytes"
+
+    def mutate(self, command):
+        dice, line = self.dice, bytearray(compact(command))
+        kind = dice.choice(("as it is", "flipped", "set", "taken out", "put in", "doubled", "cut",
+                            "spliced", "moved", "no text"))
+        for _ in range(dice.choice((1, 1, 1, 2, 4))):
+            place = dice.randrange(len(line) + 1)
+            getattr(self, "make_" + kind.replace(" ", "_"))(line, min(place, len(line) - 1), place)
+            if not line:
+                break
+        return [(f"bytes: {kind}", bytes(piece)) for piece in line.split(b"\n")]
+
+    def make_as_it_is(self, line, at, place):
+        """Nothing: what is right is answered so."""
+
+    def make_flipped(self, line, at, place):
+        line[at] ^= 1 << self.dice.randrange(8)
+
+    def make_set(self, line, at, place):
+        line[at] = self.dice.randrange(256)
+
+    def make_taken_out(self, line, at, place):
+        del line[at:at + self.dice.choice((1, 1, 2, 9))]
+
+    def make_put_in(self, line, at, place):
+        line[place:place] = bytes([self.dice.choice(b'[]{},:"\\ \t\r\n0159.eE+-xabinituos\0')])
+
+    def make_doubled(self, line, at, place):
+        line[place:place] = line[at:at + self.dice.randrange(1, 12)]
+
+    def make_cut(self, line, at, place):
+        del line[place:]
+
+    def make_spliced(self, line, at, place):
+        other = compact([self.dice.choice(WORDS), 0, 0, [[[], [5]]]])
+        line[place:] = other[self.dice.randrange(20):]
+
+    def make_moved(self, line, at, place):
+        piece = line[at:at + self.dice.randrange(1, 6)]
+        del line[at:at + len(piece)]
+        place = self.dice.randrange(len(line) + 1)
+        line[place:place] = piece
+
+    def make_no_text(self, line, at, place):
+        line[place:place] = self.dice.choice(NO_TEXT)
+
+
+class Grammar(Mutated):
+    """Lines changed by their grammar: numbers, fields, nesting, escapes, white space, lengths."""
+
+    name = "grammar"
+    kinds = ("number", "no number", "other value", "field out", "field twice", "nested",
+             "flattened", "word", "escape", "white space", "no space", "no text", "comma",
+             "bracket", "two lines", "around", "odd")
+
+    def mutate(self, command):
+        dice = self.dice
+        if dice.random() < 0.002:
+            return [("grammar: long lists", compact(long_offer(dice, command)))]
+        kind = dice.choice(self.kinds)
+        line = getattr(self, "make_" + kind.replace(" ", "_"))(command)
+        if type(line) is list:
+            line = write(line).encode()
+        elif type(line) is str:
+            line = line.encode("utf-8")
+        return [(f"grammar: {kind}", piece) for piece in line.split(b"\n")]
+
+    def put(self, command, value, wants=object):
+        """The command with the value in place of one of its parts."""
+        command = json.loads(json.dumps(command))
+        fitting = [at for at in places(command) if isinstance(at[0][at[1]], wants)]
+        if not fitting:
+            return command
+        holder, place = self.dice.choice(fitting)
+        holder[place] = value(holder[place]) if callable(value) else value
+        return command
+
+    def make_number(self, command):
+        return self.put(command, self.dice.choice(EDGES), int)
+
+    def make_no_number(self, command):
+        return self.put(command, Raw(self.dice.choice(NO_NUMBERS)), int)
+
+    def make_other_value(self, command):
+        return self.put(command, Raw(self.dice.choice(OTHERS)))
+
+    def make_field_out(self, command):
+        command = json.loads(json.dumps(command))
+        holder, place = self.dice.choice(places(command))
+        del holder[place]
+        return command
+
+    def make_field_twice(self, command):
+        command = json.loads(json.dumps(command))
+        holder, place = self.dice.choice(places(command))
+        holder.insert(place, holder[place])
+        return command
+
+    def make_nested(self, command):
+        deep = self.dice.choice((1, 1, 2, 5, 126, 127, 128, 129, 200, 3000))
+        return self.put(command, lambda old: Raw("[" * deep + write(old) + "]" * deep))
+
+    def make_flattened(self, command):
+        flat = lambda old: Raw(",".join(map(write, old)))  # noqa: E731
+        return self.put(command, flat, list)
+
+    def make_word(self, command):
+        word = command[0]
+        return [self.dice.choice((word.upper(), word + " ", " " + word, word[:-1], word + "\0", "",
+                                  *WORDS)), *command[1:]]
+
+    def make_escape(self, command):
+        """Words whose letters are escaped, as JSON allows, or nearly."""
+        dice = self.dice
+
+        def escaped(old):
+            place = dice.randrange(max(len(old), 1))
+            code = ord(old[place]) if old else 0
+            one = dice.choice((f"\\u{code:04x}", f"\\u{code:04X}", f"\\u{code:04x}",
+                               f"\\u{code:03x}", f"\\x{code:02x}", "\\" + chr(code),
+                               f"\\U{code:04x}", "\\/",
+                               f"\\u{{{code:x}}}", "\\ud83d\\ude00", "\\ud800", f"\\u+{code:03x}"))
+            return Raw('"' + old[:place] + one + old[place + 1:] + '"')
+        return self.put(command, escaped, str)
+
+    def spaced(self, command, spaces, chance):
+        dice, line = self.dice, []
+        for letter in write(command):
+            is_mark = letter in "[],"
+            if is_mark and dice.random() < chance:
+                line.append(dice.choice(spaces))
+            line.append(letter)
+            if is_mark and dice.random() < chance:
+                line.append(dice.choice(spaces))
+        return "".join(line)
+
+    def make_white_space(self, command):
+        return self.spaced(command, SPACES, 0.3)
+
+    def make_no_space(self, command):
+        return self.spaced(command, NO_SPACES, 0.05)
+
+    def make_no_text(self, command):
+        line = compact(command)
+        place = self.dice.choice((0, len(line), self.dice.randrange(len(line) + 1)))
+        return line[:place] + self.dice.choice(NO_TEXT) + line[place:]
+
+    def swapped(self, command, marks, others):
+        line = write(command)
+        at = [place for place, letter in enumerate(line) if letter in marks] or [0]
+        place = self.dice.choice(at)
+        return line[:place] + self.dice.choice(others) + line[place + 1:]
+
+    def make_comma(self, command):
+        return self.swapped(command, ",", (",,", "", ":", ";", " ", ",]", "\n"))
+
+    def make_bracket(self, command):
+        return self.swapped(command, "[]", ("", "[[", "]]", "{", "}", "(", "],", ",]", "[,"))
+
+    def make_two_lines(self, command):
+        between = self.dice.choice(("", " ", ",", "\r", "\t", "\r\n", "\n\n"))
+        other = self.dice.choice((["show"], ["begin"], [], command))
+        return write(command) + between + write(other)
+
+    def make_around(self, command):
+        front, end = self.dice.choice((
+            ("", "\r"), (" ", ""), ("", " "), ("\t\r ", "\r\r"), ("\ufeff", ""), ("", "\ufeff"),
+            ("", "\0"), ("\0", ""), ("", ","), ("", "#"), ("//", ""), ("", "\x0c"), ('"', '"'),
+            ("[", "]"), ("{", "}"), ("", "\r" * 300), (" " * 5000, ""), ("", "x"), ('{"a":', "}"),
+            ("", "null")))
+        return front + write(command) + end
+
+    def make_odd(self, command):
+        return odd(self.dice, command)
+
+
+def write(value):
+    """Compact JSON, but for pieces that stand as they are."""
+    kind = type(value)
+    if kind is Raw:
+        return value
+    if kind is list:
+        return "[" + ",".join(map(write, value)) + "]"
+    return json.dumps(value)
+
+
+def long_offer(dice, command):
+    """Fragments, reads and writes as many as are allowed, or one more."""
+    session, first = command[1:3] if command[0] == "offer" else (0, 0)
+    count = dice.choice((255, 256, 257))
+    turn = dice.randrange(4)
+    if turn == 0:
+        return ["offer", session, first, [[[], []]] * count]
+    if turn == 1:
+        return ["offer", session, first, [[[[key, "init"] for key in range(1, count + 1)], []]]]
+    if turn == 2:
+        return ["offer", session, first, [[[], list(range(1, count + 1))]]]
+    start = NUMBERS - count + dice.randrange(3)
+    return ["offer", session, start, [[[], []]] * min(count, 256)]
+
+
+class Longest:
+    """Few lines, each as long as a line may be, or a byte longer."""
+
+    def __init__(self, dice):
+        self.dice, self.is_done = dice, False
+
+    def is_over(self, _):
+        return self.is_done
+
+    def chunk(self, model):
+        dice, kind = self.dice, "longest lines"
+        self.is_done = True
+        lines = [(kind, compact(["open", 2, 16]))]
+        for over in (0, 1):
+            room = LONGEST + over
+            fill = dice.choice((b" ", b"\t", b"\r"))
+            command = dice.choice((["show"], ["offer", 0, over, [[[], [5]]]], ["begin"]))
+            line = compact(command)
+            place = dice.choice((0, 1, len(line)))
+            lines.append((kind, line[:place] + fill * (room - len(line)) + line[place:]))
+            lines.append((kind, dice.choice((b"x", b"[", b" ", b"\0", b'"', b"1", b"\xff")) * room))
+            keys = b'["offer",1,0,[[[],[' + b"7," * (room // 2)
+            lines.append((kind, keys[:room - 4] + b"]]]]"))
+        return lines + [(kind, b'["show"]')]

@@ -1,0 +1,321 @@
+#!/usr/bin/env python3
+"""A plain model of cobra_audit: which reply is owed to each line of a script.
+
+    python3 bench/judge.py SCRIPT [PROGRAM]
+
+Written from docs/FORMATS.md and docs/DEFINITIONS.md alone, and never from the auditor's code. Where
+the documents pin a reply's bytes (refusals, `ok`, cuts, states) they are compared. A report's order
+or refutation is checked, and so is that spent comes only where the budget may be used up; a small
+remainder is decided by trial of all orders, too. As a program it prints the first reply that isn't
+the one owed, and why, with status 1, or how many lines were answered rightly.
+"""
+import json
+import os
+import subprocess
+import sys
+
+from plain_proofs import check_order, check_tree
+from plain_verdicts import INIT, Parts, Relation, Wrong, cut_of, has_order, is_fence, may_be_spent
+
+LONGEST = 8388608  # bytes of a line, its LF left out
+WHOLE, NUMBERS = 2**64, 2**48
+DEEPEST, FARTHEST = 600, 400  # nodes that are searched here, and fronts that are tried
+NAMES = {1: "BadLine", 2: "BadSession", 3: "BadTxn", 4: "BadFence", 5: "Gap", 6: "Repeat",
+         7: "Closed", 8: "Backlog", 9: "TooLong", 10: "RoundOpen", 11: "NoRound", 13: "NoCut",
+         16: "NoMemory"}
+REFUSALS = {number: b'["no",%d,"%s"]' % (number, name.encode()) for number, name in NAMES.items()}
+OK = b'["ok"]'
+decode = json.JSONDecoder().decode
+
+
+def is_whole(it, below=WHOLE):
+    """Whether it is a whole number without sign, below that."""
+    return type(it) is int and 0 <= it < below
+
+
+def is_effort(parts):
+    budget, depth, workers = parts
+    return (is_whole(budget, 2**32 + 1) and budget >= 1 and is_whole(depth, 7)
+            and is_whole(workers, 17) and workers >= 1)
+
+
+def is_read(it):
+    if type(it) is not list or not it or not is_whole(it[0]):
+        return False
+    if len(it) == 2:
+        return it[1] == "init"
+    return len(it) == 3 and is_whole(it[1], 256) and is_whole(it[2])
+
+
+def is_txn(it):
+    return (type(it) is list and len(it) == 2 and type(it[0]) is list and type(it[1]) is list
+            and all(map(is_read, it[0])) and all(map(is_whole, it[1])))
+
+
+def is_offer(parts):
+    session, first, txns = parts
+    return (is_whole(session, 256) and is_whole(first) and type(txns) is list
+            and all(map(is_txn, txns)))
+
+
+def is_nothing(parts):
+    return not parts
+
+
+FORMS = {
+    ("open", 3): lambda parts: all(map(is_whole, parts)),
+    ("offer", 4): is_offer,
+    ("close", 2): lambda parts: is_whole(parts[0], 256),
+    ("begin", 1): is_nothing,
+    ("finish", 4): is_effort,
+    ("round", 4): is_effort,
+    ("truncate", 1): is_nothing,
+    ("rebuild", 1): is_nothing,
+    ("show", 1): is_nothing,
+}
+
+
+def command_of(line):
+    """The command that a line is, as the list that it says; None where it is none. No command has a
+    minus sign, and Python would read -0 as 0."""
+    if len(line) > LONGEST or b"-" in line:
+        return None
+    try:
+        told = decode(line.decode("utf-8"))
+    except (ValueError, RecursionError):
+        return None
+    if type(told) is not list or not told or type(told[0]) is not str:
+        return None
+    form = FORMS.get((told[0], len(told)))
+    return told if form and form(told[1:]) else None
+
+
+def txn_of(told):
+    reads, writes = told
+    return [(read[0], INIT if len(read) == 2 else (read[1], read[2])) for read in reads], writes
+
+
+def rises(items):
+    return all(one < other for one, other in zip(items, items[1:]))
+
+
+def txn_fault(me, txn):
+    """The number of the refusal of a transaction that isn't well formed; else None."""
+    reads, writes = txn
+    if not rises(reads) or not rises(writes):
+        return 3
+    for _, source in reads:
+        if source != INIT and (source == me or source[0] > 63 or source[1] >= NUMBERS):
+            return 3
+    touches = (writes and writes[0] == 0) or (reads and reads[0][0] == 0)
+    return 4 if touches and not is_fence(txn) else None
+
+
+def fragment_fault(session, first, txns):
+    """The number of the refusal of a fragment that is wrong by itself; else None."""
+    if session > 63:
+        return 2
+    if not 1 <= len(txns) <= 256 or first + len(txns) > NUMBERS:
+        return 9
+    if any(len(reads) > 256 or len(writes) > 256 for reads, writes in txns):
+        return 9
+    for place, txn in enumerate(txns):
+        fault = txn_fault((session, first + place), txn)
+        if fault:
+            return fault
+    return None
+
+
+def text(told):
+    """The bytes of a reply, without its LF."""
+    return json.dumps(told, separators=(",", ":")).encode()
+
+
+class Model:
+    """The auditor as the documents say it: `judge` takes a line and the reply to it."""
+
+    def __init__(self):
+        self.parts = self.limit = self.snapshot = self.held = None
+        self.rounds = 0
+        self.told = {}  # of what remains now: of each budget and depth, the report without number
+
+    def judge(self, line, reply):
+        """Raises Wrong where this isn't the reply that is owed to the line; neither has its LF."""
+        command = command_of(line)
+        if command is None or (self.parts is None) != (command[0] == "open"):
+            owed = REFUSALS[1]
+        elif command[0] in ("round", "finish"):
+            owed = self.refused_round(command[0])
+            if owed is None:
+                self.judge_report(command, reply)
+                return
+        else:
+            owed = getattr(self, command[0])(*command[1:])
+        if reply != owed:
+            raise Wrong(f"owed is {owed[:300].decode()}")
+
+    def open(self, sessions, limit):
+        if not 1 <= sessions <= 64:
+            return REFUSALS[2]
+        if not 1 <= limit <= 4096:
+            return REFUSALS[9]
+        self.limit = limit
+        self.parts = Parts([0] * sessions, [[] for _ in range(sessions)], [False] * sessions)
+        return OK
+
+    def offer(self, session, first, told):
+        parts, txns = self.parts, list(map(txn_of, told))
+        fault = fragment_fault(session, first, txns) or self.place_fault(session, first)
+        if not fault and sum(map(len, parts.remaining)) + len(txns) > self.limit:
+            fault = 8
+        if fault:
+            return REFUSALS[fault]
+        parts.remaining[session] += txns
+        self.told = {}
+        return OK
+
+    def place_fault(self, session, first):
+        if session >= len(self.parts.gone):
+            return 2
+        if self.parts.closed[session]:
+            return 7
+        received = self.parts.gone[session] + len(self.parts.remaining[session])
+        return 5 if first > received else 6 if first < received else None
+
+    def close(self, session):
+        if session >= len(self.parts.gone):
+            return REFUSALS[2]
+        if self.parts.closed[session]:
+            return REFUSALS[7]
+        self.parts.closed[session], self.told = True, {}
+        return OK
+
+    def begin(self):
+        if self.snapshot:
+            return REFUSALS[10]
+        self.snapshot, self.told = self.parts.copy(), {}
+        return OK
+
+    def truncate(self):
+        if self.snapshot:
+            return REFUSALS[10]
+        if not self.held:
+            return REFUSALS[13]
+        (fence, gone, last), self.held, self.told = self.held, None, {}
+        for session, _ in gone:
+            self.parts.gone[session] += 1
+            self.parts.remaining[session].pop(0)
+        self.parts.base.update((key, (session, number)) for key, session, number in last)
+        return text(["cut", fence, gone, last])
+
+    def rebuild(self):
+        if self.snapshot:
+            return REFUSALS[10]
+        self.rounds, self.held, self.told = 0, None, {}
+        return OK
+
+    def show(self):
+        parts = self.parts
+        last = [(key, *parts.base[key]) for key in sorted(parts.base)]
+        remaining = sum(map(len, parts.remaining))
+        return text(["show", parts.gone, parts.received(), parts.closed, last, remaining])
+
+    def refused_round(self, word):
+        if word == "round":
+            return REFUSALS[10] if self.snapshot else None
+        return None if self.snapshot else REFUSALS[11]
+
+    def judge_report(self, command, reply):
+        """A report on the open round, or on all that was taken in."""
+        parts, self.snapshot = self.snapshot or self.parts, None
+        self.rounds += 1
+        budget, depth, _ = command[1:]
+        report = report_of(reply)
+        self.check_front(parts, report)
+        relation = Relation(parts)
+        if report[2] == "spent":
+            if not may_be_spent(parts, relation, budget, depth, DEEPEST):
+                raise Wrong("the budget can't be used up here")
+        elif report[2] == "violated":
+            check_tree(parts, report[4])
+        else:
+            check_order(parts, report[4])
+            self.held = cut_of(parts, relation)
+        check_by_trial(parts, report[2])
+        if command[0] == "round":  # whatever the workers, the answer is the same
+            if self.told.setdefault((budget, depth), report[2:]) != report[2:]:
+                raise Wrong("another answer than before to the same question")
+
+    def check_front(self, parts, report):
+        kind, length = report[2], 4 if report[2] == "spent" else 5
+        if report[1] != self.rounds:
+            raise Wrong(f"it is round {self.rounds}")
+        if report[3] != parts.received():
+            raise Wrong(f"{parts.received()} were taken in")
+        if kind not in ("serial", "pending", "violated", "spent") or len(report) != length:
+            raise Wrong("no such report")
+        if kind in ("serial", "pending") and (kind == "pending") != parts.has_pending():
+            raise Wrong(f"it is no {kind}, by its reads")
+
+
+def report_of(reply):
+    """The list that a report is."""
+    try:
+        report = decode(reply.decode("ascii"))
+    except ValueError:
+        raise Wrong("a report is owed") from None
+    if type(report) is not list or len(report) < 4 or report[0] != "report":
+        raise Wrong("a report is owed")
+    if text(report) != reply:
+        raise Wrong("the report isn't written as FORMATS has it")
+    return report
+
+
+def check_by_trial(parts, kind):
+    """A small remainder's verdict, by trial of all orders."""
+    if kind == "spent" or sum(map(len, parts.remaining)) > 12:
+        return
+    found = has_order(parts, FARTHEST)
+    if found is not None and found != (kind != "violated"):
+        raise Wrong("by trial of all orders it is the other way")
+
+
+def lines_of(script):
+    """The lines of a script: a last piece without LF is one where it isn't empty."""
+    lines = script.split(b"\n")
+    return lines if lines[-1] else lines[:-1]
+
+
+def first_difference(script, replies):
+    """The place of the first line whose reply isn't the one owed, with the reason; else None.
+    `replies` are the bytes that were written."""
+    model, lines, told = Model(), lines_of(script), replies.split(b"\n")
+    rest = told.pop()
+    for place, line in enumerate(lines):
+        if place >= len(told):
+            return place, f"no whole reply; what is there is {rest[:200]!r}"
+        try:
+            model.judge(line, told[place])
+        except Wrong as why:
+            return place, f"{why}; told is {told[place][:300]!r}"
+    if len(told) > len(lines) or rest:
+        return len(lines), "more was written than is owed"
+    return None
+
+
+def main():
+    if len(sys.argv) not in (2, 3):
+        sys.exit(__doc__)
+    with open(sys.argv[1], "rb") as file:
+        script = file.read()
+    default = os.environ.get("COBRA_AUDIT", "crates/cobra_audit/out/cobra_audit")
+    ended = subprocess.run([*sys.argv[2:], default][:1], input=script, stdout=subprocess.PIPE,
+                           stderr=subprocess.PIPE, check=False)
+    found = first_difference(script, ended.stdout)
+    if found or ended.returncode or ended.stderr:
+        sys.exit(f"line {found[0] + 1}: {found[1]}" if found else f"it ended with {ended!r}")
+    print(f"{len(lines_of(script))} lines were answered as they have to be")
+
+
+if __name__ == "__main__":
+    main()

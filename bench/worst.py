@@ -1,0 +1,251 @@
+#!/usr/bin/env python3
+"""The dearest lines and rounds that were found, as an attacker would send them, in one table.
+
+Run at the top of the repository, after `cd crates/cobra_audit && rt run < /dev/null` has built the
+program, or with COBRA_AUDIT naming another one:
+
+    python3 bench/worst.py [--size N] [--some WORD] [--seconds S] [--mib M] [PROGRAM]
+
+Each row begins a program, gives it what leads up to the dear line, and then that line: told are
+what it is answered, its seconds, by how many MiB the program grew while it was served, and the
+program's peak. --size says how many transactions remain (4,096); --some takes the rows alone whose
+name has the word. A line that takes longer than S seconds (120) or has the program grow past M MiB
+(4,096) is given up, and told so. Wanted is that no line takes over 2 seconds or 64 MiB, and no
+round of a budget up to 65,536 over 10 seconds or 128 MiB; a row that does is marked.
+"""
+import argparse
+import json
+import os
+import select
+import subprocess
+import time
+
+LONGEST, MOST = 8388608, 256
+LINE, ROUND = (2.0, 64.0), (10.0, 128.0)  # seconds and MiB that are wanted
+DEAREST = 2**64 - 1 - MOST  # keys of twenty digits from here on
+BUDGETS = (4096, 65536)
+
+
+def compact(told):
+    return json.dumps(told, separators=(",", ":")).encode()
+
+
+def offers(sessions):
+    """Lines that offer these transactions of each session."""
+    for session, txns in enumerate(sessions):
+        for first in range(0, len(txns), MOST):
+            yield compact(["offer", session, first, txns[first:first + MOST]])
+
+
+def opened(sessions, limit=4096):
+    return [compact(["open", max(len(sessions), 1), limit]), *offers(sessions)]
+
+
+def largest():
+    """The largest offer that isn't TooLong, of keys with one to three digits, and of twenty."""
+    for first, about in ((1, "short"), (DEAREST, "twenty digits")):
+        keys = list(range(first, first + MOST))
+        txn = [[[key, 63, 281474976710655] for key in keys], keys]
+        line = compact(["offer", 0, 0, [txn] * MOST])
+        yield f"largest offer, {about}, {len(line) / 2**20:.1f} MiB", opened([[]]), line
+
+
+def longest():
+    """Lines of as many bytes as are looked at."""
+    fills = {
+        "white space": b'["show"]' + b" " * (LONGEST - 8),
+        "numbers": (b'["offer",0,0,[[[],[' + b"7," * (LONGEST // 2))[:LONGEST - 5] + b"7]]]]",
+        "brackets": b"[" * LONGEST,
+        "empty lists": (b'["offer",0,0,[' + b"[]," * (LONGEST // 3))[:LONGEST - 4] + b"[]]]",
+        "transactions": b'["offer",0,0,[' + b"[[],[]]," * ((LONGEST - 24) // 8) + b"[[],[]]]]",
+        "objects in objects": b'{"":' * (LONGEST // 5),
+        "members": b"{" + b",".join(b'"%d":{}' % at for at in range(LONGEST // 12)) + b"}",
+        "a word": b'["' + b"x" * (LONGEST - 4) + b'"]',
+        "escapes": b'["' + b"\\u0041" * ((LONGEST - 4) // 6) + b'"]',
+        "a number": b"1" * LONGEST,
+        "letters": b"x" * LONGEST,
+        "too long": b"x" * (LONGEST + 1),
+    }
+    for what, line in fills.items():
+        yield f"longest line, {what}", opened([[]]), line[:LONGEST + 1]
+
+
+def chain(count, keys, sessions=1):
+    """Each transaction reads all keys from the one before, and overwrites them."""
+    made, last = [[] for _ in range(sessions)], None
+    for number in range(count):
+        session = number % sessions
+        source = last or ("init",)
+        made[session].append([[[key, *source] for key in range(1, keys + 1)],
+                              list(range(1, keys + 1))])
+        last = session, len(made[session]) - 1
+    return made
+
+
+def blind(count, keys, sessions=64, is_one=False):
+    """Half of them write all keys without a read, and each of the others reads them from one of
+    these: nothing orders the writers."""
+    made, written = [[] for _ in range(sessions)], []
+    every = list(range(1, keys + 1))
+    half = count // 2
+    for number in range(half):
+        session = number % (sessions // 2 or 1)
+        made[session].append([[], every])
+        written.append((session, len(made[session]) - 1))
+    for number in range(count - half):
+        session = sessions // 2 + number % (sessions - sessions // 2)
+        source = written[0] if is_one else written[number * 7919 % half]
+        made[session].append([[[key, *source] for key in every], []])
+    return made
+
+
+def stale(count):
+    """A chain at whose end the first version is read again: violated by a long circle."""
+    made = chain(count - 1, 1, 64)
+    made[63].append([[[1, 0, 0]], []])
+    return made
+
+
+def fences(count, sessions):
+    """Fences alone, one after another: the last but few is settled."""
+    made, last = [[] for _ in range(sessions)], ("init",)
+    for number in range(count):
+        session = number % sessions
+        made[session].append([[[0, *last]], [0]])
+        last = session, len(made[session]) - 1
+    return made
+
+
+def wide_fences(count):
+    """A session in which transactions of 256 keys, all different, stand before a fence."""
+    txns = [[[], list(range(1 + at * MOST, 1 + (at + 1) * MOST))] for at in range(count - 1)]
+    return [[*txns, [[[0, "init"]], [0]]]]
+
+
+def rounds(size):
+    """Rounds over as many transactions as may remain."""
+    made = {
+        "chain of 1 key": chain(size, 1),
+        "chain of 1 key, 64 sessions": chain(size, 1, 64),
+        "chain of 256 keys, half as long": chain(size // 2, MOST),
+        "chain of 256 keys": chain(size, MOST, 64),
+        "blind, 1 key": blind(size, 1),
+        "blind, 1 key, one writer read": blind(size, 1, is_one=True),
+        "blind, 16 keys": blind(size, 16),
+        "blind, 256 keys": blind(size, MOST),
+        "blind, 256 keys, an eighth as many": blind(size // 8, MOST),
+        "stale at the end of a chain": stale(size),
+        "fences": fences(size, 64),
+        "nothing but its sessions": [[[[], []]] * (size // 64) for _ in range(64)],
+    }
+    for what, sessions in made.items():
+        for budget in BUDGETS:
+            yield (f"round of {budget}, {what}", opened(sessions),
+                   compact(["round", budget, 0, 1]))
+    yield ("round of 65536, depth 6, 16 workers, blind, 1 key", opened(blind(size, 1)),
+           compact(["round", 65536, 6, 16]))
+
+
+def others(size):
+    """Lines that copy or make anew what remains, or tell of it."""
+    dear = opened(chain(size, MOST, 64))
+    yield "begin, chain of 256 keys", dear, b'["begin"]'
+    yield "rebuild, chain of 256 keys", dear, b'["rebuild"]'
+    yield "show, chain of 256 keys", dear, b'["show"]'
+    yield "close, chain of 256 keys", dear, b'["close",0]'
+    last = opened(blind(size - 1, 1))
+    reader = [[[1, 0, 0]], []]
+    yield "offer, the last, blind, 1 key", last, compact(["offer", 0, (size - 1) // 2 // 32 + 1,
+                                                          [reader]])
+    asked = compact(["round", 65536, 0, 1])
+    past = [*opened(wide_fences(size)), asked]
+    yield f"truncate, {(size - 1) * MOST:,} keys", past, b'["truncate"]'
+    yield f"show, {(size - 1) * MOST:,} keys of the past", [*past, b'["truncate"]'], b'["show"]'
+    yield "truncate, fences", [*opened(fences(size, 64)), asked], b'["truncate"]'
+
+
+class Program:
+    """The program, watched while it serves a line."""
+
+    def __init__(self, path, seconds, mib):
+        self.running = subprocess.Popen([path], bufsize=0, stdin=subprocess.PIPE,
+                                        stdout=subprocess.PIPE)
+        self.seconds, self.mib = seconds, mib
+
+    def memory(self, word):
+        """MiB, of VmRSS or VmHWM."""
+        with open(f"/proc/{self.running.pid}/status", encoding="ascii") as status:
+            return next(int(line.split()[1]) / 1024 for line in status if line.startswith(word))
+
+    def serve(self, line):
+        """The reply's first bytes, its seconds, by how much it grew, and its peak; a reply that
+        didn't come is None."""
+        before, begin = self.memory("VmRSS:"), time.perf_counter()
+        with open(f"/proc/{self.running.pid}/clear_refs", "w", encoding="ascii") as file:
+            file.write("5")  # the peak begins anew
+        text = memoryview(line + b"\n")
+        while text:
+            text = text[self.running.stdin.write(text):]
+        told, grown = b"", 0.0
+        while not told.endswith(b"\n"):
+            if time.perf_counter() - begin > self.seconds or grown > self.mib:
+                return None, time.perf_counter() - begin, grown, before + grown
+            if select.select([self.running.stdout], [], [], 0.2)[0]:
+                piece = os.read(self.running.stdout.fileno(), 1 << 20)
+                if not piece:
+                    return None, time.perf_counter() - begin, grown, before + grown
+                told = (told if len(told) < 99 else told[:99]) + piece
+            grown = self.memory("VmRSS:") - before
+        seconds, peak = time.perf_counter() - begin, self.memory("VmHWM:")
+        return told[:99], seconds, peak - before, peak
+
+    def stop(self):
+        self.running.kill()
+        self.running.wait()
+
+
+def kind_of(reply):
+    """A word for the table."""
+    if reply is None:
+        return "given up"
+    parts = reply.split(b'"')
+    word = parts[3] if parts[1] in (b"report", b"no") else parts[1]
+    return word.decode()
+
+
+def measure(path, lead, line, seconds, mib):
+    program = Program(path, seconds, mib)
+    try:
+        for each in lead:
+            if program.serve(each)[0] is None:
+                return ("given up before", 0.0, 0.0, 0.0)
+        reply, *figures = program.serve(line)
+        return (kind_of(reply), *figures)
+    finally:
+        program.stop()
+
+
+def main():
+    words = argparse.ArgumentParser(description=__doc__.splitlines()[0])
+    words.add_argument("--size", type=int, default=4096)
+    words.add_argument("--some", default="", metavar="WORD")
+    words.add_argument("--seconds", type=float, default=120.0)
+    words.add_argument("--mib", type=float, default=4096.0)
+    words.add_argument("program", nargs="?", default=os.environ.get(
+        "COBRA_AUDIT", "crates/cobra_audit/out/cobra_audit"))
+    asked = words.parse_args()
+    path = os.path.abspath(asked.program)
+    print(f"{asked.size} transactions, load {os.getloadavg()[0]:.1f}")
+    print(f"{'line':52} {'answer':>10} {'s':>8} {'MiB':>7} {'peak':>7}", flush=True)
+    for rows in (largest(), longest(), others(asked.size), rounds(asked.size)):
+        for name, lead, line in rows:
+            if asked.some not in name:
+                continue
+            kind, seconds, grown, peak = measure(path, lead, line, asked.seconds, asked.mib)
+            wanted = ROUND if name.startswith("round") else LINE
+            mark = "  over" if seconds > wanted[0] or grown > wanted[1] else ""
+            print(f"{name:52} {kind:>10} {seconds:8.2f} {grown:7.0f} {peak:7.0f}{mark}", flush=True)
+
+
+if __name__ == "__main__":
+    main()

@@ -1,0 +1,359 @@
+"""The auditor beside a plain model of it: what bench/fuzz.py gives it, for a minute; and that what
+would be wrong is found, by lies that are told between the auditor and the model."""
+import json
+import os
+import re
+import sys
+import time
+import unittest
+
+from zanteyard.auditor import PROGRAM
+
+TOP = os.path.normpath(os.path.join(os.path.dirname(os.path.abspath(__file__)), "../../.."))
+WORKED = os.path.join(TOP, "crates/cobra_examples/data")
+sys.path.append(os.path.join(TOP, "bench"))
+
+import fuzz  # noqa: E402
+import judge  # noqa: E402
+
+LINES, SECONDS = 40000, 40.0  # what is tried, at most
+SEED = 1
+FOUND = 1500  # lines within which each lie is found
+LEFT = 3  # lines, at most, that the script of a lie is made small to
+
+
+def told(reply):
+    return json.loads(reply)
+
+
+def is_report(reply, *kinds):
+    return reply.startswith(b'["report"') and told(reply)[2] in kinds
+
+
+def changed(reply, kinds, change):
+    """The report with a change, where it is one of these kinds and the change changes it."""
+    if not is_report(reply, *kinds):
+        return reply
+    report = told(reply)
+    change(report)
+    return judge.text(report)
+
+
+YES, ALL = ("serial", "pending"), ("serial", "pending", "violated", "spent")
+
+
+def rename(report, kind):
+    report[2] = kind
+
+
+def exchange(report):
+    order = report[4]
+    if len(order) > 1:
+        order[0], order[-1] = order[-1], order[0]
+
+
+def other_leaf(report):
+    """The last item with one of its numbers, or its arcs, otherwise."""
+    leaf = report[4][-1]
+    if leaf[0] == "cycle":
+        leaf[1].pop()
+    else:
+        leaf[-1] += 1
+
+
+def other_side(report):
+    for item in report[4]:
+        if item[0] == "force":
+            item[2] = 3 - item[2]
+
+
+def one_part(report):
+    """A split without its second half."""
+    if any(item[0] == "split" for item in report[4]):
+        report[4].pop()
+
+
+def other_count(report):
+    report[3][-1] += 1
+
+
+def refuted(report):
+    report[2], report[4] = "violated", [["cycle", []]]
+
+
+def cleared(report):
+    counts = report[3]
+    report[2] = "serial"
+    report[4] = [[session, number] for session, count in enumerate(counts)
+                 for number in range(count)]
+
+
+def too_far(reply):
+    """A cut that takes one transaction more."""
+    if not reply.startswith(b'["cut"'):
+        return reply
+    cut = told(reply)
+    session, number = cut[2][-1]
+    cut[2].append([session, number + 1])
+    return judge.text(cut)
+
+
+def other_last(reply):
+    if not reply.startswith(b'["cut"') or len(told(reply)[3]) < 2:
+        return reply
+    cut = told(reply)
+    cut[3][1][1:] = cut[1]
+    return judge.text(cut)
+
+
+def shown(change):
+    def lie(_, reply):
+        if not reply.startswith(b'["show"'):
+            return [reply]
+        state = told(reply)
+        change(state)
+        return [judge.text(state)]
+    return lie
+
+
+def more_remains(state):
+    state[5] += 1
+
+
+def all_open(state):
+    state[3] = [False] * len(state[3])
+
+
+def reports(kinds, change):
+    return lambda _, reply: [changed(reply, kinds, change)]
+
+
+def every(count, replies):
+    """Of each so many replies one becomes these."""
+    seen = [0]
+
+    def lie(_, reply):
+        seen[0] += 1
+        return replies(reply) if seen[0] % count == 0 else [reply]
+    return lie
+
+
+def always(line, reply):
+    return [reply]
+
+
+def same(line):
+    return line
+
+
+def swallowed(line):
+    """An offer that is answered ok, and isn't kept."""
+    return b'["show"]' if line.startswith(b'["offer"') else line
+
+
+def told_ok(line, reply):
+    return [judge.OK] if line.startswith(b'["offer"') else [reply]
+
+
+def rebuilds(line):
+    """A refusal that changes the state: what is no command makes the auditor anew."""
+    return line if judge.command_of(line) else b'["rebuild"]'
+
+
+def told_bad(line, reply):
+    return [reply] if judge.command_of(line) else [judge.REFUSALS[1]]
+
+
+def no_cut(line, reply):
+    return [judge.REFUSALS[13] if reply.startswith(b'["cut"') else reply]
+
+
+def more_room(line):
+    told_line = judge.command_of(line)
+    if told_line and told_line[0] == "open":
+        return judge.text(["open", told_line[1], told_line[2] + 1])
+    return line
+
+
+class LateBegin:
+    """A round that counts what came after its begin, and is otherwise told as it has to be."""
+
+    def __init__(self):
+        self.is_open, self.told = False, {}
+
+    def given(self, line):
+        word = (judge.command_of(line) or [""])[0]
+        if word == "finish" and self.is_open:
+            self.is_open = False
+            return line.replace(b"finish", b"round")
+        if word == "begin" or self.is_open and word in ("round", "truncate", "rebuild"):
+            self.told.setdefault(line, []).append(judge.REFUSALS[10] if self.is_open else judge.OK)
+            self.is_open = True
+            return b'["show"]'
+        return line
+
+    def answer(self, line, reply):
+        told = self.told.get(line)
+        return [told.pop(0) if told and reply.startswith(b'["show"') else reply]
+
+
+def replaced(old, new):
+    return lambda _, reply: [reply.replace(old, new)]
+
+
+def read_as(old, new):
+    """A line is read as another one."""
+    return lambda line: line.replace(old, new)
+
+
+def without_no_text(line):
+    return line.decode("utf-8", errors="ignore").encode()
+
+
+# Of each lie: what of the generators shows it, what the program is given in place of a line, and
+# what is told in place of the reply.
+LIES = {
+    "another refusal": ("bytes", same, replaced(b'6,"Repeat"', b'5,"Gap"')),
+    "another number": ("bytes", same, replaced(b'["no",6', b'["no",5')),
+    "another name": ("bytes", same, replaced(b'"BadLine"', b'"Badline"')),
+    "white space in a reply": ("bytes", same, replaced(b'"ok"]', b'"ok" ]')),
+    "a reply dropped": ("scripts", same, every(50, lambda _: [])),
+    "a reply twice": ("scripts", same, every(50, lambda reply: [reply, reply])),
+    "half a reply": ("scripts", same, every(50, lambda reply: [reply[:-1]])),
+    "pending called serial": ("scripts", same, reports(YES[1:], lambda it: rename(it, "serial"))),
+    "serial called pending": ("scripts", same, reports(YES[:1], lambda it: rename(it, "pending"))),
+    "violated called serial": ("scripts", same, reports(("violated",), cleared)),
+    "serial called violated": ("scripts", same, reports(YES, refuted)),
+    "spent with budget left": ("scripts", same, reports(
+        YES, lambda it: (rename(it, "spent"), it.pop()))),
+    "two of an order exchanged": ("scripts", same, reports(YES, exchange)),
+    "an order without its last": ("scripts", same, reports(YES, lambda it: it[4] and it[4].pop())),
+    "a leaf changed": ("scripts", same, reports(("violated",), other_leaf)),
+    "forced to the other side": ("scripts", same, reports(("violated",), other_side)),
+    "a split without an end": ("scripts", same, reports(("violated",), one_part)),
+    "another count": ("scripts", same, reports(ALL, other_count)),
+    "another round": ("scripts", same, replaced(b'["report",2', b'["report",3')),
+    "a cut too far": ("scripts", same, lambda _, reply: [too_far(reply)]),
+    "another last writer": ("scripts", same, lambda _, reply: [other_last(reply)]),
+    "a cut withheld": ("scripts", same, no_cut),
+    "one more remains": ("scripts", same, shown(more_remains)),
+    "a closed session is shown open": ("scripts", same, shown(all_open)),
+    "an offer that isn't kept": ("scripts", swallowed, told_ok),
+    "a refusal that changed the state": ("bytes", rebuilds, told_bad),
+    "a place more than the limit": ("scripts", more_room, always),
+    "what came after a begin is counted": ("scripts", LateBegin, None),
+    "minus zero is zero": ("grammar", read_as(b"-0", b"0"), always),
+    "a float is a number": ("grammar", read_as(b"5.0", b"5"), always),
+    "a byte order mark is skipped": ("grammar", read_as(b"\xef\xbb\xbf", b""), always),
+    "what is no text is skipped": ("bytes", without_no_text, always),
+    "a comma at the end": ("grammar", read_as(b",]", b"]"), always),
+    "a leading zero": ("grammar", lambda line: re.sub(rb"(?<=[\[,])0+(?=\d)", b"", line), always),
+    "an escape isn't read": ("grammar", read_as(b"\\u0", b"\\v0"), always),
+}
+
+
+class Recorded(fuzz.Program):
+    """The program, and all that it was given and told."""
+
+    def __init__(self, scripts):
+        super().__init__(PROGRAM)
+        self.pairs = []
+        scripts.append(self.pairs)
+
+    def ask(self, lines):
+        replies = super().ask(lines)
+        self.pairs += zip(lines, replies)
+        return replies
+
+
+class Liar(fuzz.Program):
+    """The program, with a lie between it and who reads its replies."""
+
+    def __init__(self, given, answer):
+        super().__init__(PROGRAM)
+        if given is LateBegin:
+            late = LateBegin()
+            given, answer = late.given, late.answer
+        self.given, self.answer = given, answer
+
+    def ask(self, lines):
+        replies = super().ask([self.given(line) for line in lines])
+        return [lie for line, reply in zip(lines, replies) for lie in self.answer(line, reply)]
+
+
+def recorded(only):
+    """What the program was given and told in some scripts."""
+    scripts = []
+    fuzz.fuzz(lambda: Recorded(scripts), SEED, FOUND, only=only)
+    return scripts
+
+
+def worked():
+    """What the worked scripts give and are told; the last line may have no LF."""
+    for name in sorted(os.listdir(WORKED)):
+        if name.endswith(".jsonl"):
+            with open(os.path.join(WORKED, name), "rb") as file:
+                lines = judge.lines_of(file.read())
+            with open(os.path.join(WORKED, name[:-5] + "replies"), "rb") as file:
+                yield list(zip(lines, judge.lines_of(file.read())))
+
+
+def found_in(scripts, answer):
+    """How many lines it takes until the lie is found; None where it isn't."""
+    before = 0
+    for pairs in scripts:
+        lies = [lie for pair in pairs for lie in answer(*pair)]
+        script = b"".join(line + b"\n" for line, _ in pairs)
+        found = judge.first_difference(script, b"".join(lie + b"\n" for lie in lies))
+        if found:
+            return before + found[0] + 1
+        before += len(pairs)
+    return None
+
+
+@unittest.skipUnless(os.path.isfile(PROGRAM), f"{PROGRAM} is not built")
+class Fuzz(unittest.TestCase):
+    def test_lines_and_scripts_are_answered_as_the_plain_model_says(self):
+        def start():
+            return fuzz.Program(PROGRAM)
+
+        try:
+            table = fuzz.fuzz(start, SEED + 1, LINES, time.monotonic() + SECONDS)
+        except fuzz.Difference as difference:
+            lines, why = fuzz.shrunk(start, difference.script)
+            self.fail(f"{why}: {lines}")
+        self.assertGreater(table.lines(), 0)
+
+    def test_lies_about_replies_are_found(self):
+        scripts = {"scripts": [*recorded("scripts"), *worked()], "bytes": recorded("bytes")}
+        for name, (only, given, answer) in LIES.items():
+            if given is same:
+                with self.subTest(lie=name):
+                    self.assertIsNotNone(found_in(scripts[only], answer), "the lie isn't found")
+
+    def test_lies_about_lines_are_found(self):
+        for name, (only, given, answer) in LIES.items():
+            if given is not same:
+                with self.subTest(lie=name), self.assertRaises(fuzz.Difference):
+                    fuzz.fuzz(lambda: Liar(given, answer), SEED, FOUND, only=only)
+
+    def test_a_script_is_made_small(self):
+        _, given, answer = LIES["what is no text is skipped"]
+
+        def start():
+            return Liar(given, answer)
+
+        with self.assertRaises(fuzz.Difference) as found:
+            fuzz.fuzz(start, SEED, FOUND, only="bytes")
+        lines, why = fuzz.shrunk(start, found.exception.script)
+        self.assertLessEqual(len(lines), LEFT)
+        self.assertIn("BadLine", why)
+
+    def test_worked_scripts_are_answered_so(self):
+        for pairs in worked():
+            with self.subTest(first=pairs[:3]):
+                self.assertIsNone(found_in([pairs], always))
+
+
+if __name__ == "__main__":
+    unittest.main()
