@@ -1,5 +1,5 @@
-"""Clients that are driven in lockstep, one step after another, so that a fault shows each time where
-the store allows it: which levels have which faults.
+"""Clients that are driven in lockstep, one step after another, so that a fault shows each time
+where the store allows it: which levels have which faults.
 
 What a store doesn't let a client do, as where it would have to wait for another one, aborts that
 client's transaction: stores are to be told not to wait for locks.
@@ -14,7 +14,6 @@ from typing import Any, Callable, Dict, List, Mapping, Optional, Sequence
 from .anomalies import find_anomaly
 from .auditor import Auditor
 from .sessions import Aborted, OutcomeUnknown, Session, Transaction
-from .shrinking import smaller
 
 SESSIONS = 3
 Steps = Callable[[Sequence["Client"]], None]
@@ -195,7 +194,7 @@ def run_lockstep(fault: str, stores: Sequence[Any], prefix: str = "") -> Seen:
         outcome = auditor.outcome()
         history = auditor.history
         ended = [[logged.outcome for logged in transactions] for transactions in history]
-        anomaly = find_anomaly(smaller(history)) if outcome.kind == "violated" else None
+        anomaly = find_anomaly(history) if outcome.kind == "violated" else None
     named = anomaly.name if anomaly is not None else ""
     return Seen(outcome.kind, named, ended)
 

@@ -16,8 +16,9 @@ DATABASE = "zanteyard"
 OPTIONS = (
     *("--skip-networking", "--skip-grant-tables", "--skip-log-bin", "--skip-name-resolve"),
     *("--innodb-flush-method=nosync", "--innodb-flush-log-at-trx-commit=0"),
-    *("--innodb-log-file-size=16M", "--innodb-buffer-pool-size=32M", "--aria-pagecache-buffer-size=8M"),
-    *("--loose-innodb-snapshot-isolation=OFF", "--max-connections=200"),
+    *("--innodb-log-file-size=16M", "--innodb-buffer-pool-size=32M"),
+    *("--aria-pagecache-buffer-size=8M", "--max-connections=200"),
+    "--loose-innodb-snapshot-isolation=OFF",
 )
 
 
@@ -46,16 +47,16 @@ class MariaDBServer(OwnServer):
         as_user = ["--user=mysql"] if os.geteuid() == 0 else []
         data, errors = f"--datadir={self.folder}/data", f"--pid-file={self.folder}/server.pid"
         return [
-            mariadbd() or "mariadbd", "--no-defaults", *as_user, data, errors,
-            f"--socket={self.socket}", f"--tmpdir={self.folder}", *OPTIONS,
+            *(mariadbd() or "mariadbd", "--no-defaults", *as_user, data, errors),
+            *(f"--socket={self.socket}", f"--tmpdir={self.folder}", *OPTIONS),
         ]
 
     def answers(self) -> bool:
         import pymysql
 
         try:
-            dsn = {**self.dsn, "database": None}
-            connection = pymysql.connect(**dsn, connect_timeout=5)
+            dsn: Dict[str, Any] = {**self.dsn, "database": None, "connect_timeout": 5}
+            connection = pymysql.connect(**dsn)
         except pymysql.MySQLError:
             return False
         connection.cursor().execute(f"CREATE DATABASE IF NOT EXISTS {DATABASE}")

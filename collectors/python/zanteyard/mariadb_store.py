@@ -126,8 +126,9 @@ class MariaDBStore:
             raise pymysql.OperationalError(2003, str(error)) from None
 
     def connected(self, seconds: float) -> Any:
-        more = {"charset": "utf8mb4", "connect_timeout": max(1, math.ceil(seconds)), **self.dsn}
-        connection = pymysql.connect(**{**more, "autocommit": True})
+        limits = {"connect_timeout": max(1, math.ceil(seconds))}
+        dsn: Dict[str, Any] = {"charset": "utf8mb4", **limits, **self.dsn, "autocommit": True}
+        connection = pymysql.connect(**dsn)
         cursor = connection.cursor()
         cursor.execute(SET_UP)
         if self.level == SNAPSHOT:

@@ -7,7 +7,7 @@ import shutil
 import subprocess
 import tempfile
 import time
-from typing import Any, List, Optional
+from typing import Any, Dict, List, Optional
 
 STARTING = 60.0  # seconds for a server to take connections
 TRIES = 50  # to remove its folder
@@ -60,13 +60,13 @@ class OwnServer:
     def start(self) -> None:
         """Again, where it was stopped."""
         with open(f"{self.folder}/log", "ab") as log:
-            quiet = {"stdin": subprocess.DEVNULL, "stdout": log, "stderr": log}
-            self.process = subprocess.Popen(self.call(), cwd=self.folder, **quiet)  # type: ignore
+            quiet: Dict[str, Any] = {"stdin": subprocess.DEVNULL, "stdout": log, "stderr": log}
+            self.process = process = subprocess.Popen(self.call(), cwd=self.folder, **quiet)
         with open(f"{self.folder}/pid", "w", encoding="ascii") as file:
-            file.write(f"{self.process.pid}\n")
+            file.write(f"{process.pid}\n")
         ends = time.monotonic() + STARTING
         while not self.answers():
-            if self.process.poll() is not None or time.monotonic() > ends:
+            if process.poll() is not None or time.monotonic() > ends:
                 raise CantStartError(f"{self.program} can't be started: {self.last_words()}")
             time.sleep(0.02)
 

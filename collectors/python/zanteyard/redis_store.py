@@ -1,5 +1,5 @@
-"""Keys of a Redis as a store. Each has, in one text, the value and its writer's name; the value null
-marks a deleted key.
+"""Keys of a Redis as a store. Each has, in one text, the value and its writer's name; the value
+null marks a deleted key.
 
 What a transaction writes is queued by MULTI and done by EXEC, which does nothing where a key that
 was watched has changed. Each store has a key of its own, which it watches as a transaction begins
@@ -91,7 +91,8 @@ class RedisStore:
         self.connection = connection
 
     def connected(self, seconds: float) -> Any:
-        connection = redis.ConnectionPool.from_url(self.url, decode_responses=True).make_connection()
+        pool = redis.ConnectionPool.from_url(self.url, decode_responses=True)
+        connection = pool.make_connection()
         try:
             within(seconds, connection.connect, lambda _: connection.disconnect())
         except LateError as error:

@@ -174,7 +174,7 @@ class SQLiteStore:
             self.start(True, self.waits)
         try:
             if len(keys) == 1:
-                rows = [(keys[0], *row) for row in self.ask(READ, keys)]
+                rows: List[Any] = [(keys[0], *row) for row in self.ask(READ, keys)]
             else:
                 marks = ", ".join("?" * len(keys))
                 rows = self.ask(READ_ALL, [*keys], keys=marks).fetchall()
