@@ -9,11 +9,14 @@ from __future__ import annotations
 
 from contextlib import suppress
 from dataclasses import dataclass
-from typing import Any, Callable, Dict, List, Mapping, Optional, Sequence
+from typing import Any, Callable, Dict, Iterator, List, Mapping, Optional, Sequence
 
 from .anomalies import find_anomaly
 from .auditor import Auditor
+from .outcome import Outcome
 from .sessions import Aborted, OutcomeUnknown, Session, Transaction
+from .shrinking import name as plain_name
+from .stories import story_lines, story_of
 
 SESSIONS = 3
 Steps = Callable[[Sequence["Client"]], None]
@@ -165,15 +168,16 @@ FAULTS: Mapping[str, Steps] = {
 
 @dataclass(frozen=True)
 class Seen:
-    """What was said of it: the verdict; the anomaly's name, where it was violated; and of each
-    session's transactions how they ended."""
+    """What was said of it: the verdict; the anomaly's name, where it was violated; of each
+    session's transactions how they ended; and the whole in words, where it was asked for."""
 
     kind: str
     anomaly: str
     outcomes: Sequence[Sequence[str]]
+    lines: Sequence[str] = ()
 
     def __str__(self) -> str:
-        return f"{self.kind}: {self.anomaly}" if self.anomaly else self.kind
+        return self.anomaly or self.kind
 
 
 def about(fault: str) -> str:
@@ -181,7 +185,9 @@ def about(fault: str) -> str:
     return " ".join((FAULTS[fault].__doc__ or "").split()).rstrip(".")
 
 
-def run_lockstep(fault: str, stores: Sequence[Any], prefix: str = "") -> Seen:
+def run_lockstep(
+    fault: str, stores: Sequence[Any], prefix: str = "", tells: bool = False
+) -> Seen:
     """Has clients do that over these stores, SESSIONS of them, each with a connection of its own.
     Their keys begin with the prefix, so that none is there before."""
     with Auditor(SESSIONS, 64) as auditor:
@@ -195,8 +201,19 @@ def run_lockstep(fault: str, stores: Sequence[Any], prefix: str = "") -> Seen:
         history = auditor.history
         ended = [[logged.outcome for logged in transactions] for transactions in history]
         anomaly = find_anomaly(history) if outcome.kind == "violated" else None
+        lines = [*_told(auditor, outcome)] if tells else []
     named = anomaly.name if anomaly is not None else ""
-    return Seen(outcome.kind, named, ended)
+    return Seen(outcome.kind, named, ended, lines)
+
+
+def _told(auditor: Auditor, outcome: Outcome) -> Iterator[str]:
+    for session, transactions in enumerate(auditor.history):
+        for number, logged in enumerate(transactions):
+            yield f"  {session}.{number} {logged.outcome}"
+    if outcome.kind == "violated":
+        yield from story_lines(story_of(auditor.history, plain_name))
+    else:
+        yield str(outcome)
 
 
 class _OwnKeys:

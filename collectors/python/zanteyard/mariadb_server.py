@@ -12,10 +12,10 @@ from .own_server import OwnServer
 
 DATABASE = "zanteyard"
 # No privileges are asked for, so that no table of them has to be made: whoever may open the folder
-# may do all. Nothing is brought to the disk for good.
+# may do all. What is committed outlives the server, but nothing waits for the disk.
 OPTIONS = (
     *("--skip-networking", "--skip-grant-tables", "--skip-log-bin", "--skip-name-resolve"),
-    *("--innodb-flush-method=nosync", "--innodb-flush-log-at-trx-commit=0"),
+    *("--innodb-flush-method=nosync", "--innodb-flush-log-at-trx-commit=2"),
     *("--innodb-log-file-size=16M", "--innodb-buffer-pool-size=32M"),
     *("--aria-pagecache-buffer-size=8M", "--max-connections=200"),
     "--loose-innodb-snapshot-isolation=OFF",
@@ -29,7 +29,9 @@ def mariadbd() -> Optional[str]:
 
 
 class MariaDBServer(OwnServer):
-    """MariaDB won't run as root, so that root runs it as the user mysql."""
+    """MariaDB won't run as root, so that root runs it as the user mysql. What it makes at its first
+    start is whole on the disk only once it has ended in good order: one that is to be killed, and
+    started again, has to be restarted before."""
 
     program, user, table = "mariadbd", "mysql", "zanteyard"
 

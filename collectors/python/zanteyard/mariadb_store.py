@@ -248,10 +248,10 @@ class MariaDBStore:
         return None if row[1] is None else (row[0], row[1:])
 
     def put(self, key: str, value: Any, name: Name, before: str, behind: str) -> Any:
-        """With the store's own row in front, where it is the transaction's first."""
+        """With the store's own row behind it, where it is the transaction's first."""
         rows: List[Any] = [key, value, *name]
         if not self.has_written:
-            rows = [self.own, "committed", name[0], OWN, self.count, *rows]
+            rows += [self.own, "committed", name[0], OWN, self.count]
         count = len(rows) // 5
         text = f"{INSERT}{', '.join([ROW] * count)} {UPDATE.replace('{before}', before)} {behind}"
         done = self.ask(text, rows)

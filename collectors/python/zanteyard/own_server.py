@@ -80,6 +80,13 @@ class OwnServer:
             self.process.kill()
             self.process.wait()
 
+    def restart(self) -> None:
+        """Ends it in good order, and starts it again."""
+        if self.process is not None:
+            self.process.terminate()
+            self.process.wait(STARTING)
+        self.start()
+
     def __exit__(self, *_: object) -> None:
         self.stop()
         for _try in range(TRIES):

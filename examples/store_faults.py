@@ -1,0 +1,69 @@
+"""Which level of a store has which fault: clients are driven in lockstep at each, and audited.
+
+    python3 examples/store_faults.py mariadb|redis|sqlite [--journal wal|delete] [--dsn DSN]
+        [--level LEVEL --fault FAULT]
+
+It starts a server of its own in a folder that is thrown away, or uses what --dsn names. With a
+level and a fault it tells that one in words. The status is 0, or 2 where something is wanting.
+"""
+import argparse
+import os
+import sys
+
+TOP = os.path.join(os.path.dirname(os.path.abspath(__file__)), "..")
+sys.path.insert(0, os.path.join(TOP, "collectors/python"))
+from zanteyard.cluster import ended_by_signals
+from zanteyard.errors import ZanteyardError
+from zanteyard.lockstep import FAULTS, SESSIONS, about, run_lockstep, table_of
+from zanteyard.store_kinds import KINDS, kind_named
+
+
+def stores_of(kind, asked, server, level):
+    asked.level = level
+    make_store = kind.maker(asked, server, **kind.no_waiting)
+    return [make_store() for _ in range(SESSIONS)]
+
+
+def tell_table(kind, asked, server):
+    found = table_of(lambda level: stores_of(kind, asked, server, level), [*kind.levels])
+    rows = [["", *kind.levels.values()]]
+    rows += [[fault, *(str(one) for one in seen)] for fault, seen in found.items()]
+    widths = [max(map(len, column)) for column in zip(*rows)]
+    for row in rows:
+        print("  ".join(text.ljust(width) for text, width in zip(row, widths)).rstrip())
+
+
+def tell_one(kind, asked, server):
+    print(f"{about(asked.fault)}.")
+    stores = stores_of(kind, asked, server, asked.level)
+    for line in run_lockstep(asked.fault, stores, tells=True).lines:
+        print(line)
+    for store in stores:
+        store.close()
+
+
+def main():
+    whole = argparse.ArgumentParser(description=__doc__.splitlines()[0])
+    commands = whole.add_subparsers(metavar="STORE", required=True)
+    for kind in KINDS:
+        if kind.command != "postgres":
+            one = commands.add_parser(kind.command)
+            one.set_defaults(kind=kind.command)
+            one.add_argument("--level", choices=kind.levels)
+            one.add_argument("--fault", choices=FAULTS)
+            kind.add_arguments(one)
+    asked = whole.parse_args()
+    if (asked.level is None) != (asked.fault is None):
+        whole.error("--level and --fault go together")
+    kind = kind_named(asked.kind)
+    try:
+        with ended_by_signals(), kind.server(asked) as server:
+            print(kind.version(server))
+            (tell_table if asked.fault is None else tell_one)(kind, asked, server)
+    except (ZanteyardError, OSError) as error:
+        print(error, file=sys.stderr)
+        sys.exit(2)
+
+
+if __name__ == "__main__":
+    main()
