@@ -5,7 +5,6 @@ import logging
 import os
 import shutil
 import signal
-import socket
 import sqlite3
 import subprocess
 import sys
@@ -15,15 +14,18 @@ import time
 import unittest
 
 from zanteyard import Aborted, AuditorApart, Auditor, LiveAuditor, NameTaken, OutcomeUnknown, Session
+from zanteyard.at_once import CLIENTS, run_at_once
 from zanteyard.auditor import FENCE, PROGRAM
 from zanteyard.errors import StoreUnfitError
-from zanteyard.lockstep import FAULTS, table_of
+from zanteyard.lockstep import table_lines, table_of
 from zanteyard.mariadb_server import MariaDBServer, mariadbd
 from zanteyard.outcome import RATHER_WAIT
 from zanteyard.redis_server import RedisServer, redis_server
 from zanteyard.sqlite_store import JOURNALS, SQLiteStore
 from zanteyard.sqlite_store import prepare as prepare_sqlite
-from zanteyard.workloads import EVERY_WORKLOAD, Clients
+from zanteyard.workloads import Clients
+
+from .test_faults import Application
 
 try:
     import pymysql
@@ -94,38 +96,19 @@ class Each:
             for level, one in zip(self.levels, seen):
                 with self.subTest(fault=fault, level=level):
                     self.assertEqual(str(one), name if level in allowed else "serial")
+        with open(os.path.join(PLACE, "../../docs/STORES.md"), encoding="utf-8") as file:
+            self.assertIn("\n".join(table_lines(found, self.levels)), file.read())
 
     def test_clients_at_once(self):
         for workload, serial, violated in self.by_load:
             for level in (*serial, *violated):
                 with self.subTest(workload=workload, level=level):
-                    kind = self.load(workload, level, 1.0 if level in serial else 20.0)
+                    kind = self.load(workload, level, 0.5 if level in serial else 20.0)
                     self.assertEqual(kind, "serial" if level in serial else "violated")
 
     def load(self, workload, level, seconds):
-        """The verdict after so many seconds at most; each read takes two milliseconds."""
-        auditor = self.auditor(4, 4000)
-        of = self.slow()
-        stores = [of(level, **self.waiting) for _ in range(4)]
-        sessions = [Session(auditor, number, store, patience=20) for number, store in enumerate(stores)]
-        ends = time.monotonic() + seconds
-        kind = "serial"
-        while kind == "serial" and time.monotonic() < ends and auditor.remaining < 3000:
-            clients = Clients(sessions, EVERY_WORKLOAD[workload], 0.5, lambda: False, 400)
-            self.assertEqual(clients.failures, [])
-            kind = auditor.round().kind
-        for store in stores:
-            store.close()
-        return kind
-
-    def slow(self):
-        def make(level, **more):
-            store = self.store(level, **more)
-            read = store.read
-            store.read = lambda key: (read(key), time.sleep(0.002))[0]
-            return store
-
-        return make
+        stores = [self.made(level, **self.waiting) for _ in range(CLIENTS)]
+        return run_at_once(workload, stores, seconds, names_it=False).kind
 
     def test_what_is_written_is_read_with_its_name(self):
         for level in self.levels:
@@ -187,7 +170,7 @@ class Each:
                 told = []
                 with AuditorApart(4) as auditor:
                     policy = RATHER_WAIT
-                    live = LiveAuditor(auditor, every=24, seconds=0.5, tell=told.append, policy=policy)
+                    live = LiveAuditor(auditor, every=16, seconds=0.5, tell=told.append, policy=policy)
                     sessions = [live.session(self.made(level, **self.waiting)) for _ in range(3)]
 
                     def body(transaction, client):
@@ -195,10 +178,64 @@ class Each:
                         transaction.put("blind", str(client))
 
                     until = lambda: live.is_over or live.cuts >= 2
-                    clients = Clients(sessions, body, 60.0, until, 40)
+                    clients = Clients(sessions, body, 60.0, until, 60)
                     outcome = live.stop()
                 self.assertEqual(clients.failures, [])
                 self.assertEqual((outcome.kind, live.cuts >= 2), ("serial", True), (str(outcome), told[-3:]))
+
+    def command(self, *words):
+        """Its status, and what it told; in a folder of its own, since it writes files."""
+        folder = tempfile.mkdtemp()
+        self.addCleanup(shutil.rmtree, folder, ignore_errors=True)
+        environment = {**os.environ, "PYTHONPATH": PLACE, "COBRA_AUDIT": os.path.abspath(PROGRAM)}
+        more = {"cwd": folder, "env": environment, "stdout": subprocess.PIPE, "stderr": subprocess.STDOUT}
+        ended = subprocess.run([sys.executable, *words], text=True, timeout=150, **more)
+        return ended.returncode, ended.stdout
+
+    def audit(self, *words):
+        few = ("--unaudited", "0", "--clients", "3", "--rate", "150")
+        return self.command("-m", "zanteyard", "audit", *self.command_words, *few, *words)
+
+    def test_the_command(self):
+        """The same of each store as of a PostgreSQL: a violation ends it, and else it goes on."""
+        level, workload = self.audited
+        status, told = self.audit("--level", level, "--workload", workload, "--seconds", "60", "--html", "page.html")
+        self.assertEqual(status, 1, told)
+        self.assertIn(f"{workload} at ", told)
+        self.assertIn("so none can come first of", told)
+        self.assertIn("(to look at: page.html)", told)
+        status, told = self.audit("--workload", workload, "--seconds", "2", "--processes", "--rather-wait")
+        self.assertEqual(status, 0, told)
+
+    def test_what_the_example_tells(self):
+        level = self.audited[0]
+        example = os.path.join(PLACE, "../../examples/store_faults.py")
+        status, told = self.command(example, *self.command_words, "--level", level, "--fault", "lost update")
+        self.assertEqual(status, 0, told)
+        self.assertIn("Two clients count up from the same number.\n", told)
+        self.assertIn("0.1 and 1.0 both read x from 0.0 and both overwrote it", told)
+
+    def killed_under_load(self, server, make_store):
+        """Clients count while their server is killed and started again: what they were told is done
+        is there, what they were told is aborted isn't, and one order explains it."""
+        stores = [make_store() for _ in range(3)]
+        auditor = self.auditor(3, 4000)
+        sessions = [Session(auditor, number, store, patience=60) for number, store in enumerate(stores)]
+        sessions[0].run(lambda t: t.put("x", "0"))
+        application = Application(sessions, pace=0.03)
+        for _ in range(2):
+            before = application.done
+            self.assertTrue(eventually(lambda: application.done > before + 10), application.seen)
+            server.stop()
+            server.start()
+        before = application.done
+        self.assertTrue(eventually(lambda: application.done > before + 5), application.seen)
+        application.end()
+        counted = int(sessions[0].run(lambda t: t.get("x")))
+        self.assertEqual((counted, application.unknown), (application.done, 0))
+        outcome = auditor.outcome()
+        self.assertEqual(outcome.kind, "serial", str(outcome))
+        [store.close() for store in stores]
 
     def lost(self, loses, outcome):
         """A client's commit is sent, or not, and not answered."""
@@ -232,6 +269,7 @@ class MariaDB(Each, unittest.TestCase):
         ("skew", levels[:1], levels[1:2]),
     )
     waiting = {"lock_wait": 20}
+    command_words, audited = ("mariadb",), ("repeatable", "counter")
 
     @classmethod
     def setUpClass(cls):
@@ -435,6 +473,12 @@ class MariaDB(Each, unittest.TestCase):
             for store in stores:
                 store.close()
 
+    def test_a_server_that_is_killed_under_load(self):
+        with MariaDBServer() as server:
+            server.restart()
+            mariadb_store.prepare(server.dsn)
+            self.killed_under_load(server, lambda: mariadb_store.MariaDBStore(server.dsn))
+
 
 @unittest.skipIf(lacking(redis=redis, redis_server=redis_server()), lacking(redis=redis, redis_server=redis_server()))
 class Redis(Each, unittest.TestCase):
@@ -455,6 +499,7 @@ class Redis(Each, unittest.TestCase):
         ("pairs", levels[:1], levels[1:2]),
     )
     waiting = {}
+    command_words, audited = ("redis",), ("unwatched", "counter")
 
     @classmethod
     def setUpClass(cls):
@@ -559,6 +604,23 @@ class Redis(Each, unittest.TestCase):
                 store.kept.disconnect()
                 self.assertEqual(self.value("lost"), "1" if sends else None)
 
+    def test_answers_to_single_commands_that_are_lost(self):
+        """Whether it was done nobody can say, and so nobody says that it was aborted."""
+
+        class Lossy(redis_store.RedisStore):
+            def send(self, *commands):
+                answers = super().send(*commands)
+                if commands[0][0] == "SET":
+                    self.close()
+                    raise redis.ConnectionError("the answer is lost")
+                return answers
+
+        auditor, (a, b) = self.sessions(self.made("single commands", of=Lossy), self.made(), patience=0.5)
+        with self.assertRaises(OutcomeUnknown):
+            a.run(lambda t: (t.put("x", "1"), t.put("y", "1")))
+        self.assertEqual(b.run(lambda t: (t.get("x"), t.get("y"))), ("1", None))
+        self.assertEqual((auditor.history[0][0].outcome, a.is_open), ("unknown", False))
+
     def test_what_fails_within_exec_isnt_taken_back(self):
         class Fails(redis_store.RedisStore):
             def send_exec(self, commands):
@@ -628,6 +690,10 @@ class Redis(Each, unittest.TestCase):
             self.assertEqual(auditor.round().kind, "serial")
             [store.close() for store in stores]
 
+    def test_a_server_that_is_killed_under_load(self):
+        with RedisServer(keeps=True) as server:
+            self.killed_under_load(server, lambda: redis_store.RedisStore(server.dsn))
+
 
 @unittest.skipIf(lacking(), lacking())
 class SQLite(Each, unittest.TestCase):
@@ -644,10 +710,12 @@ class SQLite(Each, unittest.TestCase):
     }
     by_load = (("undone", levels[1:2], levels[2:3]), ("counter", levels[:2], levels[3:]))
     waiting = {"patience": 20.0}
+    command_words, audited = ("sqlite",), ("autocommit", "counter")
 
     def setUp(self):
         super().setUp()
-        self.folder = tempfile.mkdtemp()
+        in_memory = "/dev/shm"  # disks that others use would make waits long
+        self.folder = tempfile.mkdtemp(dir=in_memory if os.path.isdir(in_memory) else None)
         self.addCleanup(shutil.rmtree, self.folder, ignore_errors=True)
         self.path = f"{self.folder}/a store?"
         prepare_sqlite(self.path, self.journal)
@@ -780,6 +848,7 @@ class SQLite(Each, unittest.TestCase):
 
 class SQLiteWithAJournal(SQLite):
     journal = "delete"
+    test_the_command = test_what_the_example_tells = None  # they are the same
 
 
 if __name__ == "__main__":

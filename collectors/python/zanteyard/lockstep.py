@@ -240,6 +240,16 @@ class _OwnKeys:
         return self.store.exchange(self.prefix + key, value, name)
 
 
+def table_lines(found: Mapping[str, Sequence[Seen]], levels: Sequence[str]) -> List[str]:
+    """As a table, with a column for each level."""
+    rows = [["", *levels]]
+    rows += [[fault, *(str(one) for one in seen)] for fault, seen in found.items()]
+    widths = [max(map(len, column)) for column in zip(*rows)]
+    return [
+        "  ".join(text.ljust(width) for text, width in zip(row, widths)).rstrip() for row in rows
+    ]
+
+
 def table_of(
     make_stores: Callable[[str], Sequence[Any]], levels: Sequence[str]
 ) -> Dict[str, List[Seen]]:

@@ -14,7 +14,7 @@ import math
 import secrets
 import socket
 import threading
-from typing import Any, Dict, List, Mapping, Optional, Sequence, Tuple
+from typing import Any, Dict, Mapping, Optional, Sequence, Tuple
 
 import pymysql
 from pymysql.constants import SERVER_STATUS
@@ -249,13 +249,13 @@ class MariaDBStore:
 
     def put(self, key: str, value: Any, name: Name, before: str, behind: str) -> Any:
         """With the store's own row behind it, where it is the transaction's first."""
-        rows: List[Any] = [key, value, *name]
-        if not self.has_written:
-            rows += [self.own, "committed", name[0], OWN, self.count]
-        count = len(rows) // 5
-        text = f"{INSERT}{', '.join([ROW] * count)} {UPDATE.replace('{before}', before)} {behind}"
-        done = self.ask(text, rows)
+        own = () if self.has_written else (self.own, "committed", name[0], OWN, self.count)
+        rows = f"{ROW}, {ROW}" if own else ROW
+        text = f"{INSERT}{rows} {UPDATE.replace('{before}', before)} {behind}"
+        done = self.ask(text, (key, value, *name, *own))
         self.has_written = True
+        if own and self.statement is not None:  # who is told of a violation needn't see this row
+            self.statement = self.statement.replace(f", {done.mogrify(ROW, own)}", "")
         return done
 
     def commit(self) -> None:

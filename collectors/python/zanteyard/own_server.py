@@ -62,7 +62,7 @@ class OwnServer:
         with open(f"{self.folder}/log", "ab") as log:
             quiet: Dict[str, Any] = {"stdin": subprocess.DEVNULL, "stdout": log, "stderr": log}
             self.process = process = subprocess.Popen(self.call(), cwd=self.folder, **quiet)
-        with open(f"{self.folder}/pid", "w", encoding="ascii") as file:
+        with open(f"{self.folder}/own_server.pid", "w", encoding="ascii") as file:
             file.write(f"{process.pid}\n")
         ends = time.monotonic() + STARTING
         while not self.answers():

@@ -202,9 +202,16 @@ class RedisStore:
         command = ("SET", self.prefix + key, text_of(value, name))
         self.told(command)
         if self.level == SINGLE:
-            self.send(command)
+            self.sent_by_itself(command)
         else:
             self.queued.append(command)
+
+    def sent_by_itself(self, command: Command) -> Any:
+        """Where no answer comes nobody knows whether it was done."""
+        try:
+            return self.send(command)[0]
+        except BROKEN as error:
+            raise OutcomeUnknown(str(error)) from error
 
     def exchange(self, key: str, value: Any, name: Name) -> Optional[Found]:
         """In a transaction the key is watched, at every level but where each write is done at
@@ -214,7 +221,7 @@ class RedisStore:
         if self.is_alone:
             return self.exchanged_alone(command)
         if self.level == SINGLE:
-            (text,) = self.send(command)
+            text = self.sent_by_itself(command)
             self.told(command)
             return found_in(text)
         text = self.send(("WATCH", its), ("GET", its))[-1]

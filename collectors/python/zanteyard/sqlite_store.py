@@ -195,7 +195,7 @@ class SQLiteStore:
         try:
             own = (self.own, None, name[0], OWN, self.count)
             self.ask(WRITE, own, rows=ROW)  # from here on this is who writes
-            row = self.ask(READ, (key,)).fetchone()
+            rows = self.ask(READ, (key,)).fetchall()
             self.ask(WRITE, (key, value, *name), rows=ROW)
             if is_by_itself:
                 written = self.statement
@@ -205,7 +205,7 @@ class SQLiteStore:
             if is_by_itself:
                 self.rollback()
             raise
-        return None if row is None else (row[0], row[1:])
+        return (rows[0][0], rows[0][1:]) if rows else None
 
     def commit(self) -> None:
         if self.is_alone or (self.level == AUTOCOMMIT and not self.has_failed):
@@ -259,8 +259,10 @@ class SQLiteStore:
 
     def outcome_within(self, seconds: float) -> str:
         """As the next transaction that writes finds it: before it begins, what a broken commit has
-        left is rolled back."""
+        left is rolled back. Of statements that are each done by themselves nobody can say."""
         self.close()
+        if self.level == AUTOCOMMIT and not self.is_alone:
+            return "unknown"
         try:
             connection = sqlite3.connect(self.path, isolation_level=None, timeout=seconds)
             try:
