@@ -53,6 +53,12 @@ else
     echo "skipped: ruff or pycodestyle, neither of which is installed (no line was measured)"
 fi
 limited 720 -m unittest
+for each in "MariaDB mariadb_server mariadbd pymysql" "Redis redis_server redis_server redis"; do
+    read -r name module program driver <<< "$each"
+    if ! "$python" -c "import $driver, sys; from zanteyard.$module import $program; sys.exit(not $program())" 2> /dev/null; then
+        echo "skipped: what needs $name and $driver, which aren't both installed (nothing was audited over it)"
+    fi
+done
 if ! "$python" -c "import psycopg2" 2> /dev/null || ! "$python" -c "import sys; from zanteyard.cluster import program; sys.exit(not program('initdb'))"; then
     echo "skipped: what needs PostgreSQL and psycopg2, which aren't both installed (nothing was audited live)"
     exit 0

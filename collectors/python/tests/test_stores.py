@@ -17,7 +17,7 @@ from zanteyard import Aborted, AuditorApart, Auditor, LiveAuditor, NameTaken, Ou
 from zanteyard.at_once import CLIENTS, run_at_once
 from zanteyard.auditor import FENCE, PROGRAM
 from zanteyard.errors import StoreUnfitError
-from zanteyard.lockstep import table_lines, table_of
+from zanteyard.lockstep import run_lockstep, table_lines, table_of
 from zanteyard.mariadb_server import MariaDBServer, mariadbd
 from zanteyard.outcome import RATHER_WAIT
 from zanteyard.redis_server import RedisServer, redis_server
@@ -177,11 +177,12 @@ class Each:
                         transaction.put(f"own {client}", str(int(transaction.get(f"own {client}") or 0) + 1))
                         transaction.put("blind", str(client))
 
-                    until = lambda: live.is_over or live.cuts >= 2
+                    wanted = 2 if level == self.levels[0] else 1
+                    until = lambda: live.is_over or live.cuts >= wanted
                     clients = Clients(sessions, body, 60.0, until, 60)
                     outcome = live.stop()
                 self.assertEqual(clients.failures, [])
-                self.assertEqual((outcome.kind, live.cuts >= 2), ("serial", True), (str(outcome), told[-3:]))
+                self.assertEqual((outcome.kind, live.cuts >= wanted), ("serial", True), (str(outcome), told[-3:]))
 
     def command(self, *words):
         """Its status, and what it told; in a folder of its own, since it writes files."""
@@ -303,6 +304,24 @@ class MariaDB(Each, unittest.TestCase):
                 self.assertRaises(Aborted, more)
             other.rollback(), one.rollback()
             self.assertEqual([self.value(key) for key in "abx"], [None] * 3)
+
+    def test_reads_that_lock(self):
+        """What is there is locked at every level; a key that isn't there only at those that lock
+        what lies between two keys."""
+        levels = ("repeatable read", "read committed")
+        wanted = {
+            "torn read": "serial, serial",
+            "newer write": "serial, serial",
+            "lost update": "serial, serial",
+            "write skew": "serial, serial",
+            "absent keys": "serial, write skew",
+        }
+        for fault, told in wanted.items():
+            seen = []
+            for level in levels:
+                stores = [self.made(level, for_update=True) for _ in range(3)]
+                seen.append(str(run_lockstep(fault, stores, f"{level}/{fault}/")))
+            self.assertEqual(", ".join(seen), told, fault)
 
     def test_after_a_deadlock_nothing_is_done_by_itself(self):
         one, other = self.made(**self.waiting), self.made(**self.waiting)

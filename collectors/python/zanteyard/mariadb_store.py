@@ -41,6 +41,7 @@ WAITS = "SET SESSION innodb_lock_wait_timeout = %s"
 READ = "SELECT value, run, session, number FROM {table} WHERE `key` = %s"
 READ_ALL = "SELECT `key`, value, run, session, number FROM {table} WHERE `key` IN %s"
 LOCKING = " LOCK IN SHARE MODE"
+FOR_UPDATE = " FOR UPDATE"
 OWN = -2  # in place of a session, in the row that tells a store's outcomes
 INSERT = "INSERT INTO {table} (`key`, value, run, session, number) VALUES "
 ROW = "(%s, %s, %s, %s, %s)"
@@ -91,7 +92,7 @@ class MariaDBStore:
     """One connection, for one thread at a time. `dsn` is what `pymysql.connect` takes, `level` one
     of LEVELS, and `table` may be "database.table". A connection is waited for no longer than
     `patience` seconds, and a lock no longer than `lock_wait`, whole seconds; where none are given,
-    as long as the server says."""
+    as long as the server says. Where it is `for_update` all reads are SELECT .. FOR UPDATE."""
 
     def __init__(
         self,
@@ -100,11 +101,12 @@ class MariaDBStore:
         table: str = "zanteyard",
         patience: float = PATIENCE,
         lock_wait: Optional[int] = None,
+        for_update: bool = False,
     ) -> None:
         if level not in LEVELS:
             raise ValueError(f"{level} is none of {', '.join(LEVELS)}")
         self.dsn, self.level, self.table, self.patience = dict(dsn), level, quoted(table), patience
-        self.lock_wait = lock_wait
+        self.lock_wait, self.locks = lock_wait, FOR_UPDATE if for_update else ""
         self.connection: Any = None
         self.statement: Optional[str] = None  # what was run last, as the server got it
         self.own, self.count = f"{LAST}{secrets.token_hex(8)}", 0
@@ -228,13 +230,14 @@ class MariaDBStore:
         )
 
     def read(self, key: str) -> Optional[Found]:
-        row = self.ask(READ + (LOCKING if self.is_alone else ""), (key,)).fetchone()
+        row = self.ask(READ + (LOCKING if self.is_alone else self.locks), (key,)).fetchone()
         return None if row is None else (row[0], row[1:])
 
     def read_all(self, keys: Sequence[str]) -> Dict[str, Found]:
         if not keys:
             return {}
-        rows = self.ask(READ_ALL + (LOCKING if self.is_alone else ""), ([*keys],)).fetchall()
+        locks = LOCKING if self.is_alone else self.locks
+        rows = self.ask(READ_ALL + locks, ([*keys],)).fetchall()
         return {row[0]: (row[1], row[2:]) for row in rows}
 
     def write(self, key: str, value: Any, name: Name) -> None:
