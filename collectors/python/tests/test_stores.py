@@ -1,6 +1,8 @@
 """Sessions over MariaDB, Redis and SQLite, where they are installed: which level has which fault,
 and what becomes of a transaction where something goes wrong."""
+import argparse
 import contextlib
+import io
 import logging
 import os
 import shutil
@@ -23,6 +25,7 @@ from zanteyard.outcome import RATHER_WAIT
 from zanteyard.redis_server import RedisServer, redis_server
 from zanteyard.sqlite_store import JOURNALS, SQLiteStore
 from zanteyard.sqlite_store import prepare as prepare_sqlite
+from zanteyard.store_kinds import kind_named
 from zanteyard.workloads import Clients
 
 from .test_faults import Application
@@ -216,6 +219,24 @@ class Each:
         self.assertIn("Two clients count up from the same number.\n", told)
         self.assertIn("0.1 and 1.0 both read x from 0.0 and both overwrote it", told)
 
+    def test_a_store_that_is_there(self):
+        """Nothing is left of what an audit has made in it."""
+        before = self.everything()
+        words = ["--dsn", self.dsn_words()]
+        asked = argparse.ArgumentParser()
+        kind = kind_named(self.command_words[0])
+        kind.add_arguments(asked)
+        asked = asked.parse_args(words)
+        asked.level = kind.default_level
+        with contextlib.redirect_stdout(io.StringIO()) as told, kind.server(asked) as used:
+            store = kind.maker(asked, used)()
+            store.begin(), store.write("x", "1", NAME), store.commit()
+            store.claim("monday", "token", 20)
+            store.close()
+            self.assertGreater(len(self.everything()), len(before))
+        self.assertEqual(self.everything(), before)
+        self.assertRegex(told.getvalue(), "zanteyard_[0-9a-f]+")
+
     def killed_under_load(self, server, make_store):
         """Clients count while their server is killed and started again: what they were told is done
         is there, what they were told is aborted isn't, and one order explains it."""
@@ -285,6 +306,13 @@ class MariaDB(Each, unittest.TestCase):
         self.admin = admin.cursor()
         self.admin.execute("DROP TABLE IF EXISTS zanteyard, other")
         mariadb_store.prepare(self.server.dsn)
+
+    def dsn_words(self):
+        return " ".join(f"{name}={value}" for name, value in self.server.dsn.items())
+
+    def everything(self):
+        self.admin.execute("SHOW TABLES")
+        return self.admin.fetchall()
 
     def store(self, level, of=None, **more):
         return (of or mariadb_store.MariaDBStore)(self.server.dsn, level, **{"lock_wait": 0, **more})
@@ -532,6 +560,12 @@ class Redis(Each, unittest.TestCase):
         self.addCleanup(self.admin.close)
         self.admin.flushall()
 
+    def dsn_words(self):
+        return self.server.dsn
+
+    def everything(self):
+        return self.admin.keys("*")
+
     def store(self, level, of=None, **more):
         return (of or redis_store.RedisStore)(self.server.dsn, level, **more)
 
@@ -739,12 +773,34 @@ class SQLite(Each, unittest.TestCase):
         self.path = f"{self.folder}/a store?"
         prepare_sqlite(self.path, self.journal)
 
+    def dsn_words(self):
+        return self.path
+
+    def everything(self):
+        with contextlib.closing(sqlite3.connect(self.path)) as connection:
+            return connection.execute("SELECT name FROM sqlite_master").fetchall()
+
     def store(self, level, of=SQLiteStore, **more):
         return of(self.path, level, **{"patience": 0.0, **more})
 
     def test_the_journal_is_as_was_asked_for(self):
         with contextlib.closing(sqlite3.connect(self.path)) as connection:
             self.assertEqual(connection.execute("PRAGMA journal_mode").fetchone(), (self.journal,))
+
+    def test_what_a_meeting_asks_ends_in_time(self):
+        for level in self.levels[:3]:
+            with self.subTest(level=level):
+                one, other = self.made(level), self.made(level, patience=20.0)
+                one.begin(), one.exchange("x", "1", NAME)
+                other.begin_alone(0.2)
+                began = time.monotonic()
+                self.assertRaises(Aborted, other.exchange, "y", "1", NAME)
+                if level == "read uncommitted":
+                    self.assertRaises(Aborted, other.read, "x")  # it wasn't committed
+                self.assertLess(time.monotonic() - began, 10.0)
+                one.rollback()
+                other.begin_alone(5.0)
+                self.assertIsNone(other.read("x"))
 
     def test_who_cant_begin_takes_no_number(self):
         auditor, (a, b) = self.sessions(self.made(), self.made())

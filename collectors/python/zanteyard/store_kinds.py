@@ -6,7 +6,6 @@ from __future__ import annotations
 import argparse
 import os
 import shutil
-import sqlite3
 import tempfile
 from typing import Any, Callable, Dict, List, Mapping, Sequence
 
@@ -101,8 +100,7 @@ class StoreKind:
         """Of the server and of the driver."""
         raise NotImplementedError
 
-    #: What a store is told so that it doesn't wait for locks.
-    no_waiting: Mapping[str, Any] = {}
+    no_waiting: Mapping[str, Any] = {}  # what a store is told so that it waits for no locks
 
 
 def _wanted(module: str, package: str) -> str:
@@ -253,7 +251,7 @@ class _SQLite(StoreKind):
     no_waiting = {"patience": 0.0}
 
     def lacking(self) -> str:
-        return ""
+        return "" if _is_there("sqlite3") else "this Python was built without sqlite3"
 
     def add_arguments(self, asked: argparse.ArgumentParser) -> None:
         super().add_arguments(asked)
@@ -269,6 +267,8 @@ class _SQLite(StoreKind):
         return MakeStore(self.command, server.dsn, self.levels[asked.level], server.table, **more)
 
     def version(self, server: Any) -> str:
+        import sqlite3
+
         return f"SQLite {sqlite3.sqlite_version}, journal {server.journal}"
 
 
@@ -298,9 +298,15 @@ class SQLiteGuest(SQLiteFile):
     """A table of one's own in a file that is there, which is dropped at the end."""
 
     def __init__(self, path: str) -> None:
+        import sqlite3
+
         connection = sqlite3.connect(path)
-        (journal,) = connection.execute("PRAGMA journal_mode").fetchone()
-        connection.close()
+        try:
+            (journal,) = connection.execute("PRAGMA journal_mode").fetchone()
+        except sqlite3.Error as error:
+            raise CantAuditError(f"{path} is no file of SQLite's ({error})") from error
+        finally:
+            connection.close()
         super().__init__(journal)
         self.dsn, self.table = path, f"zanteyard_{os.urandom(6).hex()}"
 
@@ -309,6 +315,8 @@ class SQLiteGuest(SQLiteFile):
         return self
 
     def __exit__(self, *_: object) -> None:
+        import sqlite3
+
         connection = sqlite3.connect(self.dsn, isolation_level=None, timeout=10.0)
         try:
             connection.execute(f"DROP TABLE IF EXISTS {self.table}")
