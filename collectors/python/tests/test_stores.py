@@ -71,7 +71,7 @@ class Each:
         self.addCleanup(logging.getLogger("zanteyard").setLevel, logging.NOTSET)
 
     def auditor(self, sessions=3, limit=64, **more):
-        auditor = Auditor(sessions, limit, **more)
+        auditor = Auditor(sessions, limit, policy=RATHER_WAIT, **more)
         self.addCleanup(auditor.end)
         return auditor
 
@@ -173,7 +173,7 @@ class Each:
                 told = []
                 with AuditorApart(4) as auditor:
                     policy = RATHER_WAIT
-                    live = LiveAuditor(auditor, every=16, seconds=0.5, tell=told.append, policy=policy)
+                    live = LiveAuditor(auditor, every=12, seconds=0.5, tell=told.append, policy=policy)
                     sessions = [live.session(self.made(level, **self.waiting)) for _ in range(3)]
 
                     def body(transaction, client):
@@ -182,7 +182,7 @@ class Each:
 
                     wanted = 2 if level == self.levels[0] else 1
                     until = lambda: live.is_over or live.cuts >= wanted
-                    clients = Clients(sessions, body, 60.0, until, 60)
+                    clients = Clients(sessions, body, 60.0, until, 30)
                     outcome = live.stop()
                 self.assertEqual(clients.failures, [])
                 self.assertEqual((outcome.kind, live.cuts >= wanted), ("serial", True), (str(outcome), told[-3:]))
@@ -208,7 +208,7 @@ class Each:
         self.assertIn(f"{workload} at ", told)
         self.assertIn("so none can come first of", told)
         self.assertIn("(to look at: page.html)", told)
-        status, told = self.audit("--workload", workload, "--seconds", "2", "--processes", "--rather-wait")
+        status, told = self.audit("--workload", workload, "--seconds", "1", "--processes", "--rather-wait")
         self.assertEqual(status, 0, told)
 
     def test_what_the_example_tells(self):

@@ -9,6 +9,7 @@ from typing import Any, Callable, Dict, List, Mapping, Sequence
 from .anomalies import find_anomaly
 from .auditor import Auditor
 from .lockstep import Seen
+from .outcome import RATHER_WAIT
 from .sessions import Session
 from .shrinking import from_start, refuted, smaller
 from .workloads import EVERY_WORKLOAD, Clients
@@ -40,7 +41,7 @@ def run_at_once(
 ) -> Seen:
     """Has a client over each of these stores run the workload for so many seconds, or until it is
     violated. Raises what a client's transaction raised, but for AbortedError."""
-    with Auditor(len(stores), MOST) as auditor:
+    with Auditor(len(stores), MOST, policy=RATHER_WAIT) as auditor:
         sessions = [Session(auditor, number, Slow(store)) for number, store in enumerate(stores)]
         ends = time.monotonic() + seconds
         kind = "serial"
@@ -50,6 +51,8 @@ def run_at_once(
                 raise clients.failures[0]
             report = auditor.round()
             kind = report.kind
+        if kind != "violated":
+            kind = auditor.outcome().kind  # incomplete, where something wasn't audited
         outcomes = [[logged.outcome for logged in txns] for txns in auditor.history]
         named = ""
         if kind == "violated" and names_it:

@@ -13,7 +13,7 @@ from typing import Any, Callable, Dict, Iterator, List, Mapping, Optional, Seque
 
 from .anomalies import find_anomaly
 from .auditor import Auditor
-from .outcome import Outcome
+from .outcome import RATHER_WAIT, Outcome
 from .sessions import Aborted, OutcomeUnknown, Session, Transaction
 from .shrinking import name as plain_name
 from .stories import story_lines, story_of
@@ -190,7 +190,7 @@ def run_lockstep(
 ) -> Seen:
     """Has clients do that over these stores, SESSIONS of them, each with a connection of its own.
     Their keys begin with the prefix, so that none is there before."""
-    with Auditor(SESSIONS, 64) as auditor:
+    with Auditor(SESSIONS, 64, policy=RATHER_WAIT) as auditor:
         sessions = [
             Session(auditor, number, _OwnKeys(store, prefix)) for number, store in enumerate(stores)
         ]
