@@ -724,6 +724,42 @@ class Redis(Each, unittest.TestCase):
             self.assertEqual(auditor.round().kind, "serial")
             [store.close() for store in stores]
 
+    def test_how_long_the_application_waits_is_its_own(self):
+        """As its URL says, also after what the collector has asked; and where it says nothing."""
+        for url, wanted in ((f"{self.server.dsn}&socket_timeout=7.5", 7.5), (self.server.dsn, None)):
+            store = redis_store.RedisStore(url)
+            self.addCleanup(store.close)
+            alone = (
+                lambda: store.claim("monday", "token", 3.0),
+                lambda: store.read("x"),
+                lambda: store.read_all(["x", "y"]),
+                lambda: store.exchange("x", "1", NAME),
+            )
+            for call in (store.begin, *alone):
+                store.begin_alone(3.0)
+                call()
+                self.assertEqual(store.connection._sock.gettimeout(), wanted)
+
+    def test_a_server_that_stands_still_as_one_connects(self):
+        with RedisServer() as server:
+            os.kill(server.process.pid, signal.SIGSTOP)
+            try:
+                patient, other = redis_store.RedisStore(server.dsn, patience=0.4), redis_store.RedisStore(server.dsn)
+                for connects in (patient.begin, lambda: other.begin_alone(0.4)):
+                    ended = []
+
+                    def run():
+                        with self.assertRaises(redis.TimeoutError):
+                            connects()
+                        ended.append(True)
+
+                    thread = threading.Thread(target=run, daemon=True)
+                    thread.start()
+                    thread.join(4.0)
+                    self.assertEqual(ended, [True])
+            finally:
+                os.kill(server.process.pid, signal.SIGCONT)
+
     def test_a_server_that_is_killed_in_the_commit(self):
         class Killing(redis_store.RedisStore):
             def send_exec(self, commands):

@@ -11,6 +11,7 @@ from __future__ import annotations
 
 import json
 import logging
+import math
 import secrets
 import socket
 import time
@@ -72,19 +73,24 @@ class RedisStore:
         self.seen: Dict[str, Optional[str]] = {}  # by key what was read
         self.queued: List[Command] = []
         self.is_alone = self.is_hung_up = False
+        self.ends = 0.0  # when a statement of the collector's own isn't waited for any more
         # Of the transaction: whether something of it was done by itself, and whether it was done
         # in part.
         self.has_failed = self.is_torn = False
 
     # the connection
 
-    def connect(self) -> None:
+    def connect(self, seconds: Optional[float] = None) -> None:
         """Opens the connection, and raises redis-py's errors where it can't; StoreUnfitError where
         the server may drop any key."""
         self.is_hung_up = False
-        connection = self.connected(self.patience)
+        waits = self.patience if seconds is None else seconds
+        ends = time.monotonic() + waits
+        connection = self.connected(waits)
         try:
+            limit(connection, ends)
             self.see_that_nothing_is_dropped(connection)
+            limit(connection)
         except BaseException:
             connection.disconnect()
             raise
@@ -145,13 +151,13 @@ class RedisStore:
 
     def watch_own(self) -> None:
         """Before anything else; and nothing else is watched any more."""
-        self.send(("UNWATCH",), ("WATCH", self.own))
+        self.sent_in_time(("UNWATCH",), ("WATCH", self.own))
 
-    def get_ready(self) -> None:
+    def get_ready(self, seconds: Optional[float] = None) -> None:
         if self.is_hung_up:
             self.close()
         if self.connection is None:
-            self.connect()
+            self.connect(seconds)
         self.count += 1
         self.seen, self.queued = {}, []
         self.has_failed = self.is_torn = False
@@ -159,14 +165,10 @@ class RedisStore:
     def begin_alone(self, seconds: float) -> None:
         """Instead of `begin`, where what follows are statements that need no other one: each is a
         transaction by itself, and no answer is waited for longer than so many seconds."""
-        self.get_ready()
+        waits = min(seconds, self.patience)
+        self.ends = time.monotonic() + waits
+        self.get_ready(waits)
         self.is_alone = True
-        self.limit(min(seconds, self.patience))
-
-    def limit(self, seconds: Optional[float]) -> None:
-        sock = getattr(self.connection, "_sock", None)
-        if sock is not None:
-            sock.settimeout(seconds)
 
     def read(self, key: str) -> Optional[Found]:
         return self.read_all([key]).get(key)
@@ -189,14 +191,21 @@ class RedisStore:
     def asked(self, commands: Sequence[Command]) -> List[Any]:
         """Where a transaction's connection is lost, it can't be committed any more."""
         try:
-            return self.send(*commands)
+            return self.sent_in_time(*commands)
         except BROKEN as error:
             if self.is_alone:
                 raise OutcomeUnknown(str(error)) from error
             raise
+
+    def sent_in_time(self, *commands: Command) -> List[Any]:
+        """Behind it the application waits as long again as it has said itself."""
+        if not self.is_alone:
+            return self.send(*commands)
+        limit(self.connection, self.ends)
+        try:
+            return self.send(*commands)
         finally:
-            if self.is_alone:
-                self.limit(None)
+            limit(self.connection)
 
     def write(self, key: str, value: Any, name: Name) -> None:
         command = ("SET", self.prefix + key, text_of(value, name))
@@ -231,12 +240,10 @@ class RedisStore:
         return found_in(text)
 
     def exchanged_alone(self, command: Command) -> Optional[Found]:
-        ends = time.monotonic() + (self.connection._sock.gettimeout() or self.patience)
         try:
             self.watch_own()
         except BROKEN as error:
             raise Aborted(str(error)) from error  # nothing was sent that does anything
-        self.limit(max(0.001, ends - time.monotonic()))
         answers = self.executed([command])
         self.told(command)
         return found_in(answers[0])
@@ -270,9 +277,6 @@ class RedisStore:
             answers = self.send_exec([("MULTI",), *commands, *own, ("EXEC",)])
         except BROKEN as error:
             raise OutcomeUnknown(str(error)) from error
-        finally:
-            if self.is_alone:
-                self.limit(None)
         if answers is None:
             raise Aborted("a key that was watched has changed")
         failed = [it for it in answers if isinstance(it, Exception)]
@@ -282,7 +286,7 @@ class RedisStore:
         return list(answers)
 
     def send_exec(self, commands: Sequence[Command]) -> Any:
-        return self.send(*commands)[-1]
+        return self.sent_in_time(*commands)[-1]
 
     def rollback(self) -> None:
         """What was only queued was never sent; what was done at once stays."""
@@ -310,9 +314,10 @@ class RedisStore:
         """By a connection of its own, since the one at hand may be broken."""
         if self.is_torn or self.level == SINGLE and not self.is_alone:
             return "unknown"
+        ends = time.monotonic() + seconds
         try:
             connection = self.connected(seconds)
-            connection._sock.settimeout(max(0.001, seconds))
+            limit(connection, ends)
             try:
                 return self.decided(connection)
             finally:
@@ -338,6 +343,19 @@ class RedisStore:
         *_, owner = self.asked([("SET", its, token, "NX"), ("GET", its)])
         if owner != token:
             raise NameTaken(f"{self.prefix} knows the name {run_name}: an earlier run had it")
+
+
+def limit(connection: Any, ends: float = math.inf) -> None:
+    """No answer is waited for longer than until then, and than its URL says."""
+    sock = getattr(connection, "_sock", None)
+    if sock is None:
+        return
+    seconds = max(0.001, ends - time.monotonic())
+    usual = connection.socket_timeout
+    if usual is None or seconds < usual:
+        sock.settimeout(seconds if seconds < math.inf else None)
+    else:
+        sock.settimeout(usual)
 
 
 def replies(connection: Any, commands: Sequence[Command]) -> List[Any]:
