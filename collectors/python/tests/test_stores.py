@@ -607,11 +607,46 @@ class Redis(Each, unittest.TestCase):
                     self.assertIsNone(self.value("y"))
 
     def test_a_value_that_no_store_has_written_was_there_before(self):
-        for text in ("plain", '["too", "short"]', "7"):
-            self.admin.set("zanteyard:x", text)
-            auditor, (a,) = self.sessions(self.made())
-            self.assertEqual(a.run(lambda t: t.get("x")), text)
-            self.assertEqual(auditor.history[0][0].reads, [("x", "init")])
+        texts = (
+            *("plain", '["too", "short"]', "7", "[1, 2, 3, 4]", '"abcd"', '{"a": 1, "b": 2, "c": 3, "d": 4}'),
+            *('["v", "run", 0, 1]', "zanteyard", "zanteyard [", 'zanteyard "abcd"', 'zanteyard ["v", 1, "run", true]'),
+        )
+        for text in (*texts, b"\xff\xfe"):
+            with self.subTest(text=text):
+                self.admin.set("zanteyard:x", text)
+                auditor, (a,) = self.sessions(self.made())
+                wanted = text if isinstance(text, str) else text.decode("utf-8", "surrogateescape")
+                self.assertEqual(a.run(lambda t: t.get("x")), wanted)
+                self.assertEqual(auditor.history[0][0].reads, [("x", "init")])
+                a.run(lambda t: t.put("y", wanted))
+                self.assertEqual(self.value("y"), wanted)
+        a.run(lambda t: t.put("é", "1"))
+        for call in (lambda t: t.get("\udcc3\udca9"), lambda t: t.put("\udcc3\udca9", "2")):
+            self.assertRaises(UnicodeEncodeError, a.run, call)  # else it would be é
+
+    def test_values_that_json_would_change_are_refused(self):
+        for level in self.levels:
+            auditor, (a,) = self.sessions(self.made(level))
+            for value in ("1", 1, 1.5, True, ["a", {"b": None}], ""):
+                a.run(lambda t: t.put("x", value))
+                self.assertEqual(self.value("x"), value)
+            for value in ((1, 2), {1: "x"}, float("nan"), b"bytes"):
+                with self.subTest(level=level, value=value), self.assertRaises((ValueError, TypeError)):
+                    a.run(lambda t: t.put("x", value))
+                self.assertEqual(self.value("x"), "")
+
+    def test_what_is_no_text_isnt_read_as_absent(self):
+        self.admin.rpush("zanteyard:list", "x")
+        for level in self.levels:
+            auditor, (a,) = self.sessions(self.made(level))
+            a.run(lambda t: t.put("x", "1"))
+            for read in (lambda t: t.get("list"), lambda t: t.get_all(["x", "list"])):
+                with self.subTest(level=level), self.assertRaises(redis.ResponseError):
+                    a.run(read)
+                with self.subTest(level=level, alone=True), self.assertRaises(redis.ResponseError):
+                    a.run_alone(read, 5.0)
+            self.assertEqual(a.run(lambda t: t.get_all(["x", "absent"])), {"x": "1", "absent": None})
+            self.assertEqual([it.reads for it in auditor.history[0] if it.reads], [[("absent", "init"), ("x", (0, 0))]])
 
     def test_databases_are_apart(self):
         one, other = self.made(), redis_store.RedisStore(self.server.dsn.replace("db=0", "db=1"))

@@ -1,5 +1,5 @@
-"""Keys of a Redis as a store. Each has, in one text, the value and its writer's name; the value
-null marks a deleted key.
+"""Keys of a Redis as a store. Each has, in one text behind a mark, the value and its writer's name
+as JSON; the value null marks a deleted key.
 
 What a transaction writes is queued by MULTI and done by EXEC, which does nothing where a key that
 was watched has changed. Each store has a key of its own, which it watches as a transaction begins
@@ -33,23 +33,33 @@ RUN = "zanteyard run "  # before a run's name: the key that says whose it is
 LAST = "zanteyard last "  # before a store's token: the key that tells its outcomes
 PATIENCE = 5.0  # seconds for a connection, and for an outcome
 BROKEN = (redis.ConnectionError, redis.TimeoutError, OSError)
+MARK = "zanteyard "  # before each text: what another program writes hasn't it
 Command = Tuple[Any, ...]
 logger = logging.getLogger("zanteyard")
 
 
 def text_of(value: Any, name: Name) -> str:
-    return json.dumps([value, *name])
+    """Raises ValueError, or TypeError, where JSON has no such value, or would make it another
+    one."""
+    text = json.dumps([value, *name])
+    if value is not None and not isinstance(value, str) and json.loads(text)[0] != value:
+        raise ValueError(f"{value!r} would be another value as JSON")
+    return MARK + text
 
 
 def found_in(text: Optional[str]) -> Optional[Found]:
     """A text that no store of this kind has written has no name, and is the value as a whole."""
     if text is None:
         return None
-    try:
-        value, run, session, number = json.loads(text)
-    except (ValueError, TypeError):
-        return text, None  # type: ignore[return-value]
-    return value, (run, session, number)
+    if text.startswith(MARK):
+        try:
+            value, run, session, number = json.loads(text[len(MARK) :])
+        except (ValueError, TypeError):
+            pass
+        else:
+            if (type(run), type(session), type(number)) == (str, int, int):
+                return value, (run, session, number)
+    return text, None  # type: ignore[return-value]
 
 
 class RedisStore:
@@ -97,7 +107,9 @@ class RedisStore:
         self.connection = connection
 
     def connected(self, seconds: float) -> Any:
-        pool = redis.ConnectionPool.from_url(self.url, decode_responses=True)
+        # What isn't UTF-8, as another program may have written, is a text too.
+        more: Dict[str, Any] = {"decode_responses": True, "encoding_errors": "surrogateescape"}
+        pool = redis.ConnectionPool.from_url(self.url, **more)
         connection = pool.make_connection()
         try:
             within(seconds, connection.connect, lambda _: connection.disconnect())
@@ -170,23 +182,40 @@ class RedisStore:
         self.get_ready(waits)
         self.is_alone = True
 
+    def its(self, key: str) -> str:
+        """As the server has it. Raises UnicodeEncodeError for what is no text: it might be sent as
+        another key's bytes."""
+        key.encode()
+        return self.prefix + key
+
     def read(self, key: str) -> Optional[Found]:
         return self.read_all([key]).get(key)
 
     def read_all(self, keys: Sequence[str]) -> Dict[str, Found]:
         if not keys:
             return {}
-        its = [self.prefix + key for key in keys]
+        its = [self.its(key) for key in keys]
         commands: List[Command] = [("MGET", *its)] if len(its) > 1 else [("GET", *its)]
         if self.level == WATCHED and not self.is_alone:
             commands.insert(0, ("WATCH", *its))  # in front: what comes between is found out
-        answer = self.asked(commands)[-1]
+        texts = self.texts_of(its, commands)
         self.told(*commands)
-        texts = answer if len(its) > 1 else [answer]
         if not self.is_alone:
             self.seen.update(zip(keys, texts))
         found = {key: found_in(text) for key, text in zip(keys, texts)}
         return {key: it for key, it in found.items() if it is not None}
+
+    def texts_of(self, its: Sequence[str], commands: Sequence[Command]) -> List[Optional[str]]:
+        """What the last command is answered. MGET tells of a list, or the like, that no key is
+        there; GET raises, as it does where one key is read."""
+        answer = self.asked(commands)[-1]
+        if len(its) == 1:
+            return [answer]
+        texts: List[Optional[str]] = answer
+        absent = [("GET", each) for each, text in zip(its, texts) if text is None]
+        if absent:
+            self.asked(absent)
+        return texts
 
     def asked(self, commands: Sequence[Command]) -> List[Any]:
         """Where a transaction's connection is lost, it can't be committed any more."""
@@ -208,7 +237,7 @@ class RedisStore:
             limit(self.connection)
 
     def write(self, key: str, value: Any, name: Name) -> None:
-        command = ("SET", self.prefix + key, text_of(value, name))
+        command = ("SET", self.its(key), text_of(value, name))
         self.told(command)
         if self.level == SINGLE:
             self.sent_by_itself(command)
@@ -225,7 +254,7 @@ class RedisStore:
     def exchange(self, key: str, value: Any, name: Name) -> Optional[Found]:
         """In a transaction the key is watched, at every level but where each write is done at
         once."""
-        its = self.prefix + key
+        its = self.its(key)
         command = ("SET", its, text_of(value, name), "GET")
         if self.is_alone:
             return self.exchanged_alone(command)
