@@ -960,6 +960,40 @@ class SQLite(Each, unittest.TestCase):
                 store.sends = sends
                 self.lost(store, outcome)
 
+    def test_a_commit_that_failed_isnt_there_once_the_file_is_opened_anew(self):
+        """Where the log couldn't be synced, the frames of the commit are in it, and its index knows
+        nothing of them: who opens the file next, as the first one, would find them."""
+        if self.journal != "wal":
+            self.skipTest("only WAL keeps commits in a log")
+        keeps = self.made()
+        keeps.begin(), keeps.read("x"), keeps.commit()
+        index = open(f"{self.path}-shm", "r+b", buffering=0)  # to close it would end SQLite's locks
+        self.addCleanup(index.close)
+
+        class Fails(SQLiteStore):
+            def send_commit(self):
+                before = os.pread(index.fileno(), 96, 0)
+                super().send_commit()
+                os.pwrite(index.fileno(), before, 0)
+                raise sqlite3.OperationalError("disk I/O error")
+
+        for level in self.levels[:3]:
+            for value in ("1", "1" * 20000):
+                with self.subTest(level=level, length=len(value)):
+                    store = self.made(level, of=Fails, patience=5.0)
+                    auditor, (a, b) = self.sessions(store, self.made())
+                    b.run(lambda t: t.put("x", "0"))
+                    self.assertRaises(Aborted, a.run, lambda t: t.put("x", value), attempts=1)
+                    self.assertEqual([store.outcome_within(5.0) for _ in range(2)], ["aborted"] * 2)
+                    anew = f"{self.folder}/anew {level} {len(value)}"
+                    for end in ("", "-wal"):
+                        shutil.copy(self.path + end, anew + end)
+                    with contextlib.closing(SQLiteStore(anew)) as other:
+                        other.begin()
+                        self.assertEqual(other.read("x")[0], "0")
+                    self.assertEqual(b.run(lambda t: t.get("x")), "0")
+                    self.assertEqual(auditor.round().kind, "serial")
+
     def test_a_transaction_that_something_else_ends(self):
         for ends in ("COMMIT", "ROLLBACK"):
             auditor, (a,) = self.sessions(self.made())

@@ -2,7 +2,9 @@
 writer's name beside the value; the value NULL marks a deleted key.
 
 Each store has a row of its own, which it writes in each transaction that writes: where a commit
-fails otherwise than by what others do, it says whether it was done all the same.
+fails otherwise than by what others do, it says whether it was done all the same. Where it says that
+it wasn't, who asks writes so there: in WAL that overwrites what such a commit has left in the log,
+which would else be found, and be done, once the file is opened anew.
 """
 
 from __future__ import annotations
@@ -38,6 +40,7 @@ PAUSE = 0.002  # seconds between two attempts to begin, where SQLite itself does
 RUN = "zanteyard run "  # before a run's name: the key of the row that says whose it is
 LAST = "zanteyard last "  # before a store's token: the key of the row that tells its outcomes
 OWN = -2  # in place of a session, in that row
+ABORTED = "aborted"  # the value there, where somebody has asked; else it is NULL
 
 
 def quoted(table: str) -> str:
@@ -258,22 +261,34 @@ class SQLiteStore:
         return self.outcome_within(self.patience)
 
     def outcome_within(self, seconds: float) -> str:
-        """As the next transaction that writes finds it: before it begins, what a broken commit has
-        left is rolled back. Of statements that are each done by themselves nobody can say."""
+        """As the next transaction that writes finds it. Of statements that are each done by
+        themselves nobody can say."""
         self.close()
         if self.level == AUTOCOMMIT and not self.is_alone:
             return "unknown"
         try:
             connection = sqlite3.connect(self.path, isolation_level=None, timeout=seconds)
             try:
-                connection.execute("BEGIN IMMEDIATE")
-                rows = connection.execute(READ.format(table=self.table), (self.own,)).fetchall()
-                connection.execute("ROLLBACK")
+                return self.decided(connection)
             finally:
                 connection.close()
         except sqlite3.Error:
             return "unknown"
-        return "committed" if rows and rows[0][3] == self.count else "aborted"
+
+    def decided(self, connection: Any) -> str:
+        """With a journal what a broken commit has left is rolled back before this begins to write;
+        in WAL it is, in effect, once this has committed."""
+        (journal,) = connection.execute("PRAGMA journal_mode").fetchone()
+        connection.execute("BEGIN IMMEDIATE")
+        found = connection.execute(READ.format(table=self.table), (self.own,)).fetchone()
+        if found is not None and found[3] == self.count:
+            connection.execute("ROLLBACK")
+            return ABORTED if found[0] == ABORTED else "committed"
+        if journal == "wal":
+            row = (self.own, ABORTED, "", OWN, self.count)
+            connection.execute(WRITE.format(table=self.table, rows=ROW), row)
+        connection.execute("COMMIT")
+        return ABORTED
 
     def claim(self, run_name: str, token: str, seconds: float) -> None:
         """Makes the name that of one run, or raises NameTaken where it is another's; Aborted where
