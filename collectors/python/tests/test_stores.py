@@ -450,6 +450,41 @@ class MariaDB(Each, unittest.TestCase):
         self.assertEqual(self.value("x"), {"committed": "2", "aborted": None}[outcome])
         other.begin(), other.rollback()  # over another connection
 
+    @contextlib.contextmanager
+    def commits_that_wait(self):
+        """As mariabackup has them wait."""
+        for stage in ("START", "FLUSH", "BLOCK_DDL", "BLOCK_COMMIT"):
+            self.admin.execute(f"BACKUP STAGE {stage}")
+        try:
+            yield
+        finally:
+            self.admin.execute("BACKUP STAGE END")
+
+    def test_a_statement_that_waits_at_its_own_commit(self):
+        """The server doesn't end it: it isn't waited for any longer, and is decided later."""
+        store = mariadb_store.MariaDBStore({**self.server.dsn, "read_timeout": 70})
+        self.addCleanup(store.close)
+        store.begin_alone(5.0), store.exchange("x", "1", NAME)
+        asked = (lambda: store.claim("monday", "token", 0.5), lambda: store.exchange("x", "2", NAME))
+        for number, call in enumerate(asked):
+            store.begin_alone(0.5)
+            ended = []
+
+            def run():
+                with self.assertRaises(OutcomeUnknown):
+                    call()
+                ended.append(store.outcome_within(0.5))
+
+            thread = threading.Thread(target=run, daemon=True)
+            with self.commits_that_wait():
+                thread.start()
+                thread.join(8.0)
+                self.assertEqual(ended, ["unknown"], number)
+        outcome = store.outcome_within(20.0)
+        self.assertEqual(self.value("x"), {"committed": "2", "aborted": "1"}[outcome])
+        store.begin(), store.write("x", "3", NAME), store.commit()  # over another connection
+        self.assertEqual((self.value("x"), store.connection._read_timeout), ("3", 70))
+
     def test_answers_to_commits_that_are_lost(self):
         class Lossy(mariadb_store.MariaDBStore):
             def send_commit(self):

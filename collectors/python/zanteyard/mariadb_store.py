@@ -13,7 +13,7 @@ from __future__ import annotations
 import math
 import secrets
 import socket
-import threading
+import time
 from typing import Any, Dict, Mapping, Optional, Sequence, Tuple
 
 import pymysql
@@ -64,6 +64,7 @@ CONFLICTS = (1205, 1213, 1020)
 TIME_IS_UP = 1969  # of max_statement_time
 CLIENT_ERRORS = range(2000, 3000)  # which no server has told
 PATIENCE = 5.0  # seconds for a connection, and for an outcome
+SHARE = 0.8  # of the time for a statement by itself: what the server has, before it isn't waited for
 RUN = "zanteyard run "  # before a run's name: the key of the row that says whose it is
 LAST = "zanteyard last "  # before a store's token: the key of the row that tells its outcomes
 
@@ -112,6 +113,8 @@ class MariaDBStore:
         self.own, self.count = f"{LAST}{secrets.token_hex(8)}", 0
         self.before = ""  # what a statement that is a transaction is sent behind
         self.is_alone = self.is_hung_up = False
+        self.ends = math.inf  # when a statement by itself isn't waited for any more
+        self.usual: Optional[float] = None  # how long the application waits for an answer
         # Of the transaction: whether it has written, can't be committed any more, and was ended
         # between two of its writes by something else than this store.
         self.has_written = self.has_failed = self.is_torn = False
@@ -126,6 +129,7 @@ class MariaDBStore:
             self.connection = within(waits, lambda: self.connected(waits), _close)
         except LateError as error:
             raise pymysql.OperationalError(2003, str(error)) from None
+        self.usual = self.connection._read_timeout
 
     def connected(self, seconds: float) -> Any:
         limits = {"connect_timeout": max(1, math.ceil(seconds))}
@@ -167,7 +171,7 @@ class MariaDBStore:
         if not self.is_alone:
             self.still_open()
         try:
-            cursor = self.send(self.before + text.format(table=self.table), values)
+            cursor = self.sent_in_time(self.before + text.format(table=self.table), values)
         except pymysql.MySQLError as error:
             self.has_failed = True  # else what follows might be committed without this
             self.raise_what_it_means(error)
@@ -175,6 +179,16 @@ class MariaDBStore:
         if self.before and self.statement is not None:
             self.statement = self.statement[len(self.before) :]
         return cursor
+
+    def sent_in_time(self, text: str, values: Sequence[Any]) -> Any:
+        """The server ends no statement that waits at its own commit, as for a backup."""
+        if not self.is_alone:
+            return self.send(text, values)
+        limit(self.connection, self.ends)
+        try:
+            return self.send(text, values)
+        finally:
+            self.connection._read_timeout = self.usual
 
     def raise_what_it_means(self, error: pymysql.MySQLError) -> None:
         told = f"{' '.join(map(str, error.args))}".strip()
@@ -220,14 +234,13 @@ class MariaDBStore:
 
     def begin_alone(self, seconds: float) -> None:
         """Instead of `begin`, where what follows are statements that need no other one: each is a
-        transaction by itself, is done or not after so many seconds, and holds no lock behind it.
-        What it reads it locks, at every level: it is what was committed, and of one moment."""
+        transaction by itself, isn't waited for any longer than so many seconds, and holds no lock
+        behind it. What it reads it locks, at every level: it is what was committed, and of one
+        moment."""
+        self.ends = time.monotonic() + seconds
         self.get_ready(min(seconds, self.patience))
         self.is_alone = True
-        self.before = (
-            f"SET STATEMENT max_statement_time = {max(0.001, seconds):.3f}, "
-            f"innodb_lock_wait_timeout = {math.ceil(seconds)} FOR "
-        )
+        self.before = limited(SHARE * (self.ends - time.monotonic()))
 
     def read(self, key: str) -> Optional[Found]:
         row = self.ask(READ + (LOCKING if self.is_alone else self.locks), (key,)).fetchone()
@@ -323,13 +336,10 @@ class MariaDBStore:
         """What the store's own row says, with "aborted" in it where nothing was there yet."""
         connection = self.connected(seconds)
         try:
+            limit(connection, time.monotonic() + seconds)  # else this might go on for ever
             cursor = connection.cursor()
-            limits = (
-                f"SET STATEMENT max_statement_time = {max(0.001, seconds):.3f}, "
-                f"innodb_lock_wait_timeout = {math.ceil(seconds)} FOR "
-            )
             row = (self.own, "aborted", "", OWN, count)
-            cursor.execute(limits + DECIDE.format(table=self.table), row)
+            cursor.execute(limited(seconds) + DECIDE.format(table=self.table), row)
             found: Tuple[str, int] = cursor.fetchone()
             return found
         finally:
@@ -339,18 +349,25 @@ class MariaDBStore:
         """Makes the name that of one run, or raises NameTaken where it is another's; OutcomeUnknown
         or Aborted where the server hasn't answered after so many seconds."""
         self.get_ready()  # what connects is waited for by the client, whose connection it is
-        self.begin_alone(0.8 * seconds)  # the server ends it, unless nothing comes through
-        ends = threading.Timer(seconds, self.hang_up)
-        ends.daemon = True
-        ends.start()
-        try:
-            row = (RUN + run_name, token, run_name, -1, 0)
-            (owner,) = self.ask(CLAIM, row).fetchone()
-        finally:
-            ends.cancel()
-            ends.join()  # so that it is known by now whether this connection can be used
+        self.begin_alone(seconds)
+        row = (RUN + run_name, token, run_name, -1, 0)
+        (owner,) = self.ask(CLAIM, row).fetchone()
         if owner != token:
             raise NameTaken(f"{self.table} knows the name {run_name}: an earlier run had it")
+
+
+def limited(seconds: float) -> str:
+    """What a statement is sent behind, which the server then ends."""
+    return (
+        f"SET STATEMENT max_statement_time = {max(0.001, seconds):.3f}, "
+        f"innodb_lock_wait_timeout = {max(1, math.ceil(seconds))} FOR "
+    )
+
+
+def limit(connection: Any, ends: float) -> None:
+    """No answer is waited for longer than until then, and than the application says."""
+    usual, seconds = connection._read_timeout, max(0.001, ends - time.monotonic())
+    connection._read_timeout = seconds if usual is None else min(usual, seconds)
 
 
 def _close(connection: Any) -> None:
