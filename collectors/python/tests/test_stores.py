@@ -2,6 +2,7 @@
 and what becomes of a transaction where something goes wrong."""
 import argparse
 import contextlib
+import glob
 import io
 import logging
 import os
@@ -210,6 +211,37 @@ class Each:
         self.assertIn("(to look at: page.html)", told)
         status, told = self.audit("--workload", workload, "--seconds", "1", "--processes", "--rather-wait")
         self.assertEqual(status, 0, told)
+
+    def test_nothing_is_left_where_it_is_killed(self):
+        """Neither a server nor a folder; SIGHUP comes as a terminal is closed."""
+        environment = {**os.environ, "PYTHONPATH": PLACE, "COBRA_AUDIT": os.path.abspath(PROGRAM)}
+        words = ["--workload", "counter", "--clients", "2", "--rate", "50", "--seconds", "100", "--unaudited", "0"]
+        call = [sys.executable, "-m", "zanteyard", "audit", *self.command_words, *words]
+        for number in (signal.SIGHUP, signal.SIGKILL):
+            with self.subTest(signal=number):
+                folder = tempfile.mkdtemp()
+                self.addCleanup(shutil.rmtree, folder, ignore_errors=True)
+                os.chmod(folder, 0o711)  # a server in it runs as another user
+                more = {"cwd": folder, "env": {**environment, "TMPDIR": folder}}
+                with subprocess.Popen(call, stdout=subprocess.PIPE, **more) as running:
+                    self.assertTrue(running.stdout.readline().startswith(b"round"))
+                    (own,) = glob.glob(f"{folder}/zanteyard-*")
+                    self.assertTrue(self.works_in(own))
+                    running.send_signal(number)
+                    running.stdout.read()
+                self.assertEqual(running.returncode, 128 + number if number == signal.SIGHUP else -number)
+                gone = lambda: not glob.glob(f"{folder}/zanteyard-*") and not self.works_in(own)
+                self.assertTrue(eventually(gone, 20.0), (os.listdir(folder), self.works_in(own)))
+
+    def works_in(self, folder):
+        """The processes of a server of that folder, or the files there, where there is none."""
+        found = []
+        for each in glob.glob("/proc/[0-9]*"):
+            with contextlib.suppress(OSError), open(f"{each}/cmdline", "rb") as file:
+                program = file.read().split(b"\0")[0]
+                if program and os.readlink(f"{each}/cwd").startswith(folder):
+                    found.append(program)
+        return found or glob.glob(f"{folder}/*")
 
     def test_what_the_example_tells(self):
         level = self.audited[0]
@@ -889,6 +921,12 @@ class SQLite(Each, unittest.TestCase):
     def store(self, level, of=SQLiteStore, **more):
         return of(self.path, level, **{"patience": 0.0, **more})
 
+    def test_a_file_that_isnt_there_isnt_made(self):
+        status, told = self.audit("--dsn", f"{self.folder}/typo.db", "--seconds", "1")
+        self.assertEqual(status, 2, told)
+        self.assertIn("typo.db isn't there", told)
+        self.assertNotIn("typo.db", os.listdir(self.folder))
+
     def test_the_journal_is_as_was_asked_for(self):
         with contextlib.closing(sqlite3.connect(self.path)) as connection:
             self.assertEqual(connection.execute("PRAGMA journal_mode").fetchone(), (self.journal,))
@@ -1064,6 +1102,7 @@ class SQLite(Each, unittest.TestCase):
 class SQLiteWithAJournal(SQLite):
     journal = "delete"
     test_the_command = test_what_the_example_tells = None  # they are the same
+    test_nothing_is_left_where_it_is_killed = None
 
 
 if __name__ == "__main__":

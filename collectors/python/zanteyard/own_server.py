@@ -5,12 +5,12 @@ from __future__ import annotations
 import os
 import shutil
 import subprocess
-import tempfile
 import time
 from typing import Any, Dict, List, Optional
 
+from .own_folder import PID, OwnFolder
+
 STARTING = 60.0  # seconds for a server to take connections
-TRIES = 50  # to remove its folder
 
 
 class CantStartError(OSError):
@@ -26,6 +26,7 @@ class OwnServer:
 
     def __init__(self) -> None:
         self.process: Optional[subprocess.Popen[bytes]] = None
+        self.own_folder = OwnFolder()
 
     def call(self) -> List[str]:
         """The program, with its arguments."""
@@ -39,12 +40,16 @@ class OwnServer:
         """Before it is started for the first time."""
 
     @property
+    def folder(self) -> str:
+        return self.own_folder.path
+
+    @property
     def socket(self) -> str:
         return f"{self.folder}/socket"
 
     def __enter__(self) -> Any:
-        self.folder = tempfile.mkdtemp(prefix="zanteyard-")
         try:
+            self.own_folder.make()
             self.prepare_folder()
             self.start()
         except BaseException:
@@ -62,7 +67,7 @@ class OwnServer:
         with open(f"{self.folder}/log", "ab") as log:
             quiet: Dict[str, Any] = {"stdin": subprocess.DEVNULL, "stdout": log, "stderr": log}
             self.process = process = subprocess.Popen(self.call(), cwd=self.folder, **quiet)
-        with open(f"{self.folder}/own_server.pid", "w", encoding="ascii") as file:
+        with open(f"{self.folder}/{PID}", "w", encoding="ascii") as file:
             file.write(f"{process.pid}\n")
         ends = time.monotonic() + STARTING
         while not self.answers():
@@ -89,8 +94,4 @@ class OwnServer:
 
     def __exit__(self, *_: object) -> None:
         self.stop()
-        for _try in range(TRIES):
-            shutil.rmtree(self.folder, ignore_errors=True)
-            if not os.path.exists(self.folder):
-                break
-            time.sleep(0.1)
+        self.own_folder.remove()

@@ -5,13 +5,12 @@ from __future__ import annotations
 
 import argparse
 import os
-import shutil
-import tempfile
 from typing import Any, Callable, Dict, List, Mapping, Sequence
 
 from .cluster import Cluster, program
 from .errors import ZanteyardError
 from .mariadb_server import MariaDBGuest, MariaDBServer, mariadbd
+from .own_folder import OwnFolder
 from .redis_server import RedisGuest, RedisServer, redis_server
 from .workloads import LEVELS as POSTGRES_LEVELS
 
@@ -278,11 +277,11 @@ class SQLiteFile:
     table = "zanteyard"
 
     def __init__(self, journal: str) -> None:
-        self.journal = journal
+        self.journal, self.folder = journal, OwnFolder()
 
     def __enter__(self) -> SQLiteFile:
-        self.folder = tempfile.mkdtemp(prefix="zanteyard-")
-        self.dsn = f"{self.folder}/store"
+        self.folder.make()
+        self.dsn = f"{self.folder.path}/store"
         return self
 
     def prepare(self) -> None:
@@ -291,7 +290,7 @@ class SQLiteFile:
         prepare(self.dsn, self.journal, self.table)
 
     def __exit__(self, *_: object) -> None:
-        shutil.rmtree(self.folder, ignore_errors=True)
+        self.folder.remove()
 
 
 class SQLiteGuest(SQLiteFile):
@@ -300,6 +299,8 @@ class SQLiteGuest(SQLiteFile):
     def __init__(self, path: str) -> None:
         import sqlite3
 
+        if not os.path.isfile(path):  # else it would be made
+            raise CantAuditError(f"{path} isn't there")
         connection = sqlite3.connect(path)
         try:
             (journal,) = connection.execute("PRAGMA journal_mode").fetchone()
