@@ -64,7 +64,7 @@ CONFLICTS = (1205, 1213, 1020)
 TIME_IS_UP = 1969  # of max_statement_time
 CLIENT_ERRORS = range(2000, 3000)  # which no server has told
 PATIENCE = 5.0  # seconds for a connection, and for an outcome
-SHARE = 0.8  # of the time for a statement by itself: what the server has, before it isn't waited for
+SHARE = 0.8  # what the server has of the time after which its answer isn't waited for
 RUN = "zanteyard run "  # before a run's name: the key of the row that says whose it is
 LAST = "zanteyard last "  # before a store's token: the key of the row that tells its outcomes
 
