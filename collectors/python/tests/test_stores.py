@@ -217,31 +217,29 @@ class Each:
         environment = {**os.environ, "PYTHONPATH": PLACE, "COBRA_AUDIT": os.path.abspath(PROGRAM)}
         words = ["--workload", "counter", "--clients", "2", "--rate", "50", "--seconds", "100", "--unaudited", "0"]
         call = [sys.executable, "-m", "zanteyard", "audit", *self.command_words, *words]
-        for number in (signal.SIGHUP, signal.SIGKILL):
-            with self.subTest(signal=number):
+        for number, *words in ((signal.SIGHUP,), (signal.SIGKILL,), (signal.SIGKILL, "--processes")):
+            with self.subTest(signal=number, words=words):
                 folder = tempfile.mkdtemp()
                 self.addCleanup(shutil.rmtree, folder, ignore_errors=True)
                 os.chmod(folder, 0o711)  # a server in it runs as another user
-                more = {"cwd": folder, "env": {**environment, "TMPDIR": folder}}
-                with subprocess.Popen(call, stdout=subprocess.PIPE, **more) as running:
+                more = {"cwd": folder, "env": {**environment, "TMPDIR": folder}, "stderr": subprocess.DEVNULL}
+                with subprocess.Popen([*call, *words], stdout=subprocess.PIPE, **more) as running:
                     self.assertTrue(running.stdout.readline().startswith(b"round"))
-                    (own,) = glob.glob(f"{folder}/zanteyard-*")
-                    self.assertTrue(self.works_in(own))
+                    own = f"{folder}/zanteyard-"
+                    self.assertTrue(self.left_in(own))
                     running.send_signal(number)
                     running.stdout.read()
                 self.assertEqual(running.returncode, 128 + number if number == signal.SIGHUP else -number)
-                gone = lambda: not glob.glob(f"{folder}/zanteyard-*") and not self.works_in(own)
-                self.assertTrue(eventually(gone, 20.0), (os.listdir(folder), self.works_in(own)))
+                self.assertTrue(eventually(lambda: not self.left_in(own), 20.0), self.left_in(own))
 
-    def works_in(self, folder):
-        """The processes of a server of that folder, or the files there, where there is none."""
-        found = []
-        for each in glob.glob("/proc/[0-9]*"):
-            with contextlib.suppress(OSError), open(f"{each}/cmdline", "rb") as file:
-                program = file.read().split(b"\0")[0]
-                if program and os.readlink(f"{each}/cwd").startswith(folder):
-                    found.append(program)
-        return found or glob.glob(f"{folder}/*")
+    def left_in(self, own):
+        """The folders, and the processes that work in them, whose path begins so."""
+        found = glob.glob(f"{own}*")
+        for each in glob.glob("/proc/[0-9]*/cwd"):
+            with contextlib.suppress(OSError):
+                if os.readlink(each).startswith(own):
+                    found.append(each)
+        return found
 
     def test_what_the_example_tells(self):
         level = self.audited[0]

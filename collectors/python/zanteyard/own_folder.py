@@ -48,6 +48,13 @@ class OwnFolder:
             self.remove()
             raise
 
+    def __enter__(self) -> str:
+        self.make()
+        return self.path
+
+    def __exit__(self, *_: object) -> None:
+        self.remove()
+
     def remove(self) -> None:
         for _try in range(TRIES):
             shutil.rmtree(self.path, ignore_errors=True)

@@ -4,7 +4,6 @@ and what can't be at a violation. `zanteyard audit` and `examples/postgres_live.
 from __future__ import annotations
 
 import argparse
-import tempfile
 import time
 from dataclasses import dataclass
 from typing import Any, Callable, List, Optional, Tuple
@@ -15,6 +14,7 @@ from .charts import RoundSeen
 from .cluster import ended_by_signals
 from .live import LiveAuditor
 from .outcome import RATHER_LOSE_THE_AUDIT, RATHER_WAIT, Outcome
+from .own_folder import OwnFolder
 from .page import page_of
 from .sessions import Session
 from .shrinking import from_start, refuted
@@ -91,7 +91,7 @@ def _beside(asked: Any, make_store: MakesStore, live: LiveAuditor) -> Clients:
         sessions = [live.session(make_store()) for _ in range(asked.clients)]
         more = (asked.seconds, lambda: live.is_over, asked.rate)
         return Clients(sessions, EVERY_WORKLOAD[asked.workload], *more)
-    with tempfile.TemporaryDirectory(prefix="zanteyard-") as folder:
+    with OwnFolder() as folder:
         with AuditServer(live, f"{folder}/audit") as server:
             those = (asked.clients, asked.workload, asked.seconds, asked.rate)
             clients = ClientProcesses(server.path, make_store, *those)
