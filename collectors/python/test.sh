@@ -10,7 +10,7 @@ cd "$(dirname "$0")"
 if [ "${1:-}" = --install ]; then
     apt-get update -qq
     DEBIAN_FRONTEND=noninteractive apt-get install -y -qq postgresql python3-psycopg2 python3-venv python3-setuptools \
-        python3-wheel mypy python3-pycodestyle chromium > /dev/null
+        python3-wheel mypy python3-pycodestyle chromium mariadb-server python3-pymysql redis-server python3-redis > /dev/null
 fi
 audit=${COBRA_AUDIT:-../../crates/cobra_audit/out/cobra_audit}
 [ -x "$audit" ] || { echo "$audit is not built: README.md says how"; exit 1; }
@@ -25,6 +25,9 @@ export TMPDIR=$folder
 clean() { # servers of tests that were killed, too
     for each in "$folder"/*/data/postmaster.pid; do
         [ ! -f "$each" ] || kill -QUIT "$(head -n 1 "$each")" 2> /dev/null || true
+    done
+    for each in "$folder"/*/own_server.pid; do
+        [ ! -f "$each" ] || kill -KILL "$(head -n 1 "$each")" 2> /dev/null || true
     done
     rm -rf "$folder"
 }
@@ -41,7 +44,7 @@ if command -v mypy > /dev/null; then
 else
     echo "skipped: mypy, which isn't installed (no type was checked)"
 fi
-styled="zanteyard make_wheel.py ../../examples/postgres_live.py"
+styled="zanteyard make_wheel.py ../../examples/postgres_live.py ../../examples/store_faults.py"
 if command -v ruff > /dev/null; then
     ruff check --no-cache --line-length 100 --select E,W --ignore E203,E402,E701,E731 $styled
 elif "$python" -m pycodestyle --version > /dev/null 2>&1; then
@@ -50,6 +53,12 @@ else
     echo "skipped: ruff or pycodestyle, neither of which is installed (no line was measured)"
 fi
 limited 720 -m unittest
+for each in "MariaDB mariadb_server mariadbd pymysql" "Redis redis_server redis_server redis"; do
+    read -r name module program driver <<< "$each"
+    if ! "$python" -c "import $driver, sys; from zanteyard.$module import $program; sys.exit(not $program())" 2> /dev/null; then
+        echo "skipped: what needs $name and $driver, which aren't both installed (nothing was audited over it)"
+    fi
+done
 if ! "$python" -c "import psycopg2" 2> /dev/null || ! "$python" -c "import sys; from zanteyard.cluster import program; sys.exit(not program('initdb'))"; then
     echo "skipped: what needs PostgreSQL and psycopg2, which aren't both installed (nothing was audited live)"
     exit 0

@@ -25,6 +25,8 @@ ELSEWHERE = {
     r"\./test\.sh": "the gate, which has called this",
     r"rt .*": "the gate, which runs the same program on the same script",
     r"zanteyard audit postgres .*": "test_commands, with less time",
+    r"zanteyard audit (mariadb|redis|sqlite) .*": "test_stores, with less time",
+    r"/usr/bin/python3 examples/store_faults\.py .*": "test_stores, which compares the tables",
     r"/usr/bin/python3 examples/postgres_\w+\.py .*": "test.sh and test_examples, with less time",
 }
 

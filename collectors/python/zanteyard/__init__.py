@@ -40,6 +40,7 @@ from .errors import (
     RefusedError,
     ScriptMistakeError,
     StoreLateError,
+    StoreUnfitError,
     ZanteyardError,
 )
 from .explain import Explanation, explain_history, reasons
@@ -68,7 +69,7 @@ __all__ = [
     *("AbortedError", "AuditLostError", "FullError", "NameTakenError"),
     *("NoCutError", "NoMemoryError", "OutcomeUnknownError", "ProgramEndedError"),
     *("ProgramLateError", "ProgramMissingError", "RefusedError", "ScriptMistakeError"),
-    *("StoreLateError", "ZanteyardError"),
+    *("StoreLateError", "StoreUnfitError", "ZanteyardError"),
     *("Aborted", "Ended", "Full", "Lost", "NameTaken", "NoCut", "NoMemory", "OutcomeUnknown"),
     "Refused",
     "__version__",

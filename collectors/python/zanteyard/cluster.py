@@ -27,18 +27,25 @@ def program(name: str) -> Optional[str]:
 
 @contextmanager
 def ended_by_signals() -> Iterator[None]:
-    """In here SIGTERM, which `timeout` and systemd send, ends the program as an exception does:
-    what it has begun is cleaned up. For the main thread."""
+    """In here SIGTERM, which `timeout` and systemd send, and SIGHUP, which comes as a terminal is
+    closed, end the program as an exception does: what it has begun is cleaned up. For the main
+    thread."""
 
     def end(number: int, _: object) -> None:
-        signal.signal(number, signal.SIG_IGN)  # once is enough
+        for each in before:
+            signal.signal(each, signal.SIG_IGN)  # once is enough
         sys.exit(128 + number)
 
-    before = signal.signal(signal.SIGTERM, end)
+    before = {each: signal.getsignal(each) for each in (signal.SIGTERM, signal.SIGHUP)}
+    if before[signal.SIGHUP] == signal.SIG_IGN:
+        del before[signal.SIGHUP]  # as nohup wants it
+    for each in before:
+        signal.signal(each, end)
     try:
         yield
     finally:
-        signal.signal(signal.SIGTERM, before)
+        for each, handler in before.items():
+            signal.signal(each, handler)
 
 
 class Cluster:

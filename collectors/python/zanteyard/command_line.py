@@ -18,6 +18,7 @@ from .page import page_of
 from .programs import find_program, origin_of, program_path
 from .script_names import ScriptNames, read_names
 from .scripts import MORE, ScriptRun, Verdict
+from .store_kinds import KINDS
 from .stories import EXPLAINED, Story, story_lines, verdict_story, violation_story
 from .version import VERSION
 
@@ -99,9 +100,12 @@ def parser() -> argparse.ArgumentParser:
     shown.add_argument("--no-html", action="store_true", help="writes no page")
     made = command("import", importing.run, "makes a script of a history of another tool's")
     importing.add_arguments(made)
-    audit = command("audit", _audit, "audits clients of a server while they run")
-    audit.add_argument("server", choices=("postgres",), help="which kind of server")
-    postgres_audit.add_arguments(audit)
+    audit = command("audit", _audit, "audits clients of a store while they run")
+    stores = audit.add_subparsers(metavar="STORE", required=True)
+    for kind in KINDS:
+        about = f"audits clients of {kind.name} while they run"
+        one = stores.add_parser(kind.command, help=about, description=about, epilog=STATUS_WORDS)
+        postgres_audit.add_arguments(one, kind)
     return whole
 
 

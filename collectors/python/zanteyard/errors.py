@@ -60,6 +60,11 @@ class NameTakenError(ZanteyardError, ValueError):
     taken for this one's."""
 
 
+class StoreUnfitError(ZanteyardError, ValueError):
+    """The store drops what it was given, by its settings: what is found missing would be told as a
+    fault. Nothing has begun."""
+
+
 class AuditLostError(ZanteyardError):
     """The audit ended, and why; the clients go on."""
 

@@ -1,10 +1,9 @@
-"""Audits a PostgreSQL while clients run on it at the same time: a line a round, and what can't be
-at a violation. `zanteyard audit postgres` and `examples/postgres_live.py` are this."""
+"""Audits a PostgreSQL, or another store, while clients run on it at the same time: a line a round,
+and what can't be at a violation. `zanteyard audit` and `examples/postgres_live.py` are this."""
 
 from __future__ import annotations
 
 import argparse
-import tempfile
 import time
 from dataclasses import dataclass
 from typing import Any, Callable, List, Optional, Tuple
@@ -12,35 +11,21 @@ from typing import Any, Callable, List, Optional, Tuple
 from .apart import AuditorApart
 from .audit_server import AuditServer
 from .charts import RoundSeen
-from .cluster import Cluster, ended_by_signals, program
-from .errors import ZanteyardError
+from .cluster import ended_by_signals
 from .live import LiveAuditor
 from .outcome import RATHER_LOSE_THE_AUDIT, RATHER_WAIT, Outcome
+from .own_folder import OwnFolder
 from .page import page_of
 from .sessions import Session
 from .shrinking import from_start, refuted
 from .stories import Story, story_of
 from .telling import tell_violation
-from .workloads import LEVELS, WORKLOADS, ClientProcesses, Clients, Nothing
+from .store_kinds import POSTGRES, StoreKind
+from .store_kinds import CantAuditError as CantAuditError
+from .workloads import EVERY_WORKLOAD, ClientProcesses, Clients, Nothing
 
 PAGE_SECONDS = 5.0  # that finding the reasons for the page may take
 MakesStore = Callable[[], Any]
-
-
-class CantAuditError(ZanteyardError):
-    """What is wanted for an audit of PostgreSQL and isn't there."""
-
-
-class MakeStore:
-    """Makes a client's store, here or in another process."""
-
-    def __init__(self, server: Any, level: str) -> None:
-        self.arguments = (server.dsn, LEVELS[level], server.table)
-
-    def __call__(self) -> Any:
-        from .postgres_store import PostgresStore
-
-        return PostgresStore(*self.arguments)
 
 
 @dataclass(frozen=True)
@@ -58,7 +43,7 @@ class LiveRun:
 
     def lines(self) -> List[str]:
         """The three lines that end a run."""
-        at = f"{self.asked.workload} at {LEVELS[self.asked.level]}"
+        at = f"{self.asked.workload} at {self._level()}"
         compared = f", {self.alone.rate():.0f} without the auditor" if self.alone else ""
         return [
             f"{at}: {self.outcome}; {self.live.cuts} cuts in {self.live.rounds} rounds",
@@ -71,8 +56,11 @@ class LiveRun:
 
     def page(self, origin: str) -> str:
         """The run on a page."""
-        about = f"PostgreSQL, {self.asked.workload} at {LEVELS[self.asked.level]}"
+        about = f"{kind_of(self.asked).name}, {self.asked.workload} at {self._level()}"
         return page_of(self.story or self._other_story(), about, origin, self.seen)
+
+    def _level(self) -> str:
+        return kind_of(self.asked).levels[self.asked.level]
 
     def _other_story(self) -> Story:
         whole = self.outcome.whole
@@ -93,7 +81,8 @@ def unaudited_run(asked: Any, make_store: MakesStore) -> Clients:
     sessions = [
         Session(Nothing(), number, make_store(), "unaudited") for number in range(asked.clients)
     ]
-    return Clients(sessions, WORKLOADS[asked.workload], asked.unaudited, lambda: False, asked.rate)
+    workload, seconds = EVERY_WORKLOAD[asked.workload], asked.unaudited
+    return Clients(sessions, workload, seconds, lambda: False, asked.rate)
 
 
 def _beside(asked: Any, make_store: MakesStore, live: LiveAuditor) -> Clients:
@@ -101,8 +90,8 @@ def _beside(asked: Any, make_store: MakesStore, live: LiveAuditor) -> Clients:
     if not asked.processes:
         sessions = [live.session(make_store()) for _ in range(asked.clients)]
         more = (asked.seconds, lambda: live.is_over, asked.rate)
-        return Clients(sessions, WORKLOADS[asked.workload], *more)
-    with tempfile.TemporaryDirectory(prefix="zanteyard-") as folder:
+        return Clients(sessions, EVERY_WORKLOAD[asked.workload], *more)
+    with OwnFolder() as folder:
         with AuditServer(live, f"{folder}/audit") as server:
             those = (asked.clients, asked.workload, asked.seconds, asked.rate)
             clients = ClientProcesses(server.path, make_store, *those)
@@ -163,10 +152,17 @@ def count_of_clients(text: str) -> int:
     return count
 
 
-def add_arguments(asked: argparse.ArgumentParser) -> None:
+def kind_of(asked: Any) -> StoreKind:
+    """Which store is audited: a PostgreSQL, where nothing else was asked for."""
+    kind: StoreKind = getattr(asked, "kind", POSTGRES)
+    return kind
+
+
+def add_arguments(asked: argparse.ArgumentParser, kind: StoreKind = POSTGRES) -> None:
     """What may be asked of a run."""
-    asked.add_argument("--level", choices=LEVELS, default="serializable")
-    asked.add_argument("--workload", choices=WORKLOADS, default="mixed")
+    asked.set_defaults(kind=kind)
+    asked.add_argument("--level", choices=kind.levels, default=kind.default_level)
+    asked.add_argument("--workload", choices=EVERY_WORKLOAD, default="mixed")
     asked.add_argument("--seconds", type=float, default=10.0)
     told = "seconds without the auditor, to compare with; 0 for none"
     asked.add_argument("--unaudited", type=float, default=3.0, help=told)
@@ -179,41 +175,15 @@ def add_arguments(asked: argparse.ArgumentParser) -> None:
     asked.add_argument("--processes", action="store_true", help=told)
     told = "clients wait where the auditor can't keep up; else that audit ends, and another begins"
     asked.add_argument("--rather-wait", action="store_true", help=told)
-    told = (
-        "a server that is there, in a schema of this program's own; without a value, the one that "
-        "PGHOST, PGDATABASE and the like name"
-    )
-    asked.add_argument("--dsn", nargs="?", const="", help=told)
+    kind.add_arguments(asked)
     asked.add_argument("--html", metavar="FILE", help="writes a page to look at")
-
-
-def server(asked: Any) -> Any:
-    """What is audited: with `dsn` and `table`, and cleaned up at the end of the `with`. Raises
-    CantAuditError."""
-    try:
-        import psycopg2  # noqa: F401
-    except ImportError as error:
-        raise CantAuditError(
-            "psycopg2 is wanted: apt-get install python3-psycopg2, and run this by the Python that "
-            "it is for (/usr/bin/python3), or pip install psycopg2"
-        ) from error
-    if asked.dsn is not None:
-        from .guest import Guest
-
-        return Guest(asked.dsn)
-    if not program("initdb"):
-        raise CantAuditError("PostgreSQL is wanted: apt-get install postgresql")
-    return Cluster()
 
 
 def run(asked: Any) -> LiveRun:
     """Runs the clients as asked, and tells each round. Raises CantAuditError."""
-    with ended_by_signals(), server(asked) as used:
-        if asked.dsn is None:
-            from .postgres_store import prepare
-
-            prepare(used.dsn)
-        make_store = MakeStore(used, asked.level)
+    kind = kind_of(asked)
+    with ended_by_signals(), kind.server(asked) as used:
+        make_store = kind.maker(asked, used)
         alone = unaudited_run(asked, make_store) if asked.unaudited else None
         live, outcome, clients, story, seen = audited_run(asked, make_store)
     return LiveRun(asked, live, outcome, clients, alone, story, seen)

@@ -4,14 +4,13 @@ from __future__ import annotations
 
 import math
 import select
-import threading
 import time
-from concurrent.futures import Future, InvalidStateError
-from concurrent.futures import TimeoutError as FutureTimeoutError
 from typing import Any, Callable, Dict, Optional, Sequence
 
 import psycopg2
 from psycopg2 import extensions
+
+from . import bounded
 
 LEAST = 2  # seconds: what libpq makes of a shorter connect_timeout
 
@@ -65,33 +64,9 @@ def wait(connection: Any, ends: float) -> None:
             raise psycopg2.OperationalError("the server hasn't answered in time")
 
 
-def within(
-    seconds: float, call: Callable[[], Any], drop: Callable[[Any], object] = bool
-) -> Any:
-    """What the call gives, in a thread that nobody waits for any longer: not even names of hosts
-    are looked up in a time that could be bounded otherwise. What comes later, or None where the
-    call has failed then, is dropped."""
-    found: Future[Any] = Future()
-
-    def run() -> None:
-        result, failure = None, None
-        try:
-            result = call()
-        except Exception as error:
-            failure = error
-        try:
-            found.set_exception(failure) if failure else found.set_result(result)
-        except InvalidStateError:  # nobody waits for it
-            drop(result)
-
-    threading.Thread(target=run, daemon=True).start()
+def within(seconds: float, call: Callable[[], Any], drop: Callable[[Any], object] = bool) -> Any:
+    """As `bounded.within`, with psycopg2's error in place of LateError."""
     try:
-        return found.result(seconds)
-    except FutureTimeoutError:
-        if found.cancel():
-            told = f"the server hasn't answered for {seconds:.3g} s"
-            raise psycopg2.OperationalError(told) from None
-        return found.result()
-    except BaseException:
-        found.cancel()
-        raise
+        return bounded.within(seconds, call, drop)
+    except bounded.LateError as error:
+        raise psycopg2.OperationalError(str(error)) from None

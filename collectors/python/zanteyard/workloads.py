@@ -19,6 +19,7 @@ LEVELS = {
 }
 PAIRS = 8  # of keys
 READY = 60.0  # seconds for all clients' processes to start
+SHORT = 0.002  # seconds between a write and what takes it back
 
 
 def number_at(transaction: Any, key: str) -> int:
@@ -52,6 +53,32 @@ def blind(transaction: Any, client: int) -> None:
 
 Workload = Callable[[Any, int], None]
 WORKLOADS: Dict[str, Workload] = {"counter": counter, "skew": skew, "mixed": mixed, "blind": blind}
+
+
+def pairs(transaction: Any, client: int) -> None:
+    """Writes two keys, or reads both."""
+    pair = random.randrange(PAIRS)
+    for key in (f"left {pair}", f"right {pair}"):
+        if client % 2:
+            number_at(transaction, key)
+        else:
+            transaction.put(key, str(client))
+
+
+def undone(transaction: Any, client: int) -> None:
+    """Reads a key, or writes it at once and mostly takes that back."""
+    key = f"key {random.randrange(PAIRS)}"
+    if client % 2:
+        number_at(transaction, key)
+        return
+    transaction.exchange(key, str(client))
+    time.sleep(SHORT)
+    if random.random() < 0.75:
+        raise Aborted("the client takes back what it wrote")
+
+
+# Of the others each shows a fault of some level below serializable; so do these, of lower ones.
+EVERY_WORKLOAD: Dict[str, Workload] = {**WORKLOADS, "pairs": pairs, "undone": undone}
 
 
 class Nothing:
@@ -204,7 +231,7 @@ def client_process(
         ready.wait(READY)
         began = time.process_time()
         is_over = lambda: audit is not None and audit.is_over
-        clients = Clients([session], WORKLOADS[workload], seconds, is_over, rate, number)
+        clients = Clients([session], EVERY_WORKLOAD[workload], seconds, is_over, rate, number)
         if audit:
             audit.leave()
         failure = next((str(it) or type(it).__name__ for it in clients.failures), None)

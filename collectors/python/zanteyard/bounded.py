@@ -1,0 +1,41 @@
+"""Calls that nobody waits for longer than was said."""
+
+from __future__ import annotations
+
+import threading
+from concurrent.futures import Future, InvalidStateError
+from concurrent.futures import TimeoutError as FutureTimeoutError
+from typing import Any, Callable
+
+
+class LateError(TimeoutError):
+    """Nothing has come of the call by then."""
+
+
+def within(seconds: float, call: Callable[[], Any], drop: Callable[[Any], object] = bool) -> Any:
+    """What the call gives, in a thread that nobody waits for any longer: not even names of hosts
+    are looked up in a time that could be bounded otherwise. Raises LateError then. What comes
+    later, or None where the call has failed then, is dropped."""
+    found: Future[Any] = Future()
+
+    def run() -> None:
+        result, failure = None, None
+        try:
+            result = call()
+        except Exception as error:
+            failure = error
+        try:
+            found.set_exception(failure) if failure else found.set_result(result)
+        except InvalidStateError:  # nobody waits for it
+            drop(result)
+
+    threading.Thread(target=run, daemon=True).start()
+    try:
+        return found.result(seconds)
+    except FutureTimeoutError:
+        if found.cancel():
+            raise LateError(f"the server hasn't answered for {seconds:.3g} s") from None
+        return found.result()
+    except BaseException:
+        found.cancel()
+        raise

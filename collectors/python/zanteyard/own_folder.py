@@ -1,0 +1,67 @@
+"""A folder that is thrown away, also where this program is killed."""
+
+from __future__ import annotations
+
+import os
+import shutil
+import subprocess
+import tempfile
+import time
+from typing import Optional
+
+PID = "own_server.pid"  # in the folder: the number of the process that is to end before
+TRIES = 50  # to remove it: what has just been ended may still make files
+# Its input ends as this program does. A process that isn't at work in the folder is another one,
+# which has got the number since.
+WATCH = f"""read -r _
+pid=$(cat "$1/{PID}")
+case $(readlink "/proc/$pid/cwd") in "$1" | "$1"/*) kill -KILL "$pid" ;; esac
+tries=0
+while [ -e "$1" ] && [ $tries -lt {TRIES} ]; do
+    rm -rf "$1"
+    tries=$((tries + 1))
+    sleep 0.1
+done"""
+
+
+class OwnFolder:
+    """`path` is where it is, once it was made. A shell waits beside this program for its end."""
+
+    def __init__(self) -> None:
+        self.path = ""
+        self.watch: Optional[subprocess.Popen[bytes]] = None
+
+    def make(self) -> None:
+        self.path = os.path.realpath(tempfile.mkdtemp(prefix="zanteyard-"))
+        quiet = subprocess.DEVNULL
+        call = ["/bin/sh", "-c", WATCH, "sh", self.path]
+        try:
+            self.watch = subprocess.Popen(
+                call,
+                stdin=subprocess.PIPE,
+                stdout=quiet,
+                stderr=quiet,
+                cwd="/",
+                start_new_session=True,  # signals to this program's group aren't for it
+            )
+        except BaseException:
+            self.remove()
+            raise
+
+    def __enter__(self) -> str:
+        self.make()
+        return self.path
+
+    def __exit__(self, *_: object) -> None:
+        self.remove()
+
+    def remove(self) -> None:
+        for _try in range(TRIES):
+            shutil.rmtree(self.path, ignore_errors=True)
+            if not os.path.exists(self.path):
+                break
+            time.sleep(0.1)
+        if self.watch is not None and self.watch.stdin is not None:
+            self.watch.kill()  # before its input ends
+            self.watch.wait()
+            self.watch.stdin.close()
