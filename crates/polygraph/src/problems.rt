@@ -61,6 +61,14 @@ impl Problem {
         &self.known
     }
 
+    /// The relation, without its open choices.
+    pub fn into_known(self) -> Saturated
+        ensures { result ≡ self.known }
+    {
+        let Problem { known, choices: _ } = self;
+        known
+    }
+
     /// The open choices, in order of reader, key, writer, other writer.
     pub fn choices(&self) -> &[Choice]
         ensures value { result.now ≡ self.now.choices }
@@ -74,5 +82,18 @@ impl Problem {
         ensures { result ≡ length self.now.choices }
     {
         self.choices.len()
+    }
+}
+
+impl Clone for Problem {
+    ghost use Rattle.std.specs.Prelude.{◌≡◌};
+
+    ghost is_clone = { λ old new. new ≡ old };
+
+    fn clone(&self) -> Result<Self, NoMemory> {
+        Ok(Problem {
+            known: self.known.clone()?,
+            choices: self.choices.clone()?,
+        })
     }
 }

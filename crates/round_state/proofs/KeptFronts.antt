@@ -84,6 +84,10 @@ kept_finished parts marks waits asked old new rounds snapshot round answer repor
   number = λ other h. absurd (no_parts other h);
 }
 
+-- the same where the snapshot stays
+pub kept_asked : (parts : Parts) (marks : List SessionMark) (waits : Index) (old new : Option Parts) (held : Option Cut) (rounds : ℕ) → new ≡ old → IsKept parts marks waits old held rounds → IsKept parts marks waits new held rounds
+kept_asked parts marks waits old new held rounds e kept = subst (λ (asked : Option Parts). IsKept parts marks waits asked held rounds) (sym e) kept
+
 -- the same where the cut that is held stays
 pub kept_holding : (parts : Parts) (marks : List SessionMark) (waits : Index) (asked : Option Parts) (old new : Option Cut) (rounds : ℕ) → new ≡ old → IsKept parts marks waits asked old rounds → IsKept parts marks waits asked new rounds
 kept_holding parts marks waits asked old new rounds e kept = subst (λ (held : Option Cut). IsKept parts marks waits asked held rounds) (sym e) kept
@@ -103,6 +107,7 @@ kept_anew parts marks waits asked none good are is = subst (λ (a : Option Parts
 pub fitting : SettledStaysSettled → CutsOfFrontsFit → CutKeepsReceived → CutKeepsWaiting → CutKeepsStandsFor → KeptCutsFit
 fitting stays fits counts waits keeps parts cut good kept = record {
   can = fits kept.front parts cut.fence cut.gone cut.last kept.kept.is_front settled.1 kept.found.1;
+  cut_off = λ new leaves. record { front = kept.front; last = cut.last; behind = behind new leaves };
   received = λ new leaves. counts kept.front parts new cut.gone cut.last (behind new leaves);
   waiting = λ new leaves. waits kept.front parts new cut.gone cut.last (behind new leaves);
   stands = λ new history leaves old. keeps kept.front parts new history cut.fence cut.gone cut.last good.base old kept.order kept.kept.is_front settled.0 kept.found.1 leaves;

@@ -1,5 +1,6 @@
 pub mod Anew
 pub mod Awaited
+pub mod Behind
 pub mod Counts
 pub mod Grown
 pub mod Holding

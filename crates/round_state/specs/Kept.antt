@@ -6,7 +6,7 @@ use Rattle.session_marks.specs.declared.marks.SessionMark.{SessionMark}
 use Rattle.pending_reads.specs.Waiting.{Index}
 use Rattle.order_check.specs.declared.remainder.Parts.{Parts}
 use Rattle.order_check.specs.Based.{received_count}
-use Rattle.order_check.specs.Cuts.{IsKeptFront}
+use Rattle.order_check.specs.Cuts.{IsCutOff, IsKeptFront}
 use Rattle.order_check.specs.Cutting.{CanBeApplied}
 use Rattle.order_check.specs.Good.{IsGood}
 use Rattle.order_check.specs.Settled.{IsCutOf}
@@ -37,10 +37,11 @@ pub record IsKept (parts : Parts) (marks : List SessionMark) (waits : Index) (as
   pub numbers : rounds ≤ 2 ^ 48 - 1
   pub number : (snapshot : Parts) → asked ≡ Some snapshot → rounds < 2 ^ 48 - 1
 
--- The cut can be applied to the parts, and what it leaves has as much received and the same pending reads, and stands for the
--- same histories.
+-- The cut can be applied to the parts, and what it leaves is what a cut of a front leaves, has as much received and the same
+-- pending reads, and stands for the same histories.
 pub record IsFitting (parts : Parts) (cut : Cut) : Type 0 where
   pub can : CanBeApplied parts cut.gone cut.last
+  pub cut_off : (new : Parts) → IsCutOf parts new cut.gone cut.last → IsCutOff parts cut.gone new
   pub received : (new : Parts) → IsCutOf parts new cut.gone cut.last → (s : ℕ) → received_count new s ≡ received_count parts s
   pub waiting : (new : Parts) → IsCutOf parts new cut.gone cut.last → (reader writer : TxnId) (key : ℕ) → IsPendingRead parts reader key writer ↔ IsPendingRead new reader key writer
   pub stands : (new : Parts) (history : History) → IsCutOf parts new cut.gone cut.last → StandsFor parts history → StandsFor new history

@@ -1,4 +1,5 @@
 pub mod Awaiting
+pub mod Behind
 pub mod EngineState
 pub mod Kept
 pub mod Legal

@@ -2,6 +2,7 @@
 //! violated.
 #![tactic(auto)]
 
+mod catching_up;
 mod fronts;
 mod intake;
 mod opening;

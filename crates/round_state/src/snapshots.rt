@@ -1,4 +1,4 @@
-ghost use Rattle.std.specs.Prelude.{◌≡◌, ◌↔◌, IfOk, IsTrue};
+ghost use Rattle.std.specs.Prelude.{◌≡◌, ◌↔◌, IfOk, IfSome, IsTrue};
 ghost use Rattle.order_check.specs.Based.{received_counts, HasPending};
 ghost use Rattle.order_check.specs.Good.{IsGood};
 ghost use Rattle.round_state.specs.Tracked.{AreMarksOf, IsIndexOf};
@@ -36,31 +36,21 @@ impl Model for Snapshot {
     ghost invariant = { λ s. IsSnapshot s.problem.known.parts s.counts s.pending };
 }
 
-/// The problem of these parts, whose known relation is built here, and a copy.
-fn problems_of(alloc: Global, parts: &Parts) -> Result<(Problem, Problem), NoMemory>
-    requires { IsGood parts.now }
-    ensures { IfOk result (λ both. (both.0.known.parts ≡ parts.now) × (both.1.known.parts ≡ parts.now)) }
-{
-    let known = Saturated::of(alloc, parts)?;
-    let copy = Problem::of(alloc, &known)?;
-    let problem = Problem::about(alloc, known)?;
-    Ok((problem, copy))
-}
-
-/// A snapshot of the parts, and their problem.
+/// A snapshot of the parts that the relation is about, and their problem.
 pub(crate) fn asked_of(
     alloc: Global,
-    parts: &Parts,
+    known: Saturated,
     marks: &Marks,
     waits: &PendingReads,
 ) -> Result<(Snapshot, Problem), NoMemory>
-    requires good { IsGood parts.now }
-    requires marks { AreMarksOf marks.now parts.now }
-    requires index { IsIndexOf waits.now parts.now }
-    ensures snapshot { IfOk result (λ asked. asked.0 ≡ parts.now) }
-    ensures problem { IfOk result (λ asked. asked.1.known.parts ≡ parts.now) }
+    requires good { IsGood known.parts }
+    requires marks { AreMarksOf marks.now known.parts }
+    requires index { IsIndexOf waits.now known.parts }
+    ensures snapshot { IfOk result (λ asked. asked.0 ≡ known.parts) }
+    ensures problem { IfOk result (λ asked. asked.1.known.parts ≡ known.parts) }
 {
-    let (problem, kept) = problems_of(alloc, parts)?;
+    let kept = Problem::about(alloc, known)?;
+    let problem = kept.clone()?;
     let snapshot = Snapshot::of(alloc, kept, marks, waits)?;
     Ok((snapshot, problem))
 }
@@ -93,6 +83,18 @@ impl Snapshot {
         &self.problem
     }
 
+    /// The known relation of the parts.
+    pub fn into_known(self) -> Saturated
+        ensures { result.parts ≡ self }
+    {
+        let Snapshot {
+            problem,
+            counts: _,
+            pending: _,
+        } = self;
+        problem.into_known()
+    }
+
     pub fn parts(&self) -> &Parts
         ensures value { result.now ≡ self.now }
         ensures good { IsGood result.now }
@@ -112,5 +114,15 @@ impl Snapshot {
         ensures { IsTrue result ↔ HasPending self.now }
     {
         self.pending
+    }
+}
+
+/// The known relation of a round that ends, if one was open.
+pub(crate) fn relation_of(asked: Option<Snapshot>) -> Option<Saturated>
+    ensures { IfSome result (λ known. asked ≡ Some known.parts) }
+{
+    match asked {
+        Some(snapshot) => Some(snapshot.into_known()),
+        None => None,
     }
 }

@@ -10,12 +10,14 @@ ghost use Rattle.round_state.specs.Runs.{Holds};
 ghost use Rattle.round_state.specs.Kept.{IsFitting};
 ghost use Rattle.round_state.specs.Solving.{IsReportOn};
 
+use crate::catching_up::{caught_up, known_after_cut, known_of};
 use crate::fronts::kept_cuts_fit;
 use crate::intake::{admit, arrive_all, awaited_reads};
 use crate::opening::{empty_parts, is_limit, is_sessions};
 use crate::reports::{Report, report_on};
-use crate::snapshots::{Snapshot, asked_of};
+use crate::snapshots::{Snapshot, asked_of, relation_of};
 use crate::tracking::{raise_all, tracks_of};
+use forced_choices::Saturated;
 use order_check::{
     Parts, close_keeps_front, fragment_keeps_front, front_of_itself, stands_for_what_remains,
 };
@@ -46,12 +48,15 @@ pub struct Engine {
     held: Option<Cut>,
     /// The number of the last finished round.
     round: u64,
+    /// The known relation of the last round that ended, if nothing undid it: that of a front of the parts. An open round's is its snapshot's.
+    kept: Option<Saturated>,
 }
 
 impl Model for Engine {
     ghost use Rattle.std.specs.Coded.{codes};
     ghost use Rattle.order_check.specs.Codes.{coded_last};
     ghost use Rattle.round_state.specs.EngineState.{EngineState};
+    ghost use Rattle.round_state.specs.Behind.{AreKnownBehind};
     ghost use Rattle.round_state.specs.Kept.{IsKept};
 
     ghost Value = { EngineState };
@@ -60,7 +65,7 @@ impl Model for Engine {
 
     ghost view = { λ e. record { parts = e.parts; asked = e.asked; held = e.held; rounds = e.round } };
 
-    ghost invariant = { λ e. IsKept e.parts e.marks e.waits e.asked e.held e.round };
+    ghost invariant = { λ e. IsKept e.parts e.marks e.waits e.asked e.held e.round × AreKnownBehind e.parts e.asked e.kept };
 }
 
 impl Engine {
@@ -85,6 +90,7 @@ impl Engine {
             asked: None,
             held: None,
             round: 0,
+            kept: None,
         })
     }
 
@@ -104,6 +110,7 @@ impl Engine {
                 asked: None,
                 held: None,
                 round: 0,
+                kept: None,
             }),
             Err(refused) => Err((parts, Refusal::from(refused))),
         }
@@ -175,7 +182,8 @@ impl Engine {
             return Err(Refusal::TooLong);
         }
         front_of_itself();
-        let (snapshot, problem) = asked_of(alloc, &self.parts, &self.marks, &self.waits)?;
+        let known = known_of(alloc, self.kept.take(), &self.parts)?;
+        let (snapshot, problem) = asked_of(alloc, known, &self.marks, &self.waits)?;
         self.asked = Some(snapshot);
         Ok(problem)
     }
@@ -190,7 +198,7 @@ impl Engine {
             return Err(Refusal::NoRound);
         };
         let report = report_on(alloc, snapshot, self.round + 1, answer, &mut self.held)?;
-        self.asked = None;
+        self.kept = relation_of(self.asked.take());
         self.round += 1;
         Ok(report)
     }
@@ -222,7 +230,7 @@ impl Engine {
         if self.asked.is_none() {
             return Err(Refusal::NoRound);
         }
-        self.asked = None;
+        self.kept = relation_of(self.asked.take());
         Ok(())
     }
 
@@ -243,15 +251,18 @@ impl Engine {
         if self.asked.is_some() {
             return Err(Refusal::RoundOpen);
         }
+        front_of_itself();
         self.has_fitting_cut();
         let Some(cut) = self.held.take() else {
             return Err(Refusal::NoCut);
         };
+        let whole = caught_up(alloc, self.kept.take(), &self.parts);
         if let Err(refused) = apply(alloc, &mut self.parts, cut.gone.as_slice(), &cut.last) {
             self.held = Some(cut);
             return Err(Refusal::from(refused));
         }
         raise_all(&mut self.marks, &self.parts);
+        self.kept = known_after_cut(alloc, whole, cut.gone.as_slice(), &self.parts);
         Ok(cut)
     }
 
@@ -269,6 +280,7 @@ impl Engine {
         self.waits = waits;
         self.held = None;
         self.round = 0;
+        self.kept = None;
         Ok(())
     }
 
@@ -291,6 +303,7 @@ fn engine_fields(engine: Engine) -> Parts
         asked: _,
         held: _,
         round: _,
+        kept: _,
     } = engine;
     parts
 }

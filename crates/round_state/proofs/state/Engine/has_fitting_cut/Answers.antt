@@ -7,4 +7,4 @@ use Rattle.round_state.proofs.state.Engine.has_fitting_cut.Goals as goal
 pub returns : goal.returns
 returns c =
     subst (λ (engine : EngineState). (cut : Cut) → engine.held ≡ Some cut → IsFitting engine.parts cut) c.self.view_is
-    (λ cut e. c.kept_cuts_fit.ensures c.self.inside.parts cut c.self.invariant.good (c.self.invariant.fronts.cut cut e))
+    (λ cut e. c.kept_cuts_fit.ensures c.self.inside.parts cut c.self.invariant.0.good (c.self.invariant.0.fronts.cut cut e))

@@ -6,6 +6,7 @@ use Rattle.order_check.specs.StandsFor.{StandsFor}
 use Rattle.settle.specs.declared.cuts.Cut.{Cut}
 use Rattle.round_state.specs.EngineState.{EngineState}
 use Rattle.round_state.specs.Kept.{IsFitting}
+use Rattle.round_state.proofs.Behind.{known_cut, known_none, known_parts, known_whole, last_behind}
 use Rattle.round_state.proofs.KeptFronts.{kept_holding, kept_parts, kept_truncated, none_open, raised_start}
 use Rattle.round_state.proofs.state.Engine.truncate.Goals as goal
 
@@ -19,9 +20,11 @@ apply-requires-clause-can c =
 pub invariant_of-self-in-Err : goal.invariant_of-self-in-Err
 invariant_of-self-in-Err c =
     let e = c.self.inside in
-    let held : e.held ≡ Some c.in-Some.cut = sym c.take.ensures.value ∙ c.in-Some.is in
-    kept_parts e.parts c.apply.new.parts e.marks e.waits e.asked (Some c.in-Some.cut) e.round c.in-Err.ensures.err
-    (kept_holding e.parts e.marks e.waits e.asked e.held (Some c.in-Some.cut) e.round (sym held) c.self.invariant)
+    let held : e.held ≡ Some c.in-Some.cut = sym c.take.ensures.value ∙ c.in-Some.is in (
+      kept_parts e.parts c.apply.new.parts e.marks e.waits e.asked (Some c.in-Some.cut) e.round c.in-Err.ensures.err
+          (kept_holding e.parts e.marks e.waits e.asked e.held (Some c.in-Some.cut) e.round (sym held) c.self.invariant.0),
+      known_parts e.parts c.apply.new.parts e.asked c.take-2.new.self c.in-Err.ensures.err (known_none e.parts e.asked c.take-2.new.self c.take-2.ensures.after c.self.invariant.1.round),
+    )
 
 pub raise_all-requires-clause-before : goal.raise_all-requires-clause-before
 raise_all-requires-clause-before c =
@@ -30,7 +33,7 @@ raise_all-requires-clause-before c =
     let cut : Cut = c.in-Some.cut in
     let held : e.held ≡ Some cut = sym c.take.ensures.value ∙ c.in-Some.is in
     let leaves : IsCutOf e.parts c.apply.new.parts cut.gone cut.last = subst (λ (gone : List TxnId). IsCutOf e.parts c.apply.new.parts gone cut.last) c.as_slice.ensures c.in_default-apply.ensures.ok in
-    raised_start e.marks e.parts c.apply.new.parts cut c.self.invariant.marks_fit (fits cut held) leaves
+    raised_start e.marks e.parts c.apply.new.parts cut c.self.invariant.0.marks_fit (fits cut held) leaves
 
 pub invariant_of-self-2 : goal.invariant_of-self-2
 invariant_of-self-2 c =
@@ -39,9 +42,11 @@ invariant_of-self-2 c =
     let cut : Cut = c.in-Some.cut in
     let held : e.held ≡ Some cut = sym c.take.ensures.value ∙ c.in-Some.is in
     let leaves : IsCutOf e.parts c.apply.new.parts cut.gone cut.last = subst (λ (gone : List TxnId). IsCutOf e.parts c.apply.new.parts gone cut.last) c.as_slice.ensures c.in_default-apply.ensures.ok in
-    let open_none = none_open e.asked c.is_some.result c.is_some.ensures c.if-is_some.false in
-    kept_holding c.apply.new.parts c.raise_all.new.marks e.waits e.asked None c.take.new.self e.round c.take.ensures.after
-    (kept_truncated e.parts c.apply.new.parts e.marks c.raise_all.new.marks e.waits e.asked e.held e.round cut open_none c.self.invariant (fits cut held) leaves c.in_default-apply.ensures.good c.raise_all.ensures)
+    let open_none = none_open e.asked c.is_some.result c.is_some.ensures c.if-is_some.false in (
+      kept_holding c.apply.new.parts c.raise_all.new.marks e.waits e.asked None c.take.new.self e.round c.take.ensures.after
+          (kept_truncated e.parts c.apply.new.parts e.marks c.raise_all.new.marks e.waits e.asked e.held e.round cut open_none c.self.invariant.0 (fits cut held) leaves c.in_default-apply.ensures.good c.raise_all.ensures),
+      known_whole c.front_of_itself.ensures c.apply.new.parts e.asked c.known_after_cut.result open_none c.known_after_cut.ensures,
+    )
 
 pub returns-clause-keeps : goal.returns-clause-keeps
 returns-clause-keeps c history stands =
@@ -52,3 +57,15 @@ returns-clause-keeps c history stands =
     let leaves : IsCutOf e.parts c.apply.new.parts cut.gone cut.last = subst (λ (gone : List TxnId). IsCutOf e.parts c.apply.new.parts gone cut.last) c.as_slice.ensures c.in_default-apply.ensures.ok in
     let before : StandsFor e.parts history = subst (λ (engine : EngineState). StandsFor engine.parts history) (sym c.self.view_is) stands in
     (fits cut held).stands c.apply.new.parts history leaves before
+
+pub caught_up-whole-requires-clause-behind : goal.caught_up-whole-requires-clause-behind
+caught_up-whole-requires-clause-behind c = last_behind c.self.inside.parts c.self.inside.asked c.self.inside.kept c.take-2.result c.take-2.ensures.value c.self.invariant.1
+
+pub known_after_cut-requires-clause-cut_off : goal.known_after_cut-requires-clause-cut_off
+known_after_cut-requires-clause-cut_off c =
+    let e = c.self.inside in
+    let fits = subst (λ (engine : EngineState). (cut : Cut) → engine.held ≡ Some cut → IsFitting engine.parts cut) (sym c.self.view_is) c.has_fitting_cut.ensures in
+    let cut : Cut = c.in-Some.cut in
+    let held : e.held ≡ Some cut = sym c.take.ensures.value ∙ c.in-Some.is in
+    let leaves : IsCutOf e.parts c.apply.new.parts cut.gone cut.last = subst (λ (gone : List TxnId). IsCutOf e.parts c.apply.new.parts gone cut.last) c.as_slice.ensures c.in_default-apply.ensures.ok in
+    known_cut e.parts c.apply.new.parts cut c.as_slice-2.result.now c.caught_up-whole.result c.as_slice-2.ensures (fits cut held) leaves c.caught_up-whole.ensures
