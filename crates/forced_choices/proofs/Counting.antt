@@ -13,7 +13,7 @@ use Rattle.forced_choices.specs.Ranks.{Counts, none, one_more, not_this, ids_of}
 use Rattle.forced_choices.proofs.Members.{In, in_from_contains, contains_from_in}
 
 -- the same of a property that holds of the same of them
-counts_same_here : {X : Type 0} (P Q : X → Type 0) (xs : List X) (n : ℕ) → ((x : X) → In xs x → P x ↔ Q x) → Counts P xs n → Counts Q xs n
+pub counts_same_here : {X : Type 0} (P Q : X → Type 0) (xs : List X) (n : ℕ) → ((x : X) → In xs x → P x ↔ Q x) → Counts P xs n → Counts Q xs n
 counts_same_here P Q [] n same none = none
 counts_same_here P Q (x ∷ xs) (suc n) same (one_more h rest) = one_more ((same x (inl refl)).0 h) (counts_same_here P Q xs n (λ y there. same y (inr there)) rest)
 counts_same_here P Q (x ∷ xs) n same (not_this h rest) = not_this (λ q. h ((same x (inl refl)).1 q)) (counts_same_here P Q xs n (λ y there. same y (inr there)) rest)

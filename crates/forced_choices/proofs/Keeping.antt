@@ -26,6 +26,7 @@ use Rattle.forced_choices.proofs.ListedChoices.{listed_is_choice, choice_listed,
 use Rattle.forced_choices.proofs.ChoicesAscend.{choices_ascend}
 use Rattle.forced_choices.proofs.ListedArcs.{plain_arcs, plain_right, arc_apart, arc_remains}
 use Rattle.forced_choices.proofs.Distinct.{distinct_from_ascends}
+use Rattle.forced_choices.proofs.OpenReads.{found_each, found_all, found_ascends}
 use Rattle.forced_choices.proofs.SaturationLaws.{IsEnd, so_far_first, forces_so_far, forces_new, full_log, exact}
 use Rattle.txn.specs.declared.transactions.Source.TheVariants.{By}
 
@@ -67,9 +68,9 @@ on_side parts graph choice First nodes is = record {
 -- the undecided choices are the open ones
 pub open_choices_of : (parts : Parts) (graph : GraphState) (log : List ForceStep) (found : List Choice) → IsKept parts graph log → AreFound graph.arcs (choices_of parts (all_ids parts) (all_ids parts)) found → AreOpenChoices parts [] found
 open_choices_of parts graph log found kept are = record {
-  rise = rises_of choice_below found (are.ascend (choices_ascend parts kept.good));
-  each = λ k d within. open_one (get_or found k d) (are.each (get_or found k d) (in_place found k d within));
-  all = λ choice is. contains_from_in found choice (are.all choice (choice_listed parts choice is.choice_of) (record {
+  rise = rises_of choice_below found (found_ascends graph.arcs choices found are (choices_ascend parts kept.good));
+  each = λ k d within. open_one (get_or found k d) (found_each graph.arcs choices found are (get_or found k d) (in_place found k d within));
+  all = λ choice is. contains_from_in found choice (found_all graph.arcs choices found are choice (choice_listed parts choice is.choice_of) (record {
     writer_other = λ r. is.writer_other ((kept.exact choice.writer choice.other).0 r);
     other_reader = λ r. is.other_reader ((kept.exact choice.other choice.reader).0 r);
     other_writer = λ r. is.other_writer ((kept.exact choice.other choice.writer).0 r);

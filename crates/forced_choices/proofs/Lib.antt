@@ -22,6 +22,7 @@ pub mod SessionOrder
 pub mod KnownRemain
 pub mod FirstOpen
 pub mod Counting
+pub mod CountedChoices
 pub mod RankedIds
 pub mod Growing
 pub mod LookingBack

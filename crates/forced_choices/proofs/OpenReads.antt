@@ -1,5 +1,5 @@
 -- The undecided choices of a front of the choices, as more of them are looked at.
-use Rattle.std.proofs.Common.{◌≡◌, ◌↔◌, ℕ, ◌⊎◌, Bool, true, List, [], ◌∷◌, ◌++◌, get_or, Option, sym, inl, inr, subst}
+use Rattle.std.proofs.Common.{◌≡◌, ◌↔◌, ℕ, ◌⊎◌, Bool, true, List, [], ◌∷◌, ◌++◌, get_or, Option, append-nil, refl, sym, inl, inr, subst}
 use Rattle.txn.specs.declared.transactions.TxnId.{TxnId}
 use Rattle.txn.specs.declared.choices.Arc.{Arc}
 use Rattle.txn.specs.declared.choices.Choice.{Choice}
@@ -11,49 +11,53 @@ use Rattle.known_graph.specs.Reach.{Reaches}
 use Rattle.forced_choices.specs.declared.reads.Read.{Read}
 use Rattle.forced_choices.specs.declared.writers.Writers.{Writers}
 use Rattle.forced_choices.specs.Masks.{AreWriters, AreTold, mask_of, choice_of, choices_in}
-use Rattle.forced_choices.specs.Undecided.{IsUndecided, AreAllDecided, AreFound, TellsOpen}
-use Rattle.forced_choices.proofs.Members.{In, Ascends, in_left, in_right, in_either, ascends_append, ascends_front, ascends_across}
+use Rattle.forced_choices.specs.Undecided.{IsUndecided, AreAllDecided, AreFound, no_more, undecided, decided, TellsOpen}
+use Rattle.forced_choices.proofs.Members.{In, Ascends, in_right, in_either}
 use Rattle.forced_choices.proofs.SettledReads.{each_choice, third_parts, third_writes, told_of}
 
 -- nothing is undecided before the first
 pub found_none : (arcs : List Arc) → AreFound arcs [] []
-found_none arcs = record { each = λ choice h. absurd h; all = λ choice h is. absurd h; ascend = λ h. tt }
+found_none arcs = no_more
 
 pub decided_none : (arcs : List Arc) (choices : List Choice) → choices ≡ [] → AreAllDecided arcs choices
 decided_none arcs choices e choice h is = subst (λ xs. In xs choice) e h
 
+-- what is found of two lists
+pub found_append : (arcs : List Arc) (xs ys found more : List Choice) → AreFound arcs xs found → AreFound arcs ys more → AreFound arcs (xs ++ ys) (found ++ more)
+found_append arcs xs ys found more no_more so = so
+found_append arcs xs ys found more (undecided {choices = cs} {found = fs} is rest) so = undecided is (found_append arcs cs ys fs more rest so)
+found_append arcs xs ys found more (decided {choices = cs} isnt rest) so = decided isnt (found_append arcs cs ys found more rest so)
+
+pub found_nothing : (arcs : List Arc) (choices : List Choice) → AreAllDecided arcs choices → AreFound arcs choices []
+found_nothing arcs [] none = no_more
+found_nothing arcs (choice ∷ choices) none = decided (none choice (inl refl)) (found_nothing arcs choices (λ other h. none other (inr h)))
+
 -- more choices, of which none is undecided
 pub found_skip : (arcs : List Arc) (front found more : List Choice) → AreFound arcs front found → AreAllDecided arcs more → AreFound arcs (front ++ more) found
-found_skip arcs front found more so decided = record {
-  each = λ choice h. let old = so.each choice h in (in_left front more choice old.0, old.1);
-  all = λ choice h is. by_part choice is (in_either front more choice h);
-  ascend = λ up. so.ascend (ascends_front choice_below front more up);
-}
-  where
-    by_part : (choice : Choice) → IsUndecided arcs choice → In front choice ⊎ In more choice → In found choice
-    by_part choice is (inl h) = so.all choice h is
-    by_part choice is (inr h) = absurd (decided choice h is)
+found_skip arcs front found more so none = subst (λ xs. AreFound arcs (front ++ more) xs) (append-nil found) (found_append arcs front more found [] so (found_nothing arcs more none))
 
 -- one more choice, which is undecided
 pub found_push : (arcs : List Arc) (front found : List Choice) (here : Choice) → AreFound arcs front found → IsUndecided arcs here → AreFound arcs (front ++ here ∷ []) (found ++ here ∷ [])
-found_push arcs front found here so is = record {
-  each = λ choice h. each choice (in_either found (here ∷ []) choice h);
-  all = λ choice h so. all choice so (in_either front (here ∷ []) choice h);
-  ascend = λ up. ascends_append choice_below found (here ∷ []) (so.ascend (ascends_front choice_below front (here ∷ []) up)) ((λ y hy. absurd hy), tt) (before up);
-}
-  where
-    each : (choice : Choice) → In found choice ⊎ In (here ∷ []) choice → In (front ++ here ∷ []) choice × IsUndecided arcs choice
-    each choice (inl there) = let old = so.each choice there in (in_left front (here ∷ []) choice old.0, old.1)
-    each choice (inr (inl e)) = (in_right front (here ∷ []) choice (inl e), subst (IsUndecided arcs) e is)
-    each choice (inr (inr there)) = absurd there
+found_push arcs front found here so is = found_append arcs front (here ∷ []) found (here ∷ []) so (undecided is no_more)
 
-    all : (choice : Choice) → IsUndecided arcs choice → In front choice ⊎ In (here ∷ []) choice → In (found ++ here ∷ []) choice
-    all choice und (inl there) = in_left found (here ∷ []) choice (so.all choice there und)
-    all choice und (inr there) = in_right found (here ∷ []) choice there
+-- what is found are the undecided ones, in their order
+pub found_each : (arcs : List Arc) (choices found : List Choice) → AreFound arcs choices found → (choice : Choice) → In found choice → In choices choice × IsUndecided arcs choice
+found_each arcs choices found no_more choice h = absurd h
+found_each arcs choices found (undecided is rest) choice (inl e) = (inl e, subst (IsUndecided arcs) e is)
+found_each arcs choices found (undecided {choices = cs} {found = fs} is rest) choice (inr h) = let old = found_each arcs cs fs rest choice h in (inr old.0, old.1)
+found_each arcs choices found (decided {choices = cs} isnt rest) choice h = let old = found_each arcs cs found rest choice h in (inr old.0, old.1)
 
-    before : Ascends choice_below (front ++ here ∷ []) → (x y : Choice) → In found x → In (here ∷ []) y → choice_below x y ≡ true
-    before up x y hx (inl e) = subst (λ y. choice_below x y ≡ true) e (ascends_across choice_below front here up x (so.each x hx).0)
-    before up x y hx (inr there) = absurd there
+pub found_all : (arcs : List Arc) (choices found : List Choice) → AreFound arcs choices found → (choice : Choice) → In choices choice → IsUndecided arcs choice → In found choice
+found_all arcs choices found no_more choice h und = absurd h
+found_all arcs choices found (undecided is rest) choice (inl e) und = inl e
+found_all arcs choices found (undecided {choices = cs} {found = fs} is rest) choice (inr h) und = inr (found_all arcs cs fs rest choice h und)
+found_all arcs choices found (decided isnt rest) choice (inl e) und = absurd (isnt (subst (IsUndecided arcs) (sym e) und))
+found_all arcs choices found (decided {choices = cs} isnt rest) choice (inr h) und = found_all arcs cs found rest choice h und
+
+pub found_ascends : (arcs : List Arc) (choices found : List Choice) → AreFound arcs choices found → Ascends choice_below choices → Ascends choice_below found
+found_ascends arcs choices found no_more up = tt
+found_ascends arcs choices found (undecided {choices = cs} {found = fs} is rest) up = ((λ other h. up.0 other (found_each arcs cs fs rest other h).0), found_ascends arcs cs fs rest up.1)
+found_ascends arcs choices found (decided {choices = cs} isnt rest) up = found_ascends arcs cs found rest up.1
 
 -- what four rows tell of one transaction
 pub tells_open : (nodes : List (Option TxnId)) (arcs : List Arc) (read : Read) (mask after_writer before_reader before_writer after_reader row : List ℕ) (j : ℕ) (other : TxnId) → HasBit mask j → IsAt nodes j other →
@@ -108,4 +112,4 @@ decided_both arcs xs ys first second choice h is = by_part (in_either xs ys choi
 
 -- where nothing was found, none is undecided
 pub decided_found : (arcs : List Arc) (choices found : List Choice) → found ≡ [] → AreFound arcs choices found → AreAllDecided arcs choices
-decided_found arcs choices found e so choice h is = subst (λ xs. In xs choice) e (so.all choice h is)
+decided_found arcs choices found e so choice h is = subst (λ xs. In xs choice) e (found_all arcs choices found so choice h is)

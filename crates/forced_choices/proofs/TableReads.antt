@@ -27,7 +27,7 @@ use Rattle.forced_choices.specs.Undecided.{IsUndecided, AreAllDecided, AreFound,
 use Rattle.forced_choices.proofs.Forced.{all_there_still, continues_none}
 use Rattle.forced_choices.proofs.Members.{In, Ascends, in_right, in_either}
 use Rattle.forced_choices.proofs.SettledReads.{each_choice, there_of, third_apart, third_parts, third_is_choice, third_writes}
-use Rattle.forced_choices.proofs.OpenReads.{ascends_back}
+use Rattle.forced_choices.proofs.OpenReads.{ascends_back, found_each, found_all, found_ascends}
 
 abbrev no_id : TxnId
 no_id = record { session = 0; number = 0 }
@@ -135,12 +135,12 @@ first_at parts arcs ids reads k d found choice within decided so first = record 
     own = choices_in parts ids (get_or reads k d).read
 
     here : In own choice × IsUndecided arcs choice
-    here = so.each choice (subst (λ xs. In xs choice) (sym first) (inl refl))
+    here = found_each arcs own found so choice (subst (λ xs. In xs choice) (sym first) (inl refl))
 
     by_place : Ascends choice_below (before ++ own) → (other : Choice) → other ≢ choice → In (choice ∷ drop 1 found) other → choice_below choice other ≡ true
     by_place up other apart (inl e) = absurd (apart (sym e))
-    by_place up other apart (inr h) = (subst (λ xs. Ascends choice_below xs) first (so.ascend (ascends_back choice_below before own up))).0 other h
+    by_place up other apart (inr h) = (subst (λ xs. Ascends choice_below xs) first (found_ascends arcs own found so (ascends_back choice_below before own up))).0 other h
 
     by_part : Ascends choice_below (before ++ own) → (other : Choice) → IsUndecided arcs other → other ≢ choice → In before other ⊎ In own other → choice_below choice other ≡ true
     by_part up other is apart (inl h) = absurd (decided other h is)
-    by_part up other is apart (inr h) = by_place up other apart (subst (λ xs. In xs other) first (so.all other h is))
+    by_part up other is apart (inr h) = by_place up other apart (subst (λ xs. In xs other) first (found_all arcs own found so other h is))

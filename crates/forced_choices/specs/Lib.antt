@@ -22,3 +22,4 @@ pub mod Picked
 pub mod FreshArcs
 pub mod KeptTables
 pub mod LeftByCut
+pub mod CountedChoices

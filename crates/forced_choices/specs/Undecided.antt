@@ -1,5 +1,5 @@
 -- For private clauses: choices that a graph leaves undecided.
-use Rattle.std.specs.Prelude.{◌≡◌, ◌≢◌, ℕ, true, List, ◌++◌}
+use Rattle.std.specs.Prelude.{◌≡◌, ◌≢◌, ◌⊎◌, ◌≤◌, ℕ, true, List, [], ◌∷◌, ◌++◌, length}
 use Rattle.txn.specs.declared.choices.Arc.{Arc}
 use Rattle.txn.specs.declared.choices.Choice.{Choice}
 use Rattle.forced_choices.specs.Ascending.{In, Ascends}
@@ -18,11 +18,22 @@ pub record IsUndecided (arcs : List Arc) (choice : Choice) : Type 0 where
 abbrev pub AreAllDecided : List Arc → List Choice → Type 0
 AreAllDecided arcs choices = (choice : Choice) → In choices choice → ¬ IsUndecided arcs choice
 
--- these are the undecided ones of the choices, and ascend where those do
-pub record AreFound (arcs : List Arc) (choices found : List Choice) : Type 0 where
-  pub each : (choice : Choice) → In found choice → In choices choice × IsUndecided arcs choice
-  pub all : (choice : Choice) → In choices choice → IsUndecided arcs choice → In found choice
-  pub ascend : Ascends choice_below choices → Ascends choice_below found
+-- these are the undecided ones of the choices, in their order
+pub data AreFound (arcs : List Arc) : List Choice → List Choice → Type 0 where
+  no_more : AreFound arcs [] []
+  undecided : {choice : Choice} {choices found : List Choice} → IsUndecided arcs choice → AreFound arcs choices found → AreFound arcs (choice ∷ choices) (choice ∷ found)
+  decided : {choice : Choice} {choices found : List Choice} → (¬ IsUndecided arcs choice) → AreFound arcs choices found → AreFound arcs (choice ∷ choices) found
+
+-- the list is the whole of the other, or a front of it that has so many and more
+abbrev pub IsFrontOf : ℕ → List Choice → List Choice → Type 0
+IsFrontOf most first all = (all ≡ first) ⊎ ((most ≤ length first) × ((rest : List Choice) × (all ≡ first ++ rest)))
+
+-- so many of the choices are undecided, and these are the first of them
+pub record AreCounted (arcs : List Arc) (choices : List Choice) (most : ℕ) (first : List Choice) (count : ℕ) : Type 0 where
+  pub all : List Choice
+  pub found : AreFound arcs choices all
+  pub front : IsFrontOf most first all
+  pub counted : count ≡ length all
 
 -- the choice is undecided, and stands in a front of the choices, of whose other undecided ones it is the least
 pub record IsFirstFound (arcs : List Arc) (choices : List Choice) (choice : Choice) : Type 0 where

@@ -7,6 +7,7 @@ mod building;
 mod by_key;
 mod catching_up;
 mod columns;
+mod counted;
 mod cutting;
 mod fresh;
 mod growth;
@@ -28,5 +29,6 @@ mod whole;
 mod writers;
 
 pub use branch::Branch;
+pub use counted::OpenChoices;
 pub use ranks::Rank;
 pub use saturated::Saturated;

@@ -21,7 +21,7 @@ use txn::{Choice, NoMemory, TxnId};
 
 /// Whether each column of the mask is reached by the writer or by the reader, or reaches one of them. Nearly all reads are so, and no
 /// row is made for them.
-fn are_decided(graph: &Graph, mask: &[u64], placed: Placed) -> bool
+pub fn are_decided(graph: &Graph, mask: &[u64], placed: Placed) -> bool
     requires { IsAtColumns graph.now.nodes placed }
     ensures { result ≡ true → (j : ℕ) (other : TxnId) → HasBit mask.now j → IsAt graph.now.nodes j other → ¬ IsUndecided graph.now.arcs (choice_of placed.read other) }
 {
@@ -46,7 +46,7 @@ fn clear_four(row: &mut [u64], a: &[u64], b: &[u64], c: &[u64], d: &[u64])
 }
 
 /// The columns of the mask that neither the writer nor the reader reaches, and that reach neither.
-fn open_columns(
+pub fn open_columns(
     alloc: Global,
     graph: &Graph,
     mask: &[u64],
@@ -96,7 +96,7 @@ fn push_open_with(
 }
 
 /// Adds the open choices of a read with those at the places, which are those with a column in the row.
-fn push_open_columns(
+pub fn push_open_columns(
     found: &mut Vec<Choice>,
     parts: &Parts,
     ids: &[TxnId],

@@ -11,10 +11,12 @@ ghost use Rattle.order_check.specs.Cycles.{AreNew, IsFullLog};
 ghost use Rattle.order_check.specs.Good.{IsGood};
 ghost use Rattle.order_check.specs.Known.{Known, AreOpenChoices};
 ghost use Rattle.order_check.specs.StandsFor.{parts_with, parts_closed};
+ghost use Rattle.forced_choices.specs.CountedChoices.{AreFirstOpen};
 ghost use Rattle.forced_choices.specs.SaturatedState.{AreNewBehind, LogsOnAfterCut, fragment_of};
 ghost use Rattle.forced_choices.specs.SoFar.{IsRelation};
 
 use crate::catching_up::catch_up;
+use crate::counted::{OpenChoices, count_open_in};
 use crate::cutting::{drop_gone, left_by_cut};
 use crate::kept::{KeptTable, kept_table_of};
 use crate::listing::remaining_ids_of;
@@ -171,6 +173,19 @@ impl Saturated {
         let table = table_of(alloc, &self.parts, &self.graph)?;
         let found = open_in(alloc, &self.parts, &table, &self.graph)?;
         Ok(Sequence::new(found))
+    }
+
+    /// The first so many of the open choices, and how many there are. It takes memory of those, and not of all.
+    pub fn first_open(&self, alloc: Global, most: usize) -> Result<OpenChoices, NoMemory>
+        ensures { IfOk result (AreFirstOpen self.now.parts most) }
+    {
+        let table = table_of(alloc, &self.parts, &self.graph)?;
+        let (mut first, count) = count_open_in(alloc, &self.parts, &table, &self.graph, most)?;
+        first.truncate(most);
+        Ok(OpenChoices {
+            first: Sequence::new(first),
+            count,
+        })
     }
 
     /// The sides that were forced, one after another, each with the cycle that the other side would close.

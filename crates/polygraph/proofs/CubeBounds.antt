@@ -1,8 +1,8 @@
 -- What a search of a cube finds, and within how many nodes.
-use Rattle.std.proofs.Common.{◌≡◌, ℕ, ◌+◌, ◌-◌, ◌*◌, ◌<◌, ◌≤◌, ◌^◌, ◌⊎◌, Bool, true, false, cond, nat_lt, List, [], ◌∷◌, length, take, drop, ap, subst, inl, inr, zero, suc, ◌∙◌, arith}
+use Rattle.std.proofs.Common.{◌≡◌, ℕ, ◌+◌, ◌-◌, ◌*◌, ◌<◌, ◌≤◌, ◌^◌, ◌⊎◌, Bool, true, false, cond, nat_lt, List, [], ◌∷◌, length, take, drop, min, sym, ap, subst, inl, inr, zero, suc, ◌∙◌, arith}
 use Rattle.std.specs.Prelude.{All, Contains}
 use Rattle.std.proofs.Math.Pow.{pow_mono}
-use Rattle.std.proofs.lemmas.List.{length-take, length-drop}
+use Rattle.std.proofs.lemmas.List.{length-take, length-drop, take-take}
 use Rattle.std.proofs.lemmas.List.Elements.{All-take}
 use Rattle.txn.specs.declared.transactions.TxnId.{TxnId}
 use Rattle.txn.specs.declared.choices.Choice.{Choice}
@@ -15,7 +15,7 @@ use Rattle.order_check.specs.Search.{Outcome, used_up, Scans}
 use Rattle.order_check.specs.SearchLaws.{ScansAreBounded}
 use Rattle.refutation.specs.Joining.{cube_sides}
 use Rattle.forced_choices.specs.BranchState.{BranchState, assumed}
-use Rattle.polygraph.specs.ProblemState.{ProblemState}
+use Rattle.polygraph.specs.ProblemState.{ProblemState, IsProblem}
 use Rattle.polygraph.specs.declared.solving.Cube.{Cube}
 use Rattle.polygraph.specs.declared.solving.Cube.TheVariants.{Yes, No, Spent}
 use Rattle.polygraph.specs.Noted.{IsAt}
@@ -126,6 +126,19 @@ spent_bound law parts choices depth cube share left low fits are scans = by_part
 pub split_are_choices : (parts : Parts) (choices : List Choice) (depth : ℕ) → AreOpenChoices parts [] choices → All (IsChoice parts) (take depth choices)
 split_are_choices parts choices depth are k d within = (All-take (IsOpen parts []) depth choices are.each k d within).choice_of
 
+-- the choices that a problem's cubes split are the first of all that are open
+pub split_is : (problem : ProblemState) (depth : ℕ) (is : IsProblem problem) → depth ≤ 6 → split_choices problem depth ≡ take depth is.all
+split_is problem depth is low = ap (take depth) is.first_six ∙ take-take depth 6 is.all low
+
+pub first_are_choices : (problem : ProblemState) → IsProblem problem → All (IsChoice problem.known.parts) problem.first
+first_are_choices problem is = subst (λ cs. All (IsChoice problem.known.parts) cs) (sym is.first_six) (split_are_choices problem.known.parts is.all 6 is.open_choices)
+
+pub split_choices_of : (problem : ProblemState) (depth : ℕ) → IsProblem problem → All (IsChoice problem.known.parts) (split_choices problem depth)
+split_choices_of problem depth is = All-take (IsChoice problem.known.parts) depth problem.first (first_are_choices problem is)
+
+pub split_length : (problem : ProblemState) (depth : ℕ) (is : IsProblem problem) → depth ≤ 6 → length (split_choices problem depth) ≡ min depth (length is.all)
+split_length problem depth is low = ap length (split_is problem depth is low) ∙ length-take depth is.all
+
 -- what is found from a branch at a cube is told of the cube
 pub told_of_cube : (problem : ProblemState) (depth cube share : ℕ) (branch : BranchState) (steps : List ForceStep) (found : Cube) →
     IsAt problem.known.parts (cube_sides (split_choices problem depth) cube []) branch steps →
@@ -152,7 +165,11 @@ told_of_cube problem depth cube share branch steps found at (left, scans) keeps 
     by_kind (No tree) finds keeps h = (finds, record { right = h.0; shallow = h.1 })
     by_kind Spent finds keeps h = finds
 
-pub spent_of_cube : (law : ScansAreBounded) (problem : ProblemState) (depth cube share : ℕ) (found : Cube) → depth ≤ 6 → share < 2 ^ 64 → AreOpenChoices problem.known.parts [] problem.choices → IsCube problem depth share cube found → found ≡ Spent → share + 1 < 2 ^ (length problem.choices - length (split_choices problem depth) + 1)
-spent_of_cube law problem depth cube share found low fits are told is =
-    let spent : IsCube problem depth share cube Spent = subst (λ f. IsCube problem depth share cube f) is told in
-    spent_bound law problem.known.parts problem.choices depth cube share spent.0 low fits are spent.1
+pub spent_of_cube : (law : ScansAreBounded) (problem : ProblemState) (depth cube share : ℕ) (found : Cube) → depth ≤ 6 → share < 2 ^ 64 → IsProblem problem → IsCube problem depth share cube found → found ≡ Spent → share + 1 < 2 ^ (problem.open_count - length (split_choices problem depth) + 1)
+spent_of_cube law problem depth cube share found low fits is told spent =
+    let split = split_is problem depth is low in
+    let scans : IsCube problem depth share cube Spent = subst (λ f. IsCube problem depth share cube f) spent told in
+    let here = subst (λ (cs : List Choice). Scans problem.known.parts (cube_sides cs cube []) share used_up scans.0) split scans.1 in
+    let bound = spent_bound law problem.known.parts is.all depth cube share scans.0 low fits is.open_choices here in
+    let left = ap (λ (cs : List Choice). length is.all - length cs + 1) (sym split) ∙ ap (λ n. n - length (split_choices problem depth) + 1) (sym is.counted) in
+    subst (λ n. share + 1 < 2 ^ n) left bound

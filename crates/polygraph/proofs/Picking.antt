@@ -7,20 +7,19 @@ use Rattle.std.proofs.lemmas.List.{length-take}
 use Rattle.std.proofs.lemmas.Nat.{pow-add, pow_pos}
 use Rattle.std.proofs.Math.Nat.{add-mul, lt-div-mul-add, mul-le-mul_right}
 use Rattle.std.proofs.lemmas.Option.{slice_get-get_or}
-use Rattle.order_check.specs.Known.{AreOpenChoices}
 use Rattle.order_check.specs.Search.{Outcome, has_order, no_order, used_up}
 use Rattle.order_check.specs.SearchLaws.{ScansFindOne}
 use Rattle.refutation.specs.declared.trees.Tree.{Tree}
 use Rattle.refutation.specs.Joining.{cube_sides, IsJoin}
 use Rattle.refutation.specs.Laws.{JoinedTreesRefute, JoinedDepth}
 use Rattle.refutation.specs.Refutes.{depth_of, IsRefutation}
-use Rattle.polygraph.specs.ProblemState.{ProblemState}
+use Rattle.polygraph.specs.ProblemState.{ProblemState, IsProblem}
 use Rattle.polygraph.specs.declared.solving.Answer.{Answer}
 use Rattle.polygraph.specs.declared.solving.Answer.TheVariants.{Yes, No, Spent, NoMemory}
 use Rattle.polygraph.specs.Outcomes.{split_choices, cube_count, share_of, Finds, IsLeastYes, RefutesCube, IsPicked}
 use Rattle.polygraph.specs.Solving.{MayComeTo, IsLawful}
 use Rattle.polygraph.specs.SoFar.{AreRefuted, IsTooSmall, IsSoFar, IsPickedOf}
-use Rattle.polygraph.proofs.CubeBounds.{split_are_choices}
+use Rattle.polygraph.proofs.CubeBounds.{split_choices_of, split_length}
 
 finds_one : (law : ScansFindOne) (problem : ProblemState) (depth share cube : ℕ) (one other : Outcome) → Finds problem depth share cube one → Finds problem depth share cube other → one ≡ other
 finds_one law problem depth share cube one other (left, a) (rest, b) = (law problem.known.parts (cube_sides (split_choices problem depth) cube []) share left rest one other a b).0
@@ -106,22 +105,23 @@ budget_bound budget e c share low is small =
     omega (arith, whole, more, split, moved)
 
 -- what the cubes come to is what a search may come to
-may_come : (problem : ProblemState) (budget depth : ℕ) (answer : Answer) → AreOpenChoices problem.known.parts [] problem.choices → IsPicked problem budget depth answer → MayComeTo problem.known.parts budget depth answer
-may_come problem budget depth answer open_choices picked = (problem, record { open_choices = open_choices }, refl, inl picked)
+may_come : (problem : ProblemState) (budget depth : ℕ) (answer : Answer) → IsProblem problem → IsPicked problem budget depth answer → MayComeTo problem.known.parts budget depth answer
+may_come problem budget depth answer is picked = (problem, is, refl, inl picked)
 
-pub lawful_of : (problem : ProblemState) (budget depth : ℕ) (answer : Answer) → AreOpenChoices problem.known.parts [] problem.choices → IsPickedOf problem depth (share_of problem budget depth) answer → IsLawful problem.known.parts budget depth answer
-lawful_of problem budget depth (Yes order) open_choices h = (h.0, may_come problem budget depth (Yes order) open_choices h)
-lawful_of problem budget depth (No tree) open_choices h = (h.0, may_come problem budget depth (No tree) open_choices h)
-lawful_of problem budget depth Spent open_choices h =
-    let few = length-take depth problem.choices in
-    let bound = budget_bound budget (length (split_choices problem depth)) (length problem.choices) (share_of problem budget depth) (omega (arith, few)) refl h.1 in
-    ((problem.choices, open_choices, subst (λ n. budget + 2 ^ n < 2 ^ (length problem.choices + 1)) few bound), may_come problem budget depth Spent open_choices h.0)
-lawful_of problem budget depth NoMemory open_choices h = h
+pub lawful_of : (problem : ProblemState) (budget depth : ℕ) (answer : Answer) → depth ≤ 6 → IsProblem problem → IsPickedOf problem depth (share_of problem budget depth) answer → IsLawful problem.known.parts budget depth answer
+lawful_of problem budget depth (Yes order) low is h = (h.0, may_come problem budget depth (Yes order) is h)
+lawful_of problem budget depth (No tree) low is h = (h.0, may_come problem budget depth (No tree) is h)
+lawful_of problem budget depth Spent low is h =
+    let few = split_length problem depth is low in
+    let small = subst (λ n. share_of problem budget depth + 1 < 2 ^ (n - length (split_choices problem depth) + 1)) is.counted h.1 in
+    let bound = budget_bound budget (length (split_choices problem depth)) (length is.all) (share_of problem budget depth) (omega (arith, few)) refl small in
+    ((is.all, is.open_choices, subst (λ n. budget + 2 ^ n < 2 ^ (length is.all + 1)) few bound), may_come problem budget depth Spent is h.0)
+lawful_of problem budget depth NoMemory low is h = h
 
-pub trees_joined : (refute : JoinedTreesRefute) (deep : JoinedDepth) (problem : ProblemState) (depth share cube : ℕ) (trees : List Tree) (tree : Tree) → depth ≤ 6 → AreOpenChoices problem.known.parts [] problem.choices → AreRefuted problem depth share cube trees → IsJoin (split_choices problem depth) trees tree → IsRefutation problem.known.parts tree
-trees_joined refute deep problem depth share cube trees tree low open_choices are is = record {
-  right = refute problem.known.parts (split_choices problem depth) [] trees tree (split_are_choices problem.known.parts problem.choices depth open_choices) (λ k t at. (are.each k t at).right) is;
-  shallow = let few = length-take depth problem.choices in let d = deep (split_choices problem depth) trees tree (4095 - 2 * length (split_choices problem depth)) all_low is in omega (arith, few, d);
+pub trees_joined : (refute : JoinedTreesRefute) (deep : JoinedDepth) (problem : ProblemState) (depth share cube : ℕ) (trees : List Tree) (tree : Tree) → depth ≤ 6 → IsProblem problem → AreRefuted problem depth share cube trees → IsJoin (split_choices problem depth) trees tree → IsRefutation problem.known.parts tree
+trees_joined refute deep problem depth share cube trees tree low problem_is are is = record {
+  right = refute problem.known.parts (split_choices problem depth) [] trees tree (split_choices_of problem depth problem_is) (λ k t at. (are.each k t at).right) is;
+  shallow = let few = length-take depth problem.first in let d = deep (split_choices problem depth) trees tree (4095 - 2 * length (split_choices problem depth)) all_low is in omega (arith, few, d);
 }
   where
     all_low : All (λ below. depth_of below ≤ 4095 - 2 * length (split_choices problem depth)) trees

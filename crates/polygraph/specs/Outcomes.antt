@@ -13,9 +13,9 @@ use Rattle.polygraph.specs.declared.solving.Cube.TheVariants as cubes
 use Rattle.polygraph.specs.declared.solving.Answer.{Answer}
 use Rattle.polygraph.specs.declared.solving.Answer.TheVariants as answers
 
--- the choices that a search of this depth splits first: the first so many that are open, or all where there are fewer
+-- the choices that a search of this depth splits first: the first so many that are open, six at most, or all where there are fewer
 abbrev pub split_choices : ProblemState → ℕ → List Choice
-split_choices problem depth = take depth problem.choices
+split_choices problem depth = take depth problem.first
 
 -- How many cubes there are: each way to take a side of each choice that is split. A cube's number is below that.
 abbrev pub cube_count : ProblemState → ℕ → ℕ

@@ -18,7 +18,7 @@ pub record AreRefuted (problem : ProblemState) (depth share cube : ℕ) (trees :
 
 -- the share doesn't reach
 abbrev pub IsTooSmall : ProblemState → ℕ → ℕ → Type 0
-IsTooSmall problem depth share = share + 1 < 2 ^ (length problem.choices - length (split_choices problem depth) + 1)
+IsTooSmall problem depth share = share + 1 < 2 ^ (problem.open_count - length (split_choices problem depth) + 1)
 
 -- some cube below this number is used up
 pub record IsUsedUp (problem : ProblemState) (depth share cube : ℕ) : Type 0 where

@@ -1,19 +1,23 @@
-ghost use Rattle.std.specs.Prelude.{◌≡◌, [], length, IfOk};
+ghost use Rattle.std.specs.Prelude.{◌≡◌, ◌≤◌, All, IfOk};
 ghost use Rattle.order_check.specs.Good.{IsGood};
-ghost use Rattle.order_check.specs.Known.{AreOpenChoices};
+ghost use Rattle.order_check.specs.Known.{IsChoice};
+ghost use Rattle.polygraph.specs.Outcomes.{split_choices};
 ghost use Rattle.polygraph.specs.ProblemState.{IsProblem};
 
-use forced_choices::Saturated;
+use forced_choices::{OpenChoices, Saturated};
 use order_check::Parts;
 use std::alloc::Global;
 use std::marker::Model;
-use txn::{Choice, NoMemory, Sequence};
+use txn::{Choice, NoMemory};
 
-/// What a solver is asked: the known relation of a snapshot's parts, and the choices that it leaves open.
+/// How many choices a search splits first at most.
+const MOST_SPLIT: usize = 6;
+
+/// What a solver is asked: the known relation of a snapshot's parts, the first of the choices that it leaves open, and how many it does.
 #[derive(Drop, Debug)]
 pub struct Problem {
     known: Saturated,
-    choices: Sequence<Choice>,
+    choices: OpenChoices,
 }
 
 impl Model for Problem {
@@ -25,16 +29,16 @@ impl Model for Problem {
 
     ghost coded = { Prim.hlevel (codes, coded_last) };
 
-    ghost view = { λ p. record { known = p.known; choices = p.choices } };
+    ghost view = { λ p. record { known = p.known; first = p.choices.first; open_count = p.choices.count } };
 
-    ghost invariant = { λ p. IsProblem (record { known = p.known; choices = p.choices }) };
+    ghost invariant = { λ p. IsProblem (record { known = p.known; first = p.choices.first; open_count = p.choices.count }) };
 }
 
 impl Problem {
     /// The problem of the parts that the relation is about. The relation is copied, with its parts.
     pub fn of(alloc: Global, known: &Saturated) -> Result<Problem, NoMemory>
         ensures known { IfOk result (λ problem. problem.known ≡ known.now) }
-        ensures choices { IfOk result (λ problem. AreOpenChoices known.now.parts [] problem.choices) }
+        ensures choices { IfOk result IsProblem }
     {
         Problem::about(alloc, known.clone()?)
     }
@@ -42,9 +46,9 @@ impl Problem {
     /// The same of a relation that is moved in.
     pub fn about(alloc: Global, known: Saturated) -> Result<Problem, NoMemory>
         ensures known { IfOk result (λ problem. problem.known ≡ known) }
-        ensures choices { IfOk result (λ problem. AreOpenChoices known.parts [] problem.choices) }
+        ensures choices { IfOk result IsProblem }
     {
-        let choices = known.open_choices(alloc)?;
+        let choices = known.first_open(alloc, MOST_SPLIT)?;
         Ok(Problem { known, choices })
     }
 
@@ -69,19 +73,28 @@ impl Problem {
         known
     }
 
-    /// The open choices, in order of reader, key, writer, other writer.
-    pub fn choices(&self) -> &[Choice]
-        ensures value { result.now ≡ self.now.choices }
-        ensures open_choices { AreOpenChoices self.now.known.parts [] result.now }
+    /// The open choices that a search of this depth splits first, in order of reader, key, writer, other writer.
+    pub fn choices(&self, depth: u64) -> &[Choice]
+        requires { depth ≤ 6 }
+        ensures value { result.now ≡ split_choices self.now depth }
+        ensures choices { All (IsChoice self.now.known.parts) result.now }
+        ensures problem { IsProblem self.now }
     {
-        self.choices.as_slice()
+        let depth = depth as usize;
+        let first = self.choices.first.as_slice();
+        if depth < first.len() {
+            &first[..depth]
+        } else {
+            first
+        }
     }
 
     /// How many choices are open.
     pub fn open_choices(&self) -> usize
-        ensures { result ≡ length self.now.choices }
+        ensures value { result ≡ self.now.open_count }
+        ensures problem { IsProblem self.now }
     {
-        self.choices.len()
+        self.choices.count
     }
 }
 
@@ -93,7 +106,10 @@ impl Clone for Problem {
     fn clone(&self) -> Result<Self, NoMemory> {
         Ok(Problem {
             known: self.known.clone()?,
-            choices: self.choices.clone()?,
+            choices: OpenChoices {
+                first: self.choices.first.clone()?,
+                count: self.choices.count,
+            },
         })
     }
 }

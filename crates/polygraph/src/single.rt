@@ -7,7 +7,7 @@ ghost use Rattle.polygraph.specs.Outcomes.{IsPicked, IsLeastYes, cube_count, sid
 ghost use Rattle.polygraph.specs.SoFar.{AreRefuted, IsSoFar, IsPickedOf};
 ghost use Rattle.polygraph.specs.Solving.{IsLawful};
 
-use crate::cubes::{count_cubes, first_choices};
+use crate::cubes::count_cubes;
 use crate::problems::Problem;
 use crate::solving::{Answer, Cube, Solver, solve_cube};
 use order_check::scans_find_one;
@@ -64,7 +64,7 @@ fn joined(
 {
     joined_trees_refute();
     joined_depth();
-    let choices = first_choices(problem.choices(), depth);
+    let choices = problem.choices(depth);
     let tree = join(alloc, choices, trees)?;
     Ok(tree)
 }
@@ -123,7 +123,7 @@ fn search_within(
     ensures lawful { IfOk result (IsLawful problem.now.known.parts budget depth) }
     ensures picked { IfOk result (IsPicked problem.now budget depth) }
 {
-    let choices = first_choices(problem.choices(), depth);
+    let choices = problem.choices(depth);
     let count = count_cubes(choices);
     let answer = search_all(alloc, problem, depth, budget / count, count)?;
     Ok(answer)

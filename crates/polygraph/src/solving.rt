@@ -4,7 +4,7 @@ ghost use Rattle.polygraph.specs.Outcomes.{IsCube, cube_count, split_choices};
 ghost use Rattle.polygraph.specs.Solving.{IsLawful};
 ghost use Rattle.polygraph.specs.declared.solving.Cube.TheVariants as cubes;
 
-use crate::cubes::{branch_at, first_choices, search, sides_at};
+use crate::cubes::{branch_at, search, sides_at};
 use crate::problems::Problem;
 use order_check::scans_are_bounded;
 use refutation::Tree;
@@ -66,10 +66,10 @@ pub fn solve_cube(
     requires cube { cube < cube_count problem.now depth }
     ensures told { IfOk result (IsCube problem.now depth share cube) }
     // It is spent only where the share doesn't reach.
-    ensures spent { IfOk result (λ told. told ≡ cubes.Spent → share + 1 < 2 ^ (length problem.now.choices - length (split_choices problem.now depth) + 1)) }
+    ensures spent { IfOk result (λ told. told ≡ cubes.Spent → share + 1 < 2 ^ (problem.now.open_count - length (split_choices problem.now depth) + 1)) }
 {
     scans_are_bounded();
-    let choices = first_choices(problem.choices(), depth);
+    let choices = problem.choices(depth);
     let (mut branch, steps) = branch_at(alloc, problem.known(), choices, cube)?;
     let taken = sides_at(alloc, choices, cube)?;
     let found = search(alloc, &mut branch, taken, steps.as_slice(), share)?;

@@ -1,21 +1,22 @@
 -- What is picked of a problem's cubes is lawful, and what they come to.
-use Rattle.std.proofs.Common.{◌≡◌, ℕ, zero, suc, ◌+◌, ◌-◌, ◌*◌, ◌/◌, ◌<◌, ◌≤◌, ◌^◌, inl, inr, Bool, true, false, List, [], ◌∷◌, length, get_or, Some, None, refl, sym, ap, subst, ◌∙◌, arith, All}
+use Rattle.std.proofs.Common.{◌≡◌, ℕ, zero, suc, ◌+◌, ◌-◌, ◌*◌, ◌/◌, ◌<◌, ◌≤◌, ◌^◌, inl, inr, Bool, true, false, List, [], ◌∷◌, length, take, get_or, Some, None, refl, sym, ap, subst, ◌∙◌, arith, All}
 use Rattle.std.specs.List.{slice_get}
-use Rattle.std.proofs.lemmas.List.{length-take}
+use Rattle.std.proofs.lemmas.List.{length-take, take-take}
 use Rattle.std.proofs.lemmas.List.Elements.{All-take}
 use Rattle.std.proofs.lemmas.Nat.{pow-add, pow_pos}
 use Rattle.std.proofs.Math.Nat.{add-mul, lt-div-mul-add, mul-le-mul_right}
 use Rattle.std.proofs.lemmas.Option.{slice_get-get_or}
 use Rattle.txn.specs.declared.transactions.TxnId.{TxnId}
+use Rattle.txn.specs.declared.choices.Choice.{Choice}
 use Rattle.order_check.specs.declared.remainder.Parts.{Parts}
-use Rattle.order_check.specs.Known.{IsChoice, IsOpen, AreOpenChoices}
+use Rattle.order_check.specs.Known.{IsChoice, IsOpen}
 use Rattle.order_check.specs.Search.{Outcome, has_order, no_order, used_up}
 use Rattle.order_check.specs.SearchLaws.{ScansFindOne}
 use Rattle.refutation.specs.declared.trees.Tree.{Tree}
 use Rattle.refutation.specs.Joining.{cube_sides, IsJoin}
 use Rattle.refutation.specs.Laws.{JoinedTreesRefute, JoinedDepth}
 use Rattle.refutation.specs.Refutes.{depth_of, IsRefutation}
-use Rattle.polygraph.specs.ProblemState.{ProblemState}
+use Rattle.polygraph.specs.ProblemState.{ProblemState, IsProblem}
 use Rattle.polygraph.specs.declared.solving.Cube.{Cube}
 use Rattle.polygraph.specs.declared.solving.Cube.TheVariants.{Yes, No, Spent}
 use Rattle.polygraph.specs.declared.solving.Answer.{Answer}
@@ -118,18 +119,22 @@ module _ (law : ScansFindOne) (problem : ProblemState) (budget depth : ℕ) wher
         ),
       )
 
-  no_of_outs : (refute : JoinedTreesRefute) (deep : JoinedDepth) (outs : List Cube) (tree : Tree) → depth ≤ 6 → AreOpenChoices problem.known.parts [] problem.choices → AreOutcomes (MayGive problem depth share) (cube_count problem depth) outs
+  -- the choices that are split are the first of all that are open
+  split_is : (is : IsProblem problem) → depth ≤ 6 → split_choices problem depth ≡ take depth is.all
+  split_is is low = ap (take depth) is.first_six ∙ take-take depth 6 is.all low
+
+  no_of_outs : (refute : JoinedTreesRefute) (deep : JoinedDepth) (outs : List Cube) (tree : Tree) → depth ≤ 6 → IsProblem problem → AreOutcomes (MayGive problem depth share) (cube_count problem depth) outs
       → first_yes outs ≡ None → has_spent outs ≡ false → IsJoin (split_choices problem depth) (trees outs) tree → IsPicked problem budget depth (answers.No tree)
-  no_of_outs refute deep outs tree low open_choices are none fine is = (
+  no_of_outs refute deep outs tree low problem_is are none fine is = (
     record {
       right = refute problem.known.parts (split_choices problem depth) [] (trees outs) tree choices_are (λ k t at. (each k t at).right) is;
-      shallow = let few = length-take depth problem.choices in let d = deep (split_choices problem depth) (trees outs) tree (4095 - 2 * length (split_choices problem depth)) all_low is in omega (arith, few, d);
+      shallow = let few = length-take depth problem.first in let d = deep (split_choices problem depth) (trees outs) tree (4095 - 2 * length (split_choices problem depth)) all_low is in omega (arith, few, d);
     },
     λ cube within. let n = no_there outs cube (let all = all_there (MayGive problem depth share) (cube_count problem depth) outs are none in omega (arith, within, all)) none fine in (are.allowed cube (No n.0) n.1).is_cube.0,
   )
     where
       choices_are : All (IsChoice problem.known.parts) (split_choices problem depth)
-      choices_are k d within = (All-take (IsOpen problem.known.parts []) depth problem.choices open_choices.each k d within).choice_of
+      choices_are = subst (λ (cs : List Choice). All (IsChoice problem.known.parts) cs) (sym (split_is problem_is low)) (λ k d within. (All-take (IsOpen problem.known.parts []) depth problem_is.all problem_is.open_choices.each k d within).choice_of)
 
       each : (k : ℕ) (t : Tree) → slice_get (trees outs) k ≡ Some t → RefutesCube problem depth k t
       each k t at = (are.allowed k (No t) (tree_there outs k t none fine at)).is_cube.1
@@ -138,7 +143,7 @@ module _ (law : ScansFindOne) (problem : ProblemState) (budget depth : ℕ) wher
       all_low k d within = let here = (each k (get_or (trees outs) k d) (slice_get-get_or (trees outs) k d within)).shallow in omega (arith, here)
 
   spent_of_outs : (outs : List Cube) → AreOutcomes (MayGive problem depth share) (cube_count problem depth) outs → first_yes outs ≡ None → has_spent outs ≡ true
-      → IsPicked problem budget depth answers.Spent × (share + 1 < 2 ^ (length problem.choices - length (split_choices problem depth) + 1))
+      → IsPicked problem budget depth answers.Spent × (share + 1 < 2 ^ (problem.open_count - length (split_choices problem depth) + 1))
   spent_of_outs outs are none some =
       let t = spent_there outs some in
       let at = are.allowed t.0 Spent t.1 in
@@ -155,7 +160,7 @@ module _ (law : ScansFindOne) (problem : ProblemState) (budget depth : ℕ) wher
           by_kind true is = absurd (first_there outs k c at is none)
           by_kind false is = refl
 
-  picked_of : (refute : JoinedTreesRefute) (deep : JoinedDepth) (answer : Answer) → depth ≤ 6 → AreOpenChoices problem.known.parts [] problem.choices → Picked (MayGive problem depth share) (split_choices problem depth) (cube_count problem depth) answer
+  picked_of : (refute : JoinedTreesRefute) (deep : JoinedDepth) (answer : Answer) → depth ≤ 6 → IsProblem problem → Picked (MayGive problem depth share) (split_choices problem depth) (cube_count problem depth) answer
       → IsPicked problem budget depth answer
   picked_of refute deep (answers.Yes order) low open_choices (inl none) = absurd cc
   picked_of refute deep (answers.Yes order) low open_choices (inr (outs, are, first)) = least_of_outs outs order are first
@@ -165,29 +170,30 @@ module _ (law : ScansFindOne) (problem : ProblemState) (budget depth : ℕ) wher
   picked_of refute deep answers.Spent low open_choices (inr (outs, are, (none, some))) = (spent_of_outs outs are none some).0
   picked_of refute deep answers.NoMemory low open_choices p = tt
 
-  small_of : Picked (MayGive problem depth share) (split_choices problem depth) (cube_count problem depth) answers.Spent → share + 1 < 2 ^ (length problem.choices - length (split_choices problem depth) + 1)
+  small_of : Picked (MayGive problem depth share) (split_choices problem depth) (cube_count problem depth) answers.Spent → share + 1 < 2 ^ (problem.open_count - length (split_choices problem depth) + 1)
   small_of (inl none) = absurd cc
   small_of (inr (outs, are, (none, some))) = (spent_of_outs outs are none some).1
 
-  may_come : (answer : Answer) → AreOpenChoices problem.known.parts [] problem.choices → IsPicked problem budget depth answer → MayComeTo problem.known.parts budget depth answer
-  may_come answer open_choices picked = (problem, record { open_choices = open_choices }, refl, inl picked)
+  may_come : (answer : Answer) → IsProblem problem → IsPicked problem budget depth answer → MayComeTo problem.known.parts budget depth answer
+  may_come answer is picked = (problem, is, refl, inl picked)
 
-  lawful_of : (answer : Answer) → AreOpenChoices problem.known.parts [] problem.choices → Picked (MayGive problem depth share) (split_choices problem depth) (cube_count problem depth) answer → IsPicked problem budget depth answer → IsLawful problem.known.parts budget depth answer
-  lawful_of (answers.Yes order) open_choices p h = (h.0, may_come (answers.Yes order) open_choices h)
-  lawful_of (answers.No tree) open_choices p h = (h.0, may_come (answers.No tree) open_choices h)
-  lawful_of answers.Spent open_choices p h =
-      let few = length-take depth problem.choices in
-      let bound = budget_bound budget (length (split_choices problem depth)) (length problem.choices) share (omega (arith, few)) refl (small_of p) in
-      ((problem.choices, open_choices, subst (λ n. budget + 2 ^ n < 2 ^ (length problem.choices + 1)) few bound), may_come answers.Spent open_choices h)
-  lawful_of answers.NoMemory open_choices p h = tt
+  lawful_of : (answer : Answer) → depth ≤ 6 → IsProblem problem → Picked (MayGive problem depth share) (split_choices problem depth) (cube_count problem depth) answer → IsPicked problem budget depth answer → IsLawful problem.known.parts budget depth answer
+  lawful_of (answers.Yes order) low is p h = (h.0, may_come (answers.Yes order) is h)
+  lawful_of (answers.No tree) low is p h = (h.0, may_come (answers.No tree) is h)
+  lawful_of answers.Spent low is p h =
+      let few = ap length (split_is is low) ∙ length-take depth is.all in
+      let small = subst (λ n. share + 1 < 2 ^ (n - length (split_choices problem depth) + 1)) is.counted (small_of p) in
+      let bound = budget_bound budget (length (split_choices problem depth)) (length is.all) share (omega (arith, few)) refl small in
+      ((is.all, is.open_choices, subst (λ n. budget + 2 ^ n < 2 ^ (length is.all + 1)) few bound), may_come answers.Spent is h)
+  lawful_of answers.NoMemory low is p h = tt
 
 -- both, where the count and the share are known by equations
-pub both_laws : (law : ScansFindOne) (refute : JoinedTreesRefute) (deep : JoinedDepth) (problem : ProblemState) (budget depth count : ℕ) (answer : Answer) → depth ≤ 6 → AreOpenChoices problem.known.parts [] problem.choices → count ≡ cube_count problem depth
+pub both_laws : (law : ScansFindOne) (refute : JoinedTreesRefute) (deep : JoinedDepth) (problem : ProblemState) (budget depth count : ℕ) (answer : Answer) → depth ≤ 6 → IsProblem problem → count ≡ cube_count problem depth
     → Picked (MayGive problem depth (budget / count)) (split_choices problem depth) count answer → IsLawful problem.known.parts budget depth answer × IsPicked problem budget depth answer
-both_laws law refute deep problem budget depth count answer low open_choices is p =
+both_laws law refute deep problem budget depth count answer low problem_is is p =
     let q = subst (λ (n : ℕ). Picked (MayGive problem depth (budget / n)) (split_choices problem depth) n answer) is p in
-    let h = picked_of law problem budget depth refute deep answer low open_choices q in
-    (lawful_of law problem budget depth answer open_choices q h, h)
+    let h = picked_of law problem budget depth refute deep answer low problem_is q in
+    (lawful_of law problem budget depth answer low problem_is q h, h)
 
 -- where a search may come to a no, it may come to one by another tree
 pub other_tree : (parts : Parts) (budget depth : ℕ) (tree other : Tree) → IsRefutation parts other → MayComeTo parts budget depth (answers.No tree) → MayComeTo parts budget depth (answers.No other)

@@ -1,4 +1,4 @@
-ghost use Rattle.std.specs.Prelude.{◌≡◌, ◌≤◌, ◌^◌, ⊤, length, take};
+ghost use Rattle.std.specs.Prelude.{◌≡◌, ◌≤◌, ◌^◌, ⊤, length};
 ghost use Rattle.order_check.specs.Effort.{IsEffort};
 ghost use Rattle.polygraph.specs.Outcomes.{IsPicked};
 ghost use Rattle.polygraph.specs.Solving.{IsLawful};
@@ -35,20 +35,7 @@ impl<'a> CubeSolver for Lent<'a> {
     }
 
     fn choices(&self) -> &[Choice] {
-        first_choices(self.problem.choices(), self.depth)
-    }
-}
-
-/// The choices that a search of this depth splits first.
-fn first_choices(choices: &[Choice], depth: u64) -> &[Choice]
-    requires { depth ≤ 6 }
-    ensures { result.now ≡ take depth choices.now }
-{
-    let depth = depth as usize;
-    if depth < choices.len() {
-        &choices[..depth]
-    } else {
-        choices
+        self.problem.choices(self.depth)
     }
 }
 
@@ -77,7 +64,7 @@ fn share_out<R: Threads + Sync, G: Gate + Sync>(
     scans_find_one();
     joined_trees_refute();
     joined_depth();
-    let choices = first_choices(problem.choices(), depth);
+    let choices = problem.choices(depth);
     let cubes = count_cubes(choices);
     let lent = Lent {
         problem,

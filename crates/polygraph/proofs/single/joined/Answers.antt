@@ -1,4 +1,4 @@
-use Rattle.std.proofs.Common.{subst, ◌∙◌, ap, take, List}
+use Rattle.std.proofs.Common.{subst, List}
 use Rattle.txn.specs.declared.choices.Choice.{Choice}
 use Rattle.refutation.specs.Joining.{IsJoin}
 use Rattle.polygraph.specs.Outcomes.{cube_count}
@@ -8,6 +8,4 @@ use Rattle.polygraph.proofs.single.joined.Goals as goal
 pub returns : goal.returns
 returns c =
     let problem = c.args.problem.now in
-    let choices = c.first_choices-choices.ensures ∙ ap (λ (cs : List Choice). take c.args.depth cs) c.choices.ensures.value in
-    let are = rw c.choices.ensures.value at c.choices.ensures.open_choices in
-    trees_joined c.joined_trees_refute.ensures c.joined_depth.ensures problem c.args.depth c.args.share (cube_count problem c.args.depth) c.args.trees.items c.in_ok-tree.tree c.requires.depth are c.requires.refuted (subst (λ (cs : List Choice). IsJoin cs c.args.trees.items c.in_ok-tree.tree) choices c.in_ok-tree.ensures)
+    trees_joined c.joined_trees_refute.ensures c.joined_depth.ensures problem c.args.depth c.args.share (cube_count problem c.args.depth) c.args.trees.items c.in_ok-tree.tree c.requires.depth c.choices-choices.ensures.problem c.requires.refuted (subst (λ (cs : List Choice). IsJoin cs c.args.trees.items c.in_ok-tree.tree) c.choices-choices.ensures.value c.in_ok-tree.ensures)

@@ -1,0 +1,7 @@
+use Rattle.std.proofs.Common.{take}
+use Rattle.forced_choices.specs.Tables.{choices_at}
+use Rattle.forced_choices.specs.Undecided.{AreCounted}
+use Rattle.forced_choices.proofs.counted.count_open_in.Given as goal
+
+abbrev pub invariant-loop-placed : goal.invariant-loop-placed
+invariant-loop-placed l = AreCounted l.graph.arcs (choices_at l.parts l.table.ids.items (take l.placed-index l.table.reads.items)) l.most l.first.items l.count
