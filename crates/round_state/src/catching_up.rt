@@ -10,13 +10,16 @@ use order_check::Parts;
 use std::alloc::Global;
 use txn::{Fragment, NoMemory, Sequence, Txn, TxnId};
 
-/// Whether little came since the front: no more than a twenty-fourth of what is there, and eight transactions. To add one costs as much as some
-/// fifteen do where the whole is made.
+/// So many transactions are few, however many remain.
+const FEW: usize = 8;
+
+/// Whether little came since the front: no more than a twenty-fourth of what is there, and a few. To add one costs as much as some fifteen do where
+/// the whole is made.
 fn is_little(front: &Parts, parts: &Parts) -> bool
     requires front { IsGood front.now }
     requires parts { IsGood parts.now }
 {
-    24 * parts.remaining_count() <= 25 * front.remaining_count() + 192
+    24 * parts.remaining_count() <= 25 * front.remaining_count() + 24 * FEW
 }
 
 /// A copy of the transactions behind the first so many.
@@ -134,7 +137,7 @@ pub(crate) fn known_to_cut(
     requires behind { IfSome kept (λ known. IsBehind known.parts parts.now) }
     ensures { IfSome result (λ known. known.parts ≡ parts.now) }
 {
-    if gone > parts.remaining_count() / 16 {
+    if gone > parts.remaining_count() / 16 + FEW {
         return None;
     }
     caught_up(alloc, kept, parts)
