@@ -3,19 +3,22 @@
 
 Run at the top of the repository, after `cd crates/cobra_audit && rt run < /dev/null` has built the program:
 
-    python3 bench/kept.py [--table again|runs|keys] .. [--transactions N] [--most N] [PROGRAM ..]
+    python3 bench/kept.py [--table again|grown|runs|keys] .. [--transactions N] [--most N] [PROGRAM ..]
 
 With several programs each stands beside the others, in one run. The histories are those of bench/histories.py.
 
 - again: 3,000 transactions remain, of one kind. The milliseconds of the first round; of a second one, where nothing came since; and of a `begin`
   and of a `finish` after these. The last column is the second round's part of the first.
+- grown: 2,000 transactions remain, of one kind, and have had a round. Then so many more come, and a round: the milliseconds of processor time that
+  this round takes, beside those of the first and of a second one where nothing came.
 - runs: so many transactions of clients that meet before each round and read each blind key once, with a round and a truncate after each 300 and
-  after each 2,000: the time of the whole script from a file, of CPython's json.loads over its lines, and their ratio.
+  after each 2,000: the processor time of the whole script from a file, the time of CPython's json.loads over its lines, and their ratio.
 - keys: 10,000 keys are written and cut away, and with --most up to a million and more; then 20,000 writes of new keys with their round and truncate.
   The milliseconds of these, and the resident memory for each key so far, in bytes, but for what the program takes at ten thousand.
 """
 import argparse
 import json
+import resource
 import subprocess
 import sys
 import tempfile
@@ -27,7 +30,8 @@ from histories import KINDS, script  # noqa: E402
 from long_run import Auditor, Clients  # noqa: E402
 
 ROUND = ("round", 4096, 0, 1)
-TABLES = ("again", "runs", "keys")
+TABLES = ("again", "grown", "runs", "keys")
+MORE = (1, 8, 32, 64, 128, 192, 256, 320)
 
 
 class Lines:
@@ -63,6 +67,35 @@ def again(programs):
             print(f"{kind:8} {3000:12} {first:9.1f} {second:9.1f} {begin:9.1f} {finish:10.1f} {second / first:15.2f}  {report[2]}", flush=True)
 
 
+def round_ms(auditor):
+    """The milliseconds of processor time that a round takes."""
+    begin = auditor.seconds()
+    auditor.ask(*ROUND)
+    return (auditor.seconds() - begin) * 1000
+
+
+def grown_once(program, kind):
+    """The milliseconds of each round while one history grows."""
+    clients = Clients(Auditor(program), 8)
+    draw = clients.store.random
+    rounds = []
+    for count in (2000, 0) + MORE:
+        for _ in range(count):
+            clients.execute(draw.randrange(8), *KINDS[kind](draw, 400))
+        clients.flush()
+        rounds.append(round_ms(clients.auditor))
+    clients.auditor.end()
+    return rounds
+
+
+def grown(programs):
+    print("kind        first     again " + " ".join(f"{count:>5} more" for count in MORE))
+    for kind in KINDS:
+        for program in programs:
+            runs_of = [grown_once(program, kind) for _ in range(3)]
+            print(f"{kind:8} " + " ".join(f"{min(each):9.1f}" for each in zip(*runs_of)) + " ms", flush=True)
+
+
 def lines_of(kind, transactions, every):
     """The script of an audit with a round and a truncate after so many transactions."""
     told = Lines()
@@ -88,12 +121,18 @@ def seconds_of_json(lines):
     return time.perf_counter() - begin
 
 
+def of_children():
+    """The processor time of all programs that have ended."""
+    told = resource.getrusage(resource.RUSAGE_CHILDREN)
+    return told.ru_utime + told.ru_stime
+
+
 def seconds_of(program, path):
-    """Of the whole script, whose replies go to a file; each has to be a good one."""
+    """The processor time of the whole script, whose replies go to a file; each has to be a good one."""
     with open(path, "rb") as source, tempfile.TemporaryFile() as replies:
-        begin = time.perf_counter()
+        begin = of_children()
         subprocess.run([program], stdin=source, stdout=replies, check=True)
-        seconds = time.perf_counter() - begin
+        seconds = of_children() - begin
         replies.seek(0)
         for line in replies:
             if line.startswith(b'["no"') or line.startswith(b'["report"') and b'"serial"' not in line[:40]:
@@ -111,7 +150,7 @@ def runs(programs, transactions):
                 written.write("\n".join(lines) + "\n")
                 written.flush()
                 for program in programs:
-                    ours = min(seconds_of(program, written.name) for _ in range(2))
+                    ours = min(seconds_of(program, written.name) for _ in range(3))
                     print(f"{kind:8} {transactions:12} {every:13} {ours:9.2f} {theirs:8.3f} {ours / theirs:7.1f}", flush=True)
 
 
@@ -178,6 +217,8 @@ def main():
     tables = asked.table or TABLES
     if "again" in tables:
         again(asked.program)
+    if "grown" in tables:
+        grown(asked.program)
     if "runs" in tables:
         runs(asked.program, asked.transactions)
     if "keys" in tables:

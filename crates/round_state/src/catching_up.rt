@@ -10,12 +10,16 @@ use order_check::Parts;
 use std::alloc::Global;
 use txn::{Fragment, NoMemory, Sequence, Txn, TxnId};
 
-/// Whether little came since the front: no more than eight transactions and an eighth of what is there.
+/// So many transactions are few, however many remain.
+const FEW: usize = 8;
+
+/// Whether little came since the front: no more than a twenty-fourth of what is there, and a few. To add one costs as much as some fifteen do where
+/// the whole is made.
 fn is_little(front: &Parts, parts: &Parts) -> bool
     requires front { IsGood front.now }
     requires parts { IsGood parts.now }
 {
-    8 * parts.remaining_count() <= 9 * front.remaining_count() + 64
+    24 * parts.remaining_count() <= 25 * front.remaining_count() + 24 * FEW
 }
 
 /// A copy of the transactions behind the first so many.
@@ -92,7 +96,7 @@ fn close_all_closed(known: &mut Saturated, parts: &Parts)
 }
 
 /// The relation of a front, caught up with the parts. Nothing where too much came since, or memory is wanting.
-pub(crate) fn caught_up(alloc: Global, kept: Option<Saturated>, parts: &Parts) -> Option<Saturated>
+fn caught_up(alloc: Global, kept: Option<Saturated>, parts: &Parts) -> Option<Saturated>
     requires good { IsGood parts.now }
     requires behind { IfSome kept (λ known. IsBehind known.parts parts.now) }
     ensures { IfSome result (λ known. known.parts ≡ parts.now) }
@@ -119,6 +123,24 @@ pub(crate) fn known_of(
         Some(known) => Ok(known),
         None => Saturated::of(alloc, parts),
     }
+}
+
+/// The relation of the parts, for a cut that takes so many out: that of a front, caught up, if so few go that to cut it costs less than to make
+/// that of what is left.
+pub(crate) fn known_to_cut(
+    alloc: Global,
+    kept: Option<Saturated>,
+    parts: &Parts,
+    gone: usize,
+) -> Option<Saturated>
+    requires good { IsGood parts.now }
+    requires behind { IfSome kept (λ known. IsBehind known.parts parts.now) }
+    ensures { IfSome result (λ known. known.parts ≡ parts.now) }
+{
+    if gone > parts.remaining_count() / 16 + FEW {
+        return None;
+    }
+    caught_up(alloc, kept, parts)
 }
 
 /// The relation of what a cut left. Nothing where memory is wanting.

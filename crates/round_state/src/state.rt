@@ -10,7 +10,7 @@ ghost use Rattle.round_state.specs.Runs.{Holds};
 ghost use Rattle.round_state.specs.Kept.{IsFitting};
 ghost use Rattle.round_state.specs.Solving.{IsReportOn};
 
-use crate::catching_up::{caught_up, known_after_cut, known_of};
+use crate::catching_up::{known_after_cut, known_of, known_to_cut};
 use crate::fronts::kept_cuts_fit;
 use crate::intake::{admit, arrive_all, awaited_reads};
 use crate::opening::{empty_parts, is_limit, is_sessions};
@@ -48,7 +48,7 @@ pub struct Engine {
     held: Option<Cut>,
     /// The number of the last finished round.
     round: u64,
-    /// The known relation of the last round that ended, if nothing undid it: that of a front of the parts. An open round's is its snapshot's.
+    /// The known relation of a front of the parts, left by the last round that ended. That of an open round is in its snapshot.
     kept: Option<Saturated>,
 }
 
@@ -256,7 +256,7 @@ impl Engine {
         let Some(cut) = self.held.take() else {
             return Err(Refusal::NoCut);
         };
-        let whole = caught_up(alloc, self.kept.take(), &self.parts);
+        let whole = known_to_cut(alloc, self.kept.take(), &self.parts, cut.gone.len());
         if let Err(refused) = apply(alloc, &mut self.parts, cut.gone.as_slice(), &cut.last) {
             self.held = Some(cut);
             return Err(Refusal::from(refused));
@@ -292,7 +292,8 @@ impl Engine {
     }
 }
 
-/// All that an engine has: with one field more, as for what is gone, this doesn't compile.
+/// All that an engine has: with one field more, as for what is gone, this doesn't compile. The relation that is kept is of a front of the parts,
+/// so of nothing but what remains.
 fn engine_fields(engine: Engine) -> Parts
     ensures { result ≡ engine.parts }
 {

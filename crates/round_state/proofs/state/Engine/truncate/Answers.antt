@@ -58,8 +58,8 @@ returns-clause-keeps c history stands =
     let before : StandsFor e.parts history = subst (λ (engine : EngineState). StandsFor engine.parts history) (sym c.self.view_is) stands in
     (fits cut held).stands c.apply.new.parts history leaves before
 
-pub caught_up-whole-requires-clause-behind : goal.caught_up-whole-requires-clause-behind
-caught_up-whole-requires-clause-behind c = last_behind c.self.inside.parts c.self.inside.asked c.self.inside.kept c.take-2.result c.take-2.ensures.value c.self.invariant.1
+pub known_to_cut-whole-requires-clause-behind : goal.known_to_cut-whole-requires-clause-behind
+known_to_cut-whole-requires-clause-behind c = last_behind c.self.inside.parts c.self.inside.asked c.self.inside.kept c.take-2.result c.take-2.ensures.value c.self.invariant.1
 
 pub known_after_cut-requires-clause-cut_off : goal.known_after_cut-requires-clause-cut_off
 known_after_cut-requires-clause-cut_off c =
@@ -68,4 +68,4 @@ known_after_cut-requires-clause-cut_off c =
     let cut : Cut = c.in-Some.cut in
     let held : e.held ≡ Some cut = sym c.take.ensures.value ∙ c.in-Some.is in
     let leaves : IsCutOf e.parts c.apply.new.parts cut.gone cut.last = subst (λ (gone : List TxnId). IsCutOf e.parts c.apply.new.parts gone cut.last) c.as_slice.ensures c.in_default-apply.ensures.ok in
-    known_cut e.parts c.apply.new.parts cut c.as_slice-2.result.now c.caught_up-whole.result c.as_slice-2.ensures (fits cut held) leaves c.caught_up-whole.ensures
+    known_cut e.parts c.apply.new.parts cut c.as_slice-2.result.now c.known_to_cut-whole.result c.as_slice-2.ensures (fits cut held) leaves c.known_to_cut-whole.ensures
