@@ -1,44 +1,34 @@
--- Undecided choices that are counted: by the places of the writers of a key, read by read; and the first of them.
-use Rattle.std.proofs.Common.{◌≡◌, ◌↔◌, ◌⊎◌, ◌∙◌, ℕ, ◌+◌, ◌<◌, ◌≤◌, Bool, true, false, cond, not, ◌&&◌, List, [], ◌∷◌, ◌++◌, length, get_or, take, Option, append-nil, append_assoc, length-append, inl, inr, refl, sym, ap, subst, zero, suc, arith}
-use Rattle.std.specs.Prelude.{map, filter, All}
+-- Undecided choices that are counted: by the columns of the writers of a key, read by read; and the first of them.
+use Rattle.std.proofs.Common.{◌≡◌, ◌≢◌, ◌↔◌, ◌⊎◌, ◌∙◌, ℕ, ◌+◌, ◌<◌, ◌≤◌, Bool, true, false, cond, not, ◌&&◌, List, [], ◌∷◌, ◌++◌, length, get_or, take, Option, append-nil, append_assoc, length-append, inl, inr, refl, sym, ap, subst, zero, suc, arith}
+use Rattle.std.specs.Prelude.{map, filter, All, AllPairs, Contains}
 use Rattle.std.proofs.lemmas.Bool.{false≢true}
-use Rattle.std.proofs.lemmas.List.{take-append-le, take_more}
+use Rattle.std.proofs.lemmas.List.{take-append-le, get_or-map, length-map}
 use Rattle.txn.specs.declared.transactions.TxnId.{TxnId}
 use Rattle.txn.specs.declared.choices.Arc.{Arc}
 use Rattle.txn.specs.declared.choices.Choice.{Choice}
-use Rattle.txn.specs.Transactions.{same_id}
+use Rattle.txn.specs.Transactions.{same_id, id_below}
 use Rattle.order_check.specs.declared.remainder.Parts.{Parts}
 use Rattle.known_graph.specs.Bits.{HasBit}
 use Rattle.known_graph.specs.Graphs.{IsAt}
 use Rattle.known_graph.specs.Reach.{Reaches}
+use Rattle.known_graph.specs.Sizes.{HasSize}
 use Rattle.forced_choices.specs.declared.reads.Read.{Read}
 use Rattle.forced_choices.specs.declared.table.Table.{Table}
+use Rattle.forced_choices.specs.Between.{AreDistinct}
 use Rattle.forced_choices.specs.Listing.{writes_here}
 use Rattle.forced_choices.specs.Masks.{mask_of, is_third, choice_of, choices_in}
 use Rattle.forced_choices.specs.Ranks.{Counts, none, one_more, not_this}
 use Rattle.forced_choices.specs.Tables.{IsTable}
 use Rattle.forced_choices.specs.Undecided.{IsUndecided, AreFound, no_more, undecided, decided, TellsOpen, IsFrontOf, AreCounted}
 use Rattle.forced_choices.specs.WriterPlaces.{places_at, those_at}
-use Rattle.forced_choices.proofs.Members.{In, in_filter, map_in}
-use Rattle.forced_choices.proofs.Counting.{counts_same_here}
-use Rattle.forced_choices.proofs.Distinct.{take_whole}
+use Rattle.forced_choices.proofs.Members.{In, Ascends, ascends_filter, contains_from_in, filter_in, in_filter, in_map, in_place, map_in}
+use Rattle.forced_choices.proofs.Counting.{counts_same_here, counts_sized}
+use Rattle.forced_choices.proofs.Distinct.{distinct_from_ascends, take_whole}
 use Rattle.forced_choices.proofs.ListedChoices.{same_from_test}
+use Rattle.forced_choices.proofs.ListedIds.{listed_ascend}
 use Rattle.forced_choices.proofs.OpenReads.{found_append}
 use Rattle.forced_choices.proofs.PlacesOfWriters.{no_id}
 use Rattle.forced_choices.proofs.SettledReads.{third_writes}
-
--- of two lists
-pub counts_append : {X : Type 0} (P : X → Type 0) (xs ys : List X) (n m : ℕ) → Counts P xs n → Counts P ys m → Counts P (xs ++ ys) (n + m)
-counts_append P [] ys zero m none more = let all : m ≡ 0 + m = omega arith in subst (λ k. Counts P ys k) all more
-counts_append P [] ys (suc n) m counts more = elim counts [ ]
-counts_append P (x ∷ xs) ys (suc n) m (one_more h rest) more = let all : suc (n + m) ≡ suc n + m = omega arith in subst (λ k. Counts P (x ∷ xs ++ ys) k) all (one_more h (counts_append P xs ys n m rest more))
-counts_append P (x ∷ xs) ys n m (not_this h rest) more = not_this h (counts_append P xs ys n m rest more)
-
--- no more than there are
-pub counts_most : {X : Type 0} (P : X → Type 0) (xs : List X) (n : ℕ) → Counts P xs n → n ≤ length xs
-counts_most P [] n none = omega arith
-counts_most P (x ∷ xs) (suc n) (one_more h rest) = let most = counts_most P xs n rest in omega (arith, most)
-counts_most P (x ∷ xs) n (not_this h rest) = let most = counts_most P xs n rest in omega (arith, most)
 
 -- of what a list is mapped to
 counts_map : {X Y : Type 0} (P : Y → Type 0) (f : X → Y) (xs : List X) (n : ℕ) → Counts (λ x. P (f x)) xs n → Counts P (map f xs) n
@@ -60,24 +50,16 @@ module _ {X : Type 0} (P : X → Type 0) (wide narrow : X → Bool) (within : (x
       by_tests false true e f m rest below = absurd (false≢true (sym e ∙ within x f))
       by_tests false false e f m rest below = below m rest
 
-counts_nothing : {X Y : Type 0} (P : X → Type 0) (Q : Y → Type 0) (n : ℕ) → Counts P [] n → Counts Q [] n
-counts_nothing P Q zero none = none
-counts_nothing P Q (suc n) counts = elim counts [ ]
+-- of a list from what it is mapped to
+counts_unmap : {X Y : Type 0} (P : Y → Type 0) (f : X → Y) (xs : List X) (n : ℕ) → Counts P (map f xs) n → Counts (λ x. P (f x)) xs n
+counts_unmap P f [] zero none = none
+counts_unmap P f [] (suc n) counts = elim counts [ ]
+counts_unmap P f (x ∷ xs) (suc n) (one_more h rest) = one_more h (counts_unmap P f xs n rest)
+counts_unmap P f (x ∷ xs) n (not_this h rest) = not_this h (counts_unmap P f xs n rest)
 
-counts_single : {X Y : Type 0} (P : Y → Type 0) (f : X → Y) (x : X) (n : ℕ) → Counts P (f x ∷ []) n → Counts (λ y. P (f y)) (x ∷ []) n
-counts_single P f x (suc n) (one_more h rest) = one_more h (counts_nothing P (λ y. P (f y)) n rest)
-counts_single P f x n (not_this h rest) = not_this h (counts_nothing P (λ y. P (f y)) n rest)
-
--- one more place is looked at
-pub counts_next : (row columns places : List ℕ) (k count n column : ℕ) → k < length places → column ≡ get_or columns (get_or places k 0) 0 →
-    Counts (λ place. HasBit row (get_or columns place 0)) (take k places) count → Counts (HasBit row) (column ∷ []) n → Counts (λ place. HasBit row (get_or columns place 0)) (take (k + 1) places) (count + n)
-counts_next row columns places k count n column within is so_far here =
-    subst (λ xs. Counts has xs (count + n)) (sym (take_more places k 0 within))
-    (counts_append has (take k places) (get_or places k 0 ∷ []) count n so_far
-    (counts_single (HasBit row) (λ place. get_or columns place 0) (get_or places k 0) n (subst (λ j. Counts (HasBit row) (j ∷ []) n) is here)))
-  where
-    has : ℕ → Type 0
-    has place = HasBit row (get_or columns place 0)
+-- one transaction at a column
+one_there : (nodes : List (Option TxnId)) (column : ℕ) (a b : TxnId) → IsAt nodes column a → IsAt nodes column b → a ≡ b
+one_there nodes column a b at_a at_b = cc
 
 -- a writer of the key that makes no choice of the read is its writer or its reader
 not_third : (parts : Parts) (read : Read) (other : TxnId) → writes_here parts read.key other ≡ true → is_third parts read other ≡ false → (other ≡ read.writer) ⊎ (other ≡ read.reader)
@@ -97,46 +79,74 @@ third_undecided parts arcs read other after writes isnt und = by_part (not_third
     by_part (inl is) = und.other_reader (subst (λ id. Reaches arcs id read.reader) (sym is) after)
     by_part (inr is) = und.writer_other (subst (λ id. Reaches arcs read.writer id) (sym is) after)
 
--- how many of the places have a column in the row is how many choices of the read are undecided
-pub counts_by_places : (parts : Parts) (nodes : List (Option TxnId)) (arcs : List Arc) (table : Table) (mask row : List ℕ) (read : Read) (n : ℕ) → IsTable parts nodes table → mask ≡ mask_of table.writers.masks read.key →
-    ((j : ℕ) (other : TxnId) → HasBit mask j → IsAt nodes j other → TellsOpen arcs row j (choice_of read other)) → Reaches arcs read.writer read.reader →
-    Counts (λ place. HasBit row (get_or table.writers.columns.items place 0)) (places_at table.places.lists read.key) n → Counts (IsUndecided arcs) (choices_in parts table.ids.items read) n
-counts_by_places parts nodes arcs table mask row read n is_table is tells after counts =
-    counts_map (IsUndecided arcs) (choice_of read) (filter (is_third parts read) ids) n
-    (counts_narrow (λ other. IsUndecided arcs (choice_of read other)) (writes_here parts read.key) (is_third parts read) (third_writes parts read) (λ other. third_undecided parts arcs read other after) ids n
-    (subst (λ xs. Counts (λ other. IsUndecided arcs (choice_of read other)) xs n) writers
-    (counts_map (λ other. IsUndecided arcs (choice_of read other)) id_at places n
-    (counts_same_here (λ place. HasBit row (get_or table.writers.columns.items place 0)) (λ place. IsUndecided arcs (choice_of read (id_at place))) places n same counts))))
-  where
-    ids : List TxnId
-    ids = table.ids.items
+-- the columns of a row that lies within the mask of a key are those of some of the key's writers, each of another one
+module _ (parts : Parts) (nodes : List (Option TxnId)) (arcs : List Arc) (table : Table) (mask row : List ℕ) (read : Read) (one : (i j : ℕ) (id : TxnId) → IsAt nodes i id → IsAt nodes j id → i ≡ j) (is_table : IsTable parts nodes table) (is : mask ≡ mask_of table.writers.masks read.key) where
+  abbrev ids : List TxnId
+  ids = table.ids.items
 
-    places : List ℕ
-    places = places_at table.places.lists read.key
+  abbrev places : List ℕ
+  places = places_at table.places.lists read.key
 
-    id_at : ℕ → TxnId
-    id_at place = get_or ids place no_id
+  abbrev id_at : ℕ → TxnId
+  id_at place = get_or ids place no_id
 
-    writers : those_at ids places ≡ filter (writes_here parts read.key) ids
-    writers = is_table.places.listed read.key ∙ ap (filter (writes_here parts read.key)) (take_whole ids (length ids) (omega arith))
+  abbrev column_at : ℕ → ℕ
+  column_at place = get_or table.writers.columns.items place 0
 
-    told : (place : ℕ) → In places place → TellsOpen arcs row (get_or table.writers.columns.items place 0) (choice_of read (id_at place))
-    told place there =
-        let writes = (in_filter (writes_here parts read.key) ids (id_at place) (subst (λ xs. In xs (id_at place)) writers (map_in id_at places place there))).1 in
-        let within : place < length ids = all_below place there in
-        tells (get_or table.writers.columns.items place 0) (id_at place)
-        (subst (λ (m : List ℕ). HasBit m (get_or table.writers.columns.items place 0)) (sym is) (is_table.writers.masked place no_id read.key within writes)) (is_table.writers.placed place no_id within)
-      where
-        all_below : (place : ℕ) → In places place → place < length ids
-        all_below place there = below_in places (is_table.places.below read.key) place there
-          where
-            below_in : (xs : List ℕ) → All (λ place. place < length ids) xs → (x : ℕ) → In xs x → x < length ids
-            below_in [] all x h = absurd h
-            below_in (y ∷ xs) all x (inl e) = subst (λ z. z < length ids) e (all 0 0 (omega arith))
-            below_in (y ∷ xs) all x (inr h) = below_in xs (λ k d within. all (suc k) d (omega arith)) x h
+  writers : those_at ids places ≡ filter (writes_here parts read.key) ids
+  writers = is_table.places.listed read.key ∙ ap (filter (writes_here parts read.key)) (take_whole ids (length ids) (omega arith))
 
-    same : (place : ℕ) → In places place → HasBit row (get_or table.writers.columns.items place 0) ↔ IsUndecided arcs (choice_of read (id_at place))
-    same place there = let tells_open = told place there in ((λ has. tells_open.told has), (λ und. tells_open.all und))
+  below : (place : ℕ) → In places place → place < length ids
+  below place there = below_in places (is_table.places.below read.key) place there
+    where
+      below_in : (xs : List ℕ) → All (λ place. place < length ids) xs → (x : ℕ) → In xs x → x < length ids
+      below_in [] all x h = absurd h
+      below_in (y ∷ xs) all x (inl e) = subst (λ z. z < length ids) e (all 0 0 (omega arith))
+      below_in (y ∷ xs) all x (inr h) = below_in xs (λ k d within. all (suc k) d (omega arith)) x h
+
+  at_column : (place : ℕ) → In places place → IsAt nodes (column_at place) (id_at place)
+  at_column place there = is_table.writers.placed place no_id (below place there)
+
+  told : ((j : ℕ) (other : TxnId) → HasBit mask j → IsAt nodes j other → TellsOpen arcs row j (choice_of read other)) → (place : ℕ) → In places place → TellsOpen arcs row (column_at place) (choice_of read (id_at place))
+  told tells place there =
+      let writes = (in_filter (writes_here parts read.key) ids (id_at place) (subst (λ xs. In xs (id_at place)) writers (map_in id_at places place there))).1 in
+      tells (column_at place) (id_at place)
+      (subst (λ (m : List ℕ). HasBit m (column_at place)) (sym is) (is_table.writers.masked place no_id read.key (below place there) writes)) (at_column place there)
+
+  apart : AllPairs (λ x y. x ≢ y) (map column_at places)
+  apart i j d early late same =
+      let inside : j < length places = omega (arith, late, length-map places column_at) in
+      let first = in_place places i 0 (omega (arith, early, inside)) in
+      let second = in_place places j 0 inside in
+      let columns : column_at (get_or places i 0) ≡ column_at (get_or places j 0) = sym (get_or-map column_at places i 0 d (omega (arith, early, inside))) ∙ same ∙ get_or-map column_at places j 0 d inside in
+      let both : id_at (get_or places i 0) ≡ id_at (get_or places j 0) = one_there nodes (column_at (get_or places j 0)) (id_at (get_or places i 0)) (id_at (get_or places j 0)) (subst (λ c. IsAt nodes c (id_at (get_or places i 0))) columns (at_column (get_or places i 0) first)) (at_column (get_or places j 0) second) in
+      distinct i j no_id early (omega (arith, inside, length-map places id_at)) (get_or-map id_at places i 0 no_id (omega (arith, early, inside)) ∙ both ∙ sym (get_or-map id_at places j 0 no_id inside))
+    where
+      distinct : AreDistinct (map id_at places)
+      distinct = distinct_from_ascends (map id_at places) (subst (λ xs. Ascends id_below xs) (sym writers) (ascends_filter id_below (writes_here parts read.key) ids (subst (λ xs. Ascends id_below xs) (sym is_table.ids) (listed_ascend parts))))
+
+  listed : ((j : ℕ) → HasBit row j → HasBit mask j) → (j : ℕ) → HasBit row j → Contains (map column_at places) j
+  listed within j has =
+      let found = is_table.only read.key j (subst (λ (m : List ℕ). HasBit m j) is (within j has)) in
+      let other = get_or ids found.0 no_id in
+      let among = subst (λ xs. In xs other) (sym writers) (filter_in (writes_here parts read.key) ids other (in_place ids found.0 no_id found.1) (found.3 no_id)) in
+      let place = in_map id_at places other among in
+      let same : column_at place.0 ≡ j = one (column_at place.0) j other (subst (λ id. IsAt nodes (column_at place.0) id) place.2 (at_column place.0 place.1)) (subst (λ c. IsAt nodes c other) found.2 (is_table.writers.placed found.0 no_id found.1)) in
+      contains_from_in (map column_at places) j (subst (λ c. In (map column_at places) c) same (map_in column_at places place.0 place.1))
+
+  -- how many columns the row has is how many choices of the read are undecided
+  pub counts_of_row : (n : ℕ) → ((j : ℕ) (other : TxnId) → HasBit mask j → IsAt nodes j other → TellsOpen arcs row j (choice_of read other)) → ((j : ℕ) → HasBit row j → HasBit mask j) → Reaches arcs read.writer read.reader →
+      HasSize (HasBit row) n → Counts (IsUndecided arcs) (choices_in parts ids read) n
+  counts_of_row n tells within after size =
+      counts_map (IsUndecided arcs) (choice_of read) (filter (is_third parts read) ids) n
+      (counts_narrow (λ other. IsUndecided arcs (choice_of read other)) (writes_here parts read.key) (is_third parts read) (third_writes parts read) (λ other. third_undecided parts arcs read other after) ids n
+      (subst (λ xs. Counts (λ other. IsUndecided arcs (choice_of read other)) xs n) writers
+      (counts_map (λ other. IsUndecided arcs (choice_of read other)) id_at places n
+      (counts_same_here (λ place. HasBit row (column_at place)) (λ place. IsUndecided arcs (choice_of read (id_at place))) places n same
+      (counts_unmap (HasBit row) column_at places n (counts_sized (HasBit row) (map column_at places) n apart size (listed within)))))))
+    where
+      same : (place : ℕ) → In places place → HasBit row (column_at place) ↔ IsUndecided arcs (choice_of read (id_at place))
+      same place there = let tells_open = told tells place there in ((λ has. tells_open.told has), (λ und. tells_open.all und))
 
 -- what is counted is a list
 pub found_counted : (arcs : List Arc) (choices : List Choice) (n : ℕ) → Counts (IsUndecided arcs) choices n → (found : List Choice) × AreFound arcs choices found × (length found ≡ n)

@@ -105,7 +105,7 @@ each_choice parts read P (one ∷ ids) each choice h = by_part (in_either (choic
     by_part (inl h) rest = each 0 one (omega arith) choice h
     by_part (inr h) rest = rest choice h
 
-no_bit_of_none : (j : ℕ) → ¬ HasBit [] j
+pub no_bit_of_none : (j : ℕ) → ¬ HasBit [] j
 no_bit_of_none j has = omega (arith, has, bit_at-zero (j % 64))
 
 -- where each writer of the mask is settled, all choices are

@@ -13,7 +13,7 @@ use Rattle.order_check.specs.declared.remainder.Parts.{Parts}
 use Rattle.known_graph.specs.Bits.{HasBit}
 use Rattle.known_graph.specs.Graphs.{IsAt}
 use Rattle.forced_choices.specs.Listing.{writes_here}
-use Rattle.forced_choices.specs.Masks.{AreColumns, mask_of}
+use Rattle.forced_choices.specs.Masks.{AreAllWriters, AreColumns, mask_of}
 
 abbrev pub no_id : TxnId
 no_id = record { session = 0; number = 0 }
@@ -83,3 +83,46 @@ columns_more parts nodes ids masks more columns n column within at kept added ar
     masked : (k : ℕ) (d : TxnId) (key : ℕ) → (k < n) ⊎ (n ≤ k) → k < n + 1 → writes_here parts key (get_or ids k d) ≡ true → HasBit (mask_of more key) (get_or (columns ++ column ∷ []) k 0)
     masked k d key (inl early) below writes = subst (λ c. HasBit (mask_of more key) c) (sym (front k early)) (kept key (get_or columns k 0) (are.masked k d key early writes))
     masked k d key (inr up) below writes = let late = last k below up in subst (λ c. HasBit (mask_of more key) c) (sym late.1) (added key (subst (λ id. writes_here parts key id ≡ true) (sym (id_at k d late.0)) writes))
+
+-- the columns that are added to the rows of some keys, as they are added to one more, and to all
+pub only_more : (old before new : BTreeMap ℕ (Vec ℕ Global)) (keys : List ℕ) (column i : ℕ) → i < length keys →
+    ((other j : ℕ) → HasBit (mask_of before other) j → (HasBit (mask_of old other) j ⊎ ((j ≡ column) × ((k : ℕ) × (k < i) × (get_or keys k 0 ≡ other))))) →
+    ((other j : ℕ) → HasBit (mask_of new other) j ↔ (HasBit (mask_of before other) j ⊎ ((other ≡ get_or keys i 0) × (j ≡ column)))) →
+    (other j : ℕ) → HasBit (mask_of new other) j → (HasBit (mask_of old other) j ⊎ ((j ≡ column) × ((k : ℕ) × (k < i + 1) × (get_or keys k 0 ≡ other))))
+only_more old before new keys column i within only tells other j has = by_part ((tells other j).0 has)
+  where
+    earlier : HasBit (mask_of old other) j ⊎ ((j ≡ column) × ((k : ℕ) × (k < i) × (get_or keys k 0 ≡ other))) → HasBit (mask_of old other) j ⊎ ((j ≡ column) × ((k : ℕ) × (k < i + 1) × (get_or keys k 0 ≡ other)))
+    earlier (inl was) = inl was
+    earlier (inr (is, (k, below, at))) = inr (is, (k, omega (arith, below), at))
+
+    by_part : HasBit (mask_of before other) j ⊎ ((other ≡ get_or keys i 0) × (j ≡ column)) → HasBit (mask_of old other) j ⊎ ((j ≡ column) × ((k : ℕ) × (k < i + 1) × (get_or keys k 0 ≡ other)))
+    by_part (inl had) = earlier (only other j had)
+    by_part (inr (at, is)) = inr (is, (i, omega arith, sym at))
+
+pub only_within : (old new : BTreeMap ℕ (Vec ℕ Global)) (keys : List ℕ) (column i : ℕ) → i ≤ length keys →
+    ((other j : ℕ) → HasBit (mask_of new other) j → (HasBit (mask_of old other) j ⊎ ((j ≡ column) × ((k : ℕ) × (k < i) × (get_or keys k 0 ≡ other))))) →
+    (other j : ℕ) → HasBit (mask_of new other) j → (HasBit (mask_of old other) j ⊎ ((j ≡ column) × ((k : ℕ) × (k < length keys) × (get_or keys k 0 ≡ other))))
+only_within old new keys column i low only other j has = by_part (only other j has)
+  where
+    by_part : HasBit (mask_of old other) j ⊎ ((j ≡ column) × ((k : ℕ) × (k < i) × (get_or keys k 0 ≡ other))) → HasBit (mask_of old other) j ⊎ ((j ≡ column) × ((k : ℕ) × (k < length keys) × (get_or keys k 0 ≡ other)))
+    by_part (inl was) = inl was
+    by_part (inr (is, (k, below, at))) = inr (is, (k, omega (arith, below, low), at))
+
+-- those of one more id
+pub only_writers : (parts : Parts) (ids : List TxnId) (masks more : BTreeMap ℕ (Vec ℕ Global)) (keys columns : List ℕ) (n column : ℕ) → n < length ids → length columns ≡ n →
+    ((key j : ℕ) → HasBit (mask_of more key) j → (HasBit (mask_of masks key) j ⊎ ((j ≡ column) × ((k : ℕ) × (k < length keys) × (get_or keys k 0 ≡ key))))) →
+    ((k : ℕ) → k < length keys → writes_here parts (get_or keys k 0) (get_or ids n no_id) ≡ true) →
+    AreAllWriters parts ids masks columns n → AreAllWriters parts ids more (columns ++ column ∷ []) (n + 1)
+only_writers parts ids masks more keys columns n column within counted only writes are key j has = by_part (only key j has)
+  where
+    earlier : (k : ℕ) × (k < n) × (get_or columns k 0 ≡ j) × ((d : TxnId) → writes_here parts key (get_or ids k d) ≡ true) → (k : ℕ) × (k < n + 1) × (get_or (columns ++ column ∷ []) k 0 ≡ j) × ((d : TxnId) → writes_here parts key (get_or ids k d) ≡ true)
+    earlier (k, below, at, writer) = (k, omega (arith, below), get_or_append_left columns (column ∷ []) 0 k (omega (arith, below, counted)) ∙ at, writer)
+
+    by_part : HasBit (mask_of masks key) j ⊎ ((j ≡ column) × ((k : ℕ) × (k < length keys) × (get_or keys k 0 ≡ key))) → (k : ℕ) × (k < n + 1) × (get_or (columns ++ column ∷ []) k 0 ≡ j) × ((d : TxnId) → writes_here parts key (get_or ids k d) ≡ true)
+    by_part (inl had) = earlier (are key j had)
+    by_part (inr (is, (k, below, at))) = (
+      n,
+      omega arith,
+      ap (λ i. get_or (columns ++ column ∷ []) i 0) (sym counted) ∙ get_or-append_seam columns column [] 0 ∙ sym is,
+      λ d. subst (λ id. writes_here parts key id ≡ true) (get_or_default ids n no_id d within) (subst (λ x. writes_here parts x (get_or ids n no_id) ≡ true) at (writes k below)),
+    )

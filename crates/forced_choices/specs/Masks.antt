@@ -33,6 +33,10 @@ pub record AreColumns (parts : Parts) (nodes : List (Option TxnId)) (ids : List 
   pub placed : (k : ℕ) (d : TxnId) → k < n → IsAt nodes (slice_index columns k) (slice_index_or ids k d)
   pub masked : (k : ℕ) (d : TxnId) (key : ℕ) → k < n → writes_here parts key (slice_index_or ids k d) ≡ true → HasBit (mask_of masks key) (slice_index columns k)
 
+-- each column in the row of a key is that of one of the first so many ids, which writes the key
+abbrev pub AreAllWriters : Parts → List TxnId → BTreeMap ℕ (Vec ℕ Global) → List ℕ → ℕ → Type 0
+AreAllWriters parts ids masks columns n = (key j : ℕ) → HasBit (mask_of masks key) j → (k : ℕ) × (k < n) × (slice_index columns k ≡ j) × ((d : TxnId) → writes_here parts key (slice_index_or ids k d) ≡ true)
+
 -- all of them
 abbrev pub AreWriters : Parts → List (Option TxnId) → List TxnId → Writers → Type 0
 AreWriters parts nodes ids writers = AreColumns parts nodes ids writers.masks writers.columns.items (length ids)

@@ -13,7 +13,7 @@ use Rattle.forced_choices.specs.Ascending.{In}
 use Rattle.forced_choices.specs.declared.table.Table.{Table}
 use Rattle.forced_choices.specs.Listing.{all_ids, choices_of}
 use Rattle.forced_choices.specs.ByKeys.{AreIndexed, AreRows}
-use Rattle.forced_choices.specs.Masks.{AreWriters, choices_in}
+use Rattle.forced_choices.specs.Masks.{AreAllWriters, AreWriters, choices_in}
 use Rattle.forced_choices.specs.Undecided.{AreAllDecided}
 use Rattle.forced_choices.specs.WriterPlaces.{ArePlaces}
 
@@ -45,6 +45,7 @@ AreAtColumns nodes table = (k : ℕ) (d : TxnId) → k < length table.ids.items 
 pub record IsTable (parts : Parts) (nodes : List (Option TxnId)) (table : Table) : Type 0 where
   pub ids : table.ids.items ≡ all_ids parts
   pub writers : AreWriters parts nodes table.ids.items table.writers
+  pub only : AreAllWriters parts table.ids.items table.writers.masks table.writers.columns.items (length table.ids.items)
   pub places : ArePlaces parts table.ids.items table.places
   pub reads : AreReads parts nodes table.ids.items table.reads.items (choices_of parts table.ids.items table.ids.items)
   pub rows : AreRows parts nodes table.ids.items table.by_key

@@ -1,14 +1,14 @@
 // How many choices a graph leaves undecided, and the first of them: the others are counted, and not listed.
-ghost use Rattle.std.specs.Prelude.{◌≡◌, ◌+◌, ◌<◌, ◌∷◌, [], ◌++◌, ℕ, All, List, IfOk, OnOk, length, slice_index};
+ghost use Rattle.std.specs.Prelude.{◌≡◌, ◌+◌, ◌<◌, ◌++◌, ℕ, All, List, IfOk, OnOk, length};
 ghost use Rattle.txn.specs.declared.transactions.TxnId.{TxnId};
 ghost use Rattle.txn.specs.declared.transactions.Source.TheVariants.{By};
 ghost use Rattle.txn.specs.declared.choices.Choice.{Choice};
 ghost use Rattle.order_check.specs.Known.{ReadsKey, WritesKey};
 ghost use Rattle.known_graph.specs.Bits.{HasBit};
 ghost use Rattle.known_graph.specs.Reach.{Reaches};
+ghost use Rattle.known_graph.specs.Sizes.{HasSize};
 ghost use Rattle.forced_choices.specs.Listing.{all_ids, choices_of};
 ghost use Rattle.forced_choices.specs.Masks.{AreTold, choices_in};
-ghost use Rattle.forced_choices.specs.Ranks.{Counts};
 ghost use Rattle.forced_choices.specs.Tables.{IsPlaced, IsTable};
 ghost use Rattle.forced_choices.specs.Undecided.{AreCounted, AreFound, IsFrontOf};
 ghost use Rattle.forced_choices.specs.WriterPlaces.{those_at};
@@ -17,7 +17,7 @@ use crate::open::{are_decided, open_columns, push_open_columns};
 use crate::reads::{Placed, Read};
 use crate::table::Table;
 use crate::writers::Writers;
-use known_graph::{Graph, has_bit};
+use known_graph::{Graph, bit_count};
 use order_check::Parts;
 use std::alloc::{AllocError, Global};
 use txn::{Choice, NoMemory, Sequence, TxnId};
@@ -29,22 +29,14 @@ pub struct OpenChoices {
     pub count: usize,
 }
 
-/// One if the row has the column, or else none.
-fn count_column(row: &[u64], column: usize) -> usize
-    ensures { Counts (HasBit row.now) (column ∷ []) result }
+/// How many columns the row has, or no memory: no row is so long that they aren't counted.
+fn count_columns(row: &[u64]) -> Result<usize, NoMemory>
+    ensures { IfOk result (HasSize (HasBit row.now)) }
 {
-    if has_bit(row, column) { 1 } else { 0 }
-}
-
-/// How many of the places have a column in the row.
-fn count_columns(places: &[usize], writers: &Writers, row: &[u64]) -> usize
-    ensures { Counts (λ place. HasBit row.now (slice_index writers.now.columns.items place)) places.now result }
-{
-    let mut count = 0;
-    for place in places {
-        count += count_column(row, writers.column(*place));
+    match bit_count(row) {
+        Some(count) => Ok(count),
+        None => Err(AllocError),
     }
-    count
 }
 
 /// The sum, or no memory: so many choices aren't counted.
@@ -102,20 +94,20 @@ fn count_open_of_read(
     if are_decided(graph, mask, placed) {
         return Ok(count);
     }
+    graph.one_key_each();
     let row = open_columns(alloc, graph, mask, placed)?;
-    let places = table.places.of_key(placed.read.key);
     push_open_within(
         first,
         most,
         parts,
         table.ids.as_slice(),
-        places,
+        table.places.of_key(placed.read.key),
         &table.writers,
         graph,
         row.as_slice(),
         placed.read,
     )?;
-    let more = count_columns(places, &table.writers, row.as_slice());
+    let more = count_columns(row.as_slice())?;
     let sum = added(count, more)?;
     Ok(sum)
 }

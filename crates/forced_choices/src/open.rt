@@ -53,7 +53,8 @@ pub fn open_columns(
     placed: Placed,
 ) -> Result<Vec<u64>, NoMemory>
     requires { IsAtColumns graph.now.nodes placed }
-    ensures { IfOk result (λ row. (j : ℕ) (other : TxnId) → HasBit mask.now j → IsAt graph.now.nodes j other → TellsOpen graph.now.arcs row.items j (choice_of placed.read other)) }
+    ensures told { IfOk result (λ row. (j : ℕ) (other : TxnId) → HasBit mask.now j → IsAt graph.now.nodes j other → TellsOpen graph.now.arcs row.items j (choice_of placed.read other)) }
+    ensures within { IfOk result (λ row. (j : ℕ) → HasBit row.items j → HasBit mask.now j) }
 {
     let mut open = Vec::from_slice(alloc, mask)?;
     clear_four(

@@ -4,7 +4,7 @@ ghost use Rattle.txn.specs.declared.transactions.TxnId.{TxnId};
 ghost use Rattle.known_graph.specs.Bits.{HasBit};
 ghost use Rattle.known_graph.specs.Graphs.{HasNode, IsAt};
 ghost use Rattle.forced_choices.specs.Listing.{writes_here};
-ghost use Rattle.forced_choices.specs.Masks.{mask_of, AreWriters};
+ghost use Rattle.forced_choices.specs.Masks.{mask_of, AreAllWriters, AreWriters};
 
 use known_graph::{Graph, set_bit};
 use order_check::Parts;
@@ -117,6 +117,7 @@ pub fn add_writes(
     keys: &[u64],
     column: usize,
 ) -> Result<(), NoMemory>
+    ensures only { OnOk result ((other j : ℕ) → HasBit (mask_of masks.new other) j → (HasBit (mask_of masks.old other) j ⊎ ((j ≡ column) × ((k : ℕ) × (k < length keys.now) × (slice_index keys.now k ≡ other))))) }
     ensures kept { OnOk result ((other j : ℕ) → HasBit (mask_of masks.old other) j → HasBit (mask_of masks.new other) j) }
     ensures added { OnOk result ((k : ℕ) → k < length keys.now → HasBit (mask_of masks.new (slice_index keys.now k)) column) }
 {
@@ -128,7 +129,8 @@ pub fn add_writes(
 
 /// What a remaining transaction writes.
 pub fn writes_of(parts: &Parts, id: TxnId) -> &[u64]
-    ensures { (key : ℕ) → writes_here parts.now key id ≡ true → (k : ℕ) × (k < length result.now) × (slice_index result.now k ≡ key) }
+    ensures all { (key : ℕ) → writes_here parts.now key id ≡ true → (k : ℕ) × (k < length result.now) × (slice_index result.now k ≡ key) }
+    ensures only { (k : ℕ) → k < length result.now → writes_here parts.now (slice_index result.now k) id ≡ true }
 {
     match parts.remaining_at(id) {
         Some(txn) => txn.writes.as_slice(),
@@ -144,7 +146,8 @@ pub fn writers_of(
     ids: &[TxnId],
 ) -> Result<Writers, NoMemory>
     requires { All (HasNode graph.now) ids.now }
-    ensures { IfOk result (AreWriters parts.now graph.now.nodes ids.now) }
+    ensures writers { IfOk result (AreWriters parts.now graph.now.nodes ids.now) }
+    ensures only { IfOk result (λ writers. AreAllWriters parts.now ids.now writers.masks writers.columns.items (length ids.now)) }
 {
     let mut masks = BTreeMap::new(alloc);
     let mut columns = Vec::new(alloc);

@@ -121,3 +121,54 @@ HasSize-sources nodes arcs onto from key id count kept at_key tally =
     there a reaches =
         let at_j = (Reaches-there nodes arcs onto from kept reaches).0 in
         (at_j.0, bit_within (row_at from key) at_j.0 (kept.backwards.all key at_j.0 id a at_key at_j.1 reaches), at_j.1)
+
+-- the numbers below the bound that have the property
+record AreTallied (P : ℕ → Type 0) (bound : ℕ) (xs : List ℕ) : Type 0 where
+  once : AreOnce xs
+  each : (j : ℕ) → In xs j → (j < bound) × P j
+  all : (j : ℕ) → j < bound → P j → In xs j
+
+tallied : (P : ℕ → Type 0) (bound count : ℕ) → Tally P bound count → (xs : List ℕ) × AreTallied P bound xs × (length xs ≡ count)
+tallied P zero count none = ([], record { once = tt; each = λ j h. absurd h; all = λ j below is. absurd (omega arith) }, refl)
+tallied P (suc bound) (suc count) (one_more h tally) =
+    let rest = tallied P bound count tally in (
+      bound ∷ rest.0,
+      record {
+        once = (λ there. let found = rest.1.each bound there in absurd (omega (arith, found.0)), rest.1.once);
+        each = λ j there. elim there [
+          | inl same ↦ (omega (arith, same), subst P same h)
+          | inr there ↦ let found = rest.1.each j there in (omega (arith, found.0), found.1)
+        ];
+        all = λ j below is. elim (cases_lt j bound) [
+          | inl before ↦ inr (rest.1.all j before is)
+          | inr past ↦ inl (omega arith)
+        ];
+      },
+      ap suc rest.2,
+    )
+tallied P (suc bound) count (not_this h tally) =
+    let rest = tallied P bound count tally in (
+      rest.0,
+      record {
+        once = rest.1.once;
+        each = λ j there. let found = rest.1.each j there in (omega (arith, found.0), found.1);
+        all = λ j below is. elim (cases_lt j bound) [
+          | inl before ↦ rest.1.all j before is
+          | inr past ↦ let same : j ≡ bound = omega arith in absurd (h (subst P same is))
+        ];
+      },
+      rest.2,
+    )
+
+-- the bits of a row
+pub HasSize-bits : (row : List ℕ) (count : ℕ) → Tally (HasBit row) (64 * length row) count → HasSize (HasBit row) count
+HasSize-bits row count tally =
+    let list = tallied (HasBit row) (64 * length row) count tally in (
+      list.0,
+      distinct_once list.0 list.1.once,
+      λ j. (
+        λ there. (list.1.each j (in_contains list.0 j there)).1,
+        λ has. contains_in list.0 j (list.1.all j (bit_within row j has) has),
+      ),
+      list.2,
+    )

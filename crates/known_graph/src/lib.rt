@@ -15,7 +15,7 @@ mod rows;
 mod spans;
 mod trail;
 
-pub use bits::{clear_bit, clear_bits, has_bit, is_clear, keep_bits, or_into, set_bit};
+pub use bits::{bit_count, clear_bit, clear_bits, has_bit, is_clear, keep_bits, or_into, set_bit};
 pub use digraph::{Addition, Graph};
 pub use inclusion::{is_covered, meet_within, meet_within_among};
 pub use spans::{Span, span_of};

@@ -20,14 +20,14 @@ returns-clause-writers c = λ are.
     let wrote = c.in_ok-add_writes.ensures in
     let writers = column_pushed parts nodes old.ids.items id old.writers.masks more old.writers.columns.items column c.column_of-column.ensures
     (λ key j has. wrote.kept key j has)
-    (λ key writes. let found = c.writes_of-writes.ensures key writes in subst (λ k. HasBit (mask_of more k) column) found.2 (wrote.added found.0 found.1))
+    (λ key writes. let found = c.writes_of-writes.ensures.all key writes in subst (λ k. HasBit (mask_of more k) column) found.2 (wrote.added found.0 found.1))
     are.writers in
     let rows = c.add_writes-2.new.masks in
     let row = c.in_ok-add_writes-2.ensures in
     let columns = are.rows.0 in
     let readers = column_pushed parts nodes old.ids.items id old.by_key.rows rows columns column c.column_of-column.ensures
     (λ key j has. row.kept key j has)
-    (λ key writes. let found = c.writes_of-writes.ensures key writes in subst (λ k. HasBit (mask_of rows k) column) found.2 (row.added found.0 found.1))
+    (λ key writes. let found = c.writes_of-writes.ensures.all key writes in subst (λ k. HasBit (mask_of rows k) column) found.2 (row.added found.0 found.1))
     are.rows.1 in
     let place : c.len-place.result ≡ length old.ids.items = omega (arith, old.ids.ok.0) in
     let listed : (key : ℕ) → places_at lists key ≡ places_at old.places.lists key ++ cond (writes_here parts key id) (length old.ids.items ∷ []) [] =

@@ -23,7 +23,7 @@ push_open_columns-requires-clause-told c =
     let arcs = c.args.graph.now.arcs in
     let table = c.args.table.now in
     let read = c.args.placed.read in
-    let told = told_by_writers parts c.args.graph.now.nodes arcs table.ids.items table.writers c.mask-mask.result.now c.in_ok-row.row.items read c.requires.table.writers c.mask-mask.ensures c.in_ok-row.ensures in
+    let told = told_by_writers parts c.args.graph.now.nodes arcs table.ids.items table.writers c.mask-mask.result.now c.in_ok-row.row.items read c.requires.table.writers c.mask-mask.ensures c.in_ok-row.ensures.told in
     let by_row = subst (λ (row : List ℕ). AreTold parts arcs table.ids.items table.writers.columns.items row read) (sym c.as_slice.ensures.value) told in
     subst (λ (ids : List TxnId). AreTold parts arcs ids table.writers.columns.items c.as_slice.result.now read) (sym c.as_slice-ids.ensures.value) by_row
 

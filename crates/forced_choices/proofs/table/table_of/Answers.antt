@@ -1,9 +1,9 @@
-use Rattle.std.proofs.Common.{List, get_or, subst, ◌∙◌}
+use Rattle.std.proofs.Common.{List, length, get_or, subst, ◌∙◌}
 use Rattle.txn.specs.declared.transactions.TxnId.{TxnId}
 use Rattle.forced_choices.specs.declared.reads.Placed.{Placed}
 use Rattle.forced_choices.specs.ByKeys.{AreIndexed, AreRows}
 use Rattle.forced_choices.specs.Listing.{choices_of}
-use Rattle.forced_choices.specs.Masks.{AreWriters}
+use Rattle.forced_choices.specs.Masks.{AreAllWriters, AreWriters}
 use Rattle.forced_choices.specs.Tables.{AreReads}
 use Rattle.forced_choices.specs.WriterPlaces.{ArePlaces}
 use Rattle.forced_choices.proofs.ListedIds.{listed_remains}
@@ -26,7 +26,8 @@ returns c =
     let nodes = c.args.graph.now.nodes in
     record {
       ids = c.in_ok-ids.ensures;
-      writers = subst (λ (ids : List TxnId). AreWriters parts nodes ids c.in_ok-writers.writers) c.as_slice.ensures.value c.in_ok-writers.ensures;
+      writers = subst (λ (ids : List TxnId). AreWriters parts nodes ids c.in_ok-writers.writers) c.as_slice.ensures.value c.in_ok-writers.ensures.writers;
+      only = subst (λ (ids : List TxnId). AreAllWriters parts ids c.in_ok-writers.writers.masks c.in_ok-writers.writers.columns.items (length ids)) c.as_slice.ensures.value c.in_ok-writers.ensures.only;
       places = subst (λ (ids : List TxnId). ArePlaces parts ids c.in_ok-places.places) c.as_slice-2.ensures.value c.in_ok-places.ensures;
       reads = subst (λ (ids : List TxnId). AreReads parts nodes ids c.in_ok-reads.reads.items (choices_of parts ids ids)) c.as_slice-3.ensures.value c.in_ok-reads.ensures;
       rows = subst (λ (ids : List TxnId). AreRows parts nodes ids c.in_ok-by_key.by_key) c.as_slice-4.ensures.value c.in_ok-by_key.ensures.rows;
