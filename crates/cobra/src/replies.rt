@@ -33,7 +33,8 @@ pub fn report_of(report: Report) -> Reply
     }
 }
 
-fn cut_of(alloc: Global, cut: Cut) -> Result<Reply, NoMemory>
+/// How a cut is told.
+pub fn cut_of(alloc: Global, cut: Cut) -> Result<Reply, NoMemory>
     ensures { IfOk result (λ answer. answer ≡ cut_of cut) }
 {
     let Cut { fence, gone, last } = cut;
