@@ -7,10 +7,10 @@ Run at the top of the repository, after `cd crates/cobra_audit && rt run < /dev/
 
 With several programs each stands beside the others, in one run. The histories are those of bench/histories.py.
 
-- again: 3,000 transactions remain, of one kind. The milliseconds of the first round; of a second one, where nothing came since; and of a `begin`
-  and of a `finish` after these. The last column is the second round's part of the first.
-- grown: 2,000 transactions remain, of one kind, and have had a round. Then so many more come, and a round: the milliseconds of processor time that
-  this round takes, beside those of the first and of a second one where nothing came.
+- again: 3,000 transactions remain, of one kind. The milliseconds of processor time of the first round; of a second one, where nothing came since;
+  and of a `begin` and of a `finish` after these. The last column is the second round's part of the first.
+- grown: 2,000 transactions remain, of one kind, and have had a round. Then so many more come, and a round, again and again: the same of each of
+  these rounds, beside the first and a second one where nothing came.
 - runs: so many transactions of clients that meet before each round and read each blind key once, with a round and a truncate after each 300 and
   after each 2,000: the processor time of the whole script from a file, the time of CPython's json.loads over its lines, and their ratio.
 - keys: 10,000 keys are written and cut away, and with --most up to a million and more; then 20,000 writes of new keys with their round and truncate.
@@ -46,10 +46,10 @@ class Lines:
 
 
 def timed(auditor, *command):
-    """The reply, and the milliseconds until it came."""
-    begin = time.perf_counter()
+    """The reply, and the milliseconds of processor time that it took."""
+    begin = auditor.seconds()
     reply = auditor.ask(*command)
-    return reply, (time.perf_counter() - begin) * 1000
+    return reply, (auditor.seconds() - begin) * 1000
 
 
 def again(programs):
@@ -67,13 +67,6 @@ def again(programs):
             print(f"{kind:8} {3000:12} {first:9.1f} {second:9.1f} {begin:9.1f} {finish:10.1f} {second / first:15.2f}  {report[2]}", flush=True)
 
 
-def round_ms(auditor):
-    """The milliseconds of processor time that a round takes."""
-    begin = auditor.seconds()
-    auditor.ask(*ROUND)
-    return (auditor.seconds() - begin) * 1000
-
-
 def grown_once(program, kind):
     """The milliseconds of each round while one history grows."""
     clients = Clients(Auditor(program), 8)
@@ -83,7 +76,7 @@ def grown_once(program, kind):
         for _ in range(count):
             clients.execute(draw.randrange(8), *KINDS[kind](draw, 400))
         clients.flush()
-        rounds.append(round_ms(clients.auditor))
+        rounds.append(timed(clients.auditor, *ROUND)[1])
     clients.auditor.end()
     return rounds
 
