@@ -35,6 +35,7 @@ from .auditor import FENCE, FLAG, MARK
 from .circumstances import brief, caller
 from .errors import AbortedError, AuditLostError, NameTakenError, OutcomeUnknownError
 from .errors import StoreLateError
+from .locks import give_back, take
 from .records import Deed, Found, Logged, Name, Read, Source, Store
 
 # The same errors under shorter names.
@@ -105,6 +106,7 @@ class Session:
         self.wait = getattr(getattr(auditor, "policy", None), "wait", 30.0)
         # Held by a transaction from its begin to its end, and by a meeting.
         self.turn = threading.Lock()
+        self.has_turn: List[bool] = []  # whether a client has it and no transaction yet
         # Held while a meeting waits for the turn: else a busy client would take it again before the
         # meeting gets it.
         self.gate = threading.Lock()
@@ -133,19 +135,28 @@ class Session:
             raise ValueError(f"session {self.number} is in a transaction: it runs one at a time")
         came = time.monotonic()
         try:
-            self.take_turn()
-            self.with_turn(self.get_ready)
-        finally:
-            self.has_waited(came)
-        return self.with_turn(lambda: self.start(self.store.begin, holds=True))
-
-    def with_turn(self, call: Callable[[], Result]) -> Result:
-        """Gives the turn back where it fails."""
-        try:
-            return call()
-        except BaseException:
-            self.turn.release()
+            try:
+                self.take_turn()
+                self.get_ready()
+            finally:
+                self.has_waited(came)
+            return self.start(self.store.begin, True)
+        except BaseException as error:
+            self.take_back(error)
             raise
+
+    def take_back(self, error: BaseException) -> None:
+        """What had begun until this came. Who has the transaction by then, as behind an interrupt
+        nobody does, gives it up by itself."""
+        if self.current is not None:
+            self.place.begun = max(self.place.begun, self.current.number + 1)
+            self.current.rollback()
+        elif self.has_turn and self.has_turn[-1]:
+            try:
+                if not isinstance(error, Exception):  # the store may have begun
+                    self.store.rollback()
+            finally:
+                give_back(self.turn, self.has_turn)
 
     def get_ready(self) -> None:
         self.go_on()
@@ -155,13 +166,18 @@ class Session:
         """Who holds it, and the gate, are meetings, which end within the policy's wait; but for a
         statement of theirs that the store hasn't answered over this connection. That is waited for
         as long once more, and then given up."""
-        if self.gate.locked() and self.gate.acquire(timeout=self.wait):
-            self.gate.release()
-        if self.turn.acquire(timeout=self.wait):
+        if self.gate.locked():
+            passed: List[bool] = []
+            try:
+                take(self.gate, self.wait, passed)
+            finally:
+                give_back(self.gate, passed)
+        self.has_turn = []
+        if take(self.turn, self.wait, self.has_turn):
             return
         logger.warning("session %s: the store doesn't answer the audit", self.number)
         self.hang_up()
-        if not self.turn.acquire(timeout=self.wait):
+        if not take(self.turn, self.wait, self.has_turn):
             raise StoreLateError(f"session {self.number} waits for the store")
 
     def hang_up(self) -> None:
@@ -208,20 +224,35 @@ class Session:
         begin(*arguments)
         transaction = Transaction(self, self.place.begun, holds)
         self.running = transaction
-        self.place.begun += 1  # also an attempt that aborts keeps its number
-        if holds:
+        if holds:  # from here on it is what gives the turn back
             self.current = transaction
+        self.place.begun = transaction.number + 1  # also an attempt that aborts keeps its number
         return transaction
 
     @contextmanager
     def transaction(self) -> Iterator[Transaction]:
-        with whole(self.begin()) as transaction:
-            yield transaction
+        before = self.current
+        try:
+            with whole(self.begin()) as transaction:
+                yield transaction
+        except BaseException:
+            self.drop(before)
+            raise
 
     def run(self, body: Callable[[Transaction], Result], attempts: int = 10) -> Result:
         """Calls body(transaction) and commits, again where the store aborts; each attempt has a
         number of its own."""
-        return attempted(self.begin, body, attempts)
+        before = self.current
+        try:
+            return attempted(self.begin, body, attempts)
+        except BaseException:
+            self.drop(before)
+            raise
+
+    def drop(self, before: Optional[Transaction]) -> None:
+        """Gives up what has begun since and, by an interrupt, nobody has."""
+        if self.current is not None and self.current is not before:
+            self.current.rollback()
 
     def close(self) -> None:
         """Nothing more of this session comes. Raises ValueError in the middle of a transaction."""
@@ -518,6 +549,7 @@ class Transaction:
             session.running = None
             if self.holds:
                 session.current = None
+                session.has_turn = []
                 session.turn.release()
 
     def hand_in(self, reads: Iterable[Read], writes: Iterable[str], outcome: str) -> None:
