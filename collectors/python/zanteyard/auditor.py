@@ -89,7 +89,8 @@ class Auditor(Takes):
         text = written(line)
         with self.lock:
             self._begin_to_ask()
-            reply, refusal = self._settled(text, *self._replies_to([text]))
+            (reply,) = self._replies_to([text])
+            reply, refusal = self._settled(text, reply)
             self._be_in_step()
         if refusal is not None:
             raise refusal
@@ -257,7 +258,8 @@ class Auditor(Takes):
         text = written(["truncate"])
         with self.lock:
             self._begin_to_ask()
-            reply, refusal = self._settled(text, *self._replies_to([text]))
+            (reply,) = self._replies_to([text])
+            reply, refusal = self._settled(text, reply)
             cut = self._forget(*reply[1:]) if refusal is None else None
             self._be_in_step()
         if cut is not None:

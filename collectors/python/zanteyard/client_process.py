@@ -6,7 +6,7 @@ import threading
 import time
 from dataclasses import astuple
 from multiprocessing.connection import Connection
-from typing import Any, Callable, Dict, Optional, Sequence, Tuple
+from typing import Any, Callable, Dict, Iterable, Optional, Sequence, Tuple
 
 from .apart import unpacked
 from .errors import AuditLostError, ProgramEndedError
@@ -23,7 +23,7 @@ class ClientProcess:
     def __init__(self, live: LiveAuditor, connection: Connection) -> None:
         self._live = live
         self.messages = Messages(connection)
-        self.group = RemoteGroup(self.messages, live.policy.wait, live._places.give_back)
+        self.group = RemoteGroup(self.messages, live.policy.wait, self._take_back_late)
         self.thread = threading.Thread(target=self._listen, daemon=True)
         self._deeds: Dict[str, Callable[..., None]] = {
             "answer": self.group.take_answer,
@@ -64,6 +64,7 @@ class ClientProcess:
                 self._deeds[kind](*rest)
         except Exception as error:  # it ended without leaving, or sent what isn't known
             self.lose(str(error) or "it ended without leaving")
+        live._places.drop(self.group.numbers())
         self.group.leave()
         if self.group in groups:
             groups.remove(self.group)
@@ -117,6 +118,9 @@ class ClientProcess:
     def _take_overflow(self, asked: int) -> None:
         self.messages.tell("left", asked, astuple(self._live._places.take_unaudited()))
 
+    def _take_back_late(self, lent: Iterable[Place]) -> None:
+        self._live._places.take_back(lent, is_over=False)
+
     def _take_back(self, place: Sequence[Any]) -> None:
         given_back = Place(*place)
         self.group.remove(given_back.number)
@@ -124,5 +128,7 @@ class ClientProcess:
 
     def _take_leave(self, places: Sequence[Sequence[Any]]) -> None:
         """Its sessions are left for others."""
+        numbers = self.group.numbers()
         self.group.leave()
         self._live._places.give_back([Place(*place) for place in places])
+        self._live._places.drop(numbers)  # of those that have ended

@@ -254,6 +254,8 @@ class LiveAuditor(SessionsHere):
         place = self._places.take(self.policy.wait)
         if place is None:
             self._lose_for_a_client()
+        elif session.place is not None:  # which has ended for this audit
+            self._places.drop([session.place.number])
         return place or session.place or self._places.take_unaudited()
 
     def _lose_for_a_client(self) -> None:
@@ -261,7 +263,7 @@ class LiveAuditor(SessionsHere):
         self.lose(Lost(f"no session of {self.auditor.sessions} is left for a client"))
 
     def _give_back(self, place: Place) -> None:
-        self._places.add([place])
+        self._places.give_back([place])
 
     # the thread
 
