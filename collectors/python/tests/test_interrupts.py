@@ -17,7 +17,7 @@ FOLDER = os.path.dirname(os.path.abspath(sys.modules["zanteyard"].__file__))
 SHARE = int(os.environ.get("ZANTEYARD_INTERRUPTS", "7"))  # of the places each so many'th is tried
 KINDS = (KeyboardInterrupt, SystemExit, TimeoutError)  # the last is what handlers of SIGALRM raise
 
-TURN_IS_GIVEN_BACK = ("session.running = None", "if self.holds:", "session.current = None", "session.has_turn = []", "session.turn.release()")
+TURN_IS_GIVEN_BACK = ("session.running = None", "if self.holds and session.current is self:", "session.current = None", "session.has_turn = []", "session.turn.release()")
 
 
 class Interrupted:

@@ -5,7 +5,6 @@ hand over what was logged, as bytes, and the rest is done beside them."""
 from __future__ import annotations
 
 import gc
-import marshal
 import os
 import pickle
 import signal
@@ -21,7 +20,7 @@ from .auditor import Auditor, NoCut
 from .coverage import Coverage
 from .errors import RefusedError
 from .pipes import ENDING, Ended, Late
-from .records import Cut, History, Logged, Report
+from .records import Cut, History, Logged, Report, as_bytes, unpacked
 from .taking import EFFORTS, SECONDS, Effort, Fragment, Full, Takes
 
 PLACE = os.path.dirname(os.path.dirname(os.path.abspath(__file__)))
@@ -214,16 +213,6 @@ class AuditorApart(Takes):
 
     def __enter__(self) -> AuditorApart:
         return self
-
-
-def as_bytes(logged: Logged) -> bytes:
-    # This takes a third of pickle's time, and knows plain values alone.
-    plain: Any = tuple(logged)
-    return marshal.dumps(plain)
-
-
-def unpacked(packed: bytes) -> Logged:
-    return Logged(*marshal.loads(packed))
 
 
 class OfPacked(Auditor):

@@ -4,8 +4,8 @@ from __future__ import annotations
 
 import threading
 import time
-from dataclasses import astuple, dataclass
-from typing import Any, Callable, Dict, Iterable, List, Optional, Sequence, Set, Tuple
+from dataclasses import astuple, dataclass, replace
+from typing import Any, Callable, Dict, Iterable, List, Optional, Sequence, Tuple
 
 from .errors import ElsewhereError
 from .meetings import Missed, Wait
@@ -37,17 +37,26 @@ class RemoteGroup:
         """A call waits so many seconds beside its own; what is lent for one whose answer comes
         later is given back then."""
         self._messages, self._wait, self._give_back = messages, wait, give_back
-        self._numbers: Set[int] = set()
+        self._numbers: Dict[int, Place] = {}  # its places, as they were given to it
         self._has_left = False
         self._changed = threading.Condition()  # around what follows
         self._calls: Dict[int, _Call] = {}
         self._asked = 0
 
-    def add(self, number: int) -> None:
-        self._numbers.add(number)
+    def add(self, place: Place) -> None:
+        self._numbers[place.number] = replace(place)
 
     def remove(self, number: int) -> None:
-        self._numbers.discard(number)
+        self._numbers.pop(number, None)
+
+    def places(self) -> List[Place]:
+        """As they were given to it."""
+        return list(self._numbers.values())
+
+    def lent(self) -> List[Place]:
+        """What was lent for calls that it hasn't answered."""
+        with self._changed:
+            return [place for call in self._calls.values() for place in call.lent]
 
     def leave(self) -> None:
         """Nothing more is answered."""
@@ -58,6 +67,11 @@ class RemoteGroup:
     @property
     def has_left(self) -> bool:
         return self._has_left
+
+    @property
+    def had_sessions(self) -> bool:
+        """Also where it has left."""
+        return bool(self._numbers)
 
     @property
     def has_sessions(self) -> bool:
@@ -77,7 +91,8 @@ class RemoteGroup:
 
         def gathered(ends: float) -> Tuple[List[int], List[Place]]:
             flags, given_back = wait(ends)
-            self._numbers.difference_update(number for number, *_ in given_back)
+            for number, *_ in given_back:
+                self._numbers.pop(number, None)
             return flags, [Place(*place) for place in given_back]
 
         return gathered

@@ -31,12 +31,14 @@ from dataclasses import dataclass
 from typing import Any, Callable, Dict, Iterable, Iterator, List, Optional, Sequence, Set
 from typing import Tuple, TypeVar
 
+from .asking import ticket_of
 from .auditor import FENCE, FLAG, MARK
 from .circumstances import brief, caller
 from .errors import AbortedError, AuditLostError, NameTakenError, OutcomeUnknownError
 from .errors import StoreLateError
 from .locks import give_back, take
-from .records import Deed, Found, Logged, Name, Read, Source, Store
+from .notes import Note, Notes
+from .records import Deed, Found, Logged, Name, Read, Source, Store, as_bytes
 
 # The same errors under shorter names.
 Aborted = AbortedError
@@ -114,6 +116,7 @@ class Session:
         self.running: Optional[Transaction] = None  # the same, or the collector's own
         self.used_at = time.monotonic()
         self.failure: Optional[Exception] = None
+        self.notes: Optional[Notes] = None  # for who finds this process killed
         # For how many seconds this client waited for the audit: in all, and at most at a time.
         self.waited = self.longest = 0.0
 
@@ -340,7 +343,7 @@ class Session:
     def lend(self, place: Place, deed: str, seconds: float = 60.0) -> None:
         """Runs "flag" or "read_mark" of a session that no client has over this one's connection."""
         one = Session(self.auditor, place.number, self.store, self.run_name)
-        one.place, place.is_lent = place, True
+        one.place, place.is_lent, one.notes = place, True, self.notes
         try:
             getattr(one, deed)(seconds)
         finally:
@@ -393,6 +396,7 @@ class Transaction:
         self.began, self.caller = (time.time(), caller()) if holds else (0.0, "")
         self.sent: Tuple[str, ...] = ()  # keys that were written and needn't be at the commit
         self.statements: Dict[Deed, str] = {}  # of each deed, as Logged has them
+        self.prepared: Any = None  # what is logged where it is committed, and the same as bytes
 
     def still_open(self) -> None:
         """What is done with a transaction that has ended would be one of its own in the store."""
@@ -457,6 +461,8 @@ class Transaction:
         self.is_committing = True
         self.written[key] = value
         self.sent = (*self.sent, key)
+        if self.session.notes is not None and (not self.holds or self.writes_at_once):
+            self.note_before(key, has_reads=False)
         self.was_read(key, both(key, value, self.name))
         self.was_run((key,))
 
@@ -467,23 +473,67 @@ class Transaction:
 
     def commit(self) -> None:
         self.still_open()
-        self.is_committing = True
+        self.is_committing, is_sent = True, False
+        is_noted = self.session.notes is not None
         try:
+            if is_noted and self.writes_at_once and self.written:
+                self.note_before(max(self.written))
             for key in sorted(self.written):
                 if key not in self.sent:
                     self.store.write(key, self.written[key], self.name)
                     self.was_run((key,))
+            if is_noted and self.holds and not self.writes_at_once:
+                self.note_before(max(self.written, default=""))
+            is_sent = True
             self.store.commit()
             self.log(self.reads, self.written, "committed")
         except OutcomeUnknown:
             self.find_out()
+        except Aborted:
+            self.rollback()
+            raise
         except Exception:
+            if is_sent and self.written and not self.is_over:
+                self.find_out_behind()
             self.rollback()
             raise
         except BaseException:  # as Ctrl-C: the store may have committed
             if not self.is_over:
                 self.log((), self.written, "unknown", is_last=bool(self.written))
             raise
+
+    @property
+    def writes_at_once(self) -> bool:
+        return bool(getattr(self.store, "writes_at_once", False))
+
+    def note_before(self, key: str, has_reads: bool = True) -> None:
+        """From here on the store may have committed what it writes."""
+        notes = self.session.notes
+        assert notes is not None
+        try:
+            reads = self.reads if has_reads else ()
+            logged = self.logged(reads, self.written, "committed")
+            packed = as_bytes(logged)
+            if has_reads and not self.writes_at_once:
+                self.prepared = (logged, packed)
+            ticket = ticket_of(self.store, (key, *self.name)) if self.written else None
+            note = Note(self.session.number or 0, self.number, None, packed, ticket, has_reads)
+        except Exception as error:
+            return notes.fail(error)
+        notes.write(note)
+
+    def note_answer(self, logged: Logged, is_last: bool) -> None:
+        """What is known by now, before it is handed in."""
+        notes, packed = self.session.notes, None
+        if notes is not None:
+            if self.prepared is None and logged.outcome == "committed":
+                try:
+                    packed = as_bytes(logged)
+                except ValueError as error:
+                    return notes.fail(error)
+            number = self.session.number or 0
+            note = Note(number, self.number, logged.outcome, packed, None, True, is_last)
+            notes.write(note)
 
     def rollback(self) -> None:
         if not self.is_over:
@@ -494,6 +544,15 @@ class Transaction:
 
     def give_up(self) -> None:
         self.log((), (), "aborted")
+
+    def find_out_behind(self) -> None:
+        """Something else was raised than stores do, as by a handler of SIGALRM: it may have come
+        behind the store's answer."""
+        try:
+            self.store.rollback()
+            self.find_out()
+        except (Aborted, OutcomeUnknown):
+            pass
 
     def find_out(self) -> None:
         """Asks the store. Where it can't say, the transaction is logged with its writes alone, as
@@ -536,7 +595,7 @@ class Transaction:
             if not (is_last and FENCE in writes):
                 if session.unclaimed is not None:
                     session.miss(self.number, session.unclaimed)
-                elif not session.tell(self.hand_in, reads, writes, outcome):
+                elif not session.tell(self.hand_in, reads, writes, outcome, is_last):
                     session.miss(self.number)
             if is_last:
                 session.place.leave_open(self.number)
@@ -547,12 +606,25 @@ class Transaction:
             raise
         finally:  # nothing is called before the turn is given back: no signal comes in between
             session.running = None
-            if self.holds:
+            if self.holds and session.current is self:
                 session.current = None
                 session.has_turn = []
                 session.turn.release()
 
-    def hand_in(self, reads: Iterable[Read], writes: Iterable[str], outcome: str) -> None:
+    def hand_in(
+        self, reads: Iterable[Read], writes: Iterable[str], outcome: str, is_last: bool
+    ) -> None:
+        number, auditor = self.session.number, self.session.auditor
+        if self.prepared is not None and outcome == "committed":
+            logged, packed = self.prepared
+            self.note_answer(logged, is_last)
+            auditor.take_packed(number, self.number, logged, packed)
+        else:
+            logged = self.logged(reads, writes, outcome)
+            self.note_answer(logged, is_last)
+            auditor.take(number, self.number, logged)
+
+    def logged(self, reads: Iterable[Read], writes: Iterable[str], outcome: str) -> Logged:
         statements = tuple(self.statements.items())
         if outcome != "committed":
             deeds = {*reads, *((key,) for key in writes)}
@@ -566,5 +638,4 @@ class Transaction:
             values += tuple(("wrote", key, brief(self.written.get(key))) for key in writes)
         if not reads:  # it isn't known, or doesn't matter, what was read
             values = tuple(it for it in values if it[0] == "wrote")
-        logged = Logged(reads, writes, outcome, statements, values, self.began, self.caller)
-        self.session.auditor.take(self.session.number, self.number, logged)
+        return Logged(reads, writes, outcome, statements, values, self.began, self.caller)
