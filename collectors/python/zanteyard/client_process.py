@@ -137,12 +137,13 @@ class ClientProcess:
                 logger.warning("the process of the sessions %s was killed: %s", told, HANDED_IN)
         except Exception as error:
             self.lose(f"{why}: {error}" if str(error) != why else why)
+            self._live._places.drop(place.number for place in places)
         else:
             for place in lent:
                 place.is_lent = False
             self._live._places.take_back(lent, is_over=False)
             self._live._places.give_back(it for it in places if it.number not in self._ended)
-        self._live._places.drop(place.number for place in places)
+            self._live._places.drop(it.number for it in places if it.number in self._ended)
 
     def _is_dead(self) -> bool:
         """It may take a while, behind the end of its connection."""

@@ -109,7 +109,8 @@ class Killed:
         if not logged.writes:
             return NOTHING  # whether what it has read is to be checked isn't known
         outcome, overwritten = find_out(how, note.ticket, SECONDS)
-        logger.info("what a killed process sent last is %s: %s", outcome, note.ticket)
+        told = f"{note.session}.{note.number} of a killed process"
+        logger.info("%s is %s by the store's word", told, outcome)
         if outcome == "aborted":
             return NOTHING
         if outcome == "committed" and note.has_reads:

@@ -12,6 +12,7 @@ from .meetings import Missed, Wait
 from .messages import Messages
 from .sessions import Place
 
+LEFT = "a process has left"
 PATIENCE = 5.0  # seconds for an answer, beside those that the call may take
 
 
@@ -60,8 +61,8 @@ class RemoteGroup:
 
     def leave(self) -> None:
         """Nothing more is answered."""
-        self._has_left = True
         with self._changed:
+            self._has_left = True
             self._changed.notify_all()
 
     @property
@@ -140,19 +141,22 @@ class RemoteGroup:
     def _begin(self, name: str, *arguments: Any, lent: Sequence[Place] = ()) -> Wait[Any]:
         """Gives what waits for the answer, until then and a little longer."""
         call = _Call(lent)
+        told = (*arguments, [astuple(place) for place in lent])
         with self._changed:
+            if self._has_left:
+                raise Missed(LEFT)
             self._asked += 1
             asked = self._asked
             self._calls[asked] = call
-        told = (*arguments, [astuple(place) for place in lent])
-        for place in lent:
-            place.is_lent = True  # until it is answered
-        if self._has_left or not self._messages.tell(
-            "call", asked, name, told, seconds=self.patience
-        ):
             for place in lent:
-                place.is_lent = False
-            raise Missed("a process has left")
+                place.is_lent = True  # until it is answered
+        if not self._messages.tell("call", asked, name, told, seconds=self.patience):
+            with self._changed:
+                if not self._has_left:  # else it isn't known whether it had got it
+                    del self._calls[asked]
+                    for place in lent:
+                        place.is_lent = False
+            raise Missed(LEFT)
         return lambda ends: self._answer_to(call, ends)
 
     def _answer_to(self, call: _Call, ends: float) -> Any:
