@@ -70,18 +70,18 @@ class Notes:
             raise
         self.half = self.halves[0]
 
-    def write(self, note: Note) -> None:
-        """By one call of the system's."""
+    def write(self, session: int, number: int, *more: Any) -> None:
+        """A Note's fields, by one call of the system's."""
         if self.has_failed:
             return
         try:
             half = self.half if self.half.at < TURN else self.turned()
-            text = marshal.dumps((VERSION, self.count, *note))
+            text = marshal.dumps((VERSION, self.count, session, number, *more))
             record = HEAD.pack(len(text), zlib.crc32(text)) + text
             if os.pwrite(half.file, record, half.at) < len(record):
                 raise OSError("the disk is full")
             half.at += len(record)
-            half.last[note.session] = note.number
+            half.last[session] = number
             self.count += 1
         except Exception as error:
             self.fail(error)

@@ -37,7 +37,7 @@ from .circumstances import brief, caller
 from .errors import AbortedError, AuditLostError, NameTakenError, OutcomeUnknownError
 from .errors import StoreLateError
 from .locks import give_back, take
-from .notes import Note, Notes
+from .notes import Notes
 from .records import Deed, Found, Logged, Name, Read, Source, Store, as_bytes
 
 # The same errors under shorter names.
@@ -474,15 +474,18 @@ class Transaction:
     def commit(self) -> None:
         self.still_open()
         self.is_committing, is_sent = True, False
-        is_noted = self.session.notes is not None
+        is_late = False  # it is noted when it is known by what the store is asked for it
         try:
-            if is_noted and self.writes_at_once and self.written:
-                self.note_before(max(self.written))
+            is_to_note = self.holds or len(self.sent) < len(self.written)
+            if is_to_note and self.session.notes is not None:
+                is_late = not self.writes_at_once
+                if not is_late:
+                    self.note_before(max(self.written, default=""))
             for key in sorted(self.written):
                 if key not in self.sent:
                     self.store.write(key, self.written[key], self.name)
                     self.was_run((key,))
-            if is_noted and self.holds and not self.writes_at_once:
+            if is_late:
                 self.note_before(max(self.written, default=""))
             is_sent = True
             self.store.commit()
@@ -513,14 +516,13 @@ class Transaction:
         try:
             reads = self.reads if has_reads else ()
             logged = self.logged(reads, self.written, "committed")
-            packed = as_bytes(logged)
-            if has_reads and not self.writes_at_once:
+            packed, name = as_bytes(logged), self.name
+            if has_reads:
                 self.prepared = (logged, packed)
-            ticket = ticket_of(self.store, (key, *self.name)) if self.written else None
-            note = Note(self.session.number or 0, self.number, None, packed, ticket, has_reads)
+            ticket = ticket_of(self.store, (key, *name)) if self.written else None
         except Exception as error:
             return notes.fail(error)
-        notes.write(note)
+        notes.write(name[1], self.number, None, packed, ticket, has_reads)
 
     def note_answer(self, logged: Logged, is_last: bool) -> None:
         """What is known by now, before it is handed in."""
@@ -531,9 +533,8 @@ class Transaction:
                     packed = as_bytes(logged)
                 except ValueError as error:
                     return notes.fail(error)
-            number = self.session.number or 0
-            note = Note(number, self.number, logged.outcome, packed, None, True, is_last)
-            notes.write(note)
+            more = (packed, None, True, True) if is_last else (packed,)
+            notes.write(self.session.number or 0, self.number, logged.outcome, *more)
 
     def rollback(self) -> None:
         if not self.is_over:
