@@ -82,7 +82,7 @@ def work(session, client, seed, pause, workload):
                 pair = chance.randrange(2)
                 both = [int(transaction.get(f"{side} {pair}") or 0) for side in "ab"]
                 transaction.put(f"{chance.choice('ab')} {pair}", str((sum(both) + 1) % 1000))
-            else:
+            elif workload == "mixed":
                 transaction.put(keys[0], str(count))
                 if chance.random() < 0.2:
                     raise Aborted("for the sake of it")

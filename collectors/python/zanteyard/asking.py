@@ -9,6 +9,7 @@ name: `(key, *name)`. `writes_at_once` says that a transaction's writes don't wa
 from __future__ import annotations
 
 import importlib
+import logging
 from typing import Any, Optional, Sequence, Tuple
 
 from .records import Name
@@ -17,6 +18,7 @@ from .records import Name
 # nothing where there was none; None where that isn't known.
 Found = Tuple[str, Optional[Sequence[Name]]]
 UNKNOWN: Found = ("unknown", None)
+logger = logging.getLogger("zanteyard")
 
 
 KINDS = ("postgres", "mariadb", "redis", "sqlite")
@@ -32,7 +34,8 @@ def find_out(asks: Any, ticket: Any, seconds: float) -> Found:
         module = importlib.import_module(f".{kind}_store", __package__)
         found: Found = module.asked(*more, ticket=ticket, seconds=seconds)
         return found
-    except Exception:
+    except Exception as error:
+        logger.warning("what became of a commit can't be found out: %s", error)
         return UNKNOWN
 
 

@@ -6,7 +6,8 @@ over connections of their own; what they did is handed over some twenty-five tim
 meetings hold them and run their flags by calls over the same socket. All messages of a process come
 in the order in which they were sent, so that whatever was done before a call was answered has been
 handed over by then. No client sends or receives anything: threads beside them do, and where these
-can't the client goes on.
+can't the client goes on. What a process did that is killed is found in its notes, which are in a
+folder beside the socket; both are removed at the end.
 """
 
 from __future__ import annotations

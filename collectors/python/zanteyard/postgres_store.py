@@ -63,7 +63,7 @@ WHAT_BECAME = f"""SELECT pg_xact_status(%s::text::xid8), {LIVES}"""
 ITS_ROW = """SELECT value FROM {table} WHERE key = %s AND run = %s AND session = %s
     AND number = %s"""
 END_IT = f"""SELECT pg_terminate_backend(pid) FROM pg_stat_activity WHERE pid = %s AND {AGE} = %s
-    AND (backend_xid::text = (%s::text::numeric % 4294967296)::text OR position(%s IN query) > 0)"""
+    AND (backend_xid::text = (%s::text::numeric %% 4294967296)::text OR position(%s IN query) > 0)"""
 CONFLICTS = (errors.SerializationFailure, errors.DeadlockDetected)
 PATIENCE = 5.0  # seconds for a connection, and for an outcome
 ATTEMPTS = 10  # at the first row of a key: each fails only where another client has just made it
