@@ -41,7 +41,11 @@ def find_out(asks: Any, ticket: Any, seconds: float) -> Found:
 
 def asks_of(store: Any) -> Any:
     asks = getattr(store, "asks", None)
-    return asks() if asks is not None else None
+    try:
+        return asks() if asks is not None else None
+    except Exception as error:
+        logger.warning("how this store is asked can't be told: %s", error)
+        return None
 
 
 def ticket_of(store: Any, written: Sequence[Any]) -> Any:

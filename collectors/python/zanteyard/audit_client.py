@@ -46,6 +46,7 @@ class AuditClient(SessionsHere):
         _, run_name, self.is_named, self.token, most, policy, self._notes_path = welcome
         super().__init__(run_name, Policy(*policy))
         self._notes: List[Notes] = []
+        self._count, self._noting = 0, threading.Lock()
         _forked.add(self)
         self._handover = Handover(self._messages, most)
         self._requests = PlaceRequests(self._messages)
@@ -182,17 +183,20 @@ class AuditClient(SessionsHere):
 
     def _notes_of(self, store: Store) -> Optional[Notes]:
         """The auditor's process is told first where they are, and how the store is asked."""
-        which = len(self._notes)
+        with self._noting:
+            self._count += 1
+            which = self._count
+        # Nobody waits for this: the files aren't there meanwhile, which tells the same.
+        tell = functools.partial(self._handover.put_behind, "unnoted")
         try:
-            tell = functools.partial(self._messages.tell, "unnoted")
             notes = Notes(f"{self._notes_path}-{which}", self._handover.sent, tell)
         except OSError as error:
             logger.error("if this process is killed, the audit ends with it: %s", error)
-            self._messages.tell("unnoted")
+            self._messages.tell("unnoted", seconds=ANSWERING)
             return None
         self._notes.append(notes)
-        if not self._messages.tell("noted", which, asks_of(store)):
-            self._messages.tell("noted", which, None)  # it can't be told how
+        if not self._messages.tell("noted", which, asks_of(store), seconds=ANSWERING):
+            self._messages.tell("noted", which, None, seconds=ANSWERING)  # it can't be told how
         return notes
 
     def _give_back(self, place: Place) -> None:

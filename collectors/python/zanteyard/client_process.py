@@ -9,9 +9,10 @@ import socket
 import struct
 import threading
 import time
+from contextlib import suppress
 from dataclasses import astuple
 from multiprocessing.connection import Connection, wait
-from typing import Any, Callable, Dict, Iterable, Optional, Sequence, Set, Tuple
+from typing import Any, Callable, Dict, Iterable, Optional, Sequence, Tuple
 
 from .errors import AuditLostError, ProgramEndedError
 from .killed import Killed, LostError, handed_in
@@ -50,7 +51,6 @@ class ClientProcess:
         self.thread = threading.Thread(target=self._listen, daemon=True)
         self._asks: Dict[str, Any] = {}  # of each of its notes' paths how the store is asked
         self._has_all_noted = True
-        self._ended: Set[int] = set()  # sessions of which it has told that nothing more comes
         self._watch = watched(connection)
         self._deeds: Dict[str, Callable[..., None]] = {
             "answer": self.group.take_answer,
@@ -93,20 +93,24 @@ class ClientProcess:
                 self._wait()
                 kind, *rest = self.messages.receive()
                 self._deeds[kind](*rest)
-        except Exception as error:  # it ended without leaving, or sent what isn't known
-            why = str(error) or "it ended without leaving"
+        except (EOFError, OSError) as error:
             with live._killed:  # no meeting begins meanwhile, nor another audit
                 places = self.group.places()
                 self.group.leave()
-                self._find_out(places, why)
+                self._find_out(places, str(error) or "it ended without leaving")
+        except Exception as error:  # it says that it is lost, or sent what isn't known
+            self.lose(str(error) or type(error).__name__)
+            live._places.drop(self.group.numbers())
+            self.group.leave()
         if self.group in groups:
             groups.remove(self.group)
         self.messages.close()
         if self._watch is not None:
             os.close(self._watch)
         for path in self._asks:
-            for name in glob.glob(f"{glob.escape(path)}.*"):
-                os.unlink(name)
+            for which in range(2):
+                with suppress(OSError):
+                    os.unlink(f"{path}.{which}")
 
     # what it did, where it is killed
 
@@ -120,15 +124,16 @@ class ClientProcess:
 
     def _find_out(self, places: Sequence[Place], why: str) -> None:
         """Hands in what it did last, and gives its places back; else the audit ends."""
-        lent = self.group.lent()
+        lent, ended = self.group.lent(), self.group.ended
         try:
             if not self._is_dead():
                 raise LostError(why)
-            if not self._has_all_noted:
+            there = {it[:-2] for it in glob.glob(f"{glob.escape(self._notes)}-*.0")}
+            if not self._has_all_noted or there - {*self._asks}:
                 raise LostError("not all that it did could be noted")
             killed = Killed(self._asks, self._live.run_name, self._live._backlog)
             for place in [*places, *lent]:
-                if place.is_audited and place.number not in self._ended:
+                if place.is_audited and place.number not in ended:
                     self._hand_in(place.number, killed.told(place))
                     if place.is_ended:
                         self._live.take_close(place.number)
@@ -142,8 +147,8 @@ class ClientProcess:
             for place in lent:
                 place.is_lent = False
             self._live._places.take_back(lent, is_over=False)
-            self._live._places.give_back(it for it in places if it.number not in self._ended)
-            self._live._places.drop(it.number for it in places if it.number in self._ended)
+            self._live._places.give_back(it for it in places if it.number not in ended)
+            self._live._places.drop(it.number for it in places if it.number in ended)
 
     def _is_dead(self) -> bool:
         """It may take a while, behind the end of its connection."""
@@ -169,7 +174,7 @@ class ClientProcess:
         live = self._live
         for came, session, number, unseen, packed in logged:
             if number is None:
-                self._ended.add(session)
+                self.group.ended.add(session)
                 live.take_close(session)
             else:
                 what = packed if live._packed else unpacked(packed)
@@ -202,7 +207,6 @@ class ClientProcess:
                 live._lose_for_a_client()
             self.messages.tell("left", asked, None)
             return
-        self._ended.discard(place.number)  # as it was in an audit before
         self.group.add(place)
         if not self.messages.tell("left", asked, astuple(place)):
             self.group.remove(place.number)

@@ -35,8 +35,8 @@ WRITE = f"""INSERT INTO {{table}} VALUES (%s, %s, %s, %s, %s) ON CONFLICT (key) 
 OVERWRITE = f"""UPDATE {{table}} AS now SET value = {{value}}, run = %s, session = %s, number = %s
     FROM (SELECT * FROM {{table}} WHERE key = %s FOR UPDATE) AS before WHERE now.key = before.key
     {TRANSACTION}, before.value, before.run, before.session, before.number"""
-# Of the collector's own keys the value is the name that is overwritten, so that it isn't lost where
-# the answer is.
+# Of the collector's own keys the value is the name that is overwritten, so that it isn't lost with
+# the answer.
 KEPT = "concat_ws(' ', before.session, before.number, before.run)"
 FIRST = f"""INSERT INTO {{table}} VALUES (%s, %s, %s, %s, %s) ON CONFLICT (key) DO NOTHING
     {TRANSACTION}"""
@@ -56,14 +56,17 @@ LIVES = """concat_ws(' ', extract(epoch FROM pg_postmaster_start_time()),
     (SELECT extract(epoch FROM stats_reset) FROM pg_stat_bgwriter))"""
 LIFE = f"""SELECT pg_backend_pid(),
     (SELECT {AGE} FROM pg_stat_activity WHERE pid = pg_backend_pid()), {LIVES}"""
-# Its own statement, if it has got one, has the run's name in it.
-RUNS_STILL = f"""SELECT state <> 'idle', position(%s IN query) > 0 FROM pg_stat_activity
+# A pooled connection may be another client's by now: the transaction, or the key of a statement of
+# the collector's own, has to be the killed process's. Where that is what it ran last, and it is
+# idle, it is done with it.
+RUNS_STILL = f"""SELECT state = 'idle' AND position(%s IN query) > 0 FROM pg_stat_activity
     WHERE pid = %s AND {AGE} = %s"""
 WHAT_BECAME = f"""SELECT pg_xact_status(%s::text::xid8), {LIVES}"""
 ITS_ROW = """SELECT value FROM {table} WHERE key = %s AND run = %s AND session = %s
     AND number = %s"""
 END_IT = f"""SELECT pg_terminate_backend(pid) FROM pg_stat_activity WHERE pid = %s AND {AGE} = %s
-    AND (backend_xid::text = (%s::text::numeric %% 4294967296)::text OR position(%s IN query) > 0)"""
+    AND CASE WHEN %s THEN position(%s IN query) > 0
+    ELSE backend_xid::text = (%s::text::numeric %% 4294967296)::text END"""
 CONFLICTS = (errors.SerializationFailure, errors.DeadlockDetected)
 PATIENCE = 5.0  # seconds for a connection, and for an outcome
 ATTEMPTS = 10  # at the first row of a key: each fails only where another client has just made it
@@ -313,11 +316,11 @@ def asked(
     asks = Asks(extensions.make_dsn(**{**around, **dsn}), table, time.monotonic() + seconds)
     its = (key, run, session, number)
     if transaction_id is None:
-        if since is None or not asks.has_ended(pid, since, run, seconds):
+        if since is None or not asks.has_ended(pid, since, key, seconds):
             return UNKNOWN
         row = asks.row(ITS_ROW, its)
         return ("aborted", None) if row is None else ("committed", overwritten(row[0]))
-    status, now = asks.status(transaction_id, pid, since, run, seconds)
+    status, now = asks.status(transaction_id, pid, since, seconds)
     if status == "aborted":
         return "aborted", None
     if status == "committed" and (now == life or asks.row(ITS_ROW, its) is not None):
@@ -337,28 +340,29 @@ class Asks:
     def row(self, text: str, values: Sequence[Any]) -> Any:
         return answer(self.dsn, text.format(table=self.table), values, self.left())
 
-    def again(self, seconds: float, pid: Any, since: Any, transaction_id: Any, run: str) -> bool:
+    def again(self, seconds: float, pid: Any, since: Any, transaction_id: Any, key: str) -> bool:
         """Whether there is time to ask again, in a while."""
         left = self.ends - time.monotonic()
         if left < seconds / 2 and since is not None:
-            self.row(END_IT, (pid, since, transaction_id or "0", run))
+            is_alone = transaction_id is None
+            self.row(END_IT, (pid, since, is_alone, key, transaction_id or "0"))
         time.sleep(min(0.02, max(0.0, left)))
         return left > 0
 
-    def status(self, transaction_id: Any, pid: Any, since: Any, run: str, seconds: float) -> Any:
+    def status(self, transaction_id: Any, pid: Any, since: Any, seconds: float) -> Any:
         """Of the transaction, and the server's life as it was asked."""
         while True:
             status, life = self.row(WHAT_BECAME, (transaction_id,))
             if status != "in progress":
                 return status, life
-            if not self.again(seconds, pid, since, transaction_id, run):
+            if not self.again(seconds, pid, since, transaction_id, ""):
                 return None, life
 
-    def has_ended(self, pid: Any, since: Any, run: str, seconds: float) -> bool:
+    def has_ended(self, pid: Any, since: Any, key: str, seconds: float) -> bool:
         """Whether the statement isn't run any more that the killed process had sent."""
         while True:
-            found = self.row(RUNS_STILL, (run, pid, since))
-            if found is None:
+            found = self.row(RUNS_STILL, (key, pid, since))
+            if found is None or found[0]:
                 return True
-            if not self.again(seconds, pid, since, None, run):
+            if not self.again(seconds, pid, since, None, key):
                 return False

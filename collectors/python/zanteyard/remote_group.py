@@ -5,7 +5,7 @@ from __future__ import annotations
 import threading
 import time
 from dataclasses import astuple, dataclass, replace
-from typing import Any, Callable, Dict, Iterable, List, Optional, Sequence, Tuple
+from typing import Any, Callable, Dict, Iterable, List, Optional, Sequence, Set, Tuple
 
 from .errors import ElsewhereError
 from .meetings import Missed, Wait
@@ -39,12 +39,14 @@ class RemoteGroup:
         later is given back then."""
         self._messages, self._wait, self._give_back = messages, wait, give_back
         self._numbers: Dict[int, Place] = {}  # its places, as they were given to it
+        self.ended: Set[int] = set()  # of these, of which it has told that nothing more comes
         self._has_left = False
         self._changed = threading.Condition()  # around what follows
         self._calls: Dict[int, _Call] = {}
         self._asked = 0
 
     def add(self, place: Place) -> None:
+        self.ended.discard(place.number)  # as it was in an audit before
         self._numbers[place.number] = replace(place)
 
     def remove(self, number: int) -> None:
@@ -108,6 +110,7 @@ class RemoteGroup:
         self._messages.tell("call", 0, "release", ([],), seconds=self.patience)
 
     def reopen(self) -> None:
+        self.ended.clear()
         self._messages.tell("call", 0, "reopen", ([],), seconds=self.patience)
 
     def edges(self) -> Optional[Sequence[Tuple[Any, ...]]]:
