@@ -18,6 +18,7 @@ from .errors import AuditLostError, ProgramEndedError
 from .killed import Killed, LostError, handed_in
 from .live import PAUSE, LiveAuditor
 from .messages import Messages
+from .notes import notes_of
 from .records import Logged, unpacked
 from .remote_group import RemoteGroup
 from .sessions import Place
@@ -129,7 +130,9 @@ class ClientProcess:
             if not self._is_dead():
                 raise LostError(why)
             there = {it[:-2] for it in glob.glob(f"{glob.escape(self._notes)}-*.0")}
-            if not self._has_all_noted or there - {*self._asks}:
+            # Of a session that it had begun to make, and in which nothing was done, it hasn't told.
+            untold = any(notes_of(path) for path in there - {*self._asks})
+            if untold or not self._has_all_noted:
                 raise LostError("not all that it did could be noted")
             killed = Killed(self._asks, self._live.run_name, self._live._backlog)
             for place in [*places, *lent]:
