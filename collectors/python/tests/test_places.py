@@ -87,6 +87,36 @@ class LentPlaces(unittest.TestCase):
         (new,) = [place for place in first if place.number == 0]
         self.assertEqual(coverage.number(0, new.begun), 0)
 
+    def test_the_answer_comes_and_nobody_looks_at_it(self):
+        """Since another process has left, which ends the meeting."""
+        self.answer()
+        self.group.release()
+        self.places.take_back(self.lent)
+        self.assertEqual(sorted(self.taken()), [0, 1])
+
+    def test_the_answer_comes_behind_a_meeting_in_which_nobody_waited_for_it(self):
+        self.group.release()
+        self.places.take_back(self.lent)
+        self.assertEqual(self.taken(), [1])
+        self.answer()
+        self.assertEqual(self.taken(), [0])
+
+    def test_who_was_idle_is_left_whether_or_not_the_answer_is_looked_at(self):
+        for is_first in (True, False):
+            with self.subTest(is_first=is_first):
+                places = Places(1)
+                place = places.take(0.0)
+                group = RemoteGroup(Nowhere(), 0.0, lambda lent: None, places.give_back)
+                group.add(place)
+                group.begin_gather(1, 0.0, False, [], 0.0)
+                result = ([], [(0, 5, True, False, True, False, False, ())])
+                if is_first:
+                    group.take_answer(1, result, None, False, [])
+                group.release()
+                if not is_first:
+                    group.take_answer(1, result, None, False, [])
+                self.assertEqual((group.numbers(), places.take(0.0).begun), ([], 5))
+
 
 class Leaving(unittest.TestCase):
     def test_a_client_leaves_while_it_is_asked_who_has_what(self):

@@ -48,7 +48,8 @@ class ClientProcess:
         """What it notes of its sessions is behind this path."""
         self._live, self._notes, self._connection = live, notes, connection
         self.messages = Messages(connection)
-        self.group = RemoteGroup(self.messages, live.policy.wait, self._take_back_late)
+        leave = live._places.give_back
+        self.group = RemoteGroup(self.messages, live.policy.wait, self._take_back_late, leave)
         self.thread = threading.Thread(target=self._listen, daemon=True)
         self._asks: Dict[str, Any] = {}  # of each of its notes' paths how the store is asked
         self._has_all_noted = True

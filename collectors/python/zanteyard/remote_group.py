@@ -21,6 +21,7 @@ class _Call:
     """What was asked: the places that are lent for it, and once it is there the answer, which is
     the result, what failed, and whether that is a meeting that was missed."""
 
+    name: str
     lent: Sequence[Place]
     answer: Optional[Tuple[Any, Optional[str], bool]] = None
     is_late: bool = False
@@ -33,16 +34,22 @@ class RemoteGroup:
     patience = PATIENCE
 
     def __init__(
-        self, messages: Messages, wait: float, give_back: Callable[[Iterable[Place]], None]
+        self,
+        messages: Messages,
+        wait: float,
+        give_back: Callable[[Iterable[Place]], None],
+        leave: Callable[[Iterable[Place]], object] = list,
     ) -> None:
         """A call waits so many seconds beside its own; what is lent for one whose answer comes
-        later is given back then."""
-        self._messages, self._wait, self._give_back = messages, wait, give_back
+        later, or is never looked at, is given back then, and the places of who was idle are
+        left."""
+        self._messages, self._wait, self._give_back, self._leave = messages, wait, give_back, leave
         self._numbers: Dict[int, Place] = {}  # its places, as they were given to it
         self.ended: Set[int] = set()  # of these, of which it has told that nothing more comes
         self._has_left = False
         self._changed = threading.Condition()  # around what follows
         self._calls: Dict[int, _Call] = {}
+        self._unread: List[_Call] = []  # that are answered
         self._asked = 0
 
     def add(self, place: Place) -> None:
@@ -107,6 +114,13 @@ class RemoteGroup:
         return self._begin("pass_on", meeting, lent=places)
 
     def release(self) -> None:
+        """Nobody waits for what was asked for this meeting any more."""
+        with self._changed:
+            for call in self._calls.values():
+                call.is_late = True
+            unread, self._unread = self._unread, []
+        for call in unread:
+            self._leave_idle(call, call.answer and call.answer[0])
         self._messages.tell("call", 0, "release", ([],), seconds=self.patience)
 
     def reopen(self) -> None:
@@ -137,13 +151,23 @@ class RemoteGroup:
                 vars(place).update(vars(Place(*now)))
             if not call.is_late:
                 call.answer = (result, failure, is_missed)
+                self._unread.append(call)
                 self._changed.notify_all()
         if call.is_late:
             self._give_back(call.lent)
+            self._leave_idle(call, result)
+
+    def _leave_idle(self, call: _Call, result: Any) -> None:
+        """Whose clients have given back their places, as they were idle, has none of them."""
+        if call.name == "gather" and result:
+            places = [Place(*place) for place in result[1]]
+            for place in places:
+                self._numbers.pop(place.number, None)
+            self._leave(places)
 
     def _begin(self, name: str, *arguments: Any, lent: Sequence[Place] = ()) -> Wait[Any]:
         """Gives what waits for the answer, until then and a little longer."""
-        call = _Call(lent)
+        call = _Call(name, lent)
         told = (*arguments, [astuple(place) for place in lent])
         with self._changed:
             if self._has_left:
@@ -167,6 +191,7 @@ class RemoteGroup:
         with self._changed:
             self._changed.wait_for(lambda: call.answer or self._has_left, seconds)
             call.is_late = call.answer is None
+            self._unread = [it for it in self._unread if it is not call]
         if call.answer is None:
             what = "has left" if self._has_left else f"hasn't answered for {seconds:.3g} s"
             raise Missed(f"the process of the sessions {self.told()} {what}")
