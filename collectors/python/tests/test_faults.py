@@ -369,13 +369,12 @@ class Faults(unittest.TestCase):
         self.all_ended(self.processes(2, PACE), "none, in processes", "serial")
 
     def test_a_clients_process_is_killed(self):
+        """The audit goes on: what that did last is found in its notes."""
         self.audit()
-        killed, *others = self.processes(4)
+        killed, *others = self.processes(4, PACE)
         self.wait_for(self.is_audited)
         killed.kill()
-        self.wait_for(self.began_anew)
-        outcome = self.all_ended([killed, *others], "a client's process is killed")
-        self.assertIn("is lost", str(outcome.earlier[0].failure))
+        self.all_ended([killed, *others], "a client's process is killed", "serial")
 
     def test_a_clients_process_stands_still(self):
         """No meeting can be had, until there is no room; it isn't audited until it answers

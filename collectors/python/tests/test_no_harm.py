@@ -640,8 +640,9 @@ class Late(NoHarm):
     def test_what_a_process_did_that_is_lost(self):
         """Nothing is known of its last ones."""
         places, backlog = Places(2), Backlog(8)
-        left, _ = places.take(0.0), places.take(0.0)
+        left, lost = places.take(0.0), places.take(0.0)
         places.give_back([left])
+        places.drop([lost.number])
         backlog.count(1, 6)
         coverage = coverage_from_now(2, [], places, backlog)
         self.assertEqual((coverage.early, coverage.first[0]), ([0, 7], 0))

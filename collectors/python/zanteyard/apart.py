@@ -5,7 +5,6 @@ hand over what was logged, as bytes, and the rest is done beside them."""
 from __future__ import annotations
 
 import gc
-import marshal
 import os
 import pickle
 import signal
@@ -14,12 +13,14 @@ import struct
 import subprocess
 import sys
 from multiprocessing.connection import Connection, Pipe
+from multiprocessing.reduction import ForkingPickler
 from typing import Any, List, Optional, Sequence, Tuple
 
 from .auditor import Auditor, NoCut
 from .coverage import Coverage
+from .errors import RefusedError
 from .pipes import ENDING, Ended, Late
-from .records import Cut, History, Logged, Report
+from .records import Cut, History, Logged, Report, as_bytes, unpacked
 from .taking import EFFORTS, SECONDS, Effort, Fragment, Full, Takes
 
 PLACE = os.path.dirname(os.path.dirname(os.path.abspath(__file__)))
@@ -37,7 +38,6 @@ class AuditorApart(Takes):
 
     process: Any = None
     _connection: Any = None
-    _waits = False  # for an answer, of which nothing was read
 
     def _start(self, coverage: Optional[Coverage]) -> None:
         self.remaining, self.can_cut, self.left_out = 0, True, 0
@@ -59,34 +59,42 @@ class AuditorApart(Takes):
             raise
 
     def _call(self, name: str, *arguments: Any, seconds: float = SECONDS + MORE) -> Any:
+        packed = ForkingPickler.dumps((name, arguments))
         with self.lock:
             if self._late is not None:
                 self._end_late(SECONDS)
-            self._send(name, arguments)
+            self._leave_step()
+            self._send(packed)
             try:
-                return self._receive(seconds)
-            except Late:
+                self._wait(seconds)
+            except Late as error:
+                self._why_out = str(error)
                 self._give_up()
                 raise
+            is_failed, result = self._receive()
+            self._be_in_step()
+        if is_failed:
+            raise result
+        return result
 
     def _give_up(self) -> None:
-        """It would answer later what nobody asks any more."""
-        self.process.kill()
+        """What it has answered by now isn't read any more."""
+        self._is_in_step = False
+        if self.process is not None:
+            self.process.kill()
 
-    def _is_waiting(self) -> bool:
-        return self._waits
-
-    def _send(self, name: str, arguments: Sequence[Any], seconds: float = SECONDS) -> None:
+    def _send(self, packed: Any, seconds: float = SECONDS) -> None:
         """Where nothing of it is taken for so many seconds, that process is given up."""
         try:
             self._limit_sending(seconds)
-            self._connection.send((name, arguments))
+            self._connection.send_bytes(packed)
         except BlockingIOError as error:
             self._give_up()
-            told = f"it has taken nothing for {seconds:.3g} s"
-            raise Ended(f"{UNREACHABLE}: {told}") from error
+            self._why_out = f"{UNREACHABLE}: it has taken nothing for {seconds:.3g} s"
+            raise Ended(self._why_out) from error
         except (OSError, ValueError) as error:
-            raise Ended(f"{UNREACHABLE}: {error}") from error
+            self._why_out = f"{UNREACHABLE}: {error}"
+            raise Ended(self._why_out) from error
 
     def _limit_sending(self, seconds: float) -> None:
         """How long what is sent may wait for room on its way."""
@@ -95,36 +103,47 @@ class AuditorApart(Takes):
         with socket.socket(fileno=os.dup(self._connection.fileno())) as same:
             same.setsockopt(socket.SOL_SOCKET, socket.SO_SNDTIMEO, limit)
 
-    def _receive(self, seconds: float) -> Any:
+    def _wait(self, seconds: float) -> None:
+        """Until an answer is there. Raises Late, and may then be called again, as after an
+        interrupt."""
         try:
-            self._waits = True
-            is_there = self._connection.poll(seconds)
-            self._waits = False
-            if not is_there:
+            if not self._connection.poll(seconds):
                 raise Late(f"{UNREACHABLE}: it hasn't answered for {seconds:.3g} s")
+        except (OSError, EOFError) as error:
+            raise Ended(f"{UNREACHABLE}: {error}") from error
+
+    def _receive(self) -> Tuple[bool, Any]:
+        """Whether it failed, and the result, or why."""
+        try:
             is_failed, result = self._connection.recv()
         except (OSError, EOFError, pickle.UnpicklingError) as error:
-            raise Ended(f"{UNREACHABLE}: {error}") from error
-        if is_failed:
-            raise result
-        return result
+            self._why_out = f"{UNREACHABLE}: {error}"
+            raise Ended(self._why_out) from error
+        return is_failed, result
 
-    def _begin_take(self, kind: str, session: int, *offered: Any) -> Any:
-        wait = self.policy.wait / 2  # which is waited twice where a part of it has gone
+    def _prepare(self, kind: str, session: int, *offered: Any) -> Any:
         if kind == "close":
-            self._send("close", (session,), wait)
+            call: Any = ("close", (session,))
         else:
-            self._send("offer_all", ([self._plain((session, offered[0], offered[1:]))],), wait)
-        return session, *offered
+            call = ("offer_all", ([self._plain((session, offered[0], offered[1:]))],))
+        return ForkingPickler.dumps(call), session, *offered[:1]
 
-    def _end_take(self, kind: str, asked: Any, seconds: float) -> None:
-        result = self._receive(seconds)
+    def _begin_take(self, asked: Any) -> None:
+        self._send(asked[0], self.policy.wait / 2)  # waited twice where a part of it has gone
+
+    def _wait_for_take(self, seconds: float) -> None:
+        self._wait(seconds)
+
+    def _end_take(self, kind: str, asked: Any, seconds: float) -> Optional[RefusedError]:
+        is_failed, result = self._receive()
+        if is_failed:
+            failure: RefusedError = result  # whatever it is, it was read to its end
+            return failure
         if kind == "offer":
-            refused, self.left_out = result
+            refused, self.left_out, self.remaining = result
             if refused:
-                told = f"there is no room for transaction {asked[1]} of session {asked[0]}"
-                raise Full(told)
-            self.remaining += 1
+                return Full(f"there is no room for transaction {asked[2]} of session {asked[1]}")
+        return None
 
     @staticmethod
     def _plain(fragment: Fragment) -> Fragment:
@@ -133,8 +152,8 @@ class AuditorApart(Takes):
 
     def offer_all(self, fragments: Sequence[Fragment]) -> List[Fragment]:
         """Their transactions may be packed."""
-        refused, self.left_out = self._call("offer_all", [*map(self._plain, fragments)])
-        self.remaining += sum(len(txns) for session, _, txns in fragments if session not in refused)
+        told = self._call("offer_all", [*map(self._plain, fragments)])
+        refused, self.left_out, self.remaining = told
         return [fragment for fragment in fragments if fragment[0] in refused]
 
     @staticmethod
@@ -155,11 +174,11 @@ class AuditorApart(Takes):
 
     def truncate(self) -> Cut:
         try:
-            cut: Cut = self._call("truncate")
+            cut: Cut
+            cut, self.remaining = self._call("truncate")
         except NoCut:
             self.can_cut = self._call("get", "can_cut")
             raise
-        self.remaining -= cut.gone
         return cut
 
     @property
@@ -196,16 +215,6 @@ class AuditorApart(Takes):
         return self
 
 
-def as_bytes(logged: Logged) -> bytes:
-    # This takes a third of pickle's time, and knows plain values alone.
-    plain: Any = tuple(logged)
-    return marshal.dumps(plain)
-
-
-def unpacked(packed: bytes) -> Logged:
-    return Logged(*marshal.loads(packed))
-
-
 class OfPacked(Auditor):
     """An Auditor of transactions that are packed, and that stay so in its history."""
 
@@ -238,10 +247,14 @@ class Served:
         self.auditor.coverage = coverage
 
     def offer_all(self, fragments: Sequence[Fragment]) -> Any:
-        """The sessions whose transactions there was no room for, and how many reads were left
-        out."""
+        """The sessions whose transactions there was no room for, how many reads were left out, and
+        how many transactions remain."""
         refused = {session for session, _, _ in self.auditor.offer_all(fragments)}
-        return refused, self.auditor.left_out
+        return refused, self.auditor.left_out, self.auditor.remaining
+
+    def truncate(self) -> Any:
+        """The cut, and how many transactions remain."""
+        return self.auditor.truncate(), self.auditor.remaining
 
     def get(self, name: str) -> Any:
         return getattr(self.auditor, name)

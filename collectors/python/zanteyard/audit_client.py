@@ -2,18 +2,23 @@
 
 from __future__ import annotations
 
+import functools
 import logging
+import os
 import threading
 import time
+import weakref
 from dataclasses import astuple
 from multiprocessing.connection import Client
 from typing import Any, Callable, Dict, List, Optional
 
+from .asking import asks_of
 from .errors import ProgramEndedError
 from .group_calls import GroupCalls
 from .handover import Handover
 from .live import PAUSE
 from .messages import Messages
+from .notes import Notes
 from .outcome import Policy
 from .place_requests import PlaceRequests
 from .records import Logged, Store
@@ -27,9 +32,9 @@ LEAVING = 30.0  # seconds for sessions to end their transactions
 
 class AuditClient(SessionsHere):
     """In place of a LiveAuditor, in a process of clients: theirs is behind the AuditServer at this
-    path. `leave` ends it, once its sessions do nothing more; a process that ends without it has the
-    audit end, since nobody knows what it did last. Raises OSError where nobody is there, and
-    ProgramEndedError where nobody answers. For threads."""
+    path. `leave` ends it, once its sessions do nothing more. What a process did last that is killed
+    is found in its notes (`notes.py`); where these don't tell, the audit ends with it. Raises
+    OSError where nobody is there, and ProgramEndedError where nobody answers. For threads."""
 
     def __init__(self, path: str) -> None:
         connection: Any = Client(path, "AF_UNIX")
@@ -37,8 +42,12 @@ class AuditClient(SessionsHere):
         if not self._messages.comes(ANSWERING):
             told = f"the auditor's process hasn't answered for {ANSWERING:g} s"
             raise ProgramEndedError(told)
-        _, run_name, self.is_named, self.token, most, policy = self._messages.receive()
+        welcome: Any = self._messages.receive()
+        _, run_name, self.is_named, self.token, most, policy, self._notes_path = welcome
         super().__init__(run_name, Policy(*policy))
+        self._notes: List[Notes] = []
+        self._count, self._noting = 0, threading.Lock()
+        _forked.add(self)
         self._handover = Handover(self._messages, most)
         self._requests = PlaceRequests(self._messages)
         self._calls = GroupCalls(self._group, self._messages, self._handover)
@@ -103,6 +112,8 @@ class AuditClient(SessionsHere):
             thread.join(ANSWERING)
         self._group.end()
         self._messages.close()
+        for notes in self._notes:
+            notes.close()
 
     def __enter__(self) -> AuditClient:
         return self
@@ -114,11 +125,17 @@ class AuditClient(SessionsHere):
 
     def take(self, session: int, number: int, logged: Logged) -> None:
         """Hands over what a transaction did; waits for room as long as the policy says."""
+        self.take_packed(session, number, logged, None)
+
+    def take_packed(
+        self, session: int, number: int, logged: Logged, packed: Optional[bytes]
+    ) -> None:
+        """The same, where it may be bytes already."""
         if self._handover.lost is not None or self._is_gone:
             self._handover.dropped += 1
             return
         try:
-            self._handover.put(session, number, logged)
+            self._handover.put(session, number, logged, packed)
         except ValueError as error:
             self._handover.dropped += 1
             self._lose(f"transaction {number} of session {session} can't be handed over: {error}")
@@ -164,6 +181,24 @@ class AuditClient(SessionsHere):
         found = self._requests.ask("join", False, seconds=wait) or session.place
         return found or self._requests.ask("overflow", seconds=wait)
 
+    def _notes_of(self, store: Store) -> Optional[Notes]:
+        """The auditor's process is told first where they are, and how the store is asked."""
+        with self._noting:
+            self._count += 1
+            which = self._count
+        # Nobody waits for this: the files aren't there meanwhile, which tells the same.
+        tell = functools.partial(self._handover.put_behind, "unnoted")
+        try:
+            notes = Notes(f"{self._notes_path}-{which}", self._handover.sent, tell)
+        except OSError as error:
+            logger.error("if this process is killed, the audit ends with it: %s", error)
+            self._messages.tell("unnoted", seconds=ANSWERING)
+            return None
+        self._notes.append(notes)
+        if not self._messages.tell("noted", which, asks_of(store), seconds=ANSWERING):
+            self._messages.tell("noted", which, None, seconds=ANSWERING)  # it can't be told how
+        return notes
+
     def _give_back(self, place: Place) -> None:
         self._handover.put_behind("back", astuple(place))
 
@@ -198,3 +233,27 @@ class AuditClient(SessionsHere):
         """The auditor's process can't be reached: clients go on."""
         self._is_over = self._is_gone = True
         self._requests.end()
+
+    def _be_forked(self) -> None:
+        """In a child of the process, in which nothing is audited: it must neither keep the
+        connection open, by whose end the parent's is seen, nor write the parent's notes."""
+        self._is_over = self._is_gone = True
+        self._calls.is_leaving = True
+        self._requests.has_ended = True
+        try:
+            self._messages.close()
+            for notes in self._notes:
+                notes.let_go()
+        except OSError:
+            pass  # it was closed before the fork
+
+
+_forked: "weakref.WeakSet[AuditClient]" = weakref.WeakSet()
+
+
+def _be_forked() -> None:
+    for client in list(_forked):
+        client._be_forked()
+
+
+os.register_at_fork(after_in_child=_be_forked)

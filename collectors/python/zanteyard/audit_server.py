@@ -6,12 +6,15 @@ over connections of their own; what they did is handed over some twenty-five tim
 meetings hold them and run their flags by calls over the same socket. All messages of a process come
 in the order in which they were sent, so that whatever was done before a call was answered has been
 handed over by then. No client sends or receives anything: threads beside them do, and where these
-can't the client goes on.
+can't the client goes on. What a process did that is killed is found in its notes, which are in a
+folder beside the socket; both are removed at the end.
 """
 
 from __future__ import annotations
 
+import logging
 import os
+import shutil
 import threading
 import time
 from multiprocessing.connection import Client, Listener
@@ -20,6 +23,7 @@ from typing import Any, List
 from .client_process import ClientProcess
 from .live import PAUSE, LiveAuditor
 
+logger = logging.getLogger("zanteyard")
 CLOSING = 30.0  # seconds for all processes to leave
 
 
@@ -31,7 +35,8 @@ class AuditServer:
     def __init__(self, live: LiveAuditor, path: str) -> None:
         self.path, self._live = path, live
         self._processes: List[ClientProcess] = []
-        self._is_closing = False
+        self._is_closing, self._count = False, 0
+        self.notes = f"{path}.notes"  # the folder in which processes note what they do
         try:
             Client(path, "AF_UNIX").close()
         except ConnectionRefusedError:
@@ -40,6 +45,11 @@ class AuditServer:
             pass
         self._listener = Listener(path, "AF_UNIX", backlog=64)
         os.chmod(path, 0o600)
+        shutil.rmtree(self.notes, ignore_errors=True)  # it is left, too
+        try:
+            os.mkdir(self.notes, 0o700)
+        except OSError as error:
+            logger.error("what clients do can't be noted: %s", error)
         live._at_end.append(self._tell_end)
         self._thread = threading.Thread(target=self._let_in, daemon=True)
         self._thread.start()
@@ -63,6 +73,7 @@ class AuditServer:
             process.thread.join(max(0.0, until - time.monotonic()))
             if process.thread.is_alive():
                 process.lose(f"it hadn't left after {patience:g} s")
+        shutil.rmtree(self.notes, ignore_errors=True)
 
     def __enter__(self) -> AuditServer:
         return self
@@ -80,7 +91,8 @@ class AuditServer:
             if self._is_closing:
                 connection.close()
                 return
-            process = ClientProcess(self._live, connection)
+            self._count += 1
+            process = ClientProcess(self._live, connection, f"{self.notes}/{self._count}")
             self._processes = [*(it for it in self._processes if it.thread.is_alive()), process]
             process.thread.start()
 

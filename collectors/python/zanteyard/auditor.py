@@ -27,6 +27,7 @@ MARK = "zanteyard mark"  # a key that a meeting writes behind its fence, for all
 FLAG = "zanteyard flag "  # and a session's number: a key that this session alone writes
 PLAIN_FENCE = "zanteyard's fence"  # the key of fences, where what is left of one may be none
 OWN = (FENCE, MARK, FLAG, PLAIN_FENCE)  # what keys of the collector's own begin with
+ENDED = "cobra_audit has been ended"
 logger = logging.getLogger("zanteyard")
 KINDS: Mapping[str, Type[Refused]] = {"Backlog": Full, "NoCut": NoCut, "NoMemory": NoMemory}
 
@@ -86,71 +87,86 @@ class Auditor(Takes):
         """The reply to a line as docs/FORMATS.md has them; one that is refused for want of memory
         is given again."""
         text = written(line)
-        (reply,) = self._replies_to([text])
-        return self._settled(text, reply)
+        with self.lock:
+            self._begin_to_ask()
+            (reply,) = self._replies_to([text])
+            reply, refusal = self._settled(text, reply)
+            self._be_in_step()
+        if refusal is not None:
+            raise refusal
+        return reply
 
-    def _settled(self, text: str, reply: List[Any], seconds: float = SECONDS) -> List[Any]:
-        """The reply, where the line isn't refused for good."""
+    def _begin_to_ask(self) -> None:
+        if self._late is not None:
+            self._end_late(SECONDS)
+        self._leave_step()
+
+    def _settled(
+        self, text: str, reply: List[Any], seconds: float = SECONDS
+    ) -> Tuple[List[Any], Optional[Refused]]:
+        """The reply once the line isn't refused for want of memory, and what it refuses."""
         for wait in WAITS:
             if reply[0] != "no" or reply[2] != "NoMemory" or wait > seconds:
                 break
             time.sleep(wait)
             (reply,) = self._replies_to([text])
-        if reply[0] == "no":
-            raise KINDS.get(reply[2], Refused)(f"{text} was answered {reply[2]}")
-        return reply
+        refused = reply[0] == "no" and KINDS.get(reply[2], Refused)
+        return reply, refused(f"{text} was answered {reply[2]}") if refused else None
 
     def _replies_to(self, texts: Sequence[str]) -> List[List[Any]]:
-        """Of lines that are given one behind the other; raises Late where that takes too long."""
-        with self.lock:
-            if self._late is not None and self._late[1][0] not in texts:  # else it is given again
-                self._end_late(SECONDS)
-            self._give(texts)
-            try:
-                assert self.program is not None
-                return [json.loads(answer) for answer in self.program.answers(len(texts), SECONDS)]
-            except Late:
+        """Of lines that are given one behind the other; raises Late where that takes too long. For
+        who has left the step."""
+        self._give(texts)
+        try:
+            assert self.program is not None
+            return [json.loads(answer) for answer in self.program.answers(len(texts), SECONDS)]
+        except Ended as error:
+            self._why_out = str(error)
+            if isinstance(error, Late):
                 self._give_up()
-                raise
+            raise
 
     def _give_up(self) -> None:
-        """It would answer later what nobody asks any more."""
-        assert self.program is not None
-        self.program.kill()
-
-    def _is_waiting(self) -> bool:
-        return self.program is not None and self.program.is_waiting
+        if self.program is not None:
+            self.program.kill()
 
     def _give(self, texts: Sequence[str]) -> None:
         if self.program is None:
-            raise Ended("cobra_audit has been ended")
+            raise Ended(ENDED)
         lines = [text.encode() for text in texts]
         self._keep(lines)
         self.program.ask(lines)
 
     # a line for a session, and its answer
 
-    def _begin_take(self, kind: str, session: int, *offered: Any) -> Tuple[str, Any]:
+    def _prepare(self, kind: str, session: int, *offered: Any) -> Tuple[str, Any]:
         if kind == "close":
-            text, fragment = written(["close", session]), None
-        else:
-            number, logged = offered
-            fragment = self._covered((session, number, [logged]))
-            text = self._offer_of(fragment)
-        self._give([text])
-        return text, fragment
+            return written(["close", session]), None
+        number, logged = offered
+        fragment = self._covered((session, number, [logged]))
+        return self._offer_of(fragment), fragment
 
-    def _end_take(self, kind: str, asked: Tuple[str, Any], seconds: float) -> None:
+    def _begin_take(self, asked: Tuple[str, Any]) -> None:
+        self._give(asked[:1])
+
+    def _wait_for_take(self, seconds: float) -> None:
+        if self.program is None:
+            raise Ended(ENDED)
+        self.program.wait(1, seconds)
+
+    def _end_take(
+        self, kind: str, asked: Tuple[str, Any], seconds: float
+    ) -> Optional[Refused]:
         text, fragment = asked
         assert self.program is not None
         (answer,) = self.program.answers(1, seconds)
-        try:
-            self._settled(text, json.loads(answer), seconds)
-        except Full as error:
+        _, refusal = self._settled(text, json.loads(answer), seconds)
+        if isinstance(refusal, Full):
             told = f"there is no room for transaction {fragment[1]} of session {fragment[0]}"
-            raise Full(told) from error
-        if kind == "offer":
+            return Full(told)
+        if kind == "offer" and refusal is None:
             self._keep_history(fragment)
+        return refusal
 
     def _offer_of(self, fragment: Tuple[Any, ...]) -> str:
         session, first, txns, _ = fragment
@@ -173,17 +189,23 @@ class Auditor(Takes):
                 logger.error("%s lacks lines: %s", self.script.name, error)
 
     def offer_all(self, fragments: Sequence[Fragment]) -> List[Fragment]:
-        refused = []
+        refused, wrong = [], None
         with self.lock:
             moved = [self._covered(fragment) for fragment in fragments]
             texts = [self._offer_of(fragment) for fragment in moved]
+            self._begin_to_ask()
             replies = self._replies_to(texts)
             for fragment, its, text, reply in zip(fragments, moved, texts, replies):
-                try:
-                    self._settled(text, reply)
+                _, refusal = self._settled(text, reply)
+                if refusal is None:
                     self._keep_history(its)
-                except Full:
+                elif isinstance(refusal, Full):
                     refused.append(fragment)
+                else:
+                    wrong = wrong or refusal
+            self._be_in_step()
+        if wrong is not None:
+            raise wrong
         return refused
 
     def _covered(self, fragment: Fragment) -> Tuple[Any, ...]:
@@ -215,8 +237,8 @@ class Auditor(Takes):
             return found
         with self.lock:
             if key not in self.numbers:  # another thread may have come first
-                self.numbers[key] = len(self.names)
-                self.names.append(key)
+                self.names.append(key)  # first: after an interrupt no two keys have one number
+                self.numbers[key] = len(self.names) - 1
             return self.numbers[key]
 
     def close(self, session: int) -> None:
@@ -233,21 +255,26 @@ class Auditor(Takes):
     def truncate(self) -> Cut:
         """Has the auditor forget what the last round found settled. The lines keep in which order
         what remains stands to it. Raises NoCut where nothing is."""
+        text = written(["truncate"])
         with self.lock:
-            try:
-                _, fence, gone, last = self.ask(["truncate"])
-            except NoCut:
-                raise
-            except Refused as error:
-                self.can_cut = "BadLine" not in str(error)
-                raise NoCut(str(error)) from error
-            self.base.update(
-                (self.names[key], (session, number)) for key, session, number in last
-            )
-            for session, count in Counter(session for session, _ in gone).items():
-                del self.history[session][:count]
-                self.marks[session] += count
-            return Cut((fence[0], fence[1]), len(gone))
+            self._begin_to_ask()
+            (reply,) = self._replies_to([text])
+            reply, refusal = self._settled(text, reply)
+            cut = self._forget(*reply[1:]) if refusal is None else None
+            self._be_in_step()
+        if cut is not None:
+            return cut
+        if isinstance(refusal, NoCut):
+            raise refusal
+        self.can_cut = "BadLine" not in str(refusal)
+        raise NoCut(str(refusal)) from refusal
+
+    def _forget(self, fence: Sequence[int], gone: Sequence[Any], last: Sequence[Any]) -> Cut:
+        self.base.update((self.names[key], (session, number)) for key, session, number in last)
+        for session, count in Counter(session for session, _ in gone).items():
+            del self.history[session][:count]
+            self.marks[session] += count
+        return Cut((fence[0], fence[1]), len(gone))
 
     def _end_program(self) -> Optional[int]:
         if self.script is not None:

@@ -117,6 +117,7 @@ class Convener:
         for share, gathered in zip(shares, gathering):
             flags, given_back = gathered(ends)
             unread.update(flags)
+            self._places.lend_taken(given_back)
             places.extend(given_back)
             share.extend(given_back)
         self._lead(leading, unread, ends)

@@ -29,14 +29,13 @@ def coverage_from_now(
             first[session], unknown[session] = unsent, its
     for group in groups:
         group.reopen()
-    away = {number for group in groups for number in group.numbers()}
-    for session, number in enumerate(first):
-        if number is None and session not in away:  # of a process that is lost
+    for session in sorted(places.nobodys()):  # of processes that are lost
+        if first[session] is None:
             early[session] = backlog.next_number(session)
             begun = early[session] + SKIPPED
             first[session] = begun
             unknown[session] = ((0, begun),)  # as its process alone knew
-            places.add([Place(session, begun, is_due=True, unknown=unknown[session])])
+            places.begin_anew(Place(session, begun, is_due=True, unknown=unknown[session]))
     return Coverage(early, first, unknown=unknown)
 
 

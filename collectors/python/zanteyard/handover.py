@@ -5,13 +5,12 @@ from __future__ import annotations
 import queue
 import threading
 import time
-from typing import Any, List, Optional, Sequence, Tuple
+from typing import Any, Dict, List, Optional, Sequence, Tuple
 
-from .apart import as_bytes
 from .auditor import LONGEST
 from .backlog import keys_written_unseen
 from .messages import Messages
-from .records import Logged
+from .records import Logged, as_bytes
 
 # When it came, the session, the number (None where nothing more of the session comes), the keys
 # that were written unseen, and what was logged, as bytes.
@@ -29,13 +28,17 @@ class Handover:
         self._sending = threading.Lock()  # so that what one session did is sent in its order
         self._wake = threading.Event()  # somebody waits for room
         self._sent = self._taken = 0
+        self.sent: Dict[int, int] = {}  # of each session the number behind the last that was sent
         self.dropped = 0  # transactions that are done and not handed over: they count all the same
         self.lost: Optional[str] = None
         self._told_lost: Optional[str] = None
 
-    def put(self, session: int, number: int, logged: Logged) -> None:
-        """Raises ValueError where it can't be made bytes."""
-        packed, unseen = as_bytes(logged), keys_written_unseen(logged)
+    def put(
+        self, session: int, number: int, logged: Logged, packed: Optional[bytes] = None
+    ) -> None:
+        """Raises ValueError where it can't be made bytes, which it may have been already."""
+        unseen = keys_written_unseen(logged)
+        packed = as_bytes(logged) if packed is None else packed
         self._waiting.put((time.monotonic(), session, number, unseen, packed))
 
     def put_close(self, session: int) -> None:
@@ -92,6 +95,9 @@ class Handover:
         dropped, self.dropped = self.dropped, 0
         self._sent += len(logged)
         self._messages.send("logged", logged, dropped)
+        for _, session, number, _, _ in logged:
+            if number is not None:
+                self.sent[session] = number + 1
 
 
 def _taken_from(waiting: "queue.SimpleQueue[Any]", count: int) -> List[Any]:

@@ -40,6 +40,30 @@ GIVING_UP = 1.0  # the same, where an exception ends it
 Lost = AuditLostError  # the same error under a shorter name
 
 
+class Killing:
+    """While it is found out what killed processes did; for threads."""
+
+    def __init__(self) -> None:
+        self._count, self._changed = 0, threading.Condition()
+
+    @property
+    def is_going_on(self) -> bool:
+        return self._count > 0
+
+    def wait(self, seconds: float = 30.0) -> None:
+        with self._changed:
+            self._changed.wait_for(lambda: not self._count, seconds)
+
+    def __enter__(self) -> None:
+        with self._changed:
+            self._count += 1
+
+    def __exit__(self, *_: object) -> None:
+        with self._changed:
+            self._count -= 1
+            self._changed.notify_all()
+
+
 class LiveAuditor(SessionsHere):
     """Audits clients while they run. For threads.
 
@@ -86,6 +110,7 @@ class LiveAuditor(SessionsHere):
         self._lost: Optional[Exception] = None  # why no more is audited, until another audit begins
         self._failure: Optional[Exception] = None  # the same, once nothing more is audited for good
         self._is_stopping = self._has_ended = False
+        self._killed = Killing()
         self._at_end: List[Callable[[], object]] = []
         self._thread = threading.Thread(target=self._serve, name="zanteyard", daemon=True)
         self._thread.start()
@@ -254,6 +279,8 @@ class LiveAuditor(SessionsHere):
         place = self._places.take(self.policy.wait)
         if place is None:
             self._lose_for_a_client()
+        elif session.place is not None:  # which has ended for this audit
+            self._places.drop([session.place.number])
         return place or session.place or self._places.take_unaudited()
 
     def _lose_for_a_client(self) -> None:
@@ -261,7 +288,7 @@ class LiveAuditor(SessionsHere):
         self.lose(Lost(f"no session of {self.auditor.sessions} is left for a client"))
 
     def _give_back(self, place: Place) -> None:
-        self._places.add([place])
+        self._places.give_back([place])
 
     # the thread
 
@@ -305,6 +332,8 @@ class LiveAuditor(SessionsHere):
 
     def _is_meeting_due(self) -> bool:
         """Where room asks for it: at a violation nothing is lost by a later one."""
+        if self._killed.is_going_on:  # what that did is to be handed in before
+            return False
         return self._convener.new >= self._pace.until_meeting(bool(self._audit.why_no_cut))
 
     def _meet(self) -> None:
@@ -355,6 +384,7 @@ class LiveAuditor(SessionsHere):
             return False
         pause = self.policy.pause
         self._wait_until(self._audit.began + pause)
+        self._killed.wait()
         while not self._cant_begin():
             try:
                 self._start_anew()

@@ -20,6 +20,7 @@ import pymysql
 from pymysql.constants import SERVER_STATUS
 
 from .bounded import LateError, within
+from .asking import Found as FoundOut
 from .records import Found, Name
 from .sessions import Aborted, NameTaken, OutcomeUnknown
 
@@ -345,6 +346,12 @@ class MariaDBStore:
         finally:
             _close(connection)
 
+    def asks(self) -> Any:
+        return ("mariadb", self.dsn, self.table, self.own)
+
+    def ticket(self, written: Sequence[Any]) -> Any:
+        return (self.count, self.is_alone, *written)
+
     def claim(self, run_name: str, token: str, seconds: float) -> None:
         """Makes the name that of one run, or raises NameTaken where it is another's; OutcomeUnknown
         or Aborted where the server hasn't answered after so many seconds."""
@@ -375,3 +382,28 @@ def _close(connection: Any) -> None:
         connection.close()
     except (AttributeError, pymysql.MySQLError):
         pass  # it was closed, or none has come
+
+
+ITS_ROW = """SELECT before_run, before_session, before_number FROM {table} WHERE `key` = %s
+    AND run = %s AND session = %s AND number = %s"""
+
+
+def asked(
+    dsn: Dict[str, Any], table: str, own: str, *, ticket: Any, seconds: float
+) -> FoundOut:
+    """What became of the transaction of a store whose process is killed."""
+    store = MariaDBStore(dsn, patience=seconds)
+    store.table, store.own = table, own
+    store.count, is_alone, *its = ticket
+    outcome = store.outcome_within(seconds)
+    if outcome != "committed" or not is_alone:
+        return outcome, None
+    connection = store.connected(seconds)
+    try:
+        limit(connection, time.monotonic() + seconds)
+        cursor = connection.cursor()
+        cursor.execute(ITS_ROW.format(table=table), its)
+        row = cursor.fetchone()
+        return outcome, None if row is None else () if row[0] is None else (row,)
+    finally:
+        _close(connection)

@@ -47,6 +47,7 @@ class Connection:
 
     def begin(self) -> None:
         self.began, self.seen, self.writes = self.shared.moment, {}, {}
+        self.last_outcome = "aborted"  # so far nothing is there
 
     def read(self, key: str) -> Optional[Found]:
         shared = self.shared
@@ -96,9 +97,10 @@ class Connection:
     def end(self, outcome: str) -> None:
         """`lost`, which tests set, has the commit take effect ("committed") or not ("aborted")
         without an answer."""
-        self.last_outcome = self.lost or outcome
-        if self.last_outcome == "committed" and self.shared.fault != "lost-write":
+        outcome, self.last_outcome = self.lost or outcome, "unknown"  # an interrupt may come
+        if outcome == "committed" and self.shared.fault != "lost-write":
             self.install()
+        self.last_outcome = outcome
 
     def install(self) -> None:
         with self.shared.lock:

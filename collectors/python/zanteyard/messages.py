@@ -8,7 +8,9 @@ import socket
 import struct
 import threading
 from multiprocessing.connection import Connection
-from typing import Any
+from typing import Any, List
+
+from .locks import give_back, take
 
 SENDING = 30.0  # seconds in which the other end has to take what is sent
 
@@ -18,6 +20,7 @@ class Messages:
 
     def __init__(self, connection: Connection) -> None:
         self._connection, self._lock = connection, threading.Lock()
+        self._is_whole = True  # no message was cut off
         with socket.socket(fileno=os.dup(connection.fileno())) as same:
             seconds = struct.pack("ll", int(SENDING), 0)
             same.setsockopt(socket.SOL_SOCKET, socket.SO_SNDTIMEO, seconds)
@@ -25,19 +28,34 @@ class Messages:
     def send(self, *message: Any, seconds: float = SENDING) -> None:
         """Waits so many seconds for what others send. Raises OSError where the other end is gone or
         takes nothing."""
-        text = marshal.dumps(message)
-        if not self._lock.acquire(timeout=seconds):
-            raise OSError("something else is still on its way")
+        text, taken = marshal.dumps(message), []  # type: bytes, List[bool]
         try:
+            if not take(self._lock, seconds, taken):
+                raise OSError("something else is still on its way")
+            if not self._is_whole:
+                raise OSError("a message was cut off")
+            self._is_whole = False
             self._connection.send_bytes(text)
+            self._is_whole = True
         finally:
-            self._lock.release()
+            if taken and taken[-1] and not self._is_whole:
+                self._hang_up()
+            give_back(self._lock, taken)
+
+    def _hang_up(self) -> None:
+        """What would be sent from here on would be read as the rest of what was cut off, as by a
+        time that was up, or by Ctrl-C: the other end is to see an end of it."""
+        try:
+            with socket.socket(fileno=os.dup(self._connection.fileno())) as same:
+                same.shutdown(socket.SHUT_RDWR)
+        except (OSError, TypeError):
+            pass  # it is closed
 
     def tell(self, *message: Any, seconds: float = SENDING) -> bool:
         """Whether it could be sent."""
         try:
             self.send(*message, seconds=seconds)
-        except (OSError, TypeError):  # the latter where it is closed meanwhile
+        except (OSError, TypeError, ValueError):  # it is closed, or no plain value
             return False  # who listens will find out why
         return True
 

@@ -19,7 +19,8 @@ ENDING = 5.0  # seconds for a program to end by itself, once its input has ended
 
 
 class Pipes:
-    """For one thread at a time."""
+    """For one thread at a time. What an interrupt leaves half done may have an answer be read for
+    another line: from then on, and once it was killed, every call raises Ended."""
 
     def __init__(self, path: str) -> None:
         pipe = subprocess.PIPE
@@ -34,7 +35,7 @@ class Pipes:
         self.rest = b""  # what was read behind the last whole line
         self.unsent = memoryview(b"")  # of lines
         self.found: List[bytes] = []  # answers that nobody has yet
-        self.is_waiting = False  # an interrupt in that moment loses nothing
+        self.is_in_step = True  # of what was written and read nothing is half noted
         self.waits = select.poll()
         self.waits.register(self.output, select.POLLIN | select.POLLHUP)
         self.takes = select.poll()
@@ -43,11 +44,25 @@ class Pipes:
 
     def ask(self, lines: Iterable[bytes]) -> None:
         """Bytes without their ends, each of which is answered once."""
+        self.still_in_step()
         self.unsent = memoryview(bytes(self.unsent) + b"".join(line + b"\n" for line in lines))
 
     def answers(self, count: int, seconds: float) -> List[bytes]:
-        """So many, in the order in which was asked. Raises Ended; or Late after so many seconds,
-        and may then be called again."""
+        """So many, in the order in which was asked; raises as `wait` does."""
+        self.wait(count, seconds)
+        answers, self.found = self.found[:count], self.found[count:]
+        return answers
+
+    def still_in_step(self) -> None:
+        """Raises Ended where it isn't known any more to which line an answer belongs."""
+        if not self.is_in_step:
+            self.kill()
+            self.tell_end()
+
+    def wait(self, count: int, seconds: float) -> None:
+        """Until so many answers are there. Raises Ended; or Late after so many seconds, and may
+        then be called again, as after an interrupt."""
+        self.still_in_step()
         until = time.monotonic() + seconds
         try:
             while len(self.found) < count:
@@ -58,31 +73,31 @@ class Pipes:
             self.tell_end()
         except (OSError, ValueError) as error:
             raise Ended(f"cobra_audit can't be reached: {error}") from error
-        answers, self.found = self.found[:count], self.found[count:]
-        return answers
 
     def write(self, until: float) -> None:
         """What the program takes, unless answers have to be read first."""
         try:
+            self.is_in_step = False
             self.unsent = self.unsent[os.write(self.input.fileno(), self.unsent[:65536]) :]
+            self.is_in_step = True
         except BlockingIOError:
+            self.is_in_step = True
             if not self.waits.poll(0) and not self.takes.poll(self.left(until)):
                 raise Late("cobra_audit hasn't answered in time") from None
 
     def read(self, until: float, is_blocking: bool) -> None:
         left = self.left(until) if is_blocking else 0
-        self.is_waiting = True
-        is_there = self.waits.poll(left)
-        self.is_waiting = False
-        if not is_there:
+        if not self.waits.poll(left):
             if is_blocking:
                 raise Late("cobra_audit hasn't answered in time")
             return
+        self.is_in_step = False
         got = os.read(self.output.fileno(), 1 << 20)
         if not got:
             self.tell_end()
         *lines, self.rest = (self.rest + got).split(b"\n")
         self.found += lines
+        self.is_in_step = True
 
     def left(self, until: float) -> int:
         """Milliseconds, as `poll` wants them."""
@@ -95,6 +110,8 @@ class Pipes:
     error = ""  # what it told as it ended
 
     def kill(self) -> None:
+        """What it has answered by now isn't read any more."""
+        self.is_in_step = False
         self.process.kill()
 
     def end(self) -> int:

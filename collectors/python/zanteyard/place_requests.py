@@ -18,7 +18,7 @@ class PlaceRequests:
 
     def __init__(self, messages: Messages) -> None:
         self._messages, self._asking = messages, threading.Lock()
-        self._asked, self._has_ended = 0, False
+        self._asked, self.has_ended = 0, False
         self._answers: queue.SimpleQueue[Optional[Answer]] = queue.SimpleQueue()
 
     def ask(self, kind: str, *more: Any, seconds: float) -> Optional[Place]:
@@ -27,7 +27,7 @@ class PlaceRequests:
         if not self._asking.acquire(timeout=seconds):  # others wait for theirs
             return None
         try:
-            if self._has_ended:
+            if self.has_ended:
                 return None
             self._asked += 1
             if not self._messages.tell(kind, self._asked, *more, seconds=seconds):
@@ -42,7 +42,7 @@ class PlaceRequests:
 
     def end(self) -> None:
         """Nothing more is answered."""
-        self._has_ended = True
+        self.has_ended = True
         self._answers.put(None)
 
     def _answer(self, ends: float) -> Optional[Place]:

@@ -7,11 +7,14 @@ import os
 import re
 import socket
 import threading
+import time
 from typing import Any, Dict, Optional, Sequence, Tuple
 
 import psycopg2
-from psycopg2 import errors
+from psycopg2 import errors, extensions
 
+from .asking import UNKNOWN, overwritten
+from .asking import Found as FoundOut
 from .postgres_connection import answer, connected
 from .records import Found, Name
 from .sessions import Aborted, NameTaken, OutcomeUnknown
@@ -29,9 +32,12 @@ WRITE = f"""INSERT INTO {{table}} VALUES (%s, %s, %s, %s, %s) ON CONFLICT (key) 
     {TRANSACTION}"""
 # The row is locked before it is read, so that what is given is what is overwritten: a plain
 # subselect would give what the statement's snapshot has, from before it waited for the lock.
-OVERWRITE = f"""UPDATE {{table}} AS now SET value = %s, run = %s, session = %s, number = %s
+OVERWRITE = f"""UPDATE {{table}} AS now SET value = {{value}}, run = %s, session = %s, number = %s
     FROM (SELECT * FROM {{table}} WHERE key = %s FOR UPDATE) AS before WHERE now.key = before.key
     {TRANSACTION}, before.value, before.run, before.session, before.number"""
+# Of the collector's own keys the value is the name that is overwritten, so that it isn't lost with
+# the answer.
+KEPT = "concat_ws(' ', before.session, before.number, before.run)"
 FIRST = f"""INSERT INTO {{table}} VALUES (%s, %s, %s, %s, %s) ON CONFLICT (key) DO NOTHING
     {TRANSACTION}"""
 STATUS = """SELECT pg_xact_status(%s::text::xid8), EXISTS (SELECT 1 FROM {table}
@@ -43,6 +49,24 @@ CLAIM = """WITH mine AS (INSERT INTO {table} VALUES (%s, %s, %s, %s, %s)
 CLAIM_ALL = """INSERT INTO {table} SELECT DISTINCT %s || run, '', run, -1, 0 FROM {table}
     WHERE session >= 0 ON CONFLICT (key) DO NOTHING"""
 READING = "SET TRANSACTION ISOLATION LEVEL SERIALIZABLE, READ ONLY; "
+# The server's process of a connection and since when it is, and what changes whenever the server
+# is started or has crashed, after which it may give a transaction's number to another one.
+AGE = "extract(epoch FROM backend_start)::text"
+LIVES = """concat_ws(' ', extract(epoch FROM pg_postmaster_start_time()),
+    (SELECT extract(epoch FROM stats_reset) FROM pg_stat_bgwriter))"""
+LIFE = f"""SELECT pg_backend_pid(),
+    (SELECT {AGE} FROM pg_stat_activity WHERE pid = pg_backend_pid()), {LIVES}"""
+# A pooled connection may be another client's by now: the transaction, or the key of a statement of
+# the collector's own, has to be the killed process's. Where that is what it ran last, and it is
+# idle, it is done with it.
+RUNS_STILL = f"""SELECT state = 'idle' AND position(%s IN query) > 0 FROM pg_stat_activity
+    WHERE pid = %s AND {AGE} = %s"""
+WHAT_BECAME = f"""SELECT pg_xact_status(%s::text::xid8), {LIVES}"""
+ITS_ROW = """SELECT value FROM {table} WHERE key = %s AND run = %s AND session = %s
+    AND number = %s"""
+END_IT = f"""SELECT pg_terminate_backend(pid) FROM pg_stat_activity WHERE pid = %s AND {AGE} = %s
+    AND CASE WHEN %s THEN position(%s IN query) > 0
+    ELSE backend_xid::text = (%s::text::numeric %% 4294967296)::text END"""
 CONFLICTS = (errors.SerializationFailure, errors.DeadlockDetected)
 PATIENCE = 5.0  # seconds for a connection, and for an outcome
 ATTEMPTS = 10  # at the first row of a key: each fails only where another client has just made it
@@ -95,12 +119,22 @@ class PostgresStore:
         self.statement: Optional[str] = None  # what was run last, as the server got it
         self.before = ""  # what the transaction's first statement is sent behind
         self.is_alone = self.is_hung_up = False
+        # Whether another process may have to ask what became of a commit, and what it then wants
+        # to know of this connection: its server's process, and since when, and the server's life.
+        self.is_asked = False
+        self.life: Tuple[Any, ...] = (0, None, None)
 
     def connect(self, seconds: Optional[float] = None) -> None:
         """Opens the connection, and raises psycopg2's errors where it can't."""
         self.is_hung_up = False
         self.connection = connected(self.dsn, self.patience if seconds is None else seconds)
         self.connection.autocommit = True  # transactions are begun here, on the way of a statement
+        self.life = (self.connection.info.backend_pid, None, None)
+        if self.is_asked:
+            try:
+                self.life = self.send(LIFE).fetchone()
+            except psycopg2.Error:
+                pass  # then less is found out
 
     def send(self, text: str, values: Sequence[Any] = ()) -> Any:
         """All that is sent to the server goes through here: one call is one way there and back."""
@@ -154,8 +188,10 @@ class PostgresStore:
 
     def exchange(self, key: str, value: Any, name: Name) -> Optional[Found]:
         self.written = (key, *name)
+        keeps = KEPT if self.is_alone else "%s"
+        values = (*name, key) if self.is_alone else (value, *name, key)
         for _ in range(ATTEMPTS):
-            row = self.ask(OVERWRITE, (value, *name, key)).fetchone()
+            row = self.ask(OVERWRITE.replace("{value}", keeps), values).fetchone()
             if row is not None:
                 self.transaction_id = row[0]
                 return row[1], row[2:]
@@ -224,6 +260,16 @@ class PostgresStore:
             return str(status)
         return "unknown"
 
+    def asks(self) -> Any:
+        """For another process of this machine; the environment's words for what the dsn lacks."""
+        self.is_asked = True
+        if self.connection is not None:
+            self.close()  # the next one tells of its life
+        return ("postgres", dict(extensions.parse_dsn(self.dsn)), environment(), self.table)
+
+    def ticket(self, written: Sequence[Any]) -> Any:
+        return (None if self.is_alone else self.transaction_id, *self.life, *written)
+
     def claim(self, run_name: str, token: str, seconds: float) -> None:
         """Makes the name that of one run, or raises NameTaken where it is another's; OutcomeUnknown
         where the server hasn't answered after so many seconds."""
@@ -248,3 +294,75 @@ class PostgresStore:
             if row is not None:
                 return str(row[0])
         raise Aborted(f"{key} came and went {ATTEMPTS} times")
+
+
+# What libpq takes from the environment where a dsn doesn't say it.
+WORDS = {
+    **{"PGHOST": "host", "PGHOSTADDR": "hostaddr", "PGPORT": "port", "PGDATABASE": "dbname"},
+    **{"PGUSER": "user", "PGPASSWORD": "password", "PGSERVICE": "service"},
+}
+
+
+def environment() -> Dict[str, str]:
+    return {word: os.environ[name] for name, word in WORDS.items() if os.environ.get(name)}
+
+
+def asked(
+    dsn: Dict[str, str], around: Dict[str, str], table: str, *, ticket: Any, seconds: float
+) -> FoundOut:
+    """What became of the transaction of a store whose process is killed. What its server's process
+    is still about is waited for, for half of the time; then that process is ended."""
+    transaction_id, pid, since, life, key, run, session, number = ticket
+    asks = Asks(extensions.make_dsn(**{**around, **dsn}), table, time.monotonic() + seconds)
+    its = (key, run, session, number)
+    if transaction_id is None:
+        if since is None or not asks.has_ended(pid, since, key, seconds):
+            return UNKNOWN
+        row = asks.row(ITS_ROW, its)
+        return ("aborted", None) if row is None else ("committed", overwritten(row[0]))
+    status, now = asks.status(transaction_id, pid, since, seconds)
+    if status == "aborted":
+        return "aborted", None
+    if status == "committed" and (now == life or asks.row(ITS_ROW, its) is not None):
+        return "committed", None
+    return UNKNOWN
+
+
+class Asks:
+    """Until then, by the monotonic clock; raises psycopg2's errors."""
+
+    def __init__(self, dsn: str, table: str, ends: float) -> None:
+        self.dsn, self.table, self.ends = dsn, table, ends
+
+    def left(self) -> float:
+        return max(0.05, self.ends - time.monotonic())
+
+    def row(self, text: str, values: Sequence[Any]) -> Any:
+        return answer(self.dsn, text.format(table=self.table), values, self.left())
+
+    def again(self, seconds: float, pid: Any, since: Any, transaction_id: Any, key: str) -> bool:
+        """Whether there is time to ask again, in a while."""
+        left = self.ends - time.monotonic()
+        if left < seconds / 2 and since is not None:
+            is_alone = transaction_id is None
+            self.row(END_IT, (pid, since, is_alone, key, transaction_id or "0"))
+        time.sleep(min(0.02, max(0.0, left)))
+        return left > 0
+
+    def status(self, transaction_id: Any, pid: Any, since: Any, seconds: float) -> Any:
+        """Of the transaction, and the server's life as it was asked."""
+        while True:
+            status, life = self.row(WHAT_BECAME, (transaction_id,))
+            if status != "in progress":
+                return status, life
+            if not self.again(seconds, pid, since, transaction_id, ""):
+                return None, life
+
+    def has_ended(self, pid: Any, since: Any, key: str, seconds: float) -> bool:
+        """Whether the statement isn't run any more that the killed process had sent."""
+        while True:
+            found = self.row(RUNS_STILL, (key, pid, since))
+            if found is None or found[0]:
+                return True
+            if not self.again(seconds, pid, since, None, key):
+                return False

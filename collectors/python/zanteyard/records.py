@@ -2,6 +2,7 @@
 
 from __future__ import annotations
 
+import marshal
 from typing import Any, Callable, List, NamedTuple, Optional, Protocol, Sequence, Tuple, Union
 
 TransactionId = Tuple[int, int]  # session and number
@@ -31,6 +32,16 @@ class Logged(NamedTuple):
     values: Sequence[Tuple[str, str, str]] = ()
     began: float = 0.0
     caller: str = ""
+
+
+def as_bytes(logged: Logged) -> bytes:
+    # This takes a third of pickle's time, and knows plain values alone.
+    plain: Any = tuple(logged)
+    return marshal.dumps(plain)
+
+
+def unpacked(packed: bytes) -> Logged:
+    return Logged(*marshal.loads(packed))
 
 
 class Report(NamedTuple):

@@ -20,6 +20,7 @@ from typing import Any, Dict, List, Optional, Sequence, Tuple
 import redis
 
 from .bounded import LateError, within
+from .asking import Found as FoundOut
 from .errors import StoreUnfitError
 from .records import Found, Name
 from .sessions import Aborted, NameTaken, OutcomeUnknown
@@ -364,6 +365,16 @@ class RedisStore:
         *_, done = replies(connection, [("MULTI",), aborted, ("EXEC",)])
         return "unknown" if done is None else "aborted"
 
+    @property
+    def writes_at_once(self) -> bool:
+        return self.level == SINGLE
+
+    def asks(self) -> Any:
+        return ("redis", self.url, self.prefix, self.own)
+
+    def ticket(self, written: Sequence[Any]) -> Any:
+        return None if self.level == SINGLE and not self.is_alone else self.count
+
     def claim(self, run_name: str, token: str, seconds: float) -> None:
         """Makes the name that of one run, or raises NameTaken where it is another's; OutcomeUnknown
         where the server hasn't answered after so many seconds."""
@@ -401,3 +412,11 @@ def replies(connection: Any, commands: Sequence[Command]) -> List[Any]:
     if failure is not None:
         raise failure
     return found
+
+
+def asked(url: str, prefix: str, own: str, *, ticket: Any, seconds: float) -> FoundOut:
+    """What became of the transaction of a store whose process is killed; what an `exchange` by
+    itself has overwritten isn't kept."""
+    store = RedisStore(url, prefix=prefix, patience=seconds)
+    store.own, store.count = own, ticket
+    return store.outcome_within(seconds), None

@@ -4,7 +4,7 @@ from __future__ import annotations
 
 import threading
 import time
-from dataclasses import astuple, dataclass
+from dataclasses import astuple, dataclass, replace
 from typing import Any, Callable, Dict, Iterable, List, Optional, Sequence, Set, Tuple
 
 from .errors import ElsewhereError
@@ -12,6 +12,7 @@ from .meetings import Missed, Wait
 from .messages import Messages
 from .sessions import Place
 
+LEFT = "a process has left"
 PATIENCE = 5.0  # seconds for an answer, beside those that the call may take
 
 
@@ -20,6 +21,7 @@ class _Call:
     """What was asked: the places that are lent for it, and once it is there the answer, which is
     the result, what failed, and whether that is a meeting that was missed."""
 
+    name: str
     lent: Sequence[Place]
     answer: Optional[Tuple[Any, Optional[str], bool]] = None
     is_late: bool = False
@@ -32,32 +34,54 @@ class RemoteGroup:
     patience = PATIENCE
 
     def __init__(
-        self, messages: Messages, wait: float, give_back: Callable[[Iterable[Place]], None]
+        self,
+        messages: Messages,
+        wait: float,
+        give_back: Callable[[Iterable[Place]], None],
+        leave: Callable[[Iterable[Place]], object] = list,
     ) -> None:
         """A call waits so many seconds beside its own; what is lent for one whose answer comes
-        later is given back then."""
-        self._messages, self._wait, self._give_back = messages, wait, give_back
-        self._numbers: Set[int] = set()
+        later, or is never looked at, is given back then, and the places of who was idle are
+        left."""
+        self._messages, self._wait, self._give_back, self._leave = messages, wait, give_back, leave
+        self._numbers: Dict[int, Place] = {}  # its places, as they were given to it
+        self.ended: Set[int] = set()  # of these, of which it has told that nothing more comes
         self._has_left = False
         self._changed = threading.Condition()  # around what follows
         self._calls: Dict[int, _Call] = {}
+        self._unread: List[_Call] = []  # that are answered
         self._asked = 0
 
-    def add(self, number: int) -> None:
-        self._numbers.add(number)
+    def add(self, place: Place) -> None:
+        self.ended.discard(place.number)  # as it was in an audit before
+        self._numbers[place.number] = replace(place)
 
     def remove(self, number: int) -> None:
-        self._numbers.discard(number)
+        self._numbers.pop(number, None)
+
+    def places(self) -> List[Place]:
+        """As they were given to it."""
+        return list(self._numbers.values())
+
+    def lent(self) -> List[Place]:
+        """What was lent for calls that it hasn't answered."""
+        with self._changed:
+            return [place for call in self._calls.values() for place in call.lent]
 
     def leave(self) -> None:
         """Nothing more is answered."""
-        self._has_left = True
         with self._changed:
+            self._has_left = True
             self._changed.notify_all()
 
     @property
     def has_left(self) -> bool:
         return self._has_left
+
+    @property
+    def had_sessions(self) -> bool:
+        """Also where it has left."""
+        return bool(self._numbers)
 
     @property
     def has_sessions(self) -> bool:
@@ -77,7 +101,8 @@ class RemoteGroup:
 
         def gathered(ends: float) -> Tuple[List[int], List[Place]]:
             flags, given_back = wait(ends)
-            self._numbers.difference_update(number for number, *_ in given_back)
+            for number, *_ in given_back:
+                self._numbers.pop(number, None)
             return flags, [Place(*place) for place in given_back]
 
         return gathered
@@ -89,9 +114,17 @@ class RemoteGroup:
         return self._begin("pass_on", meeting, lent=places)
 
     def release(self) -> None:
+        """Nobody waits for what was asked for this meeting any more."""
+        with self._changed:
+            for call in self._calls.values():
+                call.is_late = True
+            unread, self._unread = self._unread, []
+        for call in unread:
+            self._leave_idle(call, call.answer and call.answer[0])
         self._messages.tell("call", 0, "release", ([],), seconds=self.patience)
 
     def reopen(self) -> None:
+        self.ended.clear()
         self._messages.tell("call", 0, "reopen", ([],), seconds=self.patience)
 
     def edges(self) -> Optional[Sequence[Tuple[Any, ...]]]:
@@ -118,26 +151,39 @@ class RemoteGroup:
                 vars(place).update(vars(Place(*now)))
             if not call.is_late:
                 call.answer = (result, failure, is_missed)
+                self._unread.append(call)
                 self._changed.notify_all()
         if call.is_late:
             self._give_back(call.lent)
+            self._leave_idle(call, result)
+
+    def _leave_idle(self, call: _Call, result: Any) -> None:
+        """Whose clients have given back their places, as they were idle, has none of them."""
+        if call.name == "gather" and result:
+            places = [Place(*place) for place in result[1]]
+            for place in places:
+                self._numbers.pop(place.number, None)
+            self._leave(places)
 
     def _begin(self, name: str, *arguments: Any, lent: Sequence[Place] = ()) -> Wait[Any]:
         """Gives what waits for the answer, until then and a little longer."""
-        call = _Call(lent)
+        call = _Call(name, lent)
+        told = (*arguments, [astuple(place) for place in lent])
         with self._changed:
+            if self._has_left:
+                raise Missed(LEFT)
             self._asked += 1
             asked = self._asked
             self._calls[asked] = call
-        told = (*arguments, [astuple(place) for place in lent])
-        for place in lent:
-            place.is_lent = True  # until it is answered
-        if self._has_left or not self._messages.tell(
-            "call", asked, name, told, seconds=self.patience
-        ):
             for place in lent:
-                place.is_lent = False
-            raise Missed("a process has left")
+                place.is_lent = True  # until it is answered
+        if not self._messages.tell("call", asked, name, told, seconds=self.patience):
+            with self._changed:
+                if not self._has_left:  # else it isn't known whether it had got it
+                    del self._calls[asked]
+                    for place in lent:
+                        place.is_lent = False
+            raise Missed(LEFT)
         return lambda ends: self._answer_to(call, ends)
 
     def _answer_to(self, call: _Call, ends: float) -> Any:
@@ -145,6 +191,7 @@ class RemoteGroup:
         with self._changed:
             self._changed.wait_for(lambda: call.answer or self._has_left, seconds)
             call.is_late = call.answer is None
+            self._unread = [it for it in self._unread if it is not call]
         if call.answer is None:
             what = "has left" if self._has_left else f"hasn't answered for {seconds:.3g} s"
             raise Missed(f"the process of the sessions {self.told()} {what}")

@@ -31,11 +31,14 @@ from dataclasses import dataclass
 from typing import Any, Callable, Dict, Iterable, Iterator, List, Optional, Sequence, Set
 from typing import Tuple, TypeVar
 
+from .asking import ticket_of
 from .auditor import FENCE, FLAG, MARK
 from .circumstances import brief, caller
 from .errors import AbortedError, AuditLostError, NameTakenError, OutcomeUnknownError
 from .errors import StoreLateError
-from .records import Deed, Found, Logged, Name, Read, Source, Store
+from .locks import give_back, take
+from .notes import Notes
+from .records import Deed, Found, Logged, Name, Read, Source, Store, as_bytes
 
 # The same errors under shorter names.
 Aborted = AbortedError
@@ -105,6 +108,7 @@ class Session:
         self.wait = getattr(getattr(auditor, "policy", None), "wait", 30.0)
         # Held by a transaction from its begin to its end, and by a meeting.
         self.turn = threading.Lock()
+        self.has_turn: List[bool] = []  # whether a client has it and no transaction yet
         # Held while a meeting waits for the turn: else a busy client would take it again before the
         # meeting gets it.
         self.gate = threading.Lock()
@@ -112,6 +116,7 @@ class Session:
         self.running: Optional[Transaction] = None  # the same, or the collector's own
         self.used_at = time.monotonic()
         self.failure: Optional[Exception] = None
+        self.notes: Optional[Notes] = None  # for who finds this process killed
         # For how many seconds this client waited for the audit: in all, and at most at a time.
         self.waited = self.longest = 0.0
 
@@ -133,19 +138,28 @@ class Session:
             raise ValueError(f"session {self.number} is in a transaction: it runs one at a time")
         came = time.monotonic()
         try:
-            self.take_turn()
-            self.with_turn(self.get_ready)
-        finally:
-            self.has_waited(came)
-        return self.with_turn(lambda: self.start(self.store.begin, holds=True))
-
-    def with_turn(self, call: Callable[[], Result]) -> Result:
-        """Gives the turn back where it fails."""
-        try:
-            return call()
-        except BaseException:
-            self.turn.release()
+            try:
+                self.take_turn()
+                self.get_ready()
+            finally:
+                self.has_waited(came)
+            return self.start(self.store.begin, True)
+        except BaseException as error:
+            self.take_back(error)
             raise
+
+    def take_back(self, error: BaseException) -> None:
+        """What had begun until this came. Who has the transaction by then, as behind an interrupt
+        nobody does, gives it up by itself."""
+        if self.current is not None:
+            self.place.begun = max(self.place.begun, self.current.number + 1)
+            self.current.rollback()
+        elif self.has_turn and self.has_turn[-1]:
+            try:
+                if not isinstance(error, Exception):  # the store may have begun
+                    self.store.rollback()
+            finally:
+                give_back(self.turn, self.has_turn)
 
     def get_ready(self) -> None:
         self.go_on()
@@ -155,13 +169,18 @@ class Session:
         """Who holds it, and the gate, are meetings, which end within the policy's wait; but for a
         statement of theirs that the store hasn't answered over this connection. That is waited for
         as long once more, and then given up."""
-        if self.gate.locked() and self.gate.acquire(timeout=self.wait):
-            self.gate.release()
-        if self.turn.acquire(timeout=self.wait):
+        if self.gate.locked():
+            passed: List[bool] = []
+            try:
+                take(self.gate, self.wait, passed)
+            finally:
+                give_back(self.gate, passed)
+        self.has_turn = []
+        if take(self.turn, self.wait, self.has_turn):
             return
         logger.warning("session %s: the store doesn't answer the audit", self.number)
         self.hang_up()
-        if not self.turn.acquire(timeout=self.wait):
+        if not take(self.turn, self.wait, self.has_turn):
             raise StoreLateError(f"session {self.number} waits for the store")
 
     def hang_up(self) -> None:
@@ -208,20 +227,35 @@ class Session:
         begin(*arguments)
         transaction = Transaction(self, self.place.begun, holds)
         self.running = transaction
-        self.place.begun += 1  # also an attempt that aborts keeps its number
-        if holds:
+        if holds:  # from here on it is what gives the turn back
             self.current = transaction
+        self.place.begun = transaction.number + 1  # also an attempt that aborts keeps its number
         return transaction
 
     @contextmanager
     def transaction(self) -> Iterator[Transaction]:
-        with whole(self.begin()) as transaction:
-            yield transaction
+        before = self.current
+        try:
+            with whole(self.begin()) as transaction:
+                yield transaction
+        except BaseException:
+            self.drop(before)
+            raise
 
     def run(self, body: Callable[[Transaction], Result], attempts: int = 10) -> Result:
         """Calls body(transaction) and commits, again where the store aborts; each attempt has a
         number of its own."""
-        return attempted(self.begin, body, attempts)
+        before = self.current
+        try:
+            return attempted(self.begin, body, attempts)
+        except BaseException:
+            self.drop(before)
+            raise
+
+    def drop(self, before: Optional[Transaction]) -> None:
+        """Gives up what has begun since and, by an interrupt, nobody has."""
+        if self.current is not None and self.current is not before:
+            self.current.rollback()
 
     def close(self) -> None:
         """Nothing more of this session comes. Raises ValueError in the middle of a transaction."""
@@ -309,7 +343,7 @@ class Session:
     def lend(self, place: Place, deed: str, seconds: float = 60.0) -> None:
         """Runs "flag" or "read_mark" of a session that no client has over this one's connection."""
         one = Session(self.auditor, place.number, self.store, self.run_name)
-        one.place, place.is_lent = place, True
+        one.place, place.is_lent, one.notes = place, True, self.notes
         try:
             getattr(one, deed)(seconds)
         finally:
@@ -362,6 +396,7 @@ class Transaction:
         self.began, self.caller = (time.time(), caller()) if holds else (0.0, "")
         self.sent: Tuple[str, ...] = ()  # keys that were written and needn't be at the commit
         self.statements: Dict[Deed, str] = {}  # of each deed, as Logged has them
+        self.prepared: Any = None  # what is logged where it is committed, and the same as bytes
 
     def still_open(self) -> None:
         """What is done with a transaction that has ended would be one of its own in the store."""
@@ -426,6 +461,8 @@ class Transaction:
         self.is_committing = True
         self.written[key] = value
         self.sent = (*self.sent, key)
+        if self.session.notes is not None and (not self.holds or self.writes_at_once):
+            self.note_before(key, has_reads=False)
         self.was_read(key, both(key, value, self.name))
         self.was_run((key,))
 
@@ -436,23 +473,68 @@ class Transaction:
 
     def commit(self) -> None:
         self.still_open()
-        self.is_committing = True
+        self.is_committing, is_sent = True, False
+        is_late = False  # it is noted when it is known by what the store is asked for it
         try:
+            is_to_note = self.holds or len(self.sent) < len(self.written)
+            if is_to_note and self.session.notes is not None:
+                is_late = not self.writes_at_once
+                if not is_late:
+                    self.note_before(max(self.written, default=""))
             for key in sorted(self.written):
                 if key not in self.sent:
                     self.store.write(key, self.written[key], self.name)
                     self.was_run((key,))
+            if is_late:
+                self.note_before(max(self.written, default=""))
+            is_sent = True
             self.store.commit()
             self.log(self.reads, self.written, "committed")
         except OutcomeUnknown:
             self.find_out()
+        except Aborted:
+            self.rollback()
+            raise
         except Exception:
+            if is_sent and self.written and not self.is_over:
+                self.find_out_behind()
             self.rollback()
             raise
         except BaseException:  # as Ctrl-C: the store may have committed
             if not self.is_over:
                 self.log((), self.written, "unknown", is_last=bool(self.written))
             raise
+
+    @property
+    def writes_at_once(self) -> bool:
+        return bool(getattr(self.store, "writes_at_once", False))
+
+    def note_before(self, key: str, has_reads: bool = True) -> None:
+        """From here on the store may have committed what it writes."""
+        notes = self.session.notes
+        assert notes is not None
+        try:
+            reads = self.reads if has_reads else ()
+            logged = self.logged(reads, self.written, "committed")
+            packed, name = as_bytes(logged), self.name
+            if has_reads:
+                self.prepared = (logged, packed)
+            ticket = ticket_of(self.store, (key, *name)) if self.written else None
+        except Exception as error:
+            return notes.fail(error)
+        notes.write(name[1], self.number, None, packed, ticket, has_reads)
+
+    def note_answer(self, logged: Logged, is_last: bool) -> None:
+        """What is known by now, before it is handed in."""
+        notes, packed = self.session.notes, None
+        if notes is not None:
+            if self.prepared is None and logged.outcome == "committed":
+                try:
+                    packed = as_bytes(logged)
+                except ValueError as error:
+                    return notes.fail(error)
+            more = (packed, None, True, True) if is_last else (packed,)
+            notes.write(self.session.number or 0, self.number, logged.outcome, *more)
 
     def rollback(self) -> None:
         if not self.is_over:
@@ -463,6 +545,15 @@ class Transaction:
 
     def give_up(self) -> None:
         self.log((), (), "aborted")
+
+    def find_out_behind(self) -> None:
+        """Something else was raised than stores do, as by a handler of SIGALRM: it may have come
+        behind the store's answer."""
+        try:
+            self.store.rollback()
+            self.find_out()
+        except (Aborted, OutcomeUnknown):
+            pass
 
     def find_out(self) -> None:
         """Asks the store. Where it can't say, the transaction is logged with its writes alone, as
@@ -505,7 +596,7 @@ class Transaction:
             if not (is_last and FENCE in writes):
                 if session.unclaimed is not None:
                     session.miss(self.number, session.unclaimed)
-                elif not session.tell(self.hand_in, reads, writes, outcome):
+                elif not session.tell(self.hand_in, reads, writes, outcome, is_last):
                     session.miss(self.number)
             if is_last:
                 session.place.leave_open(self.number)
@@ -516,11 +607,25 @@ class Transaction:
             raise
         finally:  # nothing is called before the turn is given back: no signal comes in between
             session.running = None
-            if self.holds:
+            if self.holds and session.current is self:
                 session.current = None
+                session.has_turn = []
                 session.turn.release()
 
-    def hand_in(self, reads: Iterable[Read], writes: Iterable[str], outcome: str) -> None:
+    def hand_in(
+        self, reads: Iterable[Read], writes: Iterable[str], outcome: str, is_last: bool
+    ) -> None:
+        number, auditor = self.session.number, self.session.auditor
+        if self.prepared is not None and outcome == "committed":
+            logged, packed = self.prepared
+            self.note_answer(logged, is_last)
+            auditor.take_packed(number, self.number, logged, packed)
+        else:
+            logged = self.logged(reads, writes, outcome)
+            self.note_answer(logged, is_last)
+            auditor.take(number, self.number, logged)
+
+    def logged(self, reads: Iterable[Read], writes: Iterable[str], outcome: str) -> Logged:
         statements = tuple(self.statements.items())
         if outcome != "committed":
             deeds = {*reads, *((key,) for key in writes)}
@@ -534,5 +639,4 @@ class Transaction:
             values += tuple(("wrote", key, brief(self.written.get(key))) for key in writes)
         if not reads:  # it isn't known, or doesn't matter, what was read
             values = tuple(it for it in values if it[0] == "wrote")
-        logged = Logged(reads, writes, outcome, statements, values, self.began, self.caller)
-        self.session.auditor.take(self.session.number, self.number, logged)
+        return Logged(reads, writes, outcome, statements, values, self.began, self.caller)

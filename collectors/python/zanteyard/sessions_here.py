@@ -5,6 +5,7 @@ from __future__ import annotations
 from typing import Optional
 
 from .meetings import Group
+from .notes import Notes
 from .outcome import Policy
 from .records import Store
 from .sessions import Place, Session
@@ -37,9 +38,13 @@ class SessionsHere:
 
     def _add_session(self, place: Place, store: Store, patience: float) -> Session:
         made = Session(self, place.number, store, self.run_name, patience, self._renew)
-        made.place = place
+        made.place, made.notes = place, self._notes_of(store)
         self._group.add(made)
         return made
+
+    def _notes_of(self, store: Store) -> Optional[Notes]:
+        """Where what a session does is noted for who finds this process killed."""
+        return None
 
     def _renew(self, session: Session) -> Optional[Place]:
         """For a session that has ended: another one's place, or its own, and unaudited."""

@@ -9,11 +9,14 @@ which would else be found, and be done, once the file is opened anew.
 
 from __future__ import annotations
 
+import os
 import secrets
 import sqlite3
 import time
 from typing import Any, Dict, List, Optional, Sequence, Tuple
 
+from .asking import Found as FoundOut
+from .asking import kept, overwritten
 from .records import Found, Name
 from .sessions import Aborted, NameTaken, OutcomeUnknown
 
@@ -199,6 +202,8 @@ class SQLiteStore:
             own = (self.own, None, name[0], OWN, self.count)
             self.ask(WRITE, own, rows=ROW)  # from here on this is who writes
             rows = self.ask(READ, (key,)).fetchall()
+            if self.is_alone:  # a key of the collector's own
+                value = kept(rows[0][1:] if rows else None)
             self.ask(WRITE, (key, value, *name), rows=ROW)
             if is_by_itself:
                 written = self.statement
@@ -290,6 +295,18 @@ class SQLiteStore:
         connection.execute("COMMIT")
         return ABORTED
 
+    @property
+    def writes_at_once(self) -> bool:
+        return self.level == AUTOCOMMIT
+
+    def asks(self) -> Any:
+        return ("sqlite", os.path.abspath(self.path), self.table, self.own)
+
+    def ticket(self, written: Sequence[Any]) -> Any:
+        if self.level == AUTOCOMMIT and not self.is_alone:
+            return None
+        return (self.count, self.is_alone, *written)
+
     def claim(self, run_name: str, token: str, seconds: float) -> None:
         """Makes the name that of one run, or raises NameTaken where it is another's; Aborted where
         somebody else writes for so many seconds."""
@@ -305,3 +322,22 @@ class SQLiteStore:
             raise
         if found[0][0] != token:
             raise NameTaken(f"{self.table} knows the name {run_name}: an earlier run had it")
+
+
+ITS_ROW = "SELECT value FROM {table} WHERE key = ? AND run = ? AND session = ? AND number = ?"
+
+
+def asked(path: str, table: str, own: str, *, ticket: Any, seconds: float) -> FoundOut:
+    """What became of the transaction of a store whose process is killed."""
+    store = SQLiteStore(path, patience=seconds)
+    store.table, store.own = table, own
+    store.count, is_alone, *its = ticket
+    outcome = store.outcome_within(seconds)
+    if outcome != "committed" or not is_alone:
+        return outcome, None
+    try:
+        store.connect()
+        row = store.connection.execute(ITS_ROW.format(table=table), its).fetchone()
+        return outcome, None if row is None else overwritten(row[0])
+    finally:
+        store.close()

@@ -8,10 +8,12 @@ import secrets
 import threading
 import time
 from collections import deque
+from contextlib import suppress
 from typing import Any, Deque, Dict, Iterator, List, Optional, Sequence, Tuple
 
 from .coverage import Coverage
-from .errors import FullError
+from .errors import FullError, RefusedError
+from .locks import give_back, take
 from .outcome import RATHER_LOSE_THE_AUDIT, Outcome, Policy, kind_of
 from .pipes import Ended, Late
 from .programs import PROGRAM
@@ -58,7 +60,6 @@ class Takes:
         self.audits = 0
         self._waiting: Deque[Tuple[Any, ...]] = deque()
         self.is_ended = False  # by who has made it
-        self._counting = threading.Lock()
         self.lock = threading.RLock()  # what is kept here follows the replies in their order
         self._begin_count()
         self._start(None)
@@ -76,18 +77,48 @@ class Takes:
         which there was no room."""
         raise NotImplementedError
 
-    def _begin_take(self, kind: str, session: int, *offered: Any) -> Any:
+    def _prepare(self, kind: str, session: int, *offered: Any) -> Any:
+        """What is to be sent for a session."""
         raise NotImplementedError
 
-    def _end_take(self, kind: str, asked: Any, seconds: float) -> None:
+    def _begin_take(self, asked: Any) -> None:
+        """Sends it."""
+        raise NotImplementedError
+
+    def _wait_for_take(self, seconds: float) -> None:
+        """Until its answer can be read. Raises Late, and may then be called again, as after an
+        interrupt."""
+        raise NotImplementedError
+
+    def _end_take(self, kind: str, asked: Any, seconds: float) -> Optional[RefusedError]:
+        """Reads the answer, and gives what it refuses."""
         raise NotImplementedError
 
     def _give_up(self) -> None:
+        """The program would answer what nobody asks any more."""
         raise NotImplementedError
 
-    def _is_waiting(self) -> bool:
-        """Whether an answer is waited for, and no part of it was read."""
-        raise NotImplementedError
+    # What is sent and what is read for it are in step, but for between these two. An interrupt
+    # that comes there would have the next one who asks take an answer for its own that isn't.
+
+    _is_in_step = True
+    _why_out = ""  # where it was no interrupt
+
+    def _leave_step(self) -> None:
+        """For who has the lock."""
+        self._still_in_step()
+        self._is_in_step = False
+
+    def _still_in_step(self) -> None:
+        """Raises Ended where it has been left before and for good."""
+        if not self._is_in_step:
+            self._give_up()
+            raise Ended(self._why_out or "what was asked and what was answered are out of step")
+
+    def _be_in_step(self) -> None:
+        """An answer was read to its end, and what it says is kept."""
+        self._why_out = ""
+        self._is_in_step = True
 
     def last_round(self, efforts: Sequence[Effort] = EFFORTS) -> Report:
         """As `round`, over what was taken in by now, whatever was lost."""
@@ -117,6 +148,7 @@ class Takes:
             self._check_end()
             self._end_program()
             self._begin_count()
+            self._be_in_step()  # with another program
             self._start(coverage)
 
     def end(self) -> Optional[int]:
@@ -133,8 +165,9 @@ class Takes:
 
     def _begin_count(self) -> None:
         self.failure: Optional[Exception] = None
-        self.handed_in, self.taken_in = 0, 0
-        self._seen: Dict[int, int] = {}  # of each session, the number behind the last one counted
+        self.taken_in = 0
+        # Of each session the number behind the last one that was counted, and how many were.
+        self._seen: Dict[int, Tuple[int, int]] = {}
         self._late: Any = None  # what was asked for a session and isn't answered yet, since when
 
     def take(self, session: int, number: int, logged: Logged) -> None:
@@ -143,11 +176,15 @@ class Takes:
         self._hand_in(("offer", session, number, logged))
 
     def _count(self, session: int, number: int) -> None:
-        """Once, also of what is missed after it was handed in."""
-        with self._counting:
-            if self._seen.get(session, 0) <= number:
-                self._seen[session] = number + 1
-                self.handed_in += 1
+        """Once, also of what is missed after it was handed in; one thread at a time for a
+        session."""
+        seen, count = self._seen.get(session, (0, 0))
+        if seen <= number:
+            self._seen[session] = (number + 1, count + 1)
+
+    @property
+    def handed_in(self) -> int:
+        return sum(count for _, count in list(self._seen.values()))
 
     def miss(self, session: int, number: int, error: Exception) -> None:
         """It isn't known whether a session has handed in what it did under this number."""
@@ -163,12 +200,13 @@ class Takes:
         if self.failure is not None:
             return
         self._waiting.append(what)
+        taken: List[bool] = []
         ends = time.monotonic() + self.policy.wait
-        if self.lock.acquire(timeout=self.policy.wait):  # else who has it takes it in
-            try:
+        try:
+            if take(self.lock, self.policy.wait, taken):  # else who has it takes it in
                 self._take_in(ends)
-            finally:
-                self.lock.release()
+        finally:
+            give_back(self.lock, taken)
 
     def _take_in(self, ends: Optional[float] = None) -> None:
         """All that waits; until then. What isn't answered by then is asked for by who comes next,
@@ -177,8 +215,7 @@ class Takes:
             while self.failure is None and (self._late or self._waiting):
                 try:
                     if self._late is None:
-                        what = self._waiting.popleft()
-                        self._late = (what, self._begin_take(*what), time.monotonic())
+                        self._send_next()
                     elif ends is not None:
                         ends = min(ends, self._late[2] + self.policy.wait)
                     self._end_late(SECONDS if ends is None else max(0.0, ends - time.monotonic()))
@@ -189,10 +226,16 @@ class Takes:
                     return
                 except Exception as error:
                     self._lose(error)
-                except BaseException:  # as Ctrl-C: unless nothing was read just then
-                    if self._late is None or not self._is_waiting():
-                        self._give_up()
-                    raise
+
+    def _send_next(self) -> None:
+        what = self._waiting[0]
+        asked = self._prepare(*what)
+        self._leave_step()
+        with suppress(IndexError):  # what was missed meanwhile has emptied it
+            self._waiting.popleft()
+        self._begin_take(asked)
+        self._late = (what, asked, time.monotonic())
+        self._be_in_step()
 
     def _check_end(self) -> None:
         if self.is_ended:
@@ -201,10 +244,16 @@ class Takes:
     def _end_late(self, seconds: float) -> None:
         """The answer to what was asked for a session; raises Late, and may then be called again."""
         (kind, *_), asked, _ = self._late
-        self._end_take(kind, asked, seconds)
+        self._still_in_step()
+        self._wait_for_take(seconds)
+        self._leave_step()
+        refusal = self._end_take(kind, asked, seconds)
         self._late = None
-        if kind == "offer":
+        if kind == "offer" and refusal is None:
             self.taken_in += 1
+        self._be_in_step()
+        if refusal is not None:
+            raise refusal
 
     def _lose(self, error: Exception) -> None:
         """Nothing more is audited but what was taken in by now."""

@@ -1,0 +1,123 @@
+"""A process of clients that is killed where it is told: run by test_killed.py."""
+import logging
+import os
+import random
+import signal
+import sys
+import threading
+import time
+from contextlib import suppress
+
+sys.path.insert(0, sys.argv[1])
+logging.getLogger("zanteyard").setLevel(logging.CRITICAL)
+
+from zanteyard import Aborted, AuditClient, OutcomeUnknown  # noqa: E402
+from zanteyard.store_kinds import MakeStore  # noqa: E402
+
+
+def die():
+    os.kill(os.getpid(), signal.SIGKILL)
+    time.sleep(60)
+
+
+def send_and_die(store):
+    """The commit is on its way as the client is gone."""
+    text = b"COMMIT\0"
+    os.write(store.connection.fileno(), b"Q" + (len(text) + 4).to_bytes(4, "big") + text)
+    die()
+
+
+class Dying:
+    """Has the process end at the so many'th time that it comes to a place."""
+
+    def __init__(self, where, left):
+        self.where, self.left = where, left
+
+    def comes(self, where):
+        if where != self.where:
+            return False
+        self.left -= 1
+        return self.left < 0
+
+    def beset(self, session):
+        store = session.store
+        for name, before, behind in (
+            ("write", "before its write", "behind its write"),
+            ("send_commit", "before its commit", "behind its commit"),
+            ("exchange", "before its exchange", "behind its exchange"),
+        ):
+            setattr(store, name, self.around(getattr(store, name), before, behind, session))
+        for name in ("flag", "fence", "write_mark", "read_mark", "lend"):
+            setattr(session, name, self.around(getattr(session, name), f"before a {name}", f"behind a {name}", session))
+        notes = session.notes
+        notes.write = self.around(notes.write, "before a note", "behind a note", session)
+        session.auditor.take_packed = self.around(session.auditor.take_packed, "before its take", "behind its take", session)
+
+    def around(self, plain, before, behind, session):
+        def call(*arguments):
+            if self.comes(before):
+                die()
+            if before == "before its commit" and self.comes("in its commit"):
+                send_and_die(session.store)
+            result = plain(*arguments)
+            if self.comes(behind):
+                die()
+            return result
+
+        return call
+
+
+def work(session, client, seed, pause, workload):
+    """Counts, or takes one of two that the other leaves; and each transaction has a row of its own."""
+    chance, count = random.Random(seed), 0
+    while True:
+        count += 1
+
+        def body(transaction):
+            transaction.put(f"row {client} {count}", str(count))
+            keys = [f"{chance.choice('ab')} {chance.randrange(3)}" for _ in range(1)]
+            if workload == "counter":
+                transaction.put(keys[0], str(int(transaction.get(keys[0]) or 0) + 1))
+            elif workload == "skew":
+                pair = chance.randrange(2)
+                both = [int(transaction.get(f"{side} {pair}") or 0) for side in "ab"]
+                transaction.put(f"{chance.choice('ab')} {pair}", str((sum(both) + 1) % 1000))
+            elif workload == "mixed":
+                transaction.put(keys[0], str(count))
+                if chance.random() < 0.2:
+                    raise Aborted("for the sake of it")
+
+        with suppress(Aborted, OutcomeUnknown):
+            try:
+                session.run(body, attempts=1)
+            except ValueError:
+                return  # it has left
+        time.sleep(chance.random() * pause)
+
+
+def main():
+    _, _, path, kind, dsn, level, client, seed, where, left, pause, workload, sessions = sys.argv
+    more = () if level == "-" else (level,)
+    audit = AuditClient(path)
+    dying = Dying(where, int(left))
+    made = []
+    for _ in range(int(sessions)):
+        store = MakeStore(kind, dsn, *more)()
+        made.append(audit.session(store))
+        dying.beset(made[-1])
+    threads = [
+        threading.Thread(target=work, daemon=True, args=(it, f"{client}.{at}", f"{seed} {at}", float(pause), workload))
+        for at, it in enumerate(made)
+    ]
+    print("begun", flush=True)
+    for thread in threads:
+        thread.start()
+    for line in sys.stdin:  # until it is told to end
+        break
+    os._exit(0) if where == "leaves without a word" else None
+    audit.leave()
+    os._exit(0)
+
+
+if __name__ == "__main__":
+    main()

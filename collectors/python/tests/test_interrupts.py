@@ -1,0 +1,183 @@
+"""Ctrl-C and the like before any line of what the collector runs: no answer is ever taken for that
+of another line, nobody's turn is lost, and who was interrupted can go on."""
+import linecache
+import logging
+import os
+import sys
+import unittest
+
+from zanteyard import AuditLostError, Auditor, AuditorApart, Report, Session
+from zanteyard.auditor import PROGRAM
+from zanteyard.errors import ProgramEndedError
+from zanteyard.memory_store import MemoryStore
+
+from .test_live import add_one, set_to
+
+FOLDER = os.path.dirname(os.path.abspath(sys.modules["zanteyard"].__file__))
+SHARE = int(os.environ.get("ZANTEYARD_INTERRUPTS", "7"))  # of the places each so many'th is tried
+KINDS = (KeyboardInterrupt, SystemExit, TimeoutError)  # the last is what handlers of SIGALRM raise
+
+TURN_IS_GIVEN_BACK = ("session.running = None", "if self.holds and session.current is self:", "session.current = None", "session.has_turn = []", "session.turn.release()")
+
+
+class Interrupted:
+    """Runs a call of the collector's, and raises before the line of this number that it runs."""
+
+    def __init__(self, at):
+        self.at, self.kind, self.count = at, KINDS[at % len(KINDS)], 0
+
+    def trace(self, frame, event, _):
+        if not frame.f_code.co_filename.startswith(FOLDER):
+            return None
+        if event == "line" and not self.is_safe(frame):
+            self.count += 1
+            if self.count == self.at:
+                sys.settrace(None)
+                raise self.kind(f"at line {frame.f_lineno} of {frame.f_code.co_filename}")
+        return self.trace
+
+    @staticmethod
+    def is_safe(frame):
+        """No signal comes between two assignments, nor as a lock of `with` is given back, where
+        its line comes again."""
+        line = linecache.getline(frame.f_code.co_filename, frame.f_lineno).strip()
+        return line.startswith("with ") or (frame.f_code.co_name == "log" and line in TURN_IS_GIVEN_BACK)
+
+    def run(self, call):
+        """Whether it was interrupted."""
+        sys.settrace(self.trace)
+        try:
+            call()
+        except BaseException as error:
+            sys.settrace(None)
+            if type(error) not in (self.kind, ProgramEndedError, AuditLostError):
+                raise
+        finally:
+            sys.settrace(None)
+        return self.count >= self.at
+
+
+@unittest.skipUnless(os.path.isfile(PROGRAM), f"{PROGRAM} is not built")
+class Interrupts(unittest.TestCase):
+    def setUp(self):
+        logging.getLogger("zanteyard").setLevel(logging.CRITICAL)
+        self.addCleanup(logging.getLogger("zanteyard").setLevel, logging.NOTSET)
+
+    def each(self, of, deed, step, first=1):
+        """Interrupts the deed at one place after another."""
+        for at in range(first, 4000, step):
+            with of(3) as auditor, self.subTest(at=at):
+                killed = self.have_kills_come_late(auditor)
+                store = MemoryStore()
+                a, b = (Session(auditor, number, store.connect()) for number in range(2))
+                a.run(set_to("x", 1))
+                b.run(add_one("x"))
+                interrupt = Interrupted(at)
+                is_interrupted = interrupt.run(lambda: deed(auditor, a))
+                if a.current is not None:  # it was the caller's by then
+                    a.current.rollback()
+                self.assertFalse(a.turn.locked())
+                for session in (a, b) if a.is_open else (b,):
+                    session.run(add_one("x"))
+                with killed:
+                    self.see(auditor, is_interrupted)
+            if not is_interrupted:
+                return at
+        self.fail("it has no end")
+
+    def have_kills_come_late(self, auditor):
+        """As on a busy machine, what is killed still answers for a while."""
+        process = auditor.process if isinstance(auditor, AuditorApart) else auditor.program.process
+        late, process.kill = [], lambda: late.append(True)
+
+        class Killed:
+            def __enter__(self):
+                pass
+
+            def __exit__(self, *_):
+                del process.kill
+                if late:
+                    process.kill()
+
+        return Killed()
+
+    def see(self, auditor, is_interrupted):
+        outcome = auditor.outcome()
+        self.assertIn(outcome.kind, ("serial", "incomplete"), outcome)
+        self.assertTrue(outcome.report is None or isinstance(outcome.report, Report), outcome)
+        if outcome.report is not None:
+            self.assertIn(outcome.report.kind, ("serial", "pending"))
+            self.assertLessEqual(outcome.audited, 6)
+        if outcome.kind == "serial":
+            self.assertEqual(outcome.audited, outcome.handed_in)
+            self.assertEqual(sum(outcome.report.counts), outcome.handed_in)
+        if not is_interrupted:
+            self.assertEqual(outcome.kind, "serial")
+
+    def test_a_transaction_from_its_begin_to_its_end(self):
+        deed = lambda auditor, session: session.run(add_one("x"), attempts=1)
+        self.assertGreater(self.each(Auditor, deed, 1 + SHARE // 3), 100)
+        self.assertGreater(self.each(AuditorApart, deed, 3 * SHARE), 100)
+
+    def test_a_round(self):
+        self.each(Auditor, lambda auditor, _: auditor.round(), 1 + SHARE // 3)
+        self.each(AuditorApart, lambda auditor, _: auditor.round(), SHARE)
+
+    def test_an_offer_of_ones_own(self):
+        from zanteyard import Logged
+
+        def offer(auditor, _):
+            auditor.offer(2, 0, Logged((), ("y",)), Logged((("y", (2, 0)),), ()))
+
+        self.each_offer(Auditor, offer, 1 + SHARE // 3)
+        self.each_offer(AuditorApart, offer, SHARE)
+
+    def each_offer(self, of, offer, step):
+        for at in range(1, 1000, step):
+            with of(3) as auditor, self.subTest(at=at):
+                killed = self.have_kills_come_late(auditor)
+                is_interrupted = Interrupted(at).run(lambda: offer(auditor, None))
+                with killed:
+                    try:
+                        report = auditor.round()
+                        self.assertEqual(report.kind, "serial")
+                        self.assertIn(sum(report.counts), (0, 2))
+                        self.assertEqual(sum(report.counts), sum(map(len, auditor.history)))
+                    except ProgramEndedError:
+                        self.assertTrue(is_interrupted)
+            if not is_interrupted:
+                return
+        self.fail("it has no end")
+
+    def test_no_two_keys_have_one_number(self):
+        for at in range(1, 20):
+            with Auditor(1) as auditor, self.subTest(at=at):
+                is_interrupted = Interrupted(at).run(lambda: auditor.key_number("x"))
+                numbers = {auditor.key_number(key) for key in "xyz"}
+                self.assertEqual(len(numbers), 3)
+                self.assertEqual({auditor.names[it] for it in numbers}, {*"xyz"})
+            if not is_interrupted:
+                return
+        self.fail("it has no end")
+
+    def test_who_is_interrupted_as_the_turn_is_taken(self):
+        """As soon as any code can be interrupted behind that."""
+        with Auditor(1) as auditor:
+            session = Session(auditor, 0, MemoryStore().connect())
+
+            def profile(frame, event, called):
+                if event == "c_return" and getattr(called, "__name__", "") == "extend":
+                    sys.setprofile(None)
+                    raise KeyboardInterrupt
+
+            sys.setprofile(profile)
+            with self.assertRaises(KeyboardInterrupt):
+                session.begin()
+            sys.setprofile(None)
+            self.assertFalse(session.turn.locked())
+            session.run(add_one("x"))
+            self.assertEqual(auditor.round().kind, "serial")
+
+
+if __name__ == "__main__":
+    unittest.main()

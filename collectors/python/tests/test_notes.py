@@ -1,0 +1,217 @@
+"""What a client's process notes, as who finds it killed reads it."""
+import errno
+import logging
+import os
+import signal
+import subprocess
+import sys
+import tempfile
+import time
+import unittest
+from unittest import mock
+
+from zanteyard import AuditClient, Auditor, AuditServer, LiveAuditor, Logged, Policy
+from zanteyard.auditor import FENCE, PROGRAM
+from zanteyard.backlog import Backlog
+from zanteyard.killed import NOTHING, Killed, LostError
+from zanteyard.memory_store import MemoryStore
+from zanteyard.notes import HEAD, ROOM, Notes, notes_of
+from zanteyard.records import as_bytes
+from zanteyard.sessions import Place
+
+from .test_live import add_one
+
+PLACE = os.path.join(os.path.dirname(os.path.abspath(__file__)), "..")
+DID = Logged([("x", "init")], ["x"])
+
+
+class Noted(unittest.TestCase):
+    def setUp(self):
+        logging.getLogger("zanteyard").setLevel(logging.CRITICAL)
+        self.addCleanup(logging.getLogger("zanteyard").setLevel, logging.NOTSET)
+        folder = tempfile.TemporaryDirectory()
+        self.addCleanup(folder.cleanup)
+        self.path, self.sent, self.failures = f"{folder.name}/notes", {}, []
+        self.notes = Notes(self.path, self.sent, lambda: self.failures.append(True))
+        self.addCleanup(self.notes.close)
+
+    def numbers(self):
+        return [(note.number, note.outcome) for note in notes_of(self.path)]
+
+    def test_they_are_read_in_their_order(self):
+        self.notes.write(3, 0, None, b"packed", ("ticket",), True)
+        self.notes.write(3, 0, "committed", None)
+        first, second = notes_of(self.path)
+        self.assertEqual((first.session, first.number, first.packed, first.ticket), (3, 0, b"packed", ("ticket",)))
+        self.assertEqual((second.outcome, second.is_last), ("committed", False))
+
+    def test_each_tear_of_the_last_leaves_those_before(self):
+        self.notes.write(0, 0, "aborted", None)
+        begins = self.notes.half.at
+        self.notes.write(0, 1, "aborted", None)
+        with open(f"{self.path}.0", "rb") as file:
+            whole = file.read()
+        for at in range(begins, self.notes.halves[0].at):
+            for rest in (b"", b"\0" * 64, b"\xff" * 64):
+                with open(f"{self.path}.0", "wb") as file:
+                    file.write(whole[:at] + rest)
+                self.assertEqual(self.numbers()[:1], [(0, "aborted")])
+                self.assertLessEqual(len(self.numbers()), 1, at)
+
+    def test_what_is_older_is_not_read(self):
+        """A file that is used again has older records behind the new ones."""
+        packed = b"x" * 4000
+        for number in range(500):
+            self.notes.write(0, number, None, packed, None, True)
+            self.notes.write(0, number, "committed", None)
+            if number >= 3:
+                self.sent[0] = number - 2
+        numbers = [number for number, _ in self.numbers()]
+        self.assertEqual(numbers, sorted(numbers))
+        self.assertEqual(numbers[-8:], [it for it in range(496, 500) for _ in range(2)])
+        self.assertLess(os.path.getsize(f"{self.path}.0"), 2 * ROOM)
+        self.assertFalse(self.failures)
+
+    def test_what_was_not_handed_over_is_kept(self):
+        for number in range(200):
+            self.notes.write(0, number, None, b"x" * 4000, None, True)
+        self.assertEqual([number for number, _ in self.numbers()], [*range(200)])
+
+    def test_on_a_full_disk_they_are_removed_and_nobody_is_harmed(self):
+        for wrong in (OSError(errno.ENOSPC, "full"), 5):
+            with self.subTest(wrong=wrong), mock.patch("os.pwrite") as write:
+                self.setUp()
+                write.side_effect, write.return_value = (wrong, 0) if isinstance(wrong, OSError) else (None, wrong)
+                self.notes.write(0, 0, "aborted", None)
+                self.assertTrue(self.failures)
+                self.assertIsNone(notes_of(self.path))
+                self.notes.write(0, 1, "aborted", None)  # and so on
+                self.assertEqual(len(self.failures), 1)
+
+    def test_another_version_is_not_guessed_at(self):
+        with mock.patch("zanteyard.notes.VERSION", 2):
+            self.notes.write(0, 0, "aborted", None)
+        self.assertIsNone(notes_of(self.path))
+
+    # what a killed process did
+
+    def told(self, place=None, come=0):
+        backlog = Backlog(8)
+        if come:
+            backlog.count(0, come - 1)
+        place = place or Place(0)
+        return [*Killed({self.path: None}, "run", backlog).told(place)], place
+
+    def before(self, number, logged=DID, **more):
+        self.notes.write(0, number, None, as_bytes(logged), None, True)
+
+    def test_what_was_answered_is_logged_as_it_would_have_been(self):
+        self.before(0)
+        self.notes.write(0, 0, "committed", None)
+        self.notes.write(0, 1, "aborted", None)
+        found, place = self.told()
+        self.assertEqual(found, [(0, DID), (1, NOTHING), (2, NOTHING)])
+        self.assertEqual((place.begun, place.is_due, place.is_ended), (3, True, False))
+
+    def test_what_has_come_is_not_handed_in_again(self):
+        for number in range(3):
+            self.before(number)
+            self.notes.write(0, number, "committed", None)
+        found, _ = self.told(come=2)
+        self.assertEqual([number for number, _ in found], [2, 3])
+        found, _ = self.told(come=3)
+        self.assertEqual(found, [(3, NOTHING)])
+
+    def test_what_can_not_be_found_out_is_the_last_and_has_no_reads(self):
+        self.before(0)
+        found, place = self.told()
+        self.assertEqual([(number, logged.reads, logged.writes, logged.outcome) for number, logged in found], [(0, (), ["x"], "unknown")])
+        self.assertEqual((place.is_ended, place.unknown), (True, ((0, 1),)))
+
+    def test_a_fence_that_can_not_be_found_out_is_not_handed_in(self):
+        self.before(0, Logged((), [FENCE]))
+        found, place = self.told()
+        self.assertEqual((found, place.is_ended), ([], True))
+
+    def test_reads_alone_that_were_not_answered(self):
+        self.before(0, Logged([("x", "init")], ()))
+        self.assertEqual(self.told()[0], [(0, NOTHING), (1, NOTHING)])
+
+    def test_what_is_missing_is_not_guessed_at(self):
+        self.notes.write(0, 0, "committed", None)  # and what it did isn't there
+        with self.assertRaises(LostError):
+            self.told()
+        self.notes.remove()
+        with self.assertRaises(LostError):
+            Killed({self.path: None}, "run", Backlog(8))
+
+    def test_nothing_at_all(self):
+        place = Place(0, 7)
+        self.assertEqual(self.told(place), ([(7, NOTHING)], place))
+        self.assertEqual(place.begun, 8)
+
+    def test_the_head_is_plain(self):
+        self.notes.write(0, 0, "aborted", None)
+        with open(f"{self.path}.0", "rb") as file:
+            length, _ = HEAD.unpack(file.read(HEAD.size))
+        self.assertEqual(self.notes.half.at, HEAD.size + length)
+
+
+@unittest.skipUnless(os.path.isfile(PROGRAM), f"{PROGRAM} is not built")
+class Forked(unittest.TestCase):
+    PROGRAM = """
+import os, signal, sys, time
+sys.path.insert(0, sys.argv[1])
+import logging; logging.getLogger("zanteyard").setLevel(logging.CRITICAL)
+from zanteyard import AuditClient
+from zanteyard.sqlite_store import SQLiteStore
+client = AuditClient(sys.argv[2])
+session = client.session(SQLiteStore(sys.argv[3]))
+add = lambda t: t.put("x", str(int(t.get("x") or 0) + 1))
+for _ in range(5): session.run(add)
+child = os.fork()
+if child == 0:
+    assert client.is_over
+    time.sleep(1.0)
+    os._exit(0)
+print(child, flush=True)
+for _ in range(5): session.run(add)
+os.kill(os.getpid(), signal.SIGKILL)
+"""
+
+    def test_a_child_keeps_nothing_of_its_parents(self):
+        """Its end is seen while a child lives that was forked; nor does that write its notes."""
+        logging.getLogger("zanteyard").setLevel(logging.CRITICAL)
+        self.addCleanup(logging.getLogger("zanteyard").setLevel, logging.NOTSET)
+        from zanteyard.sqlite_store import prepare
+
+        with tempfile.TemporaryDirectory() as folder, Auditor(2) as auditor:
+            prepare(f"{folder}/store")
+            live = LiveAuditor(auditor, policy=Policy(30.0, begins_anew=False))
+            with AuditServer(live, f"{folder}/audit") as server:
+                call = [sys.executable, "-c", self.PROGRAM, PLACE, server.path, f"{folder}/store"]
+                ended = subprocess.run(call, stdout=subprocess.PIPE, timeout=60.0)
+                self.assertEqual(ended.returncode, -signal.SIGKILL)
+                until = time.monotonic() + 60.0
+                while live.handed_in < 11 and time.monotonic() < until:
+                    time.sleep(0.01)
+            outcome = live.stop()
+            self.assertEqual((outcome.kind, outcome.audited), ("serial", 11))
+
+    def test_where_nothing_can_be_noted_clients_go_on(self):
+        logging.getLogger("zanteyard").setLevel(logging.CRITICAL)
+        self.addCleanup(logging.getLogger("zanteyard").setLevel, logging.NOTSET)
+        with tempfile.TemporaryDirectory() as folder, Auditor(2) as auditor:
+            live = LiveAuditor(auditor, policy=Policy(30.0, begins_anew=False))
+            with AuditServer(live, f"{folder}/audit") as server:
+                os.rmdir(server.notes)
+                with AuditClient(server.path) as client:
+                    session = client.session(MemoryStore().connect())
+                    self.assertIsNone(session.notes)
+                    for _ in range(3):
+                        session.run(add_one("x"))
+            self.assertEqual(live.stop().kind, "serial")
+
+
+if __name__ == "__main__":
+    unittest.main()

@@ -1,0 +1,204 @@
+"""No session is ever given to two clients, in whatever order those that have it give it back."""
+import os
+import threading
+import unittest
+from contextlib import suppress
+
+from zanteyard import Aborted, Auditor, LiveAuditor
+from zanteyard.auditor import PROGRAM
+from zanteyard.backlog import Backlog
+from zanteyard.edges import coverage_from_now
+from zanteyard.memory_store import MemoryStore
+from zanteyard.places import Places
+from zanteyard.remote_group import RemoteGroup
+from zanteyard.sessions import Place
+
+from .test_live import add_one
+
+SECONDS = 60.0
+
+
+class Nowhere:
+    """In place of the messages to a process, which answers when the test says so."""
+
+    def tell(self, *_, **__):
+        return True
+
+
+class LentPlaces(unittest.TestCase):
+    """A place that was lent to a process for a meeting, which answers when that is over."""
+
+    def setUp(self):
+        self.places = Places(2)
+        self.lent = self.places.lend()
+        self.group = RemoteGroup(Nowhere(), 0.0, lambda lent: self.places.take_back(lent, is_over=False))
+        self.group.patience = 0.0
+        self.wait = self.group.begin_pass_on(1, self.lent[:1])
+
+    def answer(self):
+        place = self.lent[0]
+        now = (place.number, place.begun + 1, False, True, True, False, False, ())
+        self.group.take_answer(1, None, None, False, [now])
+
+    def taken(self):
+        found = [self.places.take(0.0) for _ in range(4)]
+        return [place.number for place in found if place is not None]
+
+    def late(self):
+        with self.assertRaises(Exception):
+            self.wait(0.0)
+
+    def test_the_answer_comes_before_the_meeting_takes_its_places_back(self):
+        self.late()
+        self.answer()
+        self.places.take_back(self.lent)
+        self.assertEqual(sorted(self.taken()), [0, 1])
+
+    def test_the_answer_comes_behind_it(self):
+        self.late()
+        self.places.take_back(self.lent)
+        self.assertEqual(self.taken(), [1])
+        self.answer()
+        self.assertEqual(self.taken(), [0])
+
+    def test_the_answer_comes_while_the_meeting_takes_its_places_back(self):
+        """It has been noted in the place, and what is late isn't given back yet."""
+        self.late()
+        give_back, taken = self.group._give_back, []
+
+        def later(lent):
+            self.places.take_back(self.lent)  # by the meeting's thread
+            taken.extend(self.taken())
+            give_back(lent)
+            taken.extend(self.taken())
+
+        self.group._give_back = later
+        self.answer()
+        self.assertEqual(sorted(taken), [0, 1])
+
+    def test_the_answer_comes_when_another_audit_has_begun(self):
+        self.late()
+        self.places.take_back(self.lent)
+        coverage = coverage_from_now(2, [], self.places, Backlog(8))
+        first = self.places.take(0.0), self.places.take(0.0)
+        self.assertEqual(sorted(place.number for place in first), [0, 1])
+        self.answer()
+        self.assertEqual(self.taken(), [])
+        (new,) = [place for place in first if place.number == 0]
+        self.assertEqual(coverage.number(0, new.begun), 0)
+
+    def test_the_answer_comes_and_nobody_looks_at_it(self):
+        """Since another process has left, which ends the meeting."""
+        self.answer()
+        self.group.release()
+        self.places.take_back(self.lent)
+        self.assertEqual(sorted(self.taken()), [0, 1])
+
+    def test_the_answer_comes_behind_a_meeting_in_which_nobody_waited_for_it(self):
+        self.group.release()
+        self.places.take_back(self.lent)
+        self.assertEqual(self.taken(), [1])
+        self.answer()
+        self.assertEqual(self.taken(), [0])
+
+    def test_who_was_idle_is_left_whether_or_not_the_answer_is_looked_at(self):
+        for is_first in (True, False):
+            with self.subTest(is_first=is_first):
+                places = Places(1)
+                place = places.take(0.0)
+                group = RemoteGroup(Nowhere(), 0.0, lambda lent: None, places.give_back)
+                group.add(place)
+                group.begin_gather(1, 0.0, False, [], 0.0)
+                result = ([], [(0, 5, True, False, True, False, False, ())])
+                if is_first:
+                    group.take_answer(1, result, None, False, [])
+                group.release()
+                if not is_first:
+                    group.take_answer(1, result, None, False, [])
+                self.assertEqual((group.numbers(), places.take(0.0).begun), ([], 5))
+
+
+class Leaving(unittest.TestCase):
+    def test_a_client_leaves_while_it_is_asked_who_has_what(self):
+        """Behind the places that are left, and before the sessions of its process."""
+        places = Places(2)
+        place = places.take(0.0)
+
+        class Leaves:
+            given = False
+
+            def edges(self):
+                if not self.given:
+                    self.given = True
+                    places.give_back([place])
+                return []
+
+            def reopen(self):
+                pass
+
+            def numbers(self):
+                return []
+
+        coverage_from_now(2, [Leaves()], places, Backlog(8))
+        found = [places.take(0.0) for _ in range(4)]
+        self.assertEqual(sorted(one.number for one in found if one), [0, 1])
+
+    def test_who_is_just_being_given_one_has_it_alone(self):
+        """Taken, and in no process's list yet."""
+        places = Places(2)
+        taken = places.take(0.0)
+        coverage_from_now(2, [], places, Backlog(8))
+        found = [places.take(0.0) for _ in range(4)]
+        self.assertNotIn(taken.number, [one.number for one in found if one])
+
+    def test_who_gives_a_place_back_twice_gives_it_once(self):
+        places = Places(1)
+        place = places.take(0.0)
+        places.give_back([place])
+        places.give_back([Place(place.number)])
+        self.assertEqual([places.take(0.0) is None for _ in range(2)], [False, True])
+
+    def test_what_is_lost_is_left_in_another_audit_alone(self):
+        places = Places(1)
+        places.drop([places.take(0.0).number])
+        self.assertIsNone(places.take(0.0))
+        coverage_from_now(1, [], places, Backlog(8))
+        self.assertEqual(places.take(0.0).number, 0)
+
+
+@unittest.skipUnless(os.path.isfile(PROGRAM), f"{PROGRAM} is not built")
+class Clients(unittest.TestCase):
+    def test_clients_that_come_and_go_while_audits_begin_anew(self):
+        """No two of them have one session at a time."""
+        store, held, errors, ended = MemoryStore(), {}, [], threading.Event()
+        with Auditor(4) as auditor:
+            live = LiveAuditor(auditor, every=20, seconds=0.05)
+
+            def client():
+                while not ended.is_set():
+                    try:
+                        session = live.session(store.connect())
+                    except ValueError:
+                        continue
+                    if held.setdefault(session.number, session) is not session:
+                        errors.append(session.number)
+                    with suppress(Aborted):
+                        session.run(add_one("x"))
+                    del held[session.number]
+                    session.close()
+
+            threads = [threading.Thread(target=client) for _ in range(3)]
+            for thread in threads:
+                thread.start()
+            for _ in range(10):
+                ended.wait(0.1)
+                live.lose(RuntimeError("for the sake of it"))
+            ended.set()
+            for thread in threads:
+                thread.join(SECONDS)
+            self.assertNotEqual(live.stop().kind, "violated")
+        self.assertEqual(errors, [])
+
+
+if __name__ == "__main__":
+    unittest.main()

@@ -1,0 +1,66 @@
+"""How another process than the client's finds out what became of a commit that wasn't answered.
+
+A store that can be asked so has `asks()`, which gives plain values: the word by which it is known
+here, and what its kind's `asked(..)` wants; and `ticket(written)`, which gives, also as plain
+values, by what the transaction at hand is found, which has written, or is to write, a key under a
+name: `(key, *name)`. `writes_at_once` says that a transaction's writes don't wait for its commit.
+"""
+
+from __future__ import annotations
+
+import importlib
+import logging
+from typing import Any, Optional, Sequence, Tuple
+
+from .records import Name
+
+# The outcome, and the name of what an `exchange` by itself has overwritten: a tuple of it, or of
+# nothing where there was none; None where that isn't known.
+Found = Tuple[str, Optional[Sequence[Name]]]
+UNKNOWN: Found = ("unknown", None)
+logger = logging.getLogger("zanteyard")
+
+
+KINDS = ("postgres", "mariadb", "redis", "sqlite")
+
+
+def find_out(asks: Any, ticket: Any, seconds: float) -> Found:
+    """Raises nothing: what can't be asked is unknown."""
+    if asks is None or ticket is None:
+        return UNKNOWN
+    kind, *more = asks
+    try:
+        assert kind in KINDS
+        module = importlib.import_module(f".{kind}_store", __package__)
+        found: Found = module.asked(*more, ticket=ticket, seconds=seconds)
+        return found
+    except Exception as error:
+        logger.warning("what became of a commit can't be found out: %s", error)
+        return UNKNOWN
+
+
+def asks_of(store: Any) -> Any:
+    asks = getattr(store, "asks", None)
+    try:
+        return asks() if asks is not None else None
+    except Exception as error:
+        logger.warning("how this store is asked can't be told: %s", error)
+        return None
+
+
+def ticket_of(store: Any, written: Sequence[Any]) -> Any:
+    ticket = getattr(store, "ticket", None)
+    return ticket(written) if ticket is not None else None
+
+
+def kept(overwritten: Optional[Name]) -> str:
+    """The name of what an `exchange` of the collector's own overwrites, as the value that it
+    writes: so it isn't lost where the answer is."""
+    return f"{overwritten[1]} {overwritten[2]} {overwritten[0]}" if overwritten else ""
+
+
+def overwritten(value: Optional[str]) -> Sequence[Name]:
+    if not value:
+        return ()
+    session, number, run = value.split(" ", 2)
+    return ((run, int(session), int(number)),)

@@ -1,0 +1,147 @@
+"""What a process of clients did that was killed, as its notes and the store tell it.
+
+Each number that it may have used is handed in, once: what had come from itself by then isn't looked
+for; what was answered is logged as it would have been; the store is asked for what was on its way
+to it; an attempt of which nothing was sent to be committed did nothing. What can't be found out is
+logged with its writes alone, as the last of its session (docs/COLLECTORS.md).
+"""
+
+from __future__ import annotations
+
+import logging
+import time
+from typing import Any, Dict, Iterable, List, Optional, Sequence, Tuple
+
+from .asking import find_out
+from .auditor import FENCE
+from .backlog import Backlog, keys_written_unseen
+from .notes import Note, notes_of
+from .records import Logged, as_bytes, unpacked
+from .sessions import Place
+
+SECONDS = 5.0  # in which the store is asked for one outcome
+NOTHING = Logged((), (), "aborted")
+logger = logging.getLogger("zanteyard")
+
+
+class LostError(Exception):
+    """Its notes don't tell what it did, and why."""
+
+
+class Killed:
+    """`asks` has of each path how the store is asked; `come` gives of a session the number behind
+    the last that the process has handed over itself."""
+
+    def __init__(self, asks: Dict[str, Any], run_name: str, backlog: Backlog) -> None:
+        """Raises LostError where the notes aren't there."""
+        self.run_name, self.backlog = run_name, backlog
+        self.notes: Dict[int, List[Tuple[Note, Any]]] = {}
+        for path, how in asks.items():
+            notes = notes_of(path)
+            if notes is None:
+                raise LostError("its notes aren't there")
+            for note in notes:
+                self.notes.setdefault(note.session, []).append((note, how))
+
+    def told(self, place: Place) -> Sequence[Tuple[int, Logged]]:
+        """What the session did, which nobody has handed in: numbers, and what is to be logged. The
+        place is then as it would have been given back, or ended. Raises LostError."""
+        first = max(place.begun, self.backlog.next_number(place.number))
+        before, answered = self.sorted_out(place.number, first)
+        last = max((*before, *answered, first - 1))
+        found = []
+        place.begun, place.is_due, place.has_flag = first, True, False
+        for note, _ in self.notes.get(place.number, ()):
+            if note.outcome == "unknown" and note.is_last and note.number < first:
+                place.leave_open(note.number)
+        for number in range(first, last + 1):
+            logged = self.logged(number, before.get(number), answered.get(number))
+            place.begun = number + 1
+            if logged is not None:
+                found.append((number, logged))
+            if logged is None or logged.outcome == "unknown":
+                place.leave_open(number)
+                place.is_ended = True
+                if number < last:
+                    raise LostError("its notes have more behind what can't be found out")
+                return found
+        # One more may have begun, of which nothing was sent to be committed.
+        place.begun = last + 2
+        return [*found, (last + 1, NOTHING)]
+
+    def sorted_out(
+        self, session: int, first: int
+    ) -> Tuple[Dict[int, Tuple[Note, Any]], Dict[int, Note]]:
+        """By number, from the first on: what was noted before a commit was sent, with how the
+        store is asked, and what was noted when it was answered."""
+        before: Dict[int, Tuple[Note, Any]] = {}
+        answered: Dict[int, Note] = {}
+        for note, how in self.notes.get(session, ()):
+            if note.number < first:
+                continue
+            if note.outcome is None:
+                before[note.number] = (note, how)
+            else:
+                answered[note.number] = note
+        return before, answered
+
+    def logged(
+        self, number: int, before: Optional[Tuple[Note, Any]], answered: Optional[Note]
+    ) -> Optional[Logged]:
+        """None for a fence of which nobody knows whether it is there."""
+        if answered is None:
+            return NOTHING if before is None else self.asked(*before)
+        if answered.outcome == "committed":
+            packed = answered.packed or (before and before[0].packed)
+            if not packed:
+                raise LostError("its notes lack what it did")
+            return unpacked(packed)
+        if answered.outcome == "aborted" or not answered.is_last:
+            return NOTHING
+        if before is None or not before[0].packed:
+            raise LostError("its notes lack what it wrote")
+        return writes_alone(unpacked(before[0].packed))
+
+    def asked(self, note: Note, how: Any) -> Optional[Logged]:
+        """What was sent to be committed and not answered."""
+        assert note.packed is not None
+        logged = unpacked(note.packed)
+        if not logged.writes:
+            return NOTHING  # whether what it has read is to be checked isn't known
+        outcome, overwritten = find_out(how, note.ticket, SECONDS)
+        told = f"{note.session}.{note.number} of a killed process"
+        logger.info("%s is %s by the store's word", told, outcome)
+        if outcome == "aborted":
+            return NOTHING
+        if outcome == "committed" and note.has_reads:
+            return logged
+        if outcome == "committed" and overwritten is not None and len(logged.writes) == 1:
+            return logged._replace(reads=[(logged.writes[0], self.source(overwritten))])
+        if outcome == "committed" and FENCE not in logged.writes:
+            return logged  # without what it has read
+        if FENCE in logged.writes:
+            if outcome == "committed":
+                raise LostError("what its fence has read isn't known")
+            return None
+        return writes_alone(logged)
+
+    def source(self, overwritten: Sequence[Any]) -> Any:
+        for run, session, number in overwritten:
+            if run == self.run_name:
+                return (session, number)
+        return "init"
+
+
+def writes_alone(logged: Logged) -> Logged:
+    written = tuple(it for it in logged.statements if len(it[0]) == 1)
+    values = tuple(it for it in logged.values if it[0] == "wrote")
+    return logged._replace(reads=(), outcome="unknown", statements=written, values=values)
+
+
+def handed_in(
+    found: Iterable[Tuple[int, Logged]]
+) -> Iterable[Tuple[float, int, Sequence[str], bytes]]:
+    """As a process hands it over: when it came, the number, the keys that were written unseen, and
+    what was logged, as bytes."""
+    for number, logged in found:
+        yield time.monotonic(), number, keys_written_unseen(logged), as_bytes(logged)
