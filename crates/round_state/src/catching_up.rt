@@ -11,7 +11,7 @@ use std::alloc::Global;
 use txn::{Fragment, NoMemory, Sequence, Txn, TxnId};
 
 /// So many transactions are few, however many remain.
-const FEW: usize = 8;
+const FEW: usize = 4;
 
 /// Whether little came since the front: no more than a twenty-fourth of what is there, and a few. To add one costs as much as some fifteen do where
 /// the whole is made.
