@@ -9,6 +9,7 @@ use polygraph::Solver;
 use round_state::Engine;
 use std::alloc::Global;
 use std::sync::Wait;
+use std::thread::{Scope, Threads};
 use txn::Refusal;
 
 const EFFORT: Effort = Effort {
@@ -18,12 +19,13 @@ const EFFORT: Effort = Effort {
 };
 
 /// The auditor's whole work. It answers what its last round was refused for.
-pub fn audit<R: Wait, S: Solver>(
+pub fn audit<'s, E, R: Threads + Wait, S: Solver + Sync>(
+    scope: &Scope<'s, E>,
     rt: &R,
     alloc: Global,
     hall: &Hall,
     engine: Engine,
-    solver: &S,
+    solver: &'s S,
     side: &mut AuditorSide,
 ) -> Result<(), Refusal>
     requires ready { S.ready }
@@ -34,6 +36,7 @@ pub fn audit<R: Wait, S: Solver>(
     ensures audited { OnOk result (HasAudited side.new.pass.1 side.new.sender.sent) }
 {
     audit_live(
+        scope,
         rt,
         alloc,
         engine,

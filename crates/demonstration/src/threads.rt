@@ -147,7 +147,7 @@ pub fn run_threads<R: Threads + Wait + Sync, S: Solver + Sync>(
                 (Ok(hearing), Ok(first), Ok(second), Ok(third), Ok(fourth)) => {
                     hall.start.call(rt, true);
                     let mut side = side;
-                    let audited = audit(rt, alloc, hall, engine, solver, &mut side);
+                    let audited = audit(scope, rt, alloc, hall, engine, solver, &mut side);
                     if audited.is_err() {
                         return Err(AllocError);
                     }

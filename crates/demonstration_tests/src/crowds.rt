@@ -355,7 +355,8 @@ struct Returned {
 }
 
 /// The auditor's whole work.
-fn audit<R: Wait>(
+fn audit<'s, E, R: Threads + Wait>(
+    scope: &Scope<'s, E>,
     rt: &R,
     alloc: Global,
     hall: &Hall,
@@ -367,6 +368,7 @@ fn audit<R: Wait>(
     ensures { side.new.pass.0 ≡ side.old.pass.0 }
 {
     audit_live(
+        scope,
         rt,
         alloc,
         engine,
@@ -413,7 +415,7 @@ fn run_threads<R: Threads + Wait + Sync>(
                 (Ok(reading), Ok(first), Ok(second), Ok(third), Ok(fourth)) => {
                     let _ = hall.start.set(rt, true);
                     let mut side = side;
-                    let is_made = audit(rt, alloc, hall, engine, &mut side);
+                    let is_made = audit(scope, rt, alloc, hall, engine, &mut side);
                     let first = first.join(rt);
                     let second = second.join(rt);
                     let third = third.join(rt);

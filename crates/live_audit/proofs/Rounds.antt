@@ -8,6 +8,7 @@ use Rattle.txn.specs.declared.refusals.Refusal.TheVariants as refusals
 use Rattle.order_check.specs.declared.remainder.Kind.{Kind}
 use Rattle.order_check.specs.declared.remainder.Parts.{Parts}
 use Rattle.polygraph.specs.Solving.{IsLawful}
+use Rattle.polygraph.specs.ProblemState.{ProblemState}
 use Rattle.polygraph.specs.declared.solving.Answer.{Answer}
 use Rattle.fragment_intake.specs.declared.rules.Parcel.{Parcel}
 use Rattle.report_queue.specs.Reports.{IsBefore}
@@ -23,7 +24,7 @@ use Rattle.round_state.specs.declared.steps.StepReply.TheVariants as reply
 use Rattle.live_audit.specs.CoreState.{Search, CoreState}
 use Rattle.live_audit.specs.Live.{MovesOn, start, begun}
 use Rattle.live_audit.specs.Told.{IsTold, IsSkipped, IsOutcome, IsFollowUp}
-use Rattle.live_audit.specs.Running.{reports_in, IsRoundTold, HasCountedAll, IsRound, IsSaid, CanBeTold, IsBetweenRounds, HasMoved}
+use Rattle.live_audit.specs.Running.{reports_in, IsRoundTold, HasCountedAll, IsRound, IsSaid, CanBeTold, IsBetweenRounds, HasPublished, IsNumbered, HasMoved}
 use Rattle.live_audit.proofs.Answering.{none_or_some}
 use Rattle.live_audit.proofs.Joining.{moves_join, moves_on}
 
@@ -57,6 +58,13 @@ asked_lawful core parts budget depth answer is budget_is depth_is lawful =
     let by_both : IsLawful parts core.search.budget core.search.depth answer = subst (λ (n : ℕ). IsLawful parts core.search.budget n answer) depth_is by_budget in
     subst (λ (asked : Option Parts). IsSomeAnd asked (λ p. IsLawful p core.search.budget core.search.depth answer)) (sym is) by_both
 
+-- an answer that is lawful for the same problem, by the same numbers
+pub lawful_by : (problem problem_now : ProblemState) (budget budget_now depth depth_now : ℕ) (answer : Answer) → problem ≡ problem_now → budget ≡ budget_now → depth ≡ depth_now → IsLawful problem.known.parts budget depth answer → IsLawful problem_now.known.parts budget_now depth_now answer
+lawful_by problem problem_now budget budget_now depth depth_now answer problem_is budget_is depth_is lawful =
+    subst (λ (p : ProblemState). IsLawful p.known.parts budget_now depth_now answer) problem_is
+    (subst (λ (n : ℕ). IsLawful problem.known.parts budget_now n answer) depth_is
+    (subst (λ (n : ℕ). IsLawful problem.known.parts n depth answer) budget_is lawful))
+
 -- A round that didn't begin.
 
 why_skipped : (old : EngineState) (refusal : Refusal) → old.asked ≡ None → IsBeginRefusal old refusal → (refusal ≡ refusals.NoMemory) ⊎ (refusal ≡ refusals.TooLong)
@@ -89,34 +97,52 @@ none_behind outcome None follows = refl
 none_behind (Report report) (Some (Cut gone)) follows = refl
 none_behind outcome (Some entry) follows = absurd follows
 
-pub can_be_told : (old new : CoreState) (outcome : Entry) (more : Option Entry) (sent : List Entry) (published : List (ℕ × Kind)) → IsRoundTold old outcome more new → IsBetweenRounds old sent published → CanBeTold published outcome
-can_be_told old new (Report report) more sent published told between =
-    let number = told.0 in
-    (omega (arith, number), told.1, All-weaker (λ (t : ℕ × Kind). t.0 ≤ old.engine.rounds) (IsBefore report.round) (λ t low. omega (arith, number, low)) published between.rounds)
-can_be_told old new (Skipped refusal) more sent published told between = tt
-can_be_told old new outcome more sent published told between = absurd told
+pub told_numbered : (old new : CoreState) (outcome : Entry) (more : Option Entry) → IsRoundTold old outcome more new → IsNumbered old.engine.rounds outcome new.engine.rounds
+told_numbered old new (Report report) more told = (told.0, told.1, told.2)
+told_numbered old new (Skipped refusal) more told = told.1
+told_numbered old new outcome more told = absurd told
 
-rounds_after : (old new : CoreState) (outcome : Entry) (more : Option Entry) (published : List (ℕ × Kind)) → IsRoundTold old outcome more new → All (λ told. told.0 ≤ old.engine.rounds) published → All (λ told. told.0 ≤ new.engine.rounds) (published ++ reports_in (outcome ∷ []))
-rounds_after old new (Report report) more published told low =
+pub outcome_numbered : (old new : EngineState) (outcome : Entry) → IsOutcome old outcome new → IsNumbered old.rounds outcome new.rounds
+outcome_numbered old new (Report report) told = (told.0, told.1, told.2)
+outcome_numbered old new (Skipped refusals.NoMemory) told = told
+outcome_numbered old new outcome told = absurd told
+
+pub can_be_told : (old new : CoreState) (outcome : Entry) (sent : List Entry) (published : List (ℕ × Kind)) → IsNumbered old.engine.rounds outcome new.engine.rounds → HasPublished old sent published → CanBeTold published outcome
+can_be_told old new (Report report) sent published told has =
+    let number = told.0 in
+    (omega (arith, number), told.1, All-weaker (λ (t : ℕ × Kind). t.0 ≤ old.engine.rounds) (IsBefore report.round) (λ t low. omega (arith, number, low)) published has.rounds)
+can_be_told old new (Skipped refusal) sent published told has = tt
+can_be_told old new outcome sent published told has = absurd told
+
+rounds_after : (old new : CoreState) (outcome : Entry) (published : List (ℕ × Kind)) → IsNumbered old.engine.rounds outcome new.engine.rounds → All (λ told. told.0 ≤ old.engine.rounds) published → All (λ told. told.0 ≤ new.engine.rounds) (published ++ reports_in (outcome ∷ []))
+rounds_after old new (Report report) published told low =
     let number = told.0 in let after = told.2 in
     let last : report.round ≤ new.engine.rounds = omega (arith, number, after) in
     All-append (λ (t : ℕ × Kind). t.0 ≤ new.engine.rounds) published ((report.round, report.kind) ∷ [])
     (All-weaker (λ (t : ℕ × Kind). t.0 ≤ old.engine.rounds) (λ (t : ℕ × Kind). t.0 ≤ new.engine.rounds) (λ t below. omega (arith, after, below)) published low)
     (All-cons (λ (t : ℕ × Kind). t.0 ≤ new.engine.rounds) (report.round, report.kind) [] last (All-nil (λ (t : ℕ × Kind). t.0 ≤ new.engine.rounds)))
-rounds_after old new (Skipped refusal) more published told low =
-    let after = told.1 in
+rounds_after old new (Skipped refusal) published told low =
     subst (λ (l : List (ℕ × Kind)). All (λ (t : ℕ × Kind). t.0 ≤ new.engine.rounds) l) (sym (append-nil published))
-    (All-weaker (λ (t : ℕ × Kind). t.0 ≤ old.engine.rounds) (λ (t : ℕ × Kind). t.0 ≤ new.engine.rounds) (λ t below. omega (arith, after, below)) published low)
-rounds_after old new outcome more published told low = absurd told
+    (All-weaker (λ (t : ℕ × Kind). t.0 ≤ old.engine.rounds) (λ (t : ℕ × Kind). t.0 ≤ new.engine.rounds) (λ t below. omega (arith, told, below)) published low)
+rounds_after old new outcome published told low = absurd told
 
-pub between_after : (old new : CoreState) (outcome : Entry) (more : Option Entry) (sent sent_now : List Entry) (published published_now : List (ℕ × Kind)) → IsRoundTold old outcome more new → IsFollowUp outcome more → new.engine.asked ≡ None → sent_now ≡ sent ++ (outcome ∷ option_to_list more) → published_now ≡ published ++ reports_in (outcome ∷ []) → IsBetweenRounds old sent published → IsBetweenRounds new sent_now published_now
-between_after old new outcome more sent sent_now published published_now told follows closed sent_is published_is between =
+pub between_after : (old new : CoreState) (outcome : Entry) (more : Option Entry) (sent sent_now : List Entry) (published published_now : List (ℕ × Kind)) → IsNumbered old.engine.rounds outcome new.engine.rounds → IsFollowUp outcome more → new.engine.asked ≡ None → sent_now ≡ sent ++ (outcome ∷ option_to_list more) → published_now ≡ published ++ reports_in (outcome ∷ []) → HasPublished old sent published → IsBetweenRounds new sent_now published_now
+between_after old new outcome more sent sent_now published published_now told follows closed sent_is published_is has =
     let one = reports_more (outcome ∷ []) (option_to_list more) ∙ ap (λ (l : List (ℕ × Kind)). reports_in (outcome ∷ []) ++ l) (none_behind outcome more follows) ∙ append-nil (reports_in (outcome ∷ [])) in
     record {
       closed = closed;
-      published_are = published_is ∙ ap (λ (l : List (ℕ × Kind)). l ++ reports_in (outcome ∷ [])) between.published_are ∙ ap (λ (l : List (ℕ × Kind)). reports_in sent ++ l) (sym one) ∙ sym (reports_more sent (outcome ∷ option_to_list more)) ∙ ap reports_in (sym sent_is);
-      rounds = subst (λ (l : List (ℕ × Kind)). All (λ (t : ℕ × Kind). t.0 ≤ new.engine.rounds) l) (sym published_is) (rounds_after old new outcome more published told between.rounds);
+      told = record {
+        published_are = published_is ∙ ap (λ (l : List (ℕ × Kind)). l ++ reports_in (outcome ∷ [])) has.published_are ∙ ap (λ (l : List (ℕ × Kind)). reports_in sent ++ l) (sym one) ∙ sym (reports_more sent (outcome ∷ option_to_list more)) ∙ ap reports_in (sym sent_is);
+        rounds = subst (λ (l : List (ℕ × Kind)). All (λ (t : ℕ × Kind). t.0 ≤ new.engine.rounds) l) (sym published_is) (rounds_after old new outcome published told has.rounds);
+      };
     }
+
+-- an engine with as many rounds, over the same that was sent
+pub has_published : (old new : CoreState) (sent sent_now : List Entry) (published published_now : List (ℕ × Kind)) → new.engine.rounds ≡ old.engine.rounds → sent_now ≡ sent → published_now ≡ published → HasPublished old sent published → HasPublished new sent_now published_now
+has_published old new sent sent_now published published_now rounds sent_is published_is has = record {
+  published_are = published_is ∙ has.published_are ∙ ap reports_in (sym sent_is);
+  rounds = subst (λ (l : List (ℕ × Kind)). All (λ (t : ℕ × Kind). t.0 ≤ new.engine.rounds) l) (sym published_is) (subst (λ (n : ℕ). All (λ (t : ℕ × Kind). t.0 ≤ n) published) (sym rounds) has.rounds);
+}
 
 pub round_is : (old new : CoreState) (outcome : Entry) (more : Option Entry) (sent sent_now : List Entry) (said : Result (Unit {0}) Refusal) → IsRoundTold old outcome more new → IsFollowUp outcome more → IsSaid outcome said → sent_now ≡ sent ++ (outcome ∷ option_to_list more) → IsRound old sent said new sent_now
 round_is old new (Report report) more sent sent_now said told follows is sent_is =
@@ -152,12 +178,11 @@ not_moved core taken sent = record {
   search = refl;
 }
 
--- a parcel was taken in, between two rounds
-pub between_taken : (old new : CoreState) (parcel : Parcel) (entry : Entry) (sent sent_now : List Entry) (published : List (ℕ × Kind)) → new.engine.asked ≡ old.engine.asked → new.engine.rounds ≡ old.engine.rounds → IsTold parcel entry → sent_now ≡ sent ++ entry ∷ [] → IsBetweenRounds old sent published → IsBetweenRounds new sent_now published
-between_taken old new parcel entry sent sent_now published asked rounds told sent_is between = record {
-  closed = asked ∙ between.closed;
-  published_are = between.published_are ∙ sym (append-nil (reports_in sent)) ∙ ap (λ (l : List (ℕ × Kind)). reports_in sent ++ l) (sym (no_report parcel entry told)) ∙ sym (reports_more sent (entry ∷ [])) ∙ ap reports_in (sym sent_is);
-  rounds = subst (λ (n : ℕ). All (λ (t : ℕ × Kind). t.0 ≤ n) published) (sym rounds) between.rounds;
+-- a parcel was taken in
+pub told_taken : (old new : CoreState) (parcel : Parcel) (entry : Entry) (sent sent_now : List Entry) (published : List (ℕ × Kind)) → new.engine.rounds ≡ old.engine.rounds → IsTold parcel entry → sent_now ≡ sent ++ entry ∷ [] → HasPublished old sent published → HasPublished new sent_now published
+told_taken old new parcel entry sent sent_now published rounds told sent_is has = record {
+  published_are = has.published_are ∙ sym (append-nil (reports_in sent)) ∙ ap (λ (l : List (ℕ × Kind)). reports_in sent ++ l) (sym (no_report parcel entry told)) ∙ sym (reports_more sent (entry ∷ [])) ∙ ap reports_in (sym sent_is);
+  rounds = subst (λ (n : ℕ). All (λ (t : ℕ × Kind). t.0 ≤ n) published) (sym rounds) has.rounds;
 }
 
 -- a round takes no parcel

@@ -73,11 +73,21 @@ pub record HasMoved (old : CoreState) (taken : List Parcel) (sent : List Entry) 
   pub moves : MovesOn old.search old.engine parcels entries new.engine
   pub search : new.search ≡ old.search
 
--- No round is open, each report sent was published, and no round was numbered above those that the engine has finished.
-pub record IsBetweenRounds (core : CoreState) (sent : List Entry) (published : List (ℕ × Kind)) : Type 0 where
-  pub closed : core.engine.asked ≡ prelude.None
+-- Each report sent was published, and no round was numbered above those that the engine has finished.
+pub record HasPublished (core : CoreState) (sent : List Entry) (published : List (ℕ × Kind)) : Type 0 where
   pub published_are : published ≡ reports_in sent
   pub rounds : All (λ told. told.0 ≤ core.engine.rounds) published
+
+-- The same, and no round is open.
+pub record IsBetweenRounds (core : CoreState) (sent : List Entry) (published : List (ℕ × Kind)) : Type 0 where
+  pub closed : core.engine.asked ≡ prelude.None
+  pub told : HasPublished core sent published
+
+-- What a round came to is numbered as the next round, unless it was skipped.
+abbrev pub IsNumbered : ℕ → Entry → ℕ → Type 0
+IsNumbered old (Report report) new = (report.round ≡ old + 1) × (report.round < 2 ^ 48) × (new ≡ old + 1)
+IsNumbered old (Skipped refusal) new = new ≡ old
+IsNumbered old other new = ⊥
 
 -- A round that was begun on all that had been received, and reported: whatever histories the engine stood for.
 abbrev pub HasCountedAll : CoreState → CoreState → List Entry → reports.Report → Type 0

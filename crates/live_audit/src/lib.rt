@@ -4,6 +4,7 @@
 mod live;
 mod live_core;
 mod running;
+mod searching;
 mod steps;
 
 pub use live::{AuditorSide, Effort, audit_live};

@@ -1,23 +1,27 @@
 ghost use Rattle.std.specs.Prelude.{◌≡◌, ℕ, ◌<◌, ◌++◌, ◌∷◌, [], map, length, All, MatchResult};
 ghost use Rattle.std.specs.Option.{option_to_list};
 ghost use Rattle.order_check.specs.Effort.{IsEffort};
+ghost use Rattle.polygraph.specs.Solving.{IsLawful};
 ghost use Rattle.report_queue.specs.Reports.{IsBefore};
 ghost use Rattle.round_state.specs.Opening.{fresh_state};
 ghost use Rattle.round_state.specs.Runs.{Holds};
 ghost use Rattle.live_audit.specs.Live.{Live};
-ghost use Rattle.live_audit.specs.Running.{AreEnded, HasEnded, HasMoved, IsBetweenRounds, IsLastCount, IsLastSkipped, IsRound, CanBeTold, IsSaid, told_in, reports_in};
+ghost use Rattle.live_audit.specs.Running.{AreEnded, HasEnded, HasMoved, HasPublished, IsBetweenRounds, IsLastCount, IsLastSkipped, IsRound, CanBeTold, IsSaid, told_in, reports_in};
 ghost use Rattle.live_audit.specs.Truth.{IsTrueEntry, accepted_history};
 
 use crate::live_core::Core;
 use crate::running::Running;
+use crate::searching::{solved, start};
 use fragment_intake::{AuditorPass, Desk};
 use order_check::Kind;
-use polygraph::Solver;
+use polygraph::{Answer, Problem, Solver};
 use report_queue::{Entry, Latest, PublisherSeat, ReportSender};
 use round_state::Engine;
 use std::alloc::Global;
-use std::sync::Wait;
+use std::sync::atomic::{AtomicBool, Ordering};
+use std::sync::{Arc, Wait};
 use std::thread;
+use std::thread::{Scope, Threads};
 use txn::Refusal;
 
 /// How much the search of a round may cost: its budget in nodes, how often it is split, and the workers that share it.
@@ -101,10 +105,11 @@ fn tell<R: Wait>(
 /// Takes a parcel, if one waits, and sends what became of it. It says whether there was one.
 fn take_one<R: Wait>(rt: &R, desk: &Desk, side: &mut AuditorSide, running: &mut Running) -> bool
     requires desk { side.old.pass.0 ≡ desk.now.0 }
-    requires between { IsBetweenRounds running.old.core side.old.sender.sent side.old.seat.published }
+    requires told { HasPublished running.old.core side.old.sender.sent side.old.seat.published }
     requires ended { AreEnded running.old.ended side.old.pass.1 }
     ensures moved { HasMoved running.old.core side.old.pass.1 side.old.sender.sent running.new.core side.new.pass.1 side.new.sender.sent }
-    ensures between { IsBetweenRounds running.new.core side.new.sender.sent side.new.seat.published }
+    ensures told { HasPublished running.new.core side.new.sender.sent side.new.seat.published }
+    ensures round { running.new.core.engine.asked ≡ running.old.core.engine.asked }
     ensures ended { AreEnded running.new.ended side.new.pass.1 }
     ensures same { (side.new.pass.0 ≡ side.old.pass.0) × (side.new.sender.ring ≡ side.old.sender.ring) × (side.new.seat ≡ side.old.seat) }
 {
@@ -114,6 +119,113 @@ fn take_one<R: Wait>(rt: &R, desk: &Desk, side: &mut AuditorSide, running: &mut 
     let entry = running.take_in(parcel);
     send(rt, &mut side.sender, entry);
     true
+}
+
+/// Takes parcels until the search has ended, or all four collectors have.
+fn take_until<R: Wait>(
+    rt: &R,
+    desk: &Desk,
+    side: &mut AuditorSide,
+    running: &mut Running,
+    ended: &AtomicBool,
+)
+    requires desk { side.old.pass.0 ≡ desk.now.0 }
+    requires told { HasPublished running.old.core side.old.sender.sent side.old.seat.published }
+    requires ended { AreEnded running.old.ended side.old.pass.1 }
+    ensures moved { HasMoved running.old.core side.old.pass.1 side.old.sender.sent running.new.core side.new.pass.1 side.new.sender.sent }
+    ensures told { HasPublished running.new.core side.new.sender.sent side.new.seat.published }
+    ensures round { running.new.core.engine.asked ≡ running.old.core.engine.asked }
+    ensures ended { AreEnded running.new.ended side.new.pass.1 }
+    ensures same { (side.new.pass.0 ≡ side.old.pass.0) × (side.new.sender.ring ≡ side.old.sender.ring) × (side.new.seat ≡ side.old.seat) }
+{
+    for _ in rt.forever() {
+        if ended.load(Ordering::SeqCst) || running.is_over() {
+            return;
+        }
+        if !take_one(rt, desk, side, running) {
+            thread::yield_now();
+        }
+    }
+    unreachable!()
+}
+
+/// What the search answers to the problem of the open round. Parcels are taken while it goes on in a thread of its own; where none can be made, or
+/// memory is wanting for the flag, it is made in place.
+fn answer<'s, E, R: Threads + Wait, S: Solver + Sync>(
+    scope: &Scope<'s, E>,
+    rt: &R,
+    alloc: Global,
+    desk: &Desk,
+    side: &mut AuditorSide,
+    running: &mut Running,
+    problem: Problem,
+    solver: &'s S,
+    workers: u64,
+) -> Answer
+    requires ready { S.ready }
+    requires effort { IsEffort running.old.core.search.budget running.old.core.search.depth workers }
+    requires desk { side.old.pass.0 ≡ desk.now.0 }
+    requires told { HasPublished running.old.core side.old.sender.sent side.old.seat.published }
+    requires ended { AreEnded running.old.ended side.old.pass.1 }
+    ensures moved { HasMoved running.old.core side.old.pass.1 side.old.sender.sent running.new.core side.new.pass.1 side.new.sender.sent }
+    ensures told { HasPublished running.new.core side.new.sender.sent side.new.seat.published }
+    ensures round { running.new.core.engine.asked ≡ running.old.core.engine.asked }
+    ensures ended { AreEnded running.new.ended side.new.pass.1 }
+    ensures same { (side.new.pass.0 ≡ side.old.pass.0) × (side.new.sender.ring ≡ side.old.sender.ring) × (side.new.seat ≡ side.old.seat) }
+    ensures lawful { IsLawful problem.known.parts running.old.core.search.budget running.old.core.search.depth result }
+{
+    let (budget, depth) = running.core.search();
+    let Ok(ended) = Arc::new(alloc, AtomicBool::new(false)) else {
+        return solved(alloc, problem, solver, budget, depth, workers);
+    };
+    let Ok(flag) = Arc::try_clone(&ended) else {
+        return solved(alloc, problem, solver, budget, depth, workers);
+    };
+    match start(scope, alloc, problem, solver, budget, depth, workers, flag) {
+        Ok(thread) => {
+            take_until(rt, desk, side, running, &ended);
+            thread.join(rt)
+        }
+        Err(answer) => answer,
+    }
+}
+
+/// Makes a round on all that was received, and tells what it came to. Meanwhile parcels are taken.
+fn make_round_meanwhile<'s, E, R: Threads + Wait, S: Solver + Sync>(
+    scope: &Scope<'s, E>,
+    rt: &R,
+    alloc: Global,
+    desk: &Desk,
+    latest: &Latest,
+    side: &mut AuditorSide,
+    running: &mut Running,
+    solver: &'s S,
+    workers: u64,
+)
+    requires ready { S.ready }
+    requires effort { IsEffort running.old.core.search.budget running.old.core.search.depth workers }
+    requires desk { side.old.pass.0 ≡ desk.now.0 }
+    requires word { side.old.seat.word ≡ latest.now }
+    requires between { IsBetweenRounds running.old.core side.old.sender.sent side.old.seat.published }
+    requires ended { AreEnded running.old.ended side.old.pass.1 }
+    ensures moved { HasMoved running.old.core side.old.pass.1 side.old.sender.sent running.new.core side.new.pass.1 side.new.sender.sent }
+    ensures between { IsBetweenRounds running.new.core side.new.sender.sent side.new.seat.published }
+    ensures ended { AreEnded running.new.ended side.new.pass.1 }
+    ensures same { (side.new.pass.0 ≡ side.old.pass.0) × (side.new.sender.ring ≡ side.old.sender.ring) × (side.new.seat.word ≡ side.old.seat.word) }
+{
+    running.unasked = 0;
+    match running.core.begin() {
+        Ok(problem) => {
+            let answer = answer(
+                scope, rt, alloc, desk, side, running, problem, solver, workers,
+            );
+            let (outcome, more) = running.core.answered(answer);
+            let _ = tell(rt, latest, side, outcome, more);
+        }
+        Err(skipped) => {
+            let _ = tell(rt, latest, side, skipped, None);
+        }
+    }
 }
 
 /// Makes a round on all that was received, and tells what it came to.
@@ -140,14 +252,15 @@ fn make_round<R: Wait, S: Solver>(
 }
 
 /// Takes parcels and makes rounds until all four collectors have ended.
-fn take_all<R: Wait, S: Solver>(
+fn take_all<'s, E, R: Threads + Wait, S: Solver + Sync>(
+    scope: &Scope<'s, E>,
     rt: &R,
     alloc: Global,
     desk: &Desk,
     latest: &Latest,
     side: &mut AuditorSide,
     running: &mut Running,
-    solver: &S,
+    solver: &'s S,
     workers: u64,
 )
     requires ready { S.ready }
@@ -167,7 +280,9 @@ fn take_all<R: Wait, S: Solver>(
         }
         let is_idle = !take_one(rt, desk, side, running);
         if running.wants_round(is_idle) {
-            let _ = make_round(rt, alloc, latest, side, running, solver, workers);
+            make_round_meanwhile(
+                scope, rt, alloc, desk, latest, side, running, solver, workers,
+            );
         } else if is_idle {
             thread::yield_now();
         }
@@ -180,12 +295,14 @@ fn take_all<R: Wait, S: Solver>(
 /// something was accepted since the last one, where much was accepted since, and at the end, on all that was accepted; where that last round
 /// is refused, what it was refused for is answered.
 ///
-/// While a round is searched nothing is taken. Where the ring is full, it waits for its reader.
-pub fn audit_live<R: Wait, S: Solver>(
+/// A round is searched in a thread of the scope, and parcels are taken meanwhile; the last one in this thread. Where the ring is full, it waits for
+/// its reader.
+pub fn audit_live<'s, E, R: Threads + Wait, S: Solver + Sync>(
+    scope: &Scope<'s, E>,
     rt: &R,
     alloc: Global,
     engine: Engine,
-    solver: &S,
+    solver: &'s S,
     effort: Effort,
     desk: &Desk,
     latest: &Latest,
@@ -209,7 +326,17 @@ pub fn audit_live<R: Wait, S: Solver>(
     let core = Core::new(alloc, engine, effort.budget, effort.depth);
     let mut running = Running::new(core);
     let workers = effort.workers;
-    take_all(rt, alloc, desk, latest, side, &mut running, solver, workers);
+    take_all(
+        scope,
+        rt,
+        alloc,
+        desk,
+        latest,
+        side,
+        &mut running,
+        solver,
+        workers,
+    );
     let last = make_round(rt, alloc, latest, side, &mut running, solver, workers);
     send(rt, &mut side.sender, Entry::End);
     last

@@ -2,14 +2,14 @@ ghost use Rattle.std.specs.Prelude.{◌≡◌, ℕ, ◌<◌, ◌++◌, ◌∷◌
 ghost use Rattle.std.specs.Option.{option_to_list};
 ghost use Rattle.order_check.specs.Effort.{IsEffort};
 ghost use Rattle.fragment_intake.specs.declared.rules.Parcel.{Parcel};
-ghost use Rattle.polygraph.specs.Solving.{IsLawful};
 ghost use Rattle.live_audit.specs.Live.{MovesOn};
 ghost use Rattle.live_audit.specs.Running.{AreEnded, IsRoundTold};
 ghost use Rattle.live_audit.specs.Told.{IsTold, IsFollowUp};
 
 use crate::live_core::Core;
+use crate::searching::solved;
 use fragment_intake::{Item, Parcel};
-use polygraph::{Answer, Problem, Solver};
+use polygraph::Solver;
 use report_queue::Entry;
 use std::alloc::Global;
 
@@ -23,23 +23,7 @@ pub(crate) struct Running {
     /// Which collectors have ended.
     pub ended: [bool; 4],
     /// How many fragments and closes were accepted since the last round began; no more than the most are counted.
-    unasked: u64,
-}
-
-/// What the solver answers to the problem, which is let go.
-fn solved<S: Solver>(
-    alloc: Global,
-    problem: Problem,
-    solver: &S,
-    budget: u64,
-    depth: u64,
-    workers: u64,
-) -> Answer
-    requires ready { S.ready }
-    requires effort { IsEffort budget depth workers }
-    ensures { IsLawful problem.known.parts budget depth result }
-{
-    solver.solve(alloc, &problem, budget, depth, workers)
+    pub unasked: u64,
 }
 
 impl Running {

@@ -9,6 +9,7 @@ use round_state::Engine;
 use std::alloc::Global;
 use std::sync::Wait;
 use std::thread;
+use std::thread::{Scope, Threads};
 
 const EFFORT: Effort = Effort {
     budget: 4096,
@@ -70,7 +71,8 @@ fn open_engine(alloc: Global) -> Option<Engine>
 }
 
 /// The auditor's whole work: that of the running one, or its parcels alone. Where there are no collectors or no engine it just ends.
-pub fn audit<R: Wait>(
+pub fn audit<'s, E, R: Threads + Wait>(
+    scope: &Scope<'s, E>,
     rt: &R,
     alloc: Global,
     desk: &Desk,
@@ -84,7 +86,9 @@ pub fn audit<R: Wait>(
     let mut side = side;
     if stands && let Some(engine) = open_engine(alloc) {
         if rounds {
-            let _ = audit_live(rt, alloc, engine, &Single, EFFORT, desk, latest, &mut side);
+            let _ = audit_live(
+                scope, rt, alloc, engine, &Single, EFFORT, desk, latest, &mut side,
+            );
             return;
         }
         let mut core = Core::new(alloc, engine, EFFORT.budget, EFFORT.depth);

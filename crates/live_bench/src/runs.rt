@@ -64,7 +64,7 @@ fn run_threads<R: Threads + Wait + Sync>(
         {
             let reading = start_reader(scope, rt, reader, told)?;
             let stands = start_collectors(scope, rt, alloc, desk, passes);
-            audit(rt, alloc, desk, latest, side, rounds, stands);
+            audit(scope, rt, alloc, desk, latest, side, rounds, stands);
             Ok(reading.join(rt))
         },
     )

@@ -15,7 +15,7 @@ pub returns-clause-ended : goal.returns-clause-ended
 returns-clause-ended g c collector low = subst (λ (taken : List Parcel). HasEnded collector taken) (sym (ap (λ pass. pass.1) c.make_round-last.ensures.same.0)) (c.take_all.ensures.ended collector low)
 
 pub returns-clause-published : goal.returns-clause-published
-returns-clause-published g c = c.make_round-last.ensures.between.published_are ∙ sym (published_end c.make_round-last.new.side.sender.sent c.send.new.sender.sent c.send.ensures.sent)
+returns-clause-published g c = c.make_round-last.ensures.between.told.published_are ∙ sym (published_end c.make_round-last.new.side.sender.sent c.send.new.sender.sent c.send.ensures.sent)
 
 pub returns-clause-live : goal.returns-clause-live
 returns-clause-live g c sessions limit holds =

@@ -1,6 +1,6 @@
 use Rattle.std.proofs.Common.{◌∷◌, ap}
 use Rattle.std.specs.Option.{option_to_list}
-use Rattle.live_audit.proofs.Rounds.{between_after, round_moved}
+use Rattle.live_audit.proofs.Rounds.{between_after, told_numbered, round_moved}
 use Rattle.live_audit.proofs.live.make_round.Goals as goal
 
 pub returns-clause-moved : goal.returns-clause-moved
@@ -13,4 +13,4 @@ pub returns-clause-between : goal.returns-clause-between
 returns-clause-between g c =
     let made = c.make_round-outcome in
     between_after c.args.running.now.core made.new.self.core made.result.0 made.result.1 c.args.side.now.sender.sent c.tell.new.side.sender.sent c.args.side.now.seat.published c.tell.new.side.seat.published
-    made.ensures.told made.ensures.more made.ensures.closed c.tell.ensures.sent c.tell.ensures.published c.requires.between
+    (told_numbered c.args.running.now.core made.new.self.core made.result.0 made.result.1 made.ensures.told) made.ensures.more made.ensures.closed c.tell.ensures.sent c.tell.ensures.published c.requires.between.told

@@ -21,7 +21,7 @@ loop-init g c = record {
 
 pub loop-preserved-then-wants_round : goal.loop-preserved-then-wants_round
 loop-preserved-then-wants_round g c =
-    let i = c.loop.invariant in let one = c.take_one-is_idle in let made = c.make_round in
+    let i = c.loop.invariant in let one = c.take_one-is_idle in let made = c.make_round_meanwhile in
     let first = c.args.side.now in let before = c.loop.side in let between = one.new.side in let after = made.new.side in
     record {
       moved =
@@ -29,14 +29,12 @@ loop-preserved-then-wants_round g c =
           (moved_on c.args.running.now.core c.loop.running.core one.new.running.core first.pass.1 before.pass.1 between.pass.1 first.sender.sent before.sender.sent between.sender.sent i.moved one.ensures.moved)
           made.ensures.moved;
       between = made.ensures.between;
-      ended =
-          subst (λ (ended : List Bool). AreEnded ended after.pass.1) (sym made.ensures.same.3)
-          (subst (λ (taken : List Parcel). AreEnded one.new.running.ended taken) (sym (ap (λ pass. pass.1) made.ensures.same.0)) one.ensures.ended);
+      ended = made.ensures.ended;
       effort = subst (λ (search : Search). IsEffort search.budget search.depth c.args.workers) (sym (made.ensures.moved.search ∙ one.ensures.moved.search)) i.effort;
-      desk = ap (λ pass. pass.0) made.ensures.same.0 ∙ one.ensures.same.0 ∙ i.desk;
+      desk = made.ensures.same.0 ∙ one.ensures.same.0 ∙ i.desk;
       ring = made.ensures.same.1 ∙ one.ensures.same.1 ∙ i.ring;
       word = made.ensures.same.2 ∙ ap (λ seat. seat.word) one.ensures.same.2 ∙ i.word;
-      its_desk = ap (λ pass. pass.0) made.ensures.same.0 ∙ one.ensures.same.0 ∙ i.its_desk;
+      its_desk = made.ensures.same.0 ∙ one.ensures.same.0 ∙ i.its_desk;
       its_word = made.ensures.same.2 ∙ ap (λ seat. seat.word) one.ensures.same.2 ∙ i.its_word;
     }
 
@@ -46,7 +44,7 @@ loop-preserved-then-is_idle g c =
     let first = c.args.side.now in let before = c.loop.side in let after = one.new.side in
     record {
       moved = moved_on c.args.running.now.core c.loop.running.core one.new.running.core first.pass.1 before.pass.1 after.pass.1 first.sender.sent before.sender.sent after.sender.sent i.moved one.ensures.moved;
-      between = one.ensures.between;
+      between = record { closed = one.ensures.round ∙ i.between.closed; told = one.ensures.told };
       ended = one.ensures.ended;
       effort = subst (λ (search : Search). IsEffort search.budget search.depth c.args.workers) (sym one.ensures.moved.search) i.effort;
       desk = one.ensures.same.0 ∙ i.desk;
@@ -62,7 +60,7 @@ loop-preserved g c =
     let first = c.args.side.now in let before = c.loop.side in let after = one.new.side in
     record {
       moved = moved_on c.args.running.now.core c.loop.running.core one.new.running.core first.pass.1 before.pass.1 after.pass.1 first.sender.sent before.sender.sent after.sender.sent i.moved one.ensures.moved;
-      between = one.ensures.between;
+      between = record { closed = one.ensures.round ∙ i.between.closed; told = one.ensures.told };
       ended = one.ensures.ended;
       effort = subst (λ (search : Search). IsEffort search.budget search.depth c.args.workers) (sym one.ensures.moved.search) i.effort;
       desk = one.ensures.same.0 ∙ i.desk;

@@ -1,7 +1,7 @@
 use Rattle.std.proofs.Common.{List, sym, subst}
 use Rattle.fragment_intake.specs.declared.rules.Parcel.{Parcel}
 use Rattle.live_audit.specs.Running.{AreEnded, HasMoved}
-use Rattle.live_audit.proofs.Rounds.{between_taken, not_moved}
+use Rattle.live_audit.proofs.Rounds.{told_taken, not_moved}
 use Rattle.live_audit.proofs.live.take_one.Goals as goal
 
 pub returns-in_default-clause-moved : goal.returns-in_default-clause-moved
@@ -9,10 +9,10 @@ returns-in_default-clause-moved g c =
     let core = c.args.running.now.core in let sent = c.args.side.now.sender.sent in
     subst (λ (taken : List Parcel). HasMoved core c.args.side.now.pass.1 sent core taken sent) (sym c.in_default.ensures.taken.0) (not_moved core c.args.side.now.pass.1 sent)
 
-pub returns-clause-between : goal.returns-clause-between
-returns-clause-between g c =
-    between_taken c.args.running.now.core c.take_in-entry.new.self.core c.in-Some.parcel c.take_in-entry.result c.args.side.now.sender.sent c.send.new.sender.sent c.args.side.now.seat.published
-    c.take_in-entry.ensures.round.0 c.take_in-entry.ensures.round.1 c.take_in-entry.ensures.told c.send.ensures.sent c.requires.between
+pub returns-clause-told : goal.returns-clause-told
+returns-clause-told g c =
+    told_taken c.args.running.now.core c.take_in-entry.new.self.core c.in-Some.parcel c.take_in-entry.result c.args.side.now.sender.sent c.send.new.sender.sent c.args.side.now.seat.published
+    c.take_in-entry.ensures.round.1 c.take_in-entry.ensures.told c.send.ensures.sent c.requires.told
 
 pub returns-clause-ended : goal.returns-clause-ended
 returns-clause-ended g c =

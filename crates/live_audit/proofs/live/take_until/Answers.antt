@@ -1,0 +1,45 @@
+use Rattle.std.proofs.Common.{refl, ◌∙◌}
+use Rattle.live_audit.proofs.Rounds.{moved_on, not_moved}
+use Rattle.live_audit.proofs.live.take_until.Goals as goal
+
+pub loop-init : goal.loop-init
+loop-init g c = record {
+  moved = not_moved c.args.running.now.core c.args.side.now.pass.1 c.args.side.now.sender.sent;
+  told = c.requires.told;
+  round = refl;
+  ended = c.requires.ended;
+  desk = refl;
+  ring = refl;
+  seat = refl;
+  its_desk = c.requires.desk;
+}
+
+pub loop-preserved-then-not-take_one : goal.loop-preserved-then-not-take_one
+loop-preserved-then-not-take_one g c =
+    let i = c.loop.invariant in let one = c.take_one in
+    let first = c.args.side.now in let before = c.loop.side in let after = one.new.side in
+    record {
+      moved = moved_on c.args.running.now.core c.loop.running.core one.new.running.core first.pass.1 before.pass.1 after.pass.1 first.sender.sent before.sender.sent after.sender.sent i.moved one.ensures.moved;
+      told = one.ensures.told;
+      round = one.ensures.round ∙ i.round;
+      ended = one.ensures.ended;
+      desk = one.ensures.same.0 ∙ i.desk;
+      ring = one.ensures.same.1 ∙ i.ring;
+      seat = one.ensures.same.2 ∙ i.seat;
+      its_desk = one.ensures.same.0 ∙ i.its_desk;
+    }
+
+pub loop-preserved : goal.loop-preserved
+loop-preserved g c =
+    let i = c.loop.invariant in let one = c.take_one in
+    let first = c.args.side.now in let before = c.loop.side in let after = one.new.side in
+    record {
+      moved = moved_on c.args.running.now.core c.loop.running.core one.new.running.core first.pass.1 before.pass.1 after.pass.1 first.sender.sent before.sender.sent after.sender.sent i.moved one.ensures.moved;
+      told = one.ensures.told;
+      round = one.ensures.round ∙ i.round;
+      ended = one.ensures.ended;
+      desk = one.ensures.same.0 ∙ i.desk;
+      ring = one.ensures.same.1 ∙ i.ring;
+      seat = one.ensures.same.2 ∙ i.seat;
+      its_desk = one.ensures.same.0 ∙ i.its_desk;
+    }
