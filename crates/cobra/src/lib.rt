@@ -13,4 +13,7 @@ pub use byte_lines::{
     Next, Pace, ReaderSource, StandardInput, StandardOutput, WriterSink, write_all,
 };
 pub use programs::{Asked, Exit, asked_of, exit_of};
+pub use replies::{reply_of, report_of};
+pub use scripts::command_in;
 pub use serving::serve;
+pub use showing::state_told;

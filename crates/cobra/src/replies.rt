@@ -8,7 +8,7 @@ use std::alloc::Global;
 use txn::NoMemory;
 
 /// How a report is told.
-pub(crate) fn report_of(report: Report) -> Reply
+pub fn report_of(report: Report) -> Reply
     ensures { result ≡ report_of report }
 {
     let Report {
@@ -42,7 +42,7 @@ fn cut_of(alloc: Global, cut: Cut) -> Result<Reply, NoMemory>
 }
 
 /// How the reply to a step is told.
-pub(crate) fn reply_of(alloc: Global, reply: StepReply) -> Result<Reply, NoMemory>
+pub fn reply_of(alloc: Global, reply: StepReply) -> Result<Reply, NoMemory>
     ensures { IfOk result (λ answer. answer ≡ reply_of reply) }
 {
     match reply {

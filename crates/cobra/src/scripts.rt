@@ -125,7 +125,7 @@ fn answer_open<S: Solver>(
 }
 
 /// The command that was read, where it was one.
-fn command_in(alloc: Global, next: &Next) -> Result<Option<Command>, NoMemory>
+pub fn command_in(alloc: Global, next: &Next) -> Result<Option<Command>, NoMemory>
     ensures some { IfOk result (λ found. IfSome found (λ command. (line : List ℕ) → IsTold line next.now → Asks line command)) }
     ensures none { IfOk result (λ found. IfNone found ((line : List ℕ) → IsTold line next.now → (command : Command) → ¬ Asks line command)) }
     ensures limits { IfOk result (λ found. IfSome found HasLimits) }

@@ -7,7 +7,7 @@ use std::alloc::Global;
 use txn::NoMemory;
 
 /// What an engine keeps, to be told.
-pub(crate) fn state_told(alloc: Global, engine: &Engine) -> Result<Reply, NoMemory>
+pub fn state_told(alloc: Global, engine: &Engine) -> Result<Reply, NoMemory>
     ensures { IfOk result (λ answer. answer ≡ state_told engine.now) }
 {
     let parts = engine.parts();
