@@ -18,11 +18,13 @@ use Rattle.cobra.specs.Outputs.{Asks, IsTold}
 use Rattle.cobra.specs.Scripts.{HoldsScript}
 use Rattle.report_checking.specs.Checking.{IsRightReply, IsUnchecked, TakesMemory, Checks, start, right, unchecked, IsAllRight}
 use Rattle.report_checking.specs.Owing.{Owes, OwesLine}
-use Rattle.report_checking.specs.Reading.{LeadsScript, IsOwedBy, IsOfKind, IsRead, Finds, FindsFor, FindsNext, IsFoundBy, IsFoundOf, IsChecking, LeadsOn}
+use Rattle.report_checking.specs.Reading.{LeadsScript, IsOwedBy, IsOfKind, IsRead, Finds, FindsFor, FindsNext, IsFoundBy, IsFoundOf, IsFine, IsChecking, LeadsOn, Advances}
 use Rattle.report_checking.specs.declared.findings.Found.{Found}
 use Rattle.report_checking.specs.declared.findings.Found.TheVariants as found
 use Rattle.report_checking.specs.declared.findings.Fault.{Fault}
 use Rattle.report_checking.specs.declared.findings.Fault.TheVariants as fault
+use Rattle.report_checking.specs.declared.findings.Advance.TheVariants as advance
+use Rattle.report_checking.specs.declared.checking.TheConstants.{LONGEST_REPLY}
 use Rattle.report_checking.specs.declared.findings.Owed.{Owed}
 use Rattle.report_checking.specs.declared.findings.Owed.TheVariants as owed
 
@@ -165,3 +167,22 @@ ahead_first reader left input told none =
 pub leads_on : (limit : ℕ) (b c : Option (List (List ℕ))) (next line stored : Next) (given : Found) (old new : Option EngineState) → 8388608 ≤ limit → ((bytes : List ℕ) → IsRead bytes next → IsTold bytes line) → IsNextOf limit b stored c → FindsNext old line stored given new → LeadsOn limit b next old given c new
 leads_on limit b c next line stored given old new long told second finds input a s is some not =
     checking_on input limit a b c next line stored given old new s long is some told second finds not
+
+pub long_enough : (limit : ℕ) → limit ≡ LONGEST_REPLY → 8388608 ≤ limit
+long_enough limit is = omega (arith, is)
+
+-- where nothing wrong was found there was a reply
+pub not_end : (old new : Option EngineState) (line stored : Next) (given : Found) → FindsNext old line stored given new → IsFine given → stored ≢ End
+not_end old new line (Line bytes) given finds fine e = cc
+not_end old new line TooLong given finds fine e = cc
+not_end old new line End (found.Wrong why) finds fine e = absurd (fine why refl)
+not_end old new line End (found.Right what) finds fine e = absurd finds
+not_end old new line End found.Unchecked finds fine e = absurd finds
+
+-- a line and its reply were checked
+pub advances_on : (limit now : ℕ) (a b c : Option (List (List ℕ))) (next : Next) (given : Found) (old new : Option EngineState) → now ≡ limit → IsNextOf limit a next b → next ≢ End → LeadsOn now b next old given c new → IsFine given → Advances a old advance.On c new
+advances_on limit now a b c next given old new same is some leads fine input s = leads input a s (subst (λ n. IsNextOf n a next b) (sym same) is) some fine
+
+-- or there was none
+pub advances_end : (limit : ℕ) (a b : Option (List (List ℕ))) (next : Next) (old : Option EngineState) → next ≡ End → IsNextOf limit a next b → Advances a old advance.End b old
+advances_end limit a b next old end is input s = checking_end input limit a b old s (subst (λ (n : Next). IsNextOf limit a n b) end is)

@@ -47,7 +47,7 @@ IsOfKind (owed.Nothing why) = ⊤
 abbrev pub IsRead : List ℕ → Next → Type 0
 IsRead line (Line bytes) = bytes.items ≡ line
 IsRead line TooLong = 8388608 < length line
-IsRead line End = ⊤
+IsRead line End = ⊥
 
 -- What was found of a stored reply.
 abbrev pub Finds : Option EngineState → Next → List ℕ → Found → Option EngineState → Type 0
@@ -81,6 +81,10 @@ FindsNext old line (Line stored) given new = Finds old line stored.items given n
 FindsNext old line other (found.Wrong why) new = ⊤
 FindsNext old line other given new = ⊥
 
+-- nothing wrong was found
+abbrev pub IsFine : Found → Type 0
+IsFine given = (why : Fault) → given ≢ found.Wrong why
+
 -- A script is being checked: what was checked so far, and the lines that are ahead.
 pub record IsChecking (input : List ℕ) (ahead : Option (List (List ℕ))) (engine : Option EngineState) : Type 0 where
   pub left : List (List ℕ)
@@ -93,7 +97,7 @@ pub record IsChecking (input : List ℕ) (ahead : Option (List (List ℕ))) (eng
 
 -- From what was ahead behind a line, what was found of the reply to it leads on, unless that is wrong.
 abbrev pub LeadsOn : ℕ → Option (List (List ℕ)) → Next → Option EngineState → Found → Option (List (List ℕ)) → Option EngineState → Type 0
-LeadsOn limit b next old given c new = (input : List ℕ) (a : Option (List (List ℕ))) → IsChecking input a old → IsNextOf limit a next b → next ≢ End → ((why : Fault) → given ≢ found.Wrong why) → IsChecking input c new
+LeadsOn limit b next old given c new = (input : List ℕ) (a : Option (List (List ℕ))) → IsChecking input a old → IsNextOf limit a next b → next ≢ End → IsFine given → IsChecking input c new
 
 -- One more line and its reply were checked, or the end was reached.
 abbrev pub Advances : Option (List (List ℕ)) → Option EngineState → Advance → Option (List (List ℕ)) → Option EngineState → Type 0

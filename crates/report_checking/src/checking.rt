@@ -1,13 +1,13 @@
-ghost use Rattle.std.specs.Prelude.{◌≡◌, ℕ, ◌<◌, ◌≤◌, List, [], Some, None, IfOk, IfSome, IsTrue, OnOk};
+ghost use Rattle.std.specs.Prelude.{◌≡◌, ℕ, ◌<◌, List, [], Some, None, IfOk, IfSome, IsTrue, OnOk};
 ghost use Rattle.byte_lines.specs.LineReaders.{lines_ahead, lines_left};
 ghost use Rattle.report_checking.specs.Checking.{IsAllRight};
-ghost use Rattle.report_checking.specs.Reading.{IsRead, FindsNext, LeadsOn, Advances};
+ghost use Rattle.report_checking.specs.Reading.{IsRead, IsFine, FindsNext, LeadsOn, Advances};
 ghost use Rattle.cobra.specs.Outputs.{IsTold};
 
 use crate::findings::{Advance, Fault, Found};
 use crate::pairs::Replay;
-use crate::texts::{Tally, tell};
-use byte_lines::{ByteSink, ByteSource, Failure, LONGEST_LINE, LineReader, Next, write_all};
+use crate::texts::{Tally, tell, tell_tally};
+use byte_lines::{ByteSink, ByteSource, Failure, LONGEST_LINE, LineReader, Next};
 use std::alloc::Global;
 use txn::NoMemory;
 
@@ -19,8 +19,14 @@ fn as_line(next: Next) -> Next
     ensures { (line : List ℕ) → IsRead line next → IsTold line result }
 {
     match next {
-        Next::Line(line) if line.len() > LONGEST_LINE => Next::TooLong,
-        next => next,
+        Next::Line(line) => {
+            if line.len() > LONGEST_LINE {
+                return Next::TooLong;
+            }
+            Next::Line(line)
+        }
+        Next::TooLong => Next::TooLong,
+        Next::End => Next::End,
     }
 }
 
@@ -53,7 +59,7 @@ fn check_reply<R: ByteSource>(
     ensures on { IfOk result (λ found. LeadsOn reader.old.limit (lines_ahead reader.old (R.remaining source.old)) next replay.old.engine found (lines_ahead reader.new (R.remaining source.new)) replay.new.engine) }
     ensures fresh { OnOk result (reader.new.under_way ≡ Some []) }
     ensures limit { reader.new.limit ≡ reader.old.limit }
-    ensures fewer { OnOk result (lines_left reader.new (R.reads_left source.new) ≤ lines_left reader.old (R.reads_left source.old)) }
+    ensures fewer { IfOk result (λ found. IsFine found → lines_left reader.new (R.reads_left source.new) < lines_left reader.old (R.reads_left source.old)) }
 {
     let line = as_line(next);
     let stored = reader.next_line(source)?;
@@ -115,6 +121,27 @@ fn check_lines<R: ByteSource, W: ByteSink>(
     }
 }
 
+/// The same, and counts what was checked in a last line. It owns neither reader nor engine, so that nothing is let go where it returns: that
+/// keeps its proof short.
+fn check_all<R: ByteSource, W: ByteSink>(
+    alloc: Global,
+    reader: &mut LineReader,
+    replay: &mut Replay,
+    source: &mut R,
+    sink: &mut W,
+) -> Result<bool, Failure>
+    requires limit { reader.old.limit ≡ LONGEST_REPLY }
+    requires ahead { reader.old.ahead ≡ [] }
+    requires under_way { reader.old.under_way ≡ Some [] }
+    requires unopened { replay.old.engine ≡ None }
+    ensures right { IfOk result (λ right. IsTrue right → IfSome (R.remaining source.old) IsAllRight) }
+{
+    let mut tally = Tally::new();
+    let right = check_lines(alloc, reader, replay, &mut tally, source, sink)?;
+    tell_tally(alloc, sink, &tally, right)?;
+    Ok(right)
+}
+
 /// Checks what an auditor replied to a script: the input has the script's lines and the replies by turns. It writes a line for each report,
 /// each cut and each reply that isn't right or isn't checked, and a last one that counts them. Answers whether all replies are right; what
 /// comes behind the first that is wrong isn't read.
@@ -127,9 +154,5 @@ pub fn check_replies<R: ByteSource, W: ByteSink>(
 {
     let mut reader = LineReader::new(alloc, LONGEST_REPLY)?;
     let mut replay = Replay::new();
-    let mut tally = Tally::new();
-    let right = check_lines(alloc, &mut reader, &mut replay, &mut tally, source, sink)?;
-    let line = tally.line(alloc, right)?;
-    write_all(sink, line.as_bytes())?;
-    Ok(right)
+    check_all(alloc, &mut reader, &mut replay, source, sink)
 }

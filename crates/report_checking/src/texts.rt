@@ -37,7 +37,7 @@ impl Tally {
     }
 
     /// The last line: what was counted.
-    pub(crate) fn line(&self, alloc: Global, is_right: bool) -> Result<String, NoMemory> {
+    fn line(&self, alloc: Global, is_right: bool) -> Result<String, NoMemory> {
         let word = if is_right { "right" } else { "wrong" };
         let Tally {
             replies,
@@ -93,5 +93,17 @@ pub(crate) fn tell<W: ByteSink>(
     write_all(sink, head.as_bytes())?;
     write_all(sink, more)?;
     write_all(sink, b"\n")?;
+    Ok(())
+}
+
+/// Writes the last line.
+pub(crate) fn tell_tally<W: ByteSink>(
+    alloc: Global,
+    sink: &mut W,
+    tally: &Tally,
+    is_right: bool,
+) -> Result<(), Failure> {
+    let line = tally.line(alloc, is_right)?;
+    write_all(sink, line.as_bytes())?;
     Ok(())
 }

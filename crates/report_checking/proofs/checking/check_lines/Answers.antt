@@ -1,0 +1,10 @@
+use Rattle.std.proofs.Common.{refl}
+use Rattle.report_checking.proofs.CheckedLines.{if_told, ahead_first, checking_first}
+use Rattle.report_checking.proofs.checking.check_lines.Goals as goal
+
+pub loop-advance-init : goal.loop-advance-init
+loop-advance-init g c = record {
+  fresh = c.requires.under_way;
+  limit = c.requires.limit;
+  told = λ input told. checking_first input _ _ (ahead_first _ _ input told c.requires.ahead) c.requires.unopened;
+}
