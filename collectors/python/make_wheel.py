@@ -25,7 +25,7 @@ from typing import Iterator, List, Optional, Sequence
 
 HERE = os.path.dirname(os.path.abspath(__file__))
 TOP = os.path.normpath(os.path.join(HERE, "../.."))
-PROGRAMS = ("cobra_audit",)  # each a crate of this name; more are added here
+PROGRAMS = ("cobra_audit", "cobra_check")  # each a crate of this name; more are added here
 PATIENCE = 600  # seconds in which a build without proofs has to have come to its run
 
 
