@@ -1,23 +1,22 @@
 -- What is found of stored replies, and of a script.
-use Rattle.std.proofs.Common.{◌≡◌, ◌≢◌, ℕ, ◌≤◌, ◌<◌, List, [], ◌∷◌, ◌++◌, length, append_assoc, append-nil, Option, Some, None, IfSome, refl, ap, sym, ◌∙◌, subst, arith, inl, inr}
-use Rattle.txn.specs.declared.refusals.Refusal.TheVariants.{BadLine, NoMemory}
+use Rattle.std.proofs.Common.{◌≡◌, ◌≢◌, ℕ, ◌≤◌, List, [], ◌∷◌, ◌++◌, append_assoc, append-nil, Option, Some, None, IfSome, refl, ap, sym, ◌∙◌, subst, arith, inl, inr}
+use Rattle.txn.specs.declared.refusals.Refusal.TheVariants.{BadLine}
 use Rattle.log_text.specs.declared.commands.Command.{Command}
 use Rattle.log_text.specs.declared.commands.Command.TheVariants.{Start}
 use Rattle.log_text.specs.declared.replies.Reply.{Reply}
 use Rattle.log_text.specs.declared.replies.Reply.TheVariants as told
-use Rattle.log_text.specs.Replies.{HasKindOfOrder, text_of}
 use Rattle.byte_lines.specs.declared.lines.Next.{Next}
 use Rattle.byte_lines.specs.declared.lines.Next.TheVariants.{Line, TooLong, End}
 use Rattle.byte_lines.specs.LineReaders.{LineState, lines_ahead, IsNextOf}
 use Rattle.byte_lines.specs.Lines.{lines}
 use Rattle.round_state.specs.EngineState.{EngineState}
 use Rattle.round_state.specs.Legal.{State}
-use Rattle.round_state.specs.Opening.{IsSessions, IsLimit, IsOpenRefusal, fresh_state}
+use Rattle.round_state.specs.Opening.{IsSessions, IsLimit, fresh_state}
 use Rattle.round_state.specs.Runs.{Holds}
 use Rattle.cobra.specs.Outputs.{Asks, IsTold}
 use Rattle.cobra.specs.Scripts.{HoldsScript}
-use Rattle.report_checking.specs.Checking.{IsRightReply, IsUnchecked, TakesMemory, Checks, start, right, unchecked, IsAllRight}
-use Rattle.report_checking.specs.Owing.{Owes, OwesLine}
+use Rattle.report_checking.specs.Checking.{TakesMemory, Checks, start, right, unchecked, IsAllRight}
+use Rattle.report_checking.specs.Owing.{Owes}
 use Rattle.report_checking.specs.Reading.{LeadsScript, IsOwedBy, IsOfKind, IsRead, Finds, FindsFor, FindsNext, IsFoundBy, IsFoundOf, IsFine, IsChecking, LeadsOn, Advances}
 use Rattle.report_checking.specs.declared.findings.Found.{Found}
 use Rattle.report_checking.specs.declared.findings.Found.TheVariants as found

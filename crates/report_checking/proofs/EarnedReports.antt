@@ -1,5 +1,5 @@
 -- A report that an answer earns tells of the whole history that the snapshot stands for.
-use Rattle.std.proofs.Common.{◌≡◌, ℕ, zero, suc, ◌+◌, ◌<◌, ◌≤◌, List, [], ◌∷◌, length, map, Option, Some, None, refl, sym, ap, ◌∙◌, subst, arith, get_or}
+use Rattle.std.proofs.Common.{◌≡◌, ℕ, zero, suc, ◌+◌, ◌<◌, List, [], ◌∷◌, length, map, Option, Some, None, refl, sym, ap, ◌∙◌, subst, arith, get_or}
 use Rattle.std.specs.Prelude.{IsSomeAnd}
 use Rattle.std.specs.FinMap as finite
 use Rattle.std.proofs.lemmas.List.{ext_get_or, length-map, get_or-map}
@@ -86,17 +86,20 @@ none_or_some parts e = cc
 -- Whatever histories the engine stood for, an earned report is owed.
 pub owed_report : (old new : EngineState) (report : Report) → SameVerdictAsStoodFor → RefutedHasNoOrder → ((parts : Parts) → old.asked ≡ Some parts → IsGood parts) → IsEarned old report new → Leads old new (λ before after. IsOwedReport before report after)
 owed_report old new report law refuted good earned before holds =
-    let after : State = record { engine = new; whole = before.whole; asked = before.asked } in
-    (after, record {
-      earned = subst (λ (engine : EngineState). IsEarned engine report new) (sym holds.same) earned;
-      tells = tells_of old new old.asked before.asked earned.answer report law refuted (λ parts e. (good parts e, holds.asked parts e)) earned.reported;
-      whole = refl;
-      asked = refl;
-    }, record {
-      same = refl;
-      parts = subst (λ (p : Parts). StandsFor p before.whole) (sym earned.finished.parts) holds.parts;
-      asked = λ parts h. absurd (none_or_some parts (sym earned.finished.none_open ∙ h));
-    })
+    let after : State = record { engine = new; whole = before.whole; asked = before.asked } in (
+      after,
+      record {
+        earned = subst (λ (engine : EngineState). IsEarned engine report new) (sym holds.same) earned;
+        tells = tells_of old new old.asked before.asked earned.answer report law refuted (λ parts e. (good parts e, holds.asked parts e)) earned.reported;
+        whole = refl;
+        asked = refl;
+      },
+      record {
+        same = refl;
+        parts = subst (λ (p : Parts). StandsFor p before.whole) (sym earned.finished.parts) holds.parts;
+        asked = λ parts h. absurd (none_or_some parts (sym earned.finished.none_open ∙ h));
+      },
+    )
 
 -- An earned report's kind has its certificate.
 certified_kind : (parts : Parts) (answer : Answer) (round : ℕ) (counts : List ℕ) (kind : Kind) (certificate : Certificate) → IsRight parts answer kind certificate → HasKindOfOrder (certified (record { round = round; kind = kind; counts = counts; certificate = certificate }) certificate)

@@ -1,13 +1,11 @@
 -- What is owed to steps and commands.
-use Rattle.std.proofs.Common.{◌≡◌, ◌≢◌, ℕ, List, Option, Some, None, refl, sym, subst, inl, inr}
-use Rattle.txn.specs.declared.refusals.Refusal.{Refusal}
+use Rattle.std.proofs.Common.{◌≡◌, ◌≢◌, Some, None, refl, sym, subst, inl, inr}
 use Rattle.txn.specs.declared.refusals.Refusal.TheVariants.{BadLine, NoRound}
 use Rattle.log_text.specs.declared.commands.Command.{Command}
 use Rattle.log_text.specs.declared.replies.Reply.{Reply}
 use Rattle.log_text.specs.declared.replies.Reply.TheVariants as told
 use Rattle.log_text.specs.Replies.{HasKindOfOrder}
 use Rattle.round_state.specs.EngineState.{EngineState}
-use Rattle.round_state.specs.Legal.{State, Legal}
 use Rattle.round_state.specs.Runs.{HasLimits, Holds, StepsLegally}
 use Rattle.round_state.specs.Steps.{StepsTo}
 use Rattle.round_state.specs.declared.reports.Report.{Report}
@@ -70,10 +68,12 @@ round_owed_by old mid new (owed.Nothing why) begin owes = tt
 -- or its begin is refused
 pub begin_refused : (old new : EngineState) (said : StepReply) → StepsTo old step.Begin said new → StepsLegally old step.Begin said new → said ≢ reply.Done → (answer : Reply) → answer ≡ reply_of said → HasKindOfOrder answer × Leads old new (λ before after. OwesRound before answer after)
 begin_refused old new reply.Done right begin not answer is = absurd (not refl)
-begin_refused old new (reply.Refused refusal) right begin not answer is =
-    (subst HasKindOfOrder (sym is) tt, λ before holds.
-    let first = begin before holds in
-    (first.0, inl (refusal, first.1, is), first.2))
+begin_refused old new (reply.Refused refusal) right begin not answer is = (
+  subst HasKindOfOrder (sym is) tt,
+  λ before holds.
+      let first = begin before holds in
+      (first.0, inl (refusal, first.1, is), first.2),
+)
 begin_refused old new (reply.Report report) right begin not answer is = absurd right
 begin_refused old new (reply.Cut cut) right begin not answer is = absurd right
 

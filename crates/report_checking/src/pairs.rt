@@ -6,7 +6,7 @@ ghost use Rattle.report_checking.specs.Checking.{TakesMemory};
 ghost use Rattle.report_checking.specs.Owing.{Owes};
 ghost use Rattle.report_checking.specs.Reading.{LeadsScript, IsOwedBy, IsOfKind, Finds, FindsFor, IsFoundBy, IsFoundOf};
 
-use crate::findings::{Found, Fault, Owed, what_of};
+use crate::findings::{Fault, Found, Owed, what_of};
 use crate::owed::owed_open;
 use crate::replayed::Replayed;
 use byte_lines::Next;
@@ -65,12 +65,7 @@ impl Replay {
     }
 
     /// What is owed to a command.
-    fn owed(
-        &mut self,
-        alloc: Global,
-        command: Command,
-        stored: &[u8],
-    ) -> Result<Owed, NoMemory>
+    fn owed(&mut self, alloc: Global, command: Command, stored: &[u8]) -> Result<Owed, NoMemory>
         ensures { IfOk result (IsOwedBy (λ answer. LeadsScript self.old.engine self.new.engine (λ before after. Owes before command answer after))) }
     {
         if let Some(engine) = &mut self.engine {
@@ -85,12 +80,7 @@ impl Replay {
     }
 
     /// Whether the stored reply to the command says that memory was wanting, as it may.
-    fn is_left_out(
-        &self,
-        alloc: Global,
-        command: &Command,
-        stored: &[u8],
-    ) -> Result<bool, NoMemory>
+    fn is_left_out(&self, alloc: Global, command: &Command, stored: &[u8]) -> Result<bool, NoMemory>
         ensures takes { IfOk result (λ is. IsTrue is → TakesMemory self.now.engine command.now) }
         ensures text { IfOk result (λ is. IsTrue is → stored.now ≡ text_of (told.No refusals.NoMemory)) }
     {

@@ -45,7 +45,9 @@ impl Tally {
             spent,
             unchecked,
         } = *self;
-        format!(in alloc; "{word}: replies {replies} reports {reports} spent {spent} not-checked {unchecked}\n")
+        format!(in alloc;
+            "{word}: replies {replies} reports {reports} spent {spent} not-checked {unchecked}\n"
+        )
     }
 }
 
@@ -65,7 +67,8 @@ fn words_of_fault(fault: &Fault) -> &'static str {
     match fault {
         Fault::Other(_) => "wrong: owed is ",
         Fault::Unshown(Unshown::Order) => "wrong: its order doesn't explain what had been accepted",
-        Fault::Unshown(Unshown::Refutation) => "wrong: it refutes nothing of what had been accepted",
+        Fault::Unshown(Unshown::Refutation) =>
+            "wrong: it refutes nothing of what had been accepted",
         Fault::Missing => "wrong: the line has no reply",
         Fault::TooLong => "wrong: it is too long to be read",
     }

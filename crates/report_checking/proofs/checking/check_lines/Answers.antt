@@ -1,5 +1,4 @@
-use Rattle.std.proofs.Common.{refl}
-use Rattle.report_checking.proofs.CheckedLines.{if_told, ahead_first, checking_first}
+use Rattle.report_checking.proofs.CheckedLines.{ahead_first, checking_first}
 use Rattle.report_checking.proofs.checking.check_lines.Goals as goal
 
 pub loop-advance-init : goal.loop-advance-init
