@@ -25,7 +25,7 @@ from typing import Iterator, List, Optional, Sequence
 
 HERE = os.path.dirname(os.path.abspath(__file__))
 TOP = os.path.normpath(os.path.join(HERE, "../.."))
-PROGRAMS = ("cobra_audit",)  # each a crate of this name; more are added here
+PROGRAMS = ("cobra_audit", "cobra_check")  # each a crate of this name; more are added here
 PATIENCE = 600  # seconds in which a build without proofs has to have come to its run
 
 
@@ -82,9 +82,13 @@ def unproved(name: str, folder: str) -> str:
     the program reads a script that takes it a while."""
     script = os.path.join(folder, "script")
     with open(script, "w", encoding="utf-8") as file:
-        file.write('["open",1,4096]\n')
-        file.writelines(f'["offer",0,{it},[[[],[{it + 1}]]]]\n' for it in range(4000))
-        file.write('["round",4096,0,1]\n' * 400)
+        if name == "cobra_check":  # lines with their replies
+            turn = '["begin"]\n["ok"]\n["finish",1,0,1]\n["report",1,"serial",[0],[]]\n'
+            file.write('["open",1,4096]\n["ok"]\n' + (turn + '["rebuild"]\n["ok"]\n') * 400000)
+        else:
+            file.write('["open",1,4096]\n')
+            file.writelines(f'["offer",0,{it},[[[],[{it + 1}]]]]\n' for it in range(4000))
+            file.write('["round",4096,0,1]\n' * 400)
     words = ["rt", "try", name, "--steps", "1", "--seconds", "60"]
     environment = {**os.environ, "TMPDIR": folder}
     crate = os.path.join(TOP, "crates", name)
@@ -202,8 +206,9 @@ def main(words: Optional[Sequence[str]] = None) -> int:
             for name in PROGRAMS:
                 if asked.unproved is None:
                     programs.append(proved(name, asked.built))
-                elif asked.unproved:
-                    programs.append(shutil.copy(asked.unproved, os.path.join(made, name)))
+                elif asked.unproved:  # the auditor that is named, and no other program
+                    if name == PROGRAMS[0]:
+                        programs.append(shutil.copy(asked.unproved, os.path.join(made, name)))
                 else:
                     programs.append(unproved(name, made))
             stage(staged, programs, asked.unproved is None)

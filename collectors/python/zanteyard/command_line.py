@@ -10,12 +10,12 @@ import sys
 import traceback
 from typing import Any, Callable, Iterator, List, Mapping, Optional, Sequence
 
-from . import demo, importing, postgres_audit
+from . import check_report, demo, importing, postgres_audit
 from .auditor import Auditor
 from .errors import ImportRefusedError, ProgramEndedError, ScriptMistakeError, ZanteyardError
 from .import_times import time_line
 from .page import page_of
-from .programs import find_program, origin_of, program_path
+from .programs import checker_path, find_program, origin_of, program_path
 from .script_names import ScriptNames, read_names
 from .scripts import MORE, ScriptRun, Verdict
 from .store_kinds import KINDS
@@ -60,7 +60,8 @@ class _Version(argparse.Action):
 
     def __call__(self, parser: argparse.ArgumentParser, *_: Any) -> None:
         print(f"zanteyard {VERSION}")
-        print(f"auditor {origin_of(program_path()).sentence()}", flush=True)
+        print(f"auditor {origin_of(program_path()).sentence()}")
+        print(f"checker {origin_of(checker_path()).sentence()}", flush=True)
         parser.exit()
 
 
@@ -98,6 +99,10 @@ def parser() -> argparse.ArgumentParser:
         "--html", metavar="FILE", help="where the page is written (zanteyard-NAME.html)"
     )
     shown.add_argument("--no-html", action="store_true", help="writes no page")
+    checked = command(
+        "check-report", check_report.run, "checks stored replies without believing the auditor"
+    )
+    check_report.add_arguments(checked)
     made = command("import", importing.run, "makes a script of a history of another tool's")
     importing.add_arguments(made)
     audit = command("audit", _audit, "audits clients of a store while they run")

@@ -15,11 +15,16 @@ from typing import Any, Mapping, Optional
 from .errors import ProgramMissingError
 
 AUDITOR = "cobra_audit"
+CHECKER = "cobra_check"  # checks stored replies
 ENVIRONMENT = "COBRA_AUDIT"  # the environment's name for a program that comes before all others
+CHECKER_ENVIRONMENT = "COBRA_CHECK"  # the same of the checker
 PACKAGE = os.path.dirname(os.path.abspath(__file__))
 PACKED = os.path.join(PACKAGE, "programs")
 NOTE = os.path.join(PACKED, "made.json")
 BUILT = os.path.normpath(os.path.join(PACKAGE, f"../../../crates/{AUDITOR}/out/{AUDITOR}"))
+CHECKER_BUILT = os.path.normpath(
+    os.path.join(PACKAGE, f"../../../crates/{CHECKER}/out/{CHECKER}")
+)
 
 
 @dataclass(frozen=True)
@@ -46,20 +51,38 @@ class Origin:
 def program_path(environment: Mapping[str, str] = os.environ) -> str:
     """The program that would be started, whether or not it is there: the one that the environment
     names, else the one that came with the package, else the one that a clone has built."""
-    named = environment.get(ENVIRONMENT)
+    return _path(environment, ENVIRONMENT, AUDITOR, BUILT)
+
+
+def checker_path(environment: Mapping[str, str] = os.environ) -> str:
+    """The same of the program that checks stored replies."""
+    return _path(environment, CHECKER_ENVIRONMENT, CHECKER, CHECKER_BUILT)
+
+
+def _path(environment: Mapping[str, str], name: str, program: str, built: str) -> str:
+    named = environment.get(name)
     if named:
         return named
-    packed = os.path.join(PACKED, AUDITOR)
-    return packed if os.path.isfile(packed) else BUILT
+    packed = os.path.join(PACKED, program)
+    return packed if os.path.isfile(packed) else built
 
 
 def find_program(environment: Mapping[str, str] = os.environ) -> str:
     """The same; raises ProgramMissingError where there is none that can be started."""
-    path = program_path(environment)
+    return _started(program_path(environment), ENVIRONMENT)
+
+
+def find_checker(environment: Mapping[str, str] = os.environ) -> str:
+    """The program that checks stored replies; raises ProgramMissingError."""
+    return _started(checker_path(environment), CHECKER_ENVIRONMENT)
+
+
+def _started(path: str, name: str) -> str:
+    """The path, where a program is there that can be started."""
     if not os.path.isfile(path):
         raise ProgramMissingError(
-            f"{path} isn't there: install the wheel, build the auditor (README.md says how), "
-            f"or name it by {ENVIRONMENT}"
+            f"{path} isn't there: install the wheel, build the program (README.md says how), "
+            f"or name it by {name}"
         )
     if not os.access(path, os.X_OK):
         raise ProgramMissingError(f"{path} can't be executed")

@@ -1,0 +1,82 @@
+//! Checks what an auditor replied to a script: reads the script's lines and the replies by turns on standard input, and writes on standard
+//! output what it finds of each report.
+#![tactic(auto)]
+
+use cobra::{
+    Asked, ByteSink, Exit, Failure, ReaderSource, WriterSink, asked_of, exit_of, write_all,
+};
+use report_checking::check_replies;
+use std::env;
+use std::io::ErrorKind;
+use std::process::ExitCode;
+
+const VERSION: &str = "cobra_check 0.1.0\n";
+
+const USAGE: &str = "usage: cobra_check [--help | --version] < LINES";
+
+const HELP: &str =
+    r#"cobra_check checks what Zanteyard's auditor replied to a script, without any search and without
+believing the auditor. It reads on standard input the script's lines and the replies by turns: a
+line, then the reply to it. It writes a line for each report and each cut, up to the first reply that
+is wrong, and a last line that counts what was checked.
+
+  cobra_check < LINES      checks the replies
+  cobra_check --help       writes this
+  cobra_check --version    writes the version
+
+  paste -d '\n' SCRIPT REPLIES | cobra_check     checks the replies in one file to the script in another
+
+The exit status is 0 where no reply is wrong; 3 where one is; 1 where a device failed or memory was
+wanting, which standard error then tells; 2 for other arguments.
+
+docs/FORMATS.md describes what it reads and writes.
+"#;
+
+/// What the arguments ask for. One that isn't UTF-8 is unknown.
+fn asked(rt: &HostRuntime) -> Result<Asked, Failure> {
+    match env::args(rt) {
+        Ok(args) => {
+            let args: Vec<String> = args.collect(rt.alloc())?;
+            Ok(asked_of(&args))
+        }
+        Err(error) if error.kind() == ErrorKind::InvalidData => Ok(Asked::Unknown),
+        Err(_) => Err(Failure::NoMemory),
+    }
+}
+
+fn told<W: ByteSink>(sink: &mut W, text: &str) -> Result<(), Failure> {
+    write_all(sink, text.as_bytes())?;
+    Ok(())
+}
+
+/// How the program ends, where the check came to this.
+fn exit_of_check(checked: Result<bool, Failure>) -> Exit {
+    match checked {
+        Ok(true) => exit_of(Ok(())),
+        Ok(false) => Exit {
+            status: 3,
+            words: None,
+        },
+        Err(failure) => exit_of(Err(failure)),
+    }
+}
+
+fn main(rt: HostRuntime) -> ExitCode {
+    let mut input = ReaderSource::new(rt.stdin());
+    let mut output = WriterSink::new(rt.stdout());
+    let alloc = rt.alloc();
+    let exit = match asked(&rt) {
+        Ok(Asked::Work) => exit_of_check(check_replies(alloc, &mut input, &mut output)),
+        Ok(Asked::Help) => exit_of(told(&mut output, HELP)),
+        Ok(Asked::Version) => exit_of(told(&mut output, VERSION)),
+        Ok(Asked::Unknown) => Exit {
+            status: 2,
+            words: Some(USAGE),
+        },
+        Err(failure) => exit_of(Err(failure)),
+    };
+    if let Some(words) = exit.words {
+        let _ = eprintln!(rt; "{words}");
+    }
+    ExitCode::from(exit.status)
+}

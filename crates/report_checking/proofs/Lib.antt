@@ -1,0 +1,3 @@
+pub mod CheckedLines
+pub mod EarnedReports
+pub mod OwedReplies

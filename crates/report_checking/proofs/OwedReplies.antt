@@ -1,0 +1,98 @@
+-- What is owed to steps and commands.
+use Rattle.std.proofs.Common.{◌≡◌, ◌≢◌, Some, None, refl, sym, subst, inl, inr}
+use Rattle.txn.specs.declared.refusals.Refusal.TheVariants.{BadLine, NoRound}
+use Rattle.log_text.specs.declared.commands.Command.{Command}
+use Rattle.log_text.specs.declared.replies.Reply.{Reply}
+use Rattle.log_text.specs.declared.replies.Reply.TheVariants as told
+use Rattle.log_text.specs.Replies.{HasKindOfOrder}
+use Rattle.round_state.specs.EngineState.{EngineState}
+use Rattle.round_state.specs.Runs.{HasLimits, Holds, StepsLegally}
+use Rattle.round_state.specs.Steps.{StepsTo}
+use Rattle.round_state.specs.declared.reports.Report.{Report}
+use Rattle.round_state.specs.declared.steps.Step.{Step}
+use Rattle.round_state.specs.declared.steps.Step.TheVariants as step
+use Rattle.round_state.specs.declared.steps.StepReply.{StepReply}
+use Rattle.round_state.specs.declared.steps.StepReply.TheVariants as reply
+use Rattle.cobra.specs.Scripts.{IsBadLine, IsStep, state_told}
+use Rattle.cobra.specs.StepReplies.{reply_of, report_of}
+use Rattle.report_checking.specs.Owing.{IsOwedReport, OwesFinish, OwesRound, OwesOpen, Owes, IsPlain}
+use Rattle.report_checking.specs.Reading.{Leads, LeadsScript, IsOwedBy}
+use Rattle.report_checking.specs.declared.findings.Owed.{Owed}
+use Rattle.report_checking.specs.declared.findings.Owed.TheVariants as owed
+
+pub plain_limits : (asked : Step) → IsPlain asked → HasLimits asked
+plain_limits (step.Finish budget depth workers) is = absurd is
+plain_limits (step.Offer fragment) is = tt
+plain_limits (step.Close session) is = tt
+plain_limits step.Begin is = tt
+plain_limits step.Abandon is = tt
+plain_limits step.Truncate is = tt
+plain_limits step.Rebuild is = tt
+
+-- a step that isn't a finish reports nothing
+pub plain_kind : (old new : EngineState) (asked : Step) (said : StepReply) → IsPlain asked → StepsTo old asked said new → HasKindOfOrder (reply_of said)
+plain_kind old new asked reply.Done is right = tt
+plain_kind old new asked (reply.Refused refusal) is right = tt
+plain_kind old new asked (reply.Cut cut) is right = tt
+plain_kind old new (step.Finish budget depth workers) (reply.Report report) is right = absurd is
+plain_kind old new asked (reply.Report report) is right = absurd right
+
+-- a step is told
+pub step_owed : (old new : EngineState) (asked : Step) (said : StepReply) → StepsLegally old asked said new → (answer : Reply) → answer ≡ reply_of said → Leads old new (λ before after. IsStep before asked answer after)
+step_owed old new asked said legal answer is before holds =
+    let after = legal before holds in
+    (after.0, (said, after.1, is), after.2)
+
+-- an owed report is told
+pub report_owed : (old new : EngineState) (report : Report) → Leads old new (λ before after. IsOwedReport before report after) → (answer : Reply) → answer ≡ report_of report → Leads old new (λ before after. OwesFinish before answer after)
+report_owed old new report owes answer is before holds =
+    let after = owes before holds in
+    (after.0, inl (report, after.1, is), after.2)
+
+-- there is no round to be finished
+pub no_round_owed : (old new : EngineState) → old.asked ≡ None → new ≡ old → Leads old new (λ before after. OwesFinish before (told.No NoRound) after)
+no_round_owed old new none same before holds =
+    (before, inr (subst (λ (engine : EngineState). engine.asked ≡ None) (sym holds.same) none, refl, refl), subst (λ (engine : EngineState). Holds engine before) (sym same) holds)
+
+-- a round is begun, and its finish told
+pub round_owed : (old mid new : EngineState) (answer : Reply) → StepsLegally old step.Begin reply.Done mid → Leads mid new (λ before after. OwesFinish before answer after) → Leads old new (λ before after. OwesRound before answer after)
+round_owed old mid new answer begin owes before holds =
+    let first = begin before holds in
+    let last = owes first.0 first.2 in
+    (last.0, inr (first.0, first.1, last.1), last.2)
+
+pub round_owed_by : (old mid new : EngineState) (given : Owed) → StepsLegally old step.Begin reply.Done mid → IsOwedBy (λ answer. Leads mid new (λ before after. OwesFinish before answer after)) given → IsOwedBy (λ answer. Leads old new (λ before after. OwesRound before answer after)) given
+round_owed_by old mid new (owed.Reply answer) begin owes = (owes.0, round_owed old mid new answer begin owes.1)
+round_owed_by old mid new (owed.Nothing why) begin owes = tt
+
+-- or its begin is refused
+pub begin_refused : (old new : EngineState) (said : StepReply) → StepsTo old step.Begin said new → StepsLegally old step.Begin said new → said ≢ reply.Done → (answer : Reply) → answer ≡ reply_of said → HasKindOfOrder answer × Leads old new (λ before after. OwesRound before answer after)
+begin_refused old new reply.Done right begin not answer is = absurd (not refl)
+begin_refused old new (reply.Refused refusal) right begin not answer is = (
+  subst HasKindOfOrder (sym is) tt,
+  λ before holds.
+      let first = begin before holds in
+      (first.0, inl (refusal, first.1, is), first.2),
+)
+begin_refused old new (reply.Report report) right begin not answer is = absurd right
+begin_refused old new (reply.Cut cut) right begin not answer is = absurd right
+
+-- what an engine keeps is told
+pub show_owed : (old : EngineState) (answer : Reply) → answer ≡ state_told old → HasKindOfOrder answer × Leads old old (λ before after. (answer ≡ state_told before.engine) × (after ≡ before))
+show_owed old answer is =
+    (subst HasKindOfOrder (sym is) tt, λ before holds. (before, (subst (λ (engine : EngineState). answer ≡ state_told engine) (sym holds.same) is, refl), holds))
+
+-- a command that may not stand there
+pub out_of_place : (old : EngineState) → Leads old old (λ before after. IsBadLine before (told.No BadLine) after)
+out_of_place old before holds = (before, (refl, refl), holds)
+
+script_owed : (old new : EngineState) (command : Command) (answer : Reply) → Leads old new (λ before after. OwesOpen before command answer after) → LeadsScript (Some old) (Some new) (λ before after. Owes before command answer after)
+script_owed old new command answer owes None holds = absurd holds
+script_owed old new command answer owes (Some before) holds =
+    let after = owes before holds in
+    (Some after.0, after.1, after.2)
+
+-- an engine is open
+pub open_owed : (old new : EngineState) (command : Command) (given : Owed) → IsOwedBy (λ answer. Leads old new (λ before after. OwesOpen before command answer after)) given → IsOwedBy (λ answer. LeadsScript (Some old) (Some new) (λ before after. Owes before command answer after)) given
+open_owed old new command (owed.Reply answer) owes = (owes.0, script_owed old new command answer owes.1)
+open_owed old new command (owed.Nothing why) owes = tt

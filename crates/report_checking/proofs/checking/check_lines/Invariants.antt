@@ -1,0 +1,16 @@
+-- Nothing wrong was found so far.
+use Rattle.std.proofs.Common.{◌≡◌, ℕ, List, [], Some}
+use Rattle.byte_lines.specs.LineReaders.{lines_ahead, lines_left}
+use Rattle.report_checking.specs.declared.checking.TheConstants.{LONGEST_REPLY}
+use Rattle.report_checking.specs.Reading.{IsChecking}
+use Rattle.report_checking.proofs.checking.check_lines.Given as goal
+
+abbrev pub invariant-loop-advance : goal.invariant-loop-advance
+invariant-loop-advance g l = record {
+  fresh : l.reader.under_way ≡ Some [];
+  limit : l.reader.limit ≡ LONGEST_REPLY;
+  told : (input : List ℕ) → g.R.ByteSource.remaining l.initial.source ≡ Some input → IsChecking input (lines_ahead l.reader (g.R.ByteSource.remaining l.source)) l.replay.engine;
+}
+
+abbrev pub decreases-loop-advance : goal.decreases-loop-advance
+decreases-loop-advance g l = lines_left l.reader (g.R.ByteSource.reads_left l.source)

@@ -1,0 +1,5 @@
+use Rattle.report_checking.proofs.CheckedLines.{opened}
+use Rattle.report_checking.proofs.pairs.Replay.open.Goals as goal
+
+pub returns-in-Ok-clause-owed : goal.returns-in-Ok-clause-owed
+returns-in-Ok-clause-owed c = opened c.args.self.now.engine c.in-Ok.engine c.args.sessions c.args.limit c.requires c.in-Ok.ensures.holds c.in-Ok.ensures.numbers

@@ -1,0 +1,14 @@
+use Rattle.std.proofs.Common.{subst}
+use Rattle.round_state.specs.EngineState.{EngineState}
+use Rattle.report_checking.specs.Owing.{IsEarned}
+use Rattle.report_checking.proofs.EarnedReports.{earned_by, owed_report}
+use Rattle.report_checking.proofs.replayed.Replayed.finish.Goals as goal
+
+pub returns-clause-earned : goal.returns-clause-earned
+returns-clause-earned c =
+    subst (λ (engine : EngineState). IsEarned engine c.in_ok-report.report c.finish.new.self) c.self.view_is (earned_by c.self.inside.engine c.finish.new.self c.args.answer c.in_ok-report.report c.in_ok-report.ensures.ok)
+
+pub returns-clause-owed : goal.returns-clause-owed
+returns-clause-owed c =
+    let earned = subst (λ (engine : EngineState). IsEarned engine c.in_ok-report.report c.finish.new.self) c.self.view_is (earned_by c.self.inside.engine c.finish.new.self c.args.answer c.in_ok-report.report c.in_ok-report.ensures.ok) in
+    owed_report c.args.self.now c.finish.new.self c.in_ok-report.report c.verdict_as_stood_for.ensures c.refuted_has_no_order.ensures c.has_good_snapshot.ensures earned

@@ -1,0 +1,3 @@
+pub mod Checking
+pub mod Owing
+pub mod Reading

@@ -1,0 +1,76 @@
+-- Which reply is owed to a line of a script, where no search is made: what a report tells is judged by its own certificate.
+use Rattle.std.specs.Prelude.{◌≡◌, ℕ, ◌+◌, ◌⊎◌, ⊤, List, Option, Some, None, IsSomeAnd}
+use Rattle.txn.specs.declared.refusals.Refusal.{Refusal}
+use Rattle.txn.specs.declared.refusals.Refusal.TheVariants.{NoRound}
+use Rattle.polygraph.specs.declared.solving.Answer.{Answer}
+use Rattle.log_text.specs.declared.commands.Command.{Command}
+use Rattle.log_text.specs.declared.commands.Command.TheVariants.{Start, Offer, Close, Begin, Finish, Round, Truncate, Rebuild, Show}
+use Rattle.log_text.specs.declared.replies.Reply.{Reply}
+use Rattle.log_text.specs.declared.replies.Reply.TheVariants as told
+use Rattle.round_state.specs.EngineState.{EngineState}
+use Rattle.round_state.specs.Legal.{State, Legal, TellsOf}
+use Rattle.round_state.specs.Solving.{IsReportOn}
+use Rattle.round_state.specs.Steps.{IsFinished, IsHeldAfter}
+use Rattle.round_state.specs.declared.reports.Report.{Report}
+use Rattle.round_state.specs.declared.steps.Step.{Step}
+use Rattle.round_state.specs.declared.steps.Step.TheVariants as step
+use Rattle.round_state.specs.declared.steps.StepReply.TheVariants as reply
+use Rattle.cobra.specs.Outputs.{Asks}
+use Rattle.cobra.specs.Scripts.{IsBadLine, IsStep, AnswersFirst, state_told}
+use Rattle.cobra.specs.StepReplies.{report_of}
+
+-- The open round's report, by the engine alone: some answer about its snapshot earns it. An order was seen to explain the snapshot, or a
+-- tree to refute it; or the report is spent, which claims nothing.
+pub record IsEarned (old : EngineState) (report : Report) (new : EngineState) : Type 0 where
+  pub answer : Answer
+  pub reported : IsSomeAnd old.asked (λ parts. IsReportOn parts (old.rounds + 1) answer report × IsHeldAfter parts report.kind old.held new.held)
+  pub finished : IsFinished old new
+
+-- The report of an open round is owed: it is earned, and it tells of the whole history that had been received when the round began: its
+-- kind, where it isn't spent, is the verdict of that.
+pub record IsOwedReport (old : State) (report : Report) (new : State) : Type 0 where
+  pub earned : IsEarned old.engine report new.engine
+  pub tells : TellsOf old.asked report
+  pub whole : new.whole ≡ old.whole
+  pub asked : new.asked ≡ old.asked
+
+-- what is owed to a finish
+abbrev pub OwesFinish : State → Reply → State → Type 0
+OwesFinish old answer new =
+    ((report : Report) × IsOwedReport old report new × (answer ≡ report_of report))
+    ⊎ ((old.engine.asked ≡ None) × (answer ≡ told.No NoRound) × (new ≡ old))
+
+-- What is owed to a round: where its begin is refused, that; else what is owed to its finish.
+abbrev pub OwesRound : State → Reply → State → Type 0
+OwesRound old answer new =
+    ((refusal : Refusal) × Legal old step.Begin (reply.Refused refusal) new × (answer ≡ told.No refusal))
+    ⊎ ((begun : State) × Legal old step.Begin reply.Done begun × OwesFinish begun answer new)
+
+-- what is owed to a command, where an engine is open
+abbrev pub OwesOpen : State → Command → Reply → State → Type 0
+OwesOpen old (Offer fragment) answer new = IsStep old (step.Offer fragment) answer new
+OwesOpen old (Close session) answer new = IsStep old (step.Close session) answer new
+OwesOpen old Begin answer new = IsStep old step.Begin answer new
+OwesOpen old (Finish budget depth workers) answer new = OwesFinish old answer new
+OwesOpen old (Round budget depth workers) answer new = OwesRound old answer new
+OwesOpen old Truncate answer new = IsStep old step.Truncate answer new
+OwesOpen old Rebuild answer new = IsStep old step.Rebuild answer new
+OwesOpen old Show answer new = (answer ≡ state_told old.engine) × (new ≡ old)
+OwesOpen old (Start sessions limit) answer new = IsBadLine old answer new
+
+-- what is owed to a command; a script has a state once its engine is open
+abbrev pub Owes : Option State → Command → Reply → Option State → Type 0
+Owes None command answer new = AnswersFirst command answer new
+Owes (Some old) command answer (Some new) = OwesOpen old command answer new
+Owes (Some old) command answer None = ⊥
+
+-- what is owed to a line: that of its command, and BadLine where it is none
+abbrev pub OwesLine : Option State → List ℕ → Reply → Option State → Type 0
+OwesLine old line answer new =
+    ((command : Command) × Asks line command × Owes old command answer new)
+    ⊎ (((command : Command) → ¬ Asks line command) × IsBadLine old answer new)
+
+-- the step isn't a finish
+abbrev pub IsPlain : Step → Type 0
+IsPlain (step.Finish budget depth workers) = ⊥
+IsPlain asked = ⊤

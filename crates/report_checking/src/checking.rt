@@ -1,0 +1,158 @@
+ghost use Rattle.std.specs.Prelude.{◌≡◌, ℕ, ◌<◌, List, [], Some, None, IfOk, IfSome, IsTrue, OnOk};
+ghost use Rattle.byte_lines.specs.LineReaders.{lines_ahead, lines_left};
+ghost use Rattle.report_checking.specs.Checking.{IsAllRight};
+ghost use Rattle.report_checking.specs.Reading.{IsRead, IsFine, FindsNext, LeadsOn, Advances};
+ghost use Rattle.cobra.specs.Outputs.{IsTold};
+
+use crate::findings::{Advance, Fault, Found};
+use crate::pairs::Replay;
+use crate::texts::{Tally, tell, tell_tally};
+use byte_lines::{ByteSink, ByteSource, Failure, LONGEST_LINE, LineReader, Next};
+use std::alloc::Global;
+use txn::NoMemory;
+
+/// The longest reply that is read, in bytes: replies may be longer than lines of a script.
+pub const LONGEST_REPLY: usize = 1 << 30;
+
+/// What was read, as a line of a script.
+fn as_line(next: Next) -> Next
+    ensures { (line : List ℕ) → IsRead line next → IsTold line result }
+{
+    match next {
+        Next::Line(line) => {
+            if line.len() > LONGEST_LINE {
+                return Next::TooLong;
+            }
+            Next::Line(line)
+        }
+        Next::TooLong => Next::TooLong,
+        Next::End => Next::End,
+    }
+}
+
+/// What is found of the reply that was read behind a line.
+fn found_behind(
+    alloc: Global,
+    replay: &mut Replay,
+    line: &Next,
+    stored: &Next,
+) -> Result<Found, NoMemory>
+    ensures { IfOk result (λ found. FindsNext replay.old.engine line.now stored.now found replay.new.engine) }
+{
+    match stored {
+        Next::Line(text) => replay.check(alloc, line, text.as_slice()),
+        Next::TooLong => Ok(Found::Wrong(Fault::TooLong)),
+        Next::End => Ok(Found::Wrong(Fault::Missing)),
+    }
+}
+
+/// Reads the reply behind a line, and finds what it is.
+fn check_reply<R: ByteSource>(
+    alloc: Global,
+    reader: &mut LineReader,
+    replay: &mut Replay,
+    next: Next,
+    source: &mut R,
+) -> Result<Found, Failure>
+    requires limit { reader.old.limit ≡ LONGEST_REPLY }
+    requires fresh { reader.old.under_way ≡ Some [] }
+    ensures on { IfOk result (λ found. LeadsOn reader.old.limit (lines_ahead reader.old (R.remaining source.old)) next replay.old.engine found (lines_ahead reader.new (R.remaining source.new)) replay.new.engine) }
+    ensures fresh { OnOk result (reader.new.under_way ≡ Some []) }
+    ensures limit { reader.new.limit ≡ reader.old.limit }
+    ensures fewer { IfOk result (λ found. IsFine found → lines_left reader.new (R.reads_left source.new) < lines_left reader.old (R.reads_left source.old)) }
+{
+    let line = as_line(next);
+    let stored = reader.next_line(source)?;
+    let found = found_behind(alloc, replay, &line, &stored)?;
+    Ok(found)
+}
+
+/// Checks the next line and its reply, and tells what is found of it.
+fn check_next<R: ByteSource, W: ByteSink>(
+    alloc: Global,
+    reader: &mut LineReader,
+    replay: &mut Replay,
+    tally: &mut Tally,
+    source: &mut R,
+    sink: &mut W,
+) -> Result<Advance, Failure>
+    requires limit { reader.old.limit ≡ LONGEST_REPLY }
+    requires fresh { reader.old.under_way ≡ Some [] }
+    ensures on { IfOk result (λ advance. Advances (lines_ahead reader.old (R.remaining source.old)) replay.old.engine advance (lines_ahead reader.new (R.remaining source.new)) replay.new.engine) }
+    ensures fresh { IfOk result (λ advance. advance ≡ Advance.On → reader.new.under_way ≡ Some []) }
+    ensures limit { reader.new.limit ≡ reader.old.limit }
+    ensures fewer { IfOk result (λ advance. advance ≡ Advance.On → lines_left reader.new (R.reads_left source.new) < lines_left reader.old (R.reads_left source.old)) }
+{
+    let next = reader.next_line(source)?;
+    if let Next::End = next {
+        return Ok(Advance::End);
+    }
+    let found = check_reply(alloc, reader, replay, next, source)?;
+    tally.count(&found);
+    tell(alloc, sink, tally.replies, &found)?;
+    match found {
+        Found::Wrong(_) => Ok(Advance::Wrong),
+        _ => Ok(Advance::On),
+    }
+}
+
+/// Checks line after line, up to the first reply that is wrong. Answers whether none was.
+fn check_lines<R: ByteSource, W: ByteSink>(
+    alloc: Global,
+    reader: &mut LineReader,
+    replay: &mut Replay,
+    tally: &mut Tally,
+    source: &mut R,
+    sink: &mut W,
+) -> Result<bool, Failure>
+    requires limit { reader.old.limit ≡ LONGEST_REPLY }
+    requires ahead { reader.old.ahead ≡ [] }
+    requires under_way { reader.old.under_way ≡ Some [] }
+    requires unopened { replay.old.engine ≡ None }
+    ensures right { IfOk result (λ right. IsTrue right → IfSome (R.remaining source.old) IsAllRight) }
+{
+    loop {
+        let advance = check_next(alloc, reader, replay, tally, source, sink)?;
+        match advance {
+            Advance::On => {}
+            Advance::Wrong => return Ok(false),
+            Advance::End => return Ok(true),
+        }
+    }
+}
+
+/// The same, and counts what was checked in a last line. It owns neither reader nor engine, so that nothing is let go where it returns: that
+/// keeps its proof short.
+fn check_all<R: ByteSource, W: ByteSink>(
+    alloc: Global,
+    reader: &mut LineReader,
+    replay: &mut Replay,
+    source: &mut R,
+    sink: &mut W,
+) -> Result<bool, Failure>
+    requires limit { reader.old.limit ≡ LONGEST_REPLY }
+    requires ahead { reader.old.ahead ≡ [] }
+    requires under_way { reader.old.under_way ≡ Some [] }
+    requires unopened { replay.old.engine ≡ None }
+    ensures right { IfOk result (λ right. IsTrue right → IfSome (R.remaining source.old) IsAllRight) }
+{
+    let mut tally = Tally::new();
+    let right = check_lines(alloc, reader, replay, &mut tally, source, sink)?;
+    tell_tally(alloc, sink, &tally, right)?;
+    Ok(right)
+}
+
+/// Checks what an auditor replied to a script: the input has the script's lines and the replies by turns. It writes a line for each report,
+/// each cut and each reply that isn't right or isn't checked, and a last one that counts them. Answers whether all replies are right; what
+/// comes behind the first that is wrong isn't read.
+pub fn check_replies<R: ByteSource, W: ByteSink>(
+    alloc: Global,
+    source: &mut R,
+    sink: &mut W,
+) -> Result<bool, Failure>
+    ensures right { IfOk result (λ right. IsTrue right → IfSome (R.remaining source.old) IsAllRight) }
+{
+    let mut reader = LineReader::new(alloc, LONGEST_REPLY)?;
+    let mut replay = Replay::new();
+    check_all(alloc, &mut reader, &mut replay, source, sink)
+}

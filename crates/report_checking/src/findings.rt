@@ -1,0 +1,67 @@
+use log_text::Reply;
+use order_check::Kind;
+
+/// What a reply that is right tells.
+#[derive(Clone, Copy, Debug, PartialEq, Eq)]
+pub(crate) enum What {
+    Report(Kind),
+    Cut,
+    Other,
+}
+
+/// What a report shows, and isn't so.
+#[derive(Clone, Copy, Debug, PartialEq, Eq)]
+pub(crate) enum Unshown {
+    /// The order doesn't explain what had been accepted.
+    Order,
+    /// The refutation doesn't refute what had been accepted.
+    Refutation,
+}
+
+/// Why a reply is wrong.
+#[derive(Drop, Debug)]
+pub(crate) enum Fault {
+    /// This text is owed, and another one is stored.
+    Other(Vec<u8>),
+    Unshown(Unshown),
+    /// The line has no reply.
+    Missing,
+    /// It is longer than any that is read.
+    TooLong,
+}
+
+/// What was found of a reply.
+#[derive(Drop, Debug)]
+pub(crate) enum Found {
+    Right(What),
+    /// It says that memory was wanting: nothing is known of that.
+    Unchecked,
+    Wrong(Fault),
+}
+
+/// What is owed to a line.
+#[derive(Drop, Debug)]
+pub(crate) enum Owed {
+    Reply(Reply),
+    /// What the stored reply shows isn't so.
+    Nothing(Unshown),
+}
+
+/// What came of a line and its reply.
+#[derive(Clone, Copy, Debug, PartialEq, Eq)]
+pub(crate) enum Advance {
+    On,
+    Wrong,
+    /// There was no line.
+    End,
+}
+
+pub(crate) fn what_of(answer: &Reply) -> What {
+    match answer {
+        Reply::Order { kind, .. } => What::Report(*kind),
+        Reply::Violated { .. } => What::Report(Kind::Violated),
+        Reply::Spent { .. } => What::Report(Kind::Spent),
+        Reply::Cut { .. } => What::Cut,
+        Reply::Done | Reply::No(_) | Reply::Show { .. } => What::Other,
+    }
+}

@@ -1,0 +1,14 @@
+//! Checks what an auditor replied to a script, without any search and without believing the auditor: it goes through the
+//! script with an engine of its own, which judges the certificate of each report, and compares the texts.
+#![tactic(auto)]
+
+mod certificates;
+mod checking;
+mod findings;
+mod owed;
+mod pairs;
+mod refutations;
+mod replayed;
+mod texts;
+
+pub use checking::{LONGEST_REPLY, check_replies};

@@ -1,0 +1,79 @@
+ghost use Rattle.std.specs.Prelude.{◌≡◌, IfOk};
+ghost use Rattle.log_text.specs.Commands.{HasLimits};
+ghost use Rattle.log_text.specs.Replies.{HasKindOfOrder};
+ghost use Rattle.round_state.specs.Runs.{Holds};
+ghost use Rattle.cobra.specs.Scripts.{IsStep};
+ghost use Rattle.report_checking.specs.Owing.{IsPlain, OwesFinish, OwesRound, OwesOpen};
+ghost use Rattle.report_checking.specs.Reading.{Leads, IsOwedBy};
+
+use crate::certificates::answer_told;
+use crate::findings::{Owed, Unshown};
+use crate::replayed::Replayed;
+use cobra::{reply_of, report_of, state_told};
+use log_text::{Command, Reply};
+use polygraph::Answer;
+use round_state::{Step, StepReply};
+use std::alloc::{AllocError, Global};
+use txn::{NoMemory, Refusal};
+
+/// What isn't so where this answer is wrong.
+fn unshown_by(answer: &Answer) -> Unshown {
+    match answer {
+        Answer::Yes(_) => Unshown::Order,
+        Answer::No(_) | Answer::Spent | Answer::NoMemory => Unshown::Refutation,
+    }
+}
+
+/// What is owed to a step that isn't a finish.
+fn owed_step(engine: &mut Replayed, alloc: Global, step: Step) -> Result<Owed, NoMemory>
+    requires { IsPlain step }
+    ensures { IfOk result (IsOwedBy (λ answer. Leads engine.old engine.new (λ before after. IsStep before step answer after))) }
+{
+    let said = engine.step(alloc, step);
+    Ok(Owed::Reply(reply_of(alloc, said)?))
+}
+
+/// What is owed to a finish, whose report is what the certificate in the stored reply earns.
+fn owed_finish(engine: &mut Replayed, alloc: Global, stored: &[u8]) -> Result<Owed, NoMemory>
+    ensures { IfOk result (IsOwedBy (λ answer. Leads engine.old engine.new (λ before after. OwesFinish before answer after))) }
+{
+    let answer = answer_told(alloc, stored)?;
+    let unshown = unshown_by(&answer);
+    match engine.finish(alloc, answer) {
+        Ok(report) => Ok(Owed::Reply(report_of(report))),
+        Err(Refusal::NoRound) => Ok(Owed::Reply(Reply::No(Refusal::NoRound))),
+        Err(Refusal::BadCertificate) => Ok(Owed::Nothing(unshown)),
+        Err(_) => Err(AllocError),
+    }
+}
+
+fn owed_round(engine: &mut Replayed, alloc: Global, stored: &[u8]) -> Result<Owed, NoMemory>
+    ensures { IfOk result (IsOwedBy (λ answer. Leads engine.old engine.new (λ before after. OwesRound before answer after))) }
+{
+    match engine.step(alloc, Step::Begin) {
+        StepReply::Done => owed_finish(engine, alloc, stored),
+        refused => Ok(Owed::Reply(reply_of(alloc, refused)?)),
+    }
+}
+
+/// What is owed to a command of an engine that is open.
+pub(crate) fn owed_open(
+    engine: &mut Replayed,
+    alloc: Global,
+    command: Command,
+    stored: &[u8],
+) -> Result<Owed, NoMemory>
+    ensures { IfOk result (IsOwedBy (λ answer. Leads engine.old engine.new (λ before after. OwesOpen before command answer after))) }
+{
+    match command {
+        Command::Offer(fragment) => owed_step(engine, alloc, Step::Offer(fragment)),
+        Command::Close(session) => owed_step(engine, alloc, Step::Close(session)),
+        Command::Begin => owed_step(engine, alloc, Step::Begin),
+        Command::Finish { .. } => owed_finish(engine, alloc, stored),
+        Command::Round { .. } => owed_round(engine, alloc, stored),
+        Command::Truncate => owed_step(engine, alloc, Step::Truncate),
+        Command::Rebuild => owed_step(engine, alloc, Step::Rebuild),
+        Command::Show => Ok(Owed::Reply(state_told(alloc, engine.engine())?)),
+        Command::Start { .. } => Ok(Owed::Reply(Reply::No(Refusal::BadLine))),
+    }
+}

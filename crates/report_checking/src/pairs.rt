@@ -1,0 +1,155 @@
+ghost use Rattle.std.specs.Prelude.{◌≡◌, ◌↔◌, None, IfOk, IsTrue};
+ghost use Rattle.log_text.specs.declared.replies.Reply.TheVariants as told;
+ghost use Rattle.log_text.specs.Replies.{text_of, HasKindOfOrder};
+ghost use Rattle.txn.specs.declared.refusals.Refusal.TheVariants as refusals;
+ghost use Rattle.report_checking.specs.Checking.{TakesMemory};
+ghost use Rattle.report_checking.specs.Owing.{Owes};
+ghost use Rattle.report_checking.specs.Reading.{LeadsScript, IsOwedBy, IsOfKind, Finds, FindsFor, IsFoundBy, IsFoundOf};
+
+use crate::findings::{Fault, Found, Owed, what_of};
+use crate::owed::owed_open;
+use crate::replayed::Replayed;
+use byte_lines::Next;
+use cobra::command_in;
+use log_text::{Command, Reply, write_reply};
+use std::alloc::{AllocError, Global};
+use txn::{NoMemory, Refusal};
+
+/// A script that is gone through once more.
+#[derive(Drop)]
+pub(crate) struct Replay {
+    /// There is one once a line has opened it.
+    engine: Option<Replayed>,
+}
+
+/// The text of a reply, without its line feed.
+fn text_of(alloc: Global, answer: &Reply) -> Result<Vec<u8>, NoMemory>
+    requires { HasKindOfOrder answer.now }
+    ensures { IfOk result (λ text. text.items ≡ text_of answer.now) }
+{
+    let mut text = write_reply(alloc, answer)?;
+    let _ = text.pop();
+    Ok(text)
+}
+
+impl Replay {
+    pub(crate) fn new() -> Replay
+        ensures { result.engine ≡ None }
+    {
+        Replay { engine: None }
+    }
+
+    /// Whether the command may be refused for want of memory.
+    fn takes_memory(&self, command: &Command) -> bool
+        ensures { IsTrue result → TakesMemory self.now.engine command.now }
+    {
+        match command {
+            Command::Start { .. } => self.engine.is_none(),
+            Command::Close(_) | Command::Show => false,
+            _ => self.engine.is_some(),
+        }
+    }
+
+    fn open(&mut self, alloc: Global, sessions: u64, limit: u64) -> Reply
+        requires { self.old.engine ≡ None }
+        ensures owed { LeadsScript self.old.engine self.new.engine (λ before after. Owes before (Command.Start sessions limit) result after) }
+        ensures kind { HasKindOfOrder result }
+    {
+        match Replayed::open(alloc, sessions, limit) {
+            Ok(engine) => {
+                self.engine = Some(engine);
+                Reply::Done
+            }
+            Err(refusal) => Reply::No(refusal),
+        }
+    }
+
+    /// What is owed to a command.
+    fn owed(&mut self, alloc: Global, command: Command, stored: &[u8]) -> Result<Owed, NoMemory>
+        ensures { IfOk result (IsOwedBy (λ answer. LeadsScript self.old.engine self.new.engine (λ before after. Owes before command answer after))) }
+    {
+        if let Some(engine) = &mut self.engine {
+            return owed_open(engine, alloc, command, stored);
+        }
+        match command {
+            Command::Start { sessions, limit } => {
+                Ok(Owed::Reply(self.open(alloc, sessions, limit)))
+            }
+            _ => Ok(Owed::Reply(Reply::No(Refusal::BadLine))),
+        }
+    }
+
+    /// Whether the stored reply to the command says that memory was wanting, as it may.
+    fn is_left_out(&self, alloc: Global, command: &Command, stored: &[u8]) -> Result<bool, NoMemory>
+        ensures takes { IfOk result (λ is. IsTrue is → TakesMemory self.now.engine command.now) }
+        ensures text { IfOk result (λ is. IsTrue is → stored.now ≡ text_of (told.No refusals.NoMemory)) }
+    {
+        if !self.takes_memory(command) {
+            return Ok(false);
+        }
+        is_want_of_memory(alloc, stored)
+    }
+
+    /// What is found of the stored reply to a command.
+    fn check_command(
+        &mut self,
+        alloc: Global,
+        command: Command,
+        stored: &[u8],
+    ) -> Result<Found, NoMemory>
+        ensures { IfOk result (λ found. FindsFor self.old.engine command stored.now found self.new.engine) }
+    {
+        if self.is_left_out(alloc, &command, stored)? {
+            return Ok(Found::Unchecked);
+        }
+        let owed = self.owed(alloc, command, stored)?;
+        found_of(alloc, owed, stored)
+    }
+
+    /// What is found of the stored reply to what was read.
+    pub(crate) fn check(
+        &mut self,
+        alloc: Global,
+        next: &Next,
+        stored: &[u8],
+    ) -> Result<Found, NoMemory>
+        ensures { IfOk result (λ found. Finds self.old.engine next.now stored.now found self.new.engine) }
+    {
+        match command_in(alloc, next)? {
+            Some(command) => self.check_command(alloc, command, stored),
+            None => found_by(alloc, &Reply::No(Refusal::BadLine), stored),
+        }
+    }
+}
+
+fn is_want_of_memory(alloc: Global, stored: &[u8]) -> Result<bool, NoMemory>
+    ensures { IfOk result (λ is. IsTrue is ↔ (stored.now ≡ text_of (told.No refusals.NoMemory))) }
+{
+    let text = text_of(alloc, &Reply::No(Refusal::NoMemory))?;
+    Ok(text.as_slice() == stored)
+}
+
+/// What is found of a stored reply, where this one is owed.
+fn found_by(alloc: Global, answer: &Reply, stored: &[u8]) -> Result<Found, NoMemory>
+    requires { HasKindOfOrder answer.now }
+    ensures { IfOk result (IsFoundBy answer.now stored.now) }
+{
+    let text = text_of(alloc, answer)?;
+    if text.as_slice() == stored {
+        Ok(Found::Right(what_of(answer)))
+    } else {
+        Ok(Found::Wrong(Fault::Other(text)))
+    }
+}
+
+/// What is found of a stored reply, where this is owed. Where our own engine found no memory, nothing is.
+fn found_of(alloc: Global, owed: Owed, stored: &[u8]) -> Result<Found, NoMemory>
+    requires { IsOfKind owed }
+    ensures { IfOk result (IsFoundOf owed stored.now) }
+{
+    match owed {
+        Owed::Nothing(unshown) => Ok(Found::Wrong(Fault::Unshown(unshown))),
+        Owed::Reply(Reply::No(Refusal::NoMemory)) => Err(AllocError),
+        Owed::Reply(answer) => found_by(alloc, &answer, stored),
+    }
+}

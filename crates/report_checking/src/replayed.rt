@@ -1,0 +1,107 @@
+ghost use Rattle.std.specs.Prelude.{◌≡◌, Some, IfOk, IfErr, OnOk, ⊤};
+ghost use Rattle.order_check.specs.declared.remainder.Parts.{Parts};
+ghost use Rattle.order_check.specs.Good.{IsGood};
+ghost use Rattle.round_state.specs.Opening.{IsSessions, IsLimit, IsOpenRefusal, fresh_state};
+ghost use Rattle.round_state.specs.Runs.{HasLimits, Holds, StepsLegally};
+ghost use Rattle.round_state.specs.Steps.{StepsTo, IsFinishRefusal};
+ghost use Rattle.report_checking.specs.Owing.{IsEarned, IsOwedReport};
+ghost use Rattle.report_checking.specs.Reading.{Leads};
+
+use order_check::verdict_as_stood_for;
+use polygraph::{Answer, Problem, Solver};
+use refutation::refuted_has_no_order;
+use round_state::{Engine, Report, Step, StepReply};
+use std::alloc::Global;
+use std::marker::Model;
+use txn::Refusal;
+
+/// Searches nothing, and never finds memory for it: rounds are finished by answers that are stored.
+struct NoSearch;
+
+impl Solver for NoSearch {
+    ghost ready = { ⊤ };
+
+    fn solve(
+        &self,
+        alloc: Global,
+        problem: &Problem,
+        budget: u64,
+        depth: u64,
+        workers: u64,
+    ) -> Answer {
+        Answer::NoMemory
+    }
+}
+
+/// An engine that goes through a script once more, with the problem of the round that is open. Contracts see the engine.
+#[derive(Drop)]
+pub(crate) struct Replayed {
+    engine: Engine,
+    kept: Option<Problem>,
+}
+
+impl Model for Replayed {
+    ghost use Rattle.std.specs.Coded.{codes};
+    ghost use Rattle.std.specs.Prelude.{◌≡◌};
+    ghost use Rattle.order_check.specs.Codes.{coded_last};
+    ghost use Rattle.round_state.specs.EngineState.{EngineState, parts_asked};
+
+    ghost Value = { EngineState };
+
+    ghost coded = { Prim.hlevel (codes, coded_last) };
+
+    ghost view = { λ e. e.engine };
+
+    ghost invariant = { λ e. parts_asked e.kept ≡ e.engine.asked };
+}
+
+impl Replayed {
+    pub(crate) fn open(alloc: Global, sessions: u64, limit: u64) -> Result<Replayed, Refusal>
+        ensures holds { IfOk result (λ engine. Holds engine (fresh_state sessions limit)) }
+        ensures numbers { OnOk result (IsSessions sessions × IsLimit limit) }
+        ensures err { IfErr result (IsOpenRefusal sessions limit) }
+    {
+        Ok(Replayed {
+            engine: Engine::open(alloc, sessions, limit)?,
+            kept: None,
+        })
+    }
+
+    pub(crate) fn engine(&self) -> &Engine
+        ensures { result.now ≡ self.now }
+    {
+        &self.engine
+    }
+
+    /// Makes a step that isn't a finish.
+    pub(crate) fn step(&mut self, alloc: Global, step: Step) -> StepReply
+        requires { HasLimits step }
+        ensures right { StepsTo self.old step result self.new }
+        ensures legal { StepsLegally self.old step result self.new }
+    {
+        self.engine.step(alloc, step, &mut self.kept, &NoSearch)
+    }
+
+    /// The snapshot of the round that is open keeps the rules.
+    fn has_good_snapshot(&self)
+        ensures { (parts : Parts) → self.now.asked ≡ Some parts → IsGood parts }
+    {
+        if let Some(problem) = &self.kept {
+            let _ = problem.parts();
+        }
+    }
+
+    /// Finishes the open round by an answer that isn't believed: where it is wrong, nothing has changed.
+    pub(crate) fn finish(&mut self, alloc: Global, answer: Answer) -> Result<Report, Refusal>
+        ensures earned { IfOk result (λ report. IsEarned self.old report self.new) }
+        ensures owed { IfOk result (λ report. Leads self.old self.new (λ before after. IsOwedReport before report after)) }
+        ensures err { IfErr result (λ refusal. IsFinishRefusal self.old answer refusal × (self.new ≡ self.old)) }
+    {
+        verdict_as_stood_for();
+        refuted_has_no_order();
+        self.has_good_snapshot();
+        let report = self.engine.finish(alloc, answer)?;
+        self.kept = None;
+        Ok(report)
+    }
+}
