@@ -75,7 +75,7 @@ fn remaining_of(
     Ok(Sequence::new(txns))
 }
 
-/// What remains of each session.
+/// What remains of each session, of what the last report counts.
 fn remaining(
     alloc: Global,
     executed: &[Executed],
@@ -84,7 +84,7 @@ fn remaining(
     let mut sessions = Vec::new(alloc);
     for session in 0..4u8 {
         let from = count_of(&told.gone, u64::from(session));
-        let before = count_of(&told.accepted, u64::from(session));
+        let before = count_of(&told.counts, u64::from(session));
         sessions.push(remaining_of(alloc, executed, session, from, before)?)?;
     }
     Ok(Sequence::new(sessions))
@@ -97,7 +97,7 @@ fn base_of(alloc: Global, told: &Told) -> Result<Base, NoMemory> {
     Ok(Base { last, marks })
 }
 
-/// What remains of all that was accepted, behind what has gone.
+/// What remains of what the last report counts, behind what has gone.
 fn parts_of(alloc: Global, executed: &[Executed], told: &Told) -> Result<Parts, NoMemory> {
     let closed = Sequence::new([false; 4].to_vec(alloc)?);
     match (base_of(alloc, told), remaining(alloc, executed, told)) {
@@ -147,7 +147,19 @@ fn is_tried(rt: &impl Abort, alloc: Global, kind: Kind, parts: &Parts) -> Result
     Ok(brute(alloc, parts)? == kind)
 }
 
-/// The report counts all that was accepted, and tells the verdict on it.
+/// Whether each session's count is no less than the one, and no more than the other.
+fn lie_between(least: &[u64; 4], counts: &[u64; 4], most: &[u64; 4]) -> bool {
+    for session in 0..4u64 {
+        let count = count_of(counts, session);
+        if count < count_of(least, session) || count_of(most, session) < count {
+            return false;
+        }
+    }
+    true
+}
+
+/// The report tells the verdict on what it counts: no less than the report before it, and no more than was accepted, since parcels are taken while
+/// a round is searched.
 fn judge_report(
     rt: &impl Abort,
     alloc: Global,
@@ -155,9 +167,13 @@ fn judge_report(
     told: &mut Told,
     report: &Report,
 ) -> Result<(), NoMemory> {
+    let before = told.counts;
     told.counts = four_of(report.counts.as_slice());
     told.kind = Some(report.kind);
-    assert_eq!(rt; told.counts, told.accepted);
+    assert!(rt;
+        lie_between(&before, &told.counts, &told.accepted),
+        "{report:?}"
+    );
     let parts = parts_of(alloc, executed, told)?;
     assert!(rt; is_shown(rt, alloc, report, &parts)?, "{report:?}");
     assert!(rt; is_tried(rt, alloc, report.kind, &parts)?, "{report:?}");
