@@ -8,7 +8,7 @@ import contextlib
 import subprocess
 from typing import IO, Iterator, Tuple
 
-from .errors import ProgramEndedError, ScriptMistakeError
+from .errors import ProgramEndedError, ZanteyardError
 from .programs import find_checker
 
 WRONG = 1
@@ -22,18 +22,18 @@ def add_arguments(command: argparse.ArgumentParser) -> None:
 
 
 def run(asked: argparse.Namespace) -> int:
-    """Checks, and writes what the program tells. Raises ProgramEndedError, ScriptMistakeError."""
+    """Checks, and writes what the program tells. Raises ZanteyardError."""
     with open(asked.script, "rb") as script, open(asked.replies, "rb") as replies:
         return check(script, replies)
 
 
 def by_turns(script: IO[bytes], replies: IO[bytes]) -> Iterator[Tuple[bytes, bytes]]:
-    """Each line of the script with its reply. Raises ScriptMistakeError where a reply has no line;
+    """Each line of the script with its reply. Raises ZanteyardError where a reply has no line;
     a line without a reply comes with an empty one, which the program tells."""
     for line in script:
         yield line, replies.readline()
     if replies.readline():
-        raise ScriptMistakeError("there are more replies than lines")
+        raise ZanteyardError("there are more replies than lines")
 
 
 def check(script: IO[bytes], replies: IO[bytes]) -> int:
