@@ -1,4 +1,5 @@
-"""Stored replies are checked by `cobra_check`: those of the worked scripts are right, and changed ones aren't."""
+"""Stored replies are checked by `cobra_check`: those of the worked scripts are right, and changed
+ones aren't."""
 
 import glob
 import os
@@ -24,7 +25,7 @@ def status_of(script, replies):
 
 
 def changes(reply):
-    """The reply with a number of it changed, each in turn, a part left out, and one of its words changed."""
+    """The reply with a digit of it changed, each in turn, a byte left out, and a word changed."""
     for at, byte in enumerate(reply):
         if 48 <= byte <= 57:
             yield reply[:at] + bytes([48 + (byte - 47) % 10]) + reply[at + 1:]

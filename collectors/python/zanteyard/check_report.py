@@ -1,5 +1,5 @@
-"""`zanteyard check-report SCRIPT REPLIES`: has stored replies checked by a program of its own, which
-makes no search and doesn't believe the auditor (`cobra_check`, docs/FORMATS.md)."""
+"""`zanteyard check-report SCRIPT REPLIES`: has stored replies checked by a program of its own,
+which makes no search and doesn't believe the auditor (`cobra_check`, docs/FORMATS.md)."""
 
 from __future__ import annotations
 
@@ -12,7 +12,9 @@ from .errors import ProgramEndedError, ZanteyardError
 from .programs import find_checker
 
 WRONG = 1
-STATUS_WORDS = "The exit status is 0 where no reply is wrong, 1 where one is, 2 a mistake in the call."
+STATUS_WORDS = (
+    "The exit status is 0 where no reply is wrong, 1 where one is, 2 a mistake in the call."
+)
 
 
 def add_arguments(command: argparse.ArgumentParser) -> None:
