@@ -1,5 +1,5 @@
-"""`zanteyard check-report SCRIPT REPLIES`: has stored replies checked by a program of its own, which
-makes no search and doesn't believe the auditor (`cobra_check`, docs/FORMATS.md)."""
+"""`zanteyard check-report SCRIPT REPLIES`: has stored replies checked by a program of its own,
+which makes no search and doesn't believe the auditor (`cobra_check`, docs/FORMATS.md)."""
 
 from __future__ import annotations
 
@@ -8,11 +8,13 @@ import contextlib
 import subprocess
 from typing import IO, Iterator, Tuple
 
-from .errors import ProgramEndedError, ScriptMistakeError
+from .errors import ProgramEndedError, ZanteyardError
 from .programs import find_checker
 
 WRONG = 1
-STATUS_WORDS = "The exit status is 0 where no reply is wrong, 1 where one is, 2 a mistake in the call."
+STATUS_WORDS = (
+    "The exit status is 0 where no reply is wrong, 1 where one is, 2 a mistake in the call."
+)
 
 
 def add_arguments(command: argparse.ArgumentParser) -> None:
@@ -22,18 +24,18 @@ def add_arguments(command: argparse.ArgumentParser) -> None:
 
 
 def run(asked: argparse.Namespace) -> int:
-    """Checks, and writes what the program tells. Raises ProgramEndedError, ScriptMistakeError."""
+    """Checks, and writes what the program tells. Raises ZanteyardError."""
     with open(asked.script, "rb") as script, open(asked.replies, "rb") as replies:
         return check(script, replies)
 
 
 def by_turns(script: IO[bytes], replies: IO[bytes]) -> Iterator[Tuple[bytes, bytes]]:
-    """Each line of the script with its reply. Raises ScriptMistakeError where a reply has no line;
+    """Each line of the script with its reply. Raises ZanteyardError where a reply has no line;
     a line without a reply comes with an empty one, which the program tells."""
     for line in script:
         yield line, replies.readline()
     if replies.readline():
-        raise ScriptMistakeError("there are more replies than lines")
+        raise ZanteyardError("there are more replies than lines")
 
 
 def check(script: IO[bytes], replies: IO[bytes]) -> int:
