@@ -146,7 +146,7 @@ def sides(history, choice):
 
 def check_leaf(history, taken, item):
     """An item that ends a branch: a cycle, or a read that nothing can answer."""
-    if item[0] == "cycle":
+    if item[0] == "cycle" and len(item) == 2:
         check_cycle(history, taken, item[1])
     elif item[0] == "nowrite":
         _, session, number, key = item
@@ -178,7 +178,7 @@ def check_tree(history, items):
             both = sides(history, choice)
             check_cycle(history, taken | {both[2 - side]}, cycle)
             waiting.append(taken | {both[side - 1]})
-        elif item[0] == "split":
+        elif item[0] == "split" and len(item) == 2:
             first, second = sides(history, item[1])
             waiting += [taken | {second}, taken | {first}]
         else:

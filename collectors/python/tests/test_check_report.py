@@ -1,13 +1,21 @@
 """Stored replies are checked by `cobra_check`: those of the worked scripts are right, and changed
-ones aren't."""
+ones aren't; and of what was changed it says what a plain checker says."""
 
+import contextlib
 import glob
+import importlib.util
+import io
+import json
 import os
+import random
 import subprocess
 import unittest
 
 from zanteyard.programs import checker_path
 
+from .mutated_replies import mutations
+
+PLAIN = os.path.join(os.path.dirname(__file__), "../../../examples/check_reports.py")
 DATA = os.path.join(os.path.dirname(__file__), "../../../crates/cobra_examples/data")
 SCRIPTS = sorted(glob.glob(os.path.join(DATA, "*.jsonl")))
 
@@ -33,6 +41,31 @@ def changes(reply):
     yield reply.replace(b"serial", b"pending") if b"serial" in reply else reply + b" "
 
 
+def plain_checker():
+    """examples/check_reports.py, as a module."""
+    spec = importlib.util.spec_from_file_location("check_reports", PLAIN)
+    module = importlib.util.module_from_spec(spec)
+    spec.loader.exec_module(module)
+    return module
+
+
+def plainly_right(plain, script, replies):
+    """What the plain checker says. It judges reports and cuts that are well formed: at any other
+    it may fail, which counts as wrong."""
+    with contextlib.redirect_stdout(io.StringIO()):
+        try:
+            return plain.check_run(script, replies) == 0
+        except (ValueError, TypeError, IndexError, KeyError):
+            return False
+
+
+def has_certificate(changed, reply):
+    """Whether the two checkers have to agree on the changed reply: both are reports of the same
+    round (the plain checker doesn't look at its number), of which a spent one claims nothing."""
+    changed, reply = json.loads(changed), json.loads(reply)
+    return changed[0] == reply[0] == "report" and changed[1] == reply[1]
+
+
 @unittest.skipUnless(os.access(checker_path(), os.X_OK), "cobra_check isn't built")
 class StoredReplies(unittest.TestCase):
     def test_worked_replies_are_right(self):
@@ -50,3 +83,23 @@ class StoredReplies(unittest.TestCase):
                     with self.subTest(name, reply=at + 1, changed=changed):
                         stored = replies[:at] + [changed] + replies[at + 1:]
                         self.assertEqual(status_of(script, stored), 3)
+
+    def test_both_checkers_agree_on_mutations(self):
+        plain, tried, still_right = plain_checker(), 0, 0
+        for path in SCRIPTS:
+            script, replies = lines_of(path), lines_of(path[: -len("jsonl")] + "replies")
+            draw = random.Random(os.path.basename(path))
+            for at, name, changed in mutations(draw, replies):
+                with self.subTest(os.path.basename(path), reply=at + 1, by=name, changed=changed):
+                    stored = replies[:at] + [changed] + replies[at + 1:]
+                    right = status_of(script[: at + 1], stored[: at + 1]) == 0
+                    plainly = plainly_right(plain, script[: at + 1], stored[: at + 1])
+                    tried, still_right = tried + 1, still_right + right
+                    if right:
+                        self.assertTrue(plainly, "right by cobra_check alone")
+                        if status_of(script, stored) == 0:
+                            self.assertTrue(plainly_right(plain, script, stored))
+                    elif has_certificate(changed, replies[at]):
+                        self.assertFalse(plainly, "right by check_reports.py alone")
+        self.assertGreater(tried, 400)
+        self.assertGreater(still_right, 20)

@@ -1,0 +1,149 @@
+"""Seeded mutations of an auditor's replies, on the level of their JSON: what a wrong report looks
+like where its text is still well formed."""
+
+import copy
+import json
+import random
+from typing import Any, Callable, Dict, Iterator, List, Optional, Tuple
+
+Reply = List[Any]
+KINDS = ("serial", "pending", "violated", "spent")
+OK, REFUSED = ["ok"], ["no", 13, "NoCut"]
+
+
+def changed_kind(draw: random.Random, reply: Reply, others: List[Reply]) -> Optional[Reply]:
+    """Another kind; a spent report has no certificate."""
+    kind = draw.choice([other for other in KINDS if other != reply[2]])
+    certificate = [] if kind == "spent" else (reply[4:] or [[]])
+    return reply[:2] + [kind, reply[3]] + certificate
+
+
+def changed_count(draw: random.Random, reply: Reply, others: List[Reply]) -> Optional[Reply]:
+    """One more or one less of a session, or one session less."""
+    counts = list(reply[3])
+    at = draw.randrange(len(counts))
+    if draw.randrange(4) == 0:
+        del counts[at]
+    else:
+        counts[at] = max(0, counts[at] + draw.choice((-1, 1)))
+    return reply[:3] + [counts] + reply[4:]
+
+
+def changed_list(draw: random.Random, items: List[Any]) -> None:
+    """An item dropped, doubled, or swapped: with its neighbour, or with any other one."""
+    at = draw.randrange(len(items))
+    way = draw.randrange(4)
+    if way == 0:
+        del items[at]
+    elif way == 1:
+        items.insert(at, copy.deepcopy(items[at]))
+    else:
+        by = (at + 1) % len(items) if way == 2 else draw.randrange(len(items))
+        items[at], items[by] = items[by], items[at]
+
+
+def places(part: Any) -> Iterator[Tuple[List[Any], int]]:
+    """Where the numbers stand in it."""
+    for at, item in enumerate(part):
+        if isinstance(item, list):
+            yield from places(item)
+        elif isinstance(item, int):
+            yield part, at
+
+
+def lists_in(part: Any) -> Iterator[List[Any]]:
+    """The lists of lists in it, itself among them: orders, trees and cycles."""
+    if part and isinstance(part[-1], list):
+        yield part
+    for item in part:
+        if isinstance(item, list):
+            yield from lists_in(item)
+
+
+def changed_number(draw: random.Random, part: Any) -> None:
+    """One of the numbers in it, by one or by a few."""
+    found = list(places(part))
+    if found:
+        items, at = draw.choice(found)
+        items[at] = max(0, items[at] + draw.choice((-1, 1, 1, -2, 2)))
+
+
+def changed_certificate(draw: random.Random, reply: Reply, others: List[Reply]) -> Optional[Reply]:
+    """An order's ids, or the items of a tree, of one of its cycles, or a number in it."""
+    if len(reply) < 5 or not reply[4]:
+        return None
+    certificate = copy.deepcopy(reply[4])
+    if draw.randrange(3) == 0:
+        changed_number(draw, certificate)
+    else:
+        changed_list(draw, draw.choice(list(lists_in(certificate))))
+    return reply[:4] + [certificate]
+
+
+def turned_cycle(draw: random.Random, reply: Reply, others: List[Reply]) -> Optional[Reply]:
+    """A cycle that begins with another of its arcs."""
+    if len(reply) < 5 or reply[2] != "violated":
+        return None
+    tree = copy.deepcopy(reply[4])
+    cycles = [item[-1] for item in tree if item[0] in ("cycle", "force") and len(item[-1]) > 1]
+    if not cycles:
+        return None
+    cycle = draw.choice(cycles)
+    by = draw.randrange(1, len(cycle))
+    cycle[:] = cycle[by:] + cycle[:by]
+    return reply[:4] + [tree]
+
+
+def of_another_round(draw: random.Random, reply: Reply, others: List[Reply]) -> Optional[Reply]:
+    """Another report of the script, as it stands or under this one's number."""
+    found = [other for other in others if other[0] == "report" and other != reply]
+    if not found:
+        return None
+    other = draw.choice(found)
+    return other if draw.randrange(2) else reply[:2] + other[2:]
+
+
+def changed_cut(draw: random.Random, reply: Reply, others: List[Reply]) -> Optional[Reply]:
+    """A number of a cut, or one of its lists."""
+    cut = copy.deepcopy(reply)
+    if draw.randrange(2):
+        changed_number(draw, cut)
+    else:
+        changed_list(draw, draw.choice([part for part in cut[2:] if part]))
+    return cut
+
+
+def refused(draw: random.Random, reply: Reply, others: List[Reply]) -> Optional[Reply]:
+    """A refusal in its place."""
+    return REFUSED
+
+
+def granted(draw: random.Random, reply: Reply, others: List[Reply]) -> Optional[Reply]:
+    """`ok` in its place."""
+    return OK
+
+
+Change = Callable[[random.Random, Reply, List[Reply]], Optional[Reply]]
+OF_A_REPORT: List[Change] = [
+    changed_kind, changed_count, changed_certificate, changed_certificate, changed_certificate,
+    changed_certificate, turned_cycle, of_another_round, refused, granted,
+]
+CHANGES: Dict[str, List[Change]] = {
+    "report": OF_A_REPORT, "cut": [changed_cut, changed_cut, granted, refused],
+    "ok": [refused], "no": [granted],
+}
+
+
+def mutations(draw: random.Random, replies: List[bytes]) -> Iterator[Tuple[int, str, bytes]]:
+    """For each kind of change of each report and cut one, and some of the other replies: which
+    reply, the change's name, and the changed text."""
+    read = [json.loads(reply) for reply in replies]
+    for at, reply in enumerate(read):
+        changes = CHANGES.get(reply[0], [])
+        if reply[0] in ("ok", "no") and draw.randrange(4):
+            continue
+        for change in changes:
+            changed = change(draw, reply, read)
+            if changed is not None and changed != reply:
+                text = json.dumps(changed, separators=(",", ":"))
+                yield at, change.__name__, text.encode()
