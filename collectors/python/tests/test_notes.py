@@ -128,6 +128,16 @@ class Noted(unittest.TestCase):
         self.assertEqual([(number, logged.reads, logged.writes, logged.outcome) for number, logged in found], [(0, (), ["x"], "unknown")])
         self.assertEqual((place.is_ended, place.unknown), (True, ((0, 1),)))
 
+    def test_behind_what_could_not_be_found_out_nobody_goes_on(self):
+        """It was handed over, and that it was the last of its session wasn't."""
+        self.before(0)
+        self.notes.write(0, 0, "unknown", None, None, True, True)
+        found, place = self.told(come=1)
+        self.assertEqual((found, place.is_ended, place.unknown), ([], True, ((0, 1),)))
+        self.notes.write(0, 1, "aborted", None)  # in another audit
+        found, place = self.told(come=1)
+        self.assertEqual((found, place.is_ended), ([(1, NOTHING), (2, NOTHING)], False))
+
     def test_a_fence_that_can_not_be_found_out_is_not_handed_in(self):
         self.before(0, Logged((), [FENCE]))
         found, place = self.told()
@@ -172,6 +182,7 @@ for _ in range(5): session.run(add)
 child = os.fork()
 if child == 0:
     assert client.is_over
+    for _ in range(3): session.run(add)
     time.sleep(1.0)
     os._exit(0)
 print(child, flush=True)
@@ -180,7 +191,8 @@ os.kill(os.getpid(), signal.SIGKILL)
 """
 
     def test_a_child_keeps_nothing_of_its_parents(self):
-        """Its end is seen while a child lives that was forked; nor does that write its notes."""
+        """Its end is seen while a child lives that was forked; and as that may go on in its
+        sessions, which nobody sees, nobody else gets them."""
         logging.getLogger("zanteyard").setLevel(logging.CRITICAL)
         self.addCleanup(logging.getLogger("zanteyard").setLevel, logging.NOTSET)
         from zanteyard.sqlite_store import prepare
@@ -193,10 +205,26 @@ os.kill(os.getpid(), signal.SIGKILL)
                 ended = subprocess.run(call, stdout=subprocess.PIPE, timeout=60.0)
                 self.assertEqual(ended.returncode, -signal.SIGKILL)
                 until = time.monotonic() + 60.0
-                while live.handed_in < 11 and time.monotonic() < until:
+                while not live.is_over and time.monotonic() < until:
                     time.sleep(0.01)
+                self.assertEqual(live._places.numbers(), [1])
+                self.assertEqual(os.listdir(server.notes), [])
             outcome = live.stop()
-            self.assertEqual((outcome.kind, outcome.audited), ("serial", 11))
+            self.assertEqual(outcome.kind, "incomplete", outcome)
+            self.assertIn("it has forked", str(outcome.failure))
+
+    def test_they_are_found_from_any_folder(self):
+        self.addCleanup(os.chdir, os.getcwd())
+        with tempfile.TemporaryDirectory() as folder, Auditor(2) as auditor:
+            live = LiveAuditor(auditor, policy=Policy(30.0, begins_anew=False))
+            os.chdir(folder)
+            with AuditServer(live, "audit") as server:
+                os.chdir("/")
+                with AuditClient(f"{folder}/audit") as client:
+                    self.assertIsNotNone(client.session(MemoryStore().connect()).notes)
+                    self.assertEqual(len(os.listdir(f"{folder}/audit.notes")), 2)
+                os.chdir(folder)
+            self.assertEqual(live.stop().kind, "serial")
 
     def test_where_nothing_can_be_noted_clients_go_on(self):
         logging.getLogger("zanteyard").setLevel(logging.CRITICAL)

@@ -18,7 +18,7 @@ from .group_calls import GroupCalls
 from .handover import Handover
 from .live import PAUSE
 from .messages import Messages
-from .notes import Notes
+from .notes import FORKED, Notes
 from .outcome import Policy
 from .place_requests import PlaceRequests
 from .records import Logged, Store
@@ -234,6 +234,18 @@ class AuditClient(SessionsHere):
         self._is_over = self._is_gone = True
         self._requests.end()
 
+    def _mark_fork(self) -> None:
+        """A child may go on in this process's sessions, behind its end and unseen: where that is
+        found killed, the audit ends. It is marked before the child is there."""
+        if self._is_gone and self._calls.is_leaving:
+            return  # it has left, or is such a child
+        try:
+            flags = os.O_WRONLY | os.O_CREAT | os.O_CLOEXEC
+            os.close(os.open(f"{self._notes_path}{FORKED}", flags, 0o600))
+        except OSError:
+            for notes in list(self._notes):
+                notes.remove()  # which tells the same
+
     def _be_forked(self) -> None:
         """In a child of the process, in which nothing is audited: it must neither keep the
         connection open, by whose end the parent's is seen, nor write the parent's notes."""
@@ -256,4 +268,9 @@ def _be_forked() -> None:
         client._be_forked()
 
 
-os.register_at_fork(after_in_child=_be_forked)
+def _mark_fork() -> None:
+    for client in list(_forked):
+        client._mark_fork()
+
+
+os.register_at_fork(before=_mark_fork, after_in_child=_be_forked)

@@ -18,7 +18,7 @@ from .errors import AuditLostError, ProgramEndedError
 from .killed import Killed, LostError, handed_in
 from .live import PAUSE, LiveAuditor
 from .messages import Messages
-from .notes import notes_of
+from .notes import FORKED, notes_of
 from .records import Logged, unpacked
 from .remote_group import RemoteGroup
 from .sessions import Place
@@ -38,6 +38,13 @@ def watched(connection: Connection) -> Optional[int]:
         return os.pidfd_open(PEER.unpack(peer)[0])
     except (AttributeError, OSError):
         return None
+
+
+def remove(path: str) -> None:
+    """A session's notes."""
+    for which in range(2):
+        with suppress(OSError):
+            os.unlink(f"{path}.{which}")
 
 
 class ClientProcess:
@@ -110,9 +117,9 @@ class ClientProcess:
         if self._watch is not None:
             os.close(self._watch)
         for path in self._asks:
-            for which in range(2):
-                with suppress(OSError):
-                    os.unlink(f"{path}.{which}")
+            remove(path)
+        with suppress(OSError):
+            os.unlink(f"{self._notes}{FORKED}")
 
     # what it did, where it is killed
 
@@ -130,6 +137,8 @@ class ClientProcess:
         try:
             if not self._is_dead():
                 raise LostError(why)
+            if os.path.exists(f"{self._notes}{FORKED}"):
+                raise LostError("it has forked, and its child may go on in its sessions")
             there = {it[:-2] for it in glob.glob(f"{glob.escape(self._notes)}-*.0")}
             # Of a session that it had begun to make, and in which nothing was done, it hasn't told.
             untold = any(notes_of(path) for path in there - {*self._asks})

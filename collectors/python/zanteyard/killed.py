@@ -54,6 +54,9 @@ class Killed:
         for note, _ in self.notes.get(place.number, ()):
             if note.outcome == "unknown" and note.is_last and note.number < first:
                 place.leave_open(note.number)
+                place.is_ended = note.number == last  # and it had no time to tell that
+        if place.is_ended:
+            return found
         for number in range(first, last + 1):
             logged = self.logged(number, before.get(number), answered.get(number))
             place.begun = number + 1

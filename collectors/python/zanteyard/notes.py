@@ -21,6 +21,7 @@ HEAD = struct.Struct("<II")
 ROOM = 1 << 16  # bytes of a file, asked for as it is made: they are there on a full disk, too
 TURN = 3 << 14  # bytes, behind which the other file is used, if it may be
 MOST = 1 << 26  # bytes of a file: who gets so far hands nothing over any more
+FORKED = "-forked"  # behind a process's path: a file that is there once it has forked
 logger = logging.getLogger("zanteyard")
 
 
