@@ -221,7 +221,9 @@ os.kill(os.getpid(), signal.SIGKILL)
             with AuditServer(live, "audit") as server:
                 os.chdir("/")
                 with AuditClient(f"{folder}/audit") as client:
-                    self.assertIsNotNone(client.session(MemoryStore().connect()).notes)
+                    session = client.session(MemoryStore().connect())
+                    session.run(add_one("x"))
+                    self.assertIsNotNone(session.notes)
                     self.assertEqual(len(os.listdir(f"{folder}/audit.notes")), 2)
                 os.chdir(folder)
             self.assertEqual(live.stop().kind, "serial")
