@@ -228,6 +228,74 @@ os.kill(os.getpid(), signal.SIGKILL)
                 os.chdir(folder)
             self.assertEqual(live.stop().kind, "serial")
 
+    def audited(self):
+        """A server, and a client in this process."""
+        logging.getLogger("zanteyard").setLevel(logging.CRITICAL)
+        self.addCleanup(logging.getLogger("zanteyard").setLevel, logging.NOTSET)
+        folder, auditor = tempfile.TemporaryDirectory(), Auditor(2)
+        self.addCleanup(folder.cleanup)
+        self.addCleanup(auditor.end)
+        live = LiveAuditor(auditor, policy=Policy(30.0, begins_anew=False))
+        self.addCleanup(live.stop)
+        server = AuditServer(live, f"{folder.name}/audit")
+        self.addCleanup(server.close, 0.1)
+        return live, server, AuditClient(server.path)
+
+    def wait_for(self, condition):
+        until = time.monotonic() + 60.0
+        while not condition() and time.monotonic() < until:
+            time.sleep(0.01)
+        self.assertTrue(condition())
+
+    def test_a_closed_session_keeps_no_files(self):
+        live, server, client = self.audited()
+        store = MemoryStore()
+        for count in range(20):
+            session = client.session(store.connect())
+            session.run(add_one("x"))
+            if not count:
+                open_files = len(os.listdir("/proc/self/fd"))
+            session.close()
+            self.assertIsNone(session.notes)
+            self.wait_for(lambda: len(live._places.numbers()) == 2)
+            self.wait_for(lambda: not os.listdir(server.notes))
+        self.assertLess(len(os.listdir("/proc/self/fd")), open_files)
+        self.assertEqual(server._processes[0]._asks, {})
+        client.leave()
+        server.close()
+        self.assertEqual((live.stop().kind, live.stop().audited), ("serial", 20))
+
+    def test_nothing_is_noted_any_more_where_nobody_reads_it(self):
+        """Neither is there any room taken."""
+        live, server, client = self.audited()
+        session, idle = (client.session(MemoryStore().connect()) for _ in range(2))
+        session.run(add_one("x"))
+        notes = session.notes
+        with mock.patch("zanteyard.client_process.ENDING", 0.1):
+            server._processes[0].messages._hang_up()
+            self.wait_for(lambda: client.is_over and not os.listdir(server.notes))
+            self.wait_for(lambda: not any(os.fstat(half.file).st_blocks for half in idle.notes.halves))
+            self.assertTrue(idle.notes.halves)
+            session.run(add_one("x"))
+            self.assertEqual((notes.halves, session.notes.halves), ([], []))
+            self.wait_for(lambda: live.is_over)
+        client.leave()
+        self.assertEqual(idle.notes.halves, [])
+        self.assertEqual(live.stop().kind, "incomplete")
+
+    def test_who_is_in_a_transaction_as_its_process_leaves_keeps_its_descriptors(self):
+        """Else it might write to what another has opened since."""
+        _, server, client = self.audited()
+        session, other = (client.session(MemoryStore().connect()) for _ in range(2))
+        notes, others = session.notes, other.notes
+        transaction = session.begin()
+        transaction.put("x", "1")
+        client.leave(0.1)
+        self.assertEqual((len(notes.halves), others.halves), (2, []))
+        self.wait_for(lambda: not os.listdir(server.notes))
+        transaction.commit()
+        self.assertEqual(notes.halves, [])
+
     def test_where_nothing_can_be_noted_clients_go_on(self):
         logging.getLogger("zanteyard").setLevel(logging.CRITICAL)
         self.addCleanup(logging.getLogger("zanteyard").setLevel, logging.NOTSET)

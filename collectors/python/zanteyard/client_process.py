@@ -64,6 +64,7 @@ class ClientProcess:
         self._deeds: Dict[str, Callable[..., None]] = {
             "answer": self.group.take_answer,
             "back": self._take_back,
+            "forget": self._forget,
             "join": self._begin_join,
             "leave": self._take_leave,
             "logged": self._take_logged,
@@ -175,6 +176,12 @@ class ClientProcess:
 
     def _take_noted(self, which: int, asks: Any) -> None:
         self._asks[f"{self._notes}-{which}"] = asks
+
+    def _forget(self, which: int) -> None:
+        """All is there that these notes tell of, and their session does nothing more."""
+        path = f"{self._notes}-{which}"
+        self._asks.pop(path, None)
+        remove(path)
 
     def _take_unnoted(self) -> None:
         self._has_all_noted = False
