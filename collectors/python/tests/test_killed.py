@@ -14,6 +14,7 @@ import unittest
 from unittest import mock
 
 from zanteyard import Auditor, AuditServer, LiveAuditor, Policy, Session
+from zanteyard.asking import find_out
 from zanteyard.auditor import PROGRAM, is_own
 from zanteyard.cluster import Cluster, program
 from zanteyard.workloads import Nothing
@@ -311,24 +312,26 @@ class AskedOfPostgres(unittest.TestCase):
         self.store = PostgresStore(self.cluster.dsn)
         self.addCleanup(self.store.close)
         _, *self.how = self.store.asks()
+        self.store.connect()
+        self.assertIsNotNone(self.store.life[1])
 
     def alone(self, key, number):
         self.store.begin_alone(5.0)
         self.store.exchange(key, "", ("run", 1, number))
 
-    def asked(self, key, number):
+    def asked(self, key, number, seconds=SOON):
         ticket = self.store.ticket((key, "run", 1, number))
-        return postgres_store.asked(*self.how, ticket=ticket, seconds=0.5)
+        return find_out(("postgres", *self.how), ticket, seconds)
 
     def test_what_was_run_before_is_not_taken_for_what_is_on_its_way(self):
         """The server's process is alive, and idle as far as anybody sees."""
         for number in (3, 4):
             self.alone(self.FLAG, number)
             for key, other in ((self.FLAG, number + 1), (self.FLAG, 10 * number), (f"{self.FLAG}2", number), (self.FLAG[:-1], number)):
-                self.assertEqual(self.asked(key, other), ("unknown", None), (key, other))
+                self.assertEqual(self.asked(key, other, 0.5), ("unknown", None), (key, other))
             self.assertEqual(self.store.send("SELECT 1").fetchone(), (1,))  # nobody has ended it
         self.alone(f"{self.FLAG}2", 5)
-        self.assertEqual(self.asked(self.FLAG, 5), ("unknown", None))
+        self.assertEqual(self.asked(self.FLAG, 5, 0.5), ("unknown", None))
         self.store.close()
         self.assertEqual(self.asked(self.FLAG, 5), ("aborted", None))
 

@@ -49,7 +49,7 @@ class Killed:
         first = max(place.begun, self.backlog.next_number(place.number))
         before, answered = self.sorted_out(place.number, first)
         last = max((*before, *answered, first - 1))
-        found = []
+        found: List[Tuple[int, Logged]] = []
         place.begun, place.is_due, place.has_flag = first, True, False
         for note, _ in self.notes.get(place.number, ()):
             if note.outcome == "unknown" and note.is_last and note.number < first:
