@@ -15,7 +15,7 @@ from zanteyard.auditor import FENCE, PROGRAM
 from zanteyard.backlog import Backlog
 from zanteyard.killed import NOTHING, Killed, LostError
 from zanteyard.memory_store import MemoryStore
-from zanteyard.notes import HEAD, ROOM, Notes, notes_of
+from zanteyard.notes import FORKED, HEAD, ROOM, Notes, notes_of
 from zanteyard.records import as_bytes
 from zanteyard.sessions import Place
 
@@ -246,6 +246,17 @@ os.kill(os.getpid(), signal.SIGKILL)
         while not condition() and time.monotonic() < until:
             time.sleep(0.01)
         self.assertTrue(condition())
+
+    def test_who_forks_is_marked_and_who_starts_a_program_is_not(self):
+        _, _, client = self.audited()
+        mark = f"{client._notes_path}{FORKED}"
+        subprocess.run([sys.executable, "-c", ""], check=True)
+        self.assertFalse(os.path.exists(mark))
+        child = os.fork()
+        if not child:
+            os._exit(0 if os.path.exists(mark) else 1)
+        self.assertEqual(os.waitpid(child, 0)[1], 0)
+        client.leave()
 
     def test_a_closed_session_keeps_no_files(self):
         live, server, client = self.audited()
