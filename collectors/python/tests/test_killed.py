@@ -11,15 +11,19 @@ import sys
 import tempfile
 import time
 import unittest
+from unittest import mock
 
-from zanteyard import Auditor, AuditServer, LiveAuditor, Policy
+from zanteyard import Auditor, AuditServer, LiveAuditor, Policy, Session
+from zanteyard.asking import find_out
 from zanteyard.auditor import PROGRAM, is_own
 from zanteyard.cluster import Cluster, program
+from zanteyard.workloads import Nothing
 
 try:
     import psycopg2
 
-    from zanteyard.postgres_store import prepare
+    from zanteyard import postgres_store
+    from zanteyard.postgres_store import PostgresStore, prepare
 except ImportError:
     psycopg2 = None
 
@@ -285,6 +289,97 @@ class KilledOverPostgres(Killed):
                     time.sleep(0.3)
                     doomed.kill()
                 self.ended("violated")
+
+
+@unittest.skipUnless(psycopg2 and program("initdb"), "PostgreSQL or psycopg2 isn't installed (none was asked for an outcome)")
+class AskedOfPostgres(unittest.TestCase):
+    FLAG = "zanteyard flag 1"
+
+    @classmethod
+    def setUpClass(cls):
+        cls.cluster = Cluster()
+        cls.cluster.__enter__()
+        cls.addClassCleanup(cls.cluster.__exit__)
+        prepare(cls.cluster.dsn)
+
+    def setUp(self):
+        logging.getLogger("zanteyard").setLevel(logging.CRITICAL)
+        self.addCleanup(logging.getLogger("zanteyard").setLevel, logging.NOTSET)
+        connection = psycopg2.connect(self.cluster.dsn)
+        with connection:
+            connection.cursor().execute("DELETE FROM zanteyard WHERE number >= 0 AND session >= 0")
+        connection.close()
+        self.store = PostgresStore(self.cluster.dsn)
+        self.addCleanup(self.store.close)
+        _, *self.how = self.store.asks()
+        self.store.connect()
+        self.assertIsNotNone(self.store.life[1])
+
+    def alone(self, key, number):
+        self.store.begin_alone(5.0)
+        self.store.exchange(key, "", ("run", 1, number))
+
+    def asked(self, key, number, seconds=SOON):
+        ticket = self.store.ticket((key, "run", 1, number))
+        return find_out(("postgres", *self.how), ticket, seconds)
+
+    def test_what_was_run_before_is_not_taken_for_what_is_on_its_way(self):
+        """The server's process is alive, and idle as far as anybody sees."""
+        for number in (3, 4):
+            self.alone(self.FLAG, number)
+            for key, other in ((self.FLAG, number + 1), (self.FLAG, 10 * number), (f"{self.FLAG}2", number), (self.FLAG[:-1], number)):
+                self.assertEqual(self.asked(key, other, 0.5), ("unknown", None), (key, other))
+            self.assertEqual(self.store.send("SELECT 1").fetchone(), (1,))  # nobody has ended it
+        self.alone(f"{self.FLAG}2", 5)
+        self.assertEqual(self.asked(self.FLAG, 5, 0.5), ("unknown", None))
+        self.store.close()
+        self.assertEqual(self.asked(self.FLAG, 5), ("aborted", None))
+
+    def test_the_very_statement(self):
+        self.alone(self.FLAG, 3)
+        self.assertEqual(self.asked(self.FLAG, 3), ("committed", ()))
+        self.alone(self.FLAG, 4)
+        self.assertEqual(self.asked(self.FLAG, 4), ("committed", (("run", 1, 3),)))
+        self.store.begin_alone(5.0)
+        with self.assertRaises(psycopg2.Error):  # it fails behind its beginning
+            self.store.ask(postgres_store.OVERWRITE.replace("{value}", "(1 / (now.number - 4))::text"), ("run", 1, 5, self.FLAG))
+        self.assertEqual(self.asked(self.FLAG, 5), ("aborted", None))
+
+    def test_where_there_was_no_row_another_statement_may_be_on_its_way(self):
+        self.store.begin_alone(5.0)
+        self.store.ask(postgres_store.OVERWRITE.replace("{value}", postgres_store.KEPT), ("run", 1, 3, self.FLAG))
+        self.assertEqual(self.asked(self.FLAG, 3), ("unknown", None))
+
+    def test_what_is_around_the_auditors_process_does_not_lead_elsewhere(self):
+        self.alone(self.FLAG, 3)
+        around = {"PGOPTIONS": "-c search_path=nowhere", "PGTARGETSESSIONATTRS": "standby", "PGHOSTADDR": "127.0.0.9"}
+        with mock.patch.dict(os.environ, around):
+            self.assertEqual(self.asked(self.FLAG, 3), ("committed", ()))
+        with mock.patch.dict(os.environ, {"PGSERVICE": "elsewhere"}):
+            self.assertEqual(self.asked(self.FLAG, 3), ("unknown", None))
+
+    def test_what_is_around_the_client_leads_there(self):
+        with mock.patch.dict(os.environ, {"PGOPTIONS": "-c search_path=bank"}):
+            self.assertEqual(self.store.asks()[2]["options"], "-c search_path=bank")
+        words = postgres_store.reached({"dbname": "of the dsn"}, {"dbname": "around", "options": "-c a=b"})
+        self.assertEqual((words["dbname"], words["options"]), ("of the dsn", "-c a=b"))
+
+    def test_a_commit_that_was_refused_is_not_asked_for(self):
+        self.store.begin()
+        self.store.send("""
+            CREATE OR REPLACE FUNCTION refuse() RETURNS trigger LANGUAGE plpgsql AS
+            'BEGIN IF NEW.value = ''bad'' THEN RAISE check_violation; END IF; RETURN NULL; END';
+            CREATE CONSTRAINT TRIGGER refuses AFTER INSERT OR UPDATE ON zanteyard DEFERRABLE
+            INITIALLY DEFERRED FOR EACH ROW EXECUTE FUNCTION refuse()""")
+        session = Session(Nothing(), 0, self.store, "run")
+        with mock.patch.object(self.store, "outcome_within", return_value="unknown") as asks:
+            with self.assertRaises(psycopg2.errors.CheckViolation):
+                session.run(lambda transaction: transaction.put("x", "bad"), attempts=1)
+            self.assertFalse(asks.called)
+            elsewhere = psycopg2.errors.CheckViolation("of another connection")
+            self.assertFalse(self.store.has_answered(elsewhere))
+        self.assertTrue(session.is_open)
+        session.run(lambda transaction: transaction.put("x", "good"))
 
 
 if __name__ == "__main__":

@@ -15,7 +15,7 @@ from zanteyard.auditor import FENCE, PROGRAM
 from zanteyard.backlog import Backlog
 from zanteyard.killed import NOTHING, Killed, LostError
 from zanteyard.memory_store import MemoryStore
-from zanteyard.notes import HEAD, ROOM, Notes, notes_of
+from zanteyard.notes import FORKED, HEAD, ROOM, Notes, notes_of
 from zanteyard.records import as_bytes
 from zanteyard.sessions import Place
 
@@ -128,6 +128,16 @@ class Noted(unittest.TestCase):
         self.assertEqual([(number, logged.reads, logged.writes, logged.outcome) for number, logged in found], [(0, (), ["x"], "unknown")])
         self.assertEqual((place.is_ended, place.unknown), (True, ((0, 1),)))
 
+    def test_behind_what_could_not_be_found_out_nobody_goes_on(self):
+        """It was handed over, and that it was the last of its session wasn't."""
+        self.before(0)
+        self.notes.write(0, 0, "unknown", None, None, True, True)
+        found, place = self.told(come=1)
+        self.assertEqual((found, place.is_ended, place.unknown), ([], True, ((0, 1),)))
+        self.notes.write(0, 1, "aborted", None)  # in another audit
+        found, place = self.told(come=1)
+        self.assertEqual((found, place.is_ended), ([(1, NOTHING), (2, NOTHING)], False))
+
     def test_a_fence_that_can_not_be_found_out_is_not_handed_in(self):
         self.before(0, Logged((), [FENCE]))
         found, place = self.told()
@@ -172,6 +182,7 @@ for _ in range(5): session.run(add)
 child = os.fork()
 if child == 0:
     assert client.is_over
+    for _ in range(3): session.run(add)
     time.sleep(1.0)
     os._exit(0)
 print(child, flush=True)
@@ -180,7 +191,8 @@ os.kill(os.getpid(), signal.SIGKILL)
 """
 
     def test_a_child_keeps_nothing_of_its_parents(self):
-        """Its end is seen while a child lives that was forked; nor does that write its notes."""
+        """Its end is seen while a child lives that was forked; and as that may go on in its
+        sessions, which nobody sees, nobody else gets them."""
         logging.getLogger("zanteyard").setLevel(logging.CRITICAL)
         self.addCleanup(logging.getLogger("zanteyard").setLevel, logging.NOTSET)
         from zanteyard.sqlite_store import prepare
@@ -193,10 +205,107 @@ os.kill(os.getpid(), signal.SIGKILL)
                 ended = subprocess.run(call, stdout=subprocess.PIPE, timeout=60.0)
                 self.assertEqual(ended.returncode, -signal.SIGKILL)
                 until = time.monotonic() + 60.0
-                while live.handed_in < 11 and time.monotonic() < until:
+                while not live.is_over and time.monotonic() < until:
                     time.sleep(0.01)
+                self.assertEqual(live._places.numbers(), [1])
+                self.assertEqual(os.listdir(server.notes), [])
             outcome = live.stop()
-            self.assertEqual((outcome.kind, outcome.audited), ("serial", 11))
+            self.assertEqual(outcome.kind, "incomplete", outcome)
+            self.assertIn("it has forked", str(outcome.failure))
+
+    def test_they_are_found_from_any_folder(self):
+        self.addCleanup(os.chdir, os.getcwd())
+        with tempfile.TemporaryDirectory() as folder, Auditor(2) as auditor:
+            live = LiveAuditor(auditor, policy=Policy(30.0, begins_anew=False))
+            os.chdir(folder)
+            with AuditServer(live, "audit") as server:
+                os.chdir("/")
+                with AuditClient(f"{folder}/audit") as client:
+                    session = client.session(MemoryStore().connect())
+                    session.run(add_one("x"))
+                    self.assertIsNotNone(session.notes)
+                    self.assertEqual(len(os.listdir(f"{folder}/audit.notes")), 2)
+                os.chdir(folder)
+            self.assertEqual(live.stop().kind, "serial")
+
+    def audited(self):
+        """A server, and a client in this process."""
+        logging.getLogger("zanteyard").setLevel(logging.CRITICAL)
+        self.addCleanup(logging.getLogger("zanteyard").setLevel, logging.NOTSET)
+        folder, auditor = tempfile.TemporaryDirectory(), Auditor(2)
+        self.addCleanup(folder.cleanup)
+        self.addCleanup(auditor.end)
+        live = LiveAuditor(auditor, policy=Policy(30.0, begins_anew=False))
+        self.addCleanup(live.stop)
+        server = AuditServer(live, f"{folder.name}/audit")
+        self.addCleanup(server.close, 0.1)
+        return live, server, AuditClient(server.path)
+
+    def wait_for(self, condition):
+        until = time.monotonic() + 60.0
+        while not condition() and time.monotonic() < until:
+            time.sleep(0.01)
+        self.assertTrue(condition())
+
+    def test_who_forks_is_marked_and_who_starts_a_program_is_not(self):
+        _, _, client = self.audited()
+        mark = f"{client._notes_path}{FORKED}"
+        subprocess.run([sys.executable, "-c", ""], check=True)
+        self.assertFalse(os.path.exists(mark))
+        child = os.fork()
+        if not child:
+            os._exit(0 if os.path.exists(mark) else 1)
+        self.assertEqual(os.waitpid(child, 0)[1], 0)
+        client.leave()
+
+    def test_a_closed_session_keeps_no_files(self):
+        live, server, client = self.audited()
+        store = MemoryStore()
+        for count in range(20):
+            session = client.session(store.connect())
+            session.run(add_one("x"))
+            if not count:
+                open_files = len(os.listdir("/proc/self/fd"))
+            session.close()
+            self.assertIsNone(session.notes)
+            self.wait_for(lambda: len(live._places.numbers()) == 2)
+            self.wait_for(lambda: not os.listdir(server.notes))
+        self.assertLess(len(os.listdir("/proc/self/fd")), open_files)
+        self.assertEqual(server._processes[0]._asks, {})
+        client.leave()
+        server.close()
+        self.assertEqual((live.stop().kind, live.stop().audited), ("serial", 20))
+
+    def test_nothing_is_noted_any_more_where_nobody_reads_it(self):
+        """Neither is there any room taken."""
+        live, server, client = self.audited()
+        session, idle = (client.session(MemoryStore().connect()) for _ in range(2))
+        session.run(add_one("x"))
+        notes = session.notes
+        with mock.patch("zanteyard.client_process.ENDING", 0.1):
+            server._processes[0].messages._hang_up()
+            self.wait_for(lambda: client.is_over and not os.listdir(server.notes))
+            self.wait_for(lambda: not any(os.fstat(half.file).st_blocks for half in idle.notes.halves))
+            self.assertTrue(idle.notes.halves)
+            session.run(add_one("x"))
+            self.assertEqual((notes.halves, session.notes.halves), ([], []))
+            self.wait_for(lambda: live.is_over)
+        client.leave()
+        self.assertEqual(idle.notes.halves, [])
+        self.assertEqual(live.stop().kind, "incomplete")
+
+    def test_who_is_in_a_transaction_as_its_process_leaves_keeps_its_descriptors(self):
+        """Else it might write to what another has opened since."""
+        _, server, client = self.audited()
+        session, other = (client.session(MemoryStore().connect()) for _ in range(2))
+        notes, others = session.notes, other.notes
+        transaction = session.begin()
+        transaction.put("x", "1")
+        client.leave(0.1)
+        self.assertEqual((len(notes.halves), others.halves), (2, []))
+        self.wait_for(lambda: not os.listdir(server.notes))
+        transaction.commit()
+        self.assertEqual(notes.halves, [])
 
     def test_where_nothing_can_be_noted_clients_go_on(self):
         logging.getLogger("zanteyard").setLevel(logging.CRITICAL)

@@ -18,7 +18,7 @@ from .group_calls import GroupCalls
 from .handover import Handover
 from .live import PAUSE
 from .messages import Messages
-from .notes import Notes
+from .notes import FORKED, Notes
 from .outcome import Policy
 from .place_requests import PlaceRequests
 from .records import Logged, Store
@@ -45,7 +45,7 @@ class AuditClient(SessionsHere):
         welcome: Any = self._messages.receive()
         _, run_name, self.is_named, self.token, most, policy, self._notes_path = welcome
         super().__init__(run_name, Policy(*policy))
-        self._notes: List[Notes] = []
+        self._notes: Dict[Notes, int] = {}  # by which number the auditor's process knows them
         self._count, self._noting = 0, threading.Lock()
         _forked.add(self)
         self._handover = Handover(self._messages, most)
@@ -106,14 +106,18 @@ class AuditClient(SessionsHere):
             self._messages.tell("lose", "a session was in a transaction as it left")
         for session in self.sessions:
             session.is_open, session.renew = False, None
+        nobodys = {session.notes for session in taken}
         for session in taken:
             session.turn.release()
         for thread in self._threads:
             thread.join(ANSWERING)
         self._group.end()
         self._messages.close()
-        for notes in self._notes:
-            notes.close()
+        for notes in list(self._notes):
+            if notes in nobodys:
+                notes.close()
+            else:
+                notes.end()  # a thread may be writing
 
     def __enter__(self) -> AuditClient:
         return self
@@ -194,10 +198,20 @@ class AuditClient(SessionsHere):
             logger.error("if this process is killed, the audit ends with it: %s", error)
             self._messages.tell("unnoted", seconds=ANSWERING)
             return None
-        self._notes.append(notes)
+        self._notes[notes] = which
         if not self._messages.tell("noted", which, asks_of(store), seconds=ANSWERING):
             self._messages.tell("noted", which, None, seconds=ANSWERING)  # it can't be told how
+        if self._is_gone:
+            notes.end()
         return notes
+
+    def _forget(self, notes: Notes) -> None:
+        """Once all is handed over that it tells of, and its place is given back, the auditor's
+        process removes the files."""
+        which = self._notes.pop(notes, None)
+        notes.let_go()
+        if which is not None:
+            self._handover.put_behind("forget", which)
 
     def _give_back(self, place: Place) -> None:
         self._handover.put_behind("back", astuple(place))
@@ -233,6 +247,20 @@ class AuditClient(SessionsHere):
         """The auditor's process can't be reached: clients go on."""
         self._is_over = self._is_gone = True
         self._requests.end()
+        for notes in list(self._notes):
+            notes.end()
+
+    def _mark_fork(self) -> None:
+        """A child may go on in this process's sessions, behind its end and unseen: where that is
+        found killed, the audit ends. It is marked before the child is there."""
+        if self._is_gone and self._calls.is_leaving:
+            return  # it has left, or is such a child
+        try:
+            flags = os.O_WRONLY | os.O_CREAT | os.O_CLOEXEC
+            os.close(os.open(f"{self._notes_path}{FORKED}", flags, 0o600))
+        except OSError:
+            for notes in list(self._notes):
+                notes.remove()  # which tells the same
 
     def _be_forked(self) -> None:
         """In a child of the process, in which nothing is audited: it must neither keep the
@@ -242,7 +270,7 @@ class AuditClient(SessionsHere):
         self._requests.has_ended = True
         try:
             self._messages.close()
-            for notes in self._notes:
+            for notes in list(self._notes):
                 notes.let_go()
         except OSError:
             pass  # it was closed before the fork
@@ -256,4 +284,9 @@ def _be_forked() -> None:
         client._be_forked()
 
 
-os.register_at_fork(after_in_child=_be_forked)
+def _mark_fork() -> None:
+    for client in list(_forked):
+        client._mark_fork()
+
+
+os.register_at_fork(before=_mark_fork, after_in_child=_be_forked)

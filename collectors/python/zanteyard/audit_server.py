@@ -36,7 +36,8 @@ class AuditServer:
         self.path, self._live = path, live
         self._processes: List[ClientProcess] = []
         self._is_closing, self._count = False, 0
-        self.notes = f"{path}.notes"  # the folder in which processes note what they do
+        # The folder in which processes note what they do, whichever folders they run in.
+        self.notes = os.path.abspath(f"{path}.notes")
         try:
             Client(path, "AF_UNIX").close()
         except ConnectionRefusedError:

@@ -18,7 +18,7 @@ from .errors import AuditLostError, ProgramEndedError
 from .killed import Killed, LostError, handed_in
 from .live import PAUSE, LiveAuditor
 from .messages import Messages
-from .notes import notes_of
+from .notes import FORKED, notes_of
 from .records import Logged, unpacked
 from .remote_group import RemoteGroup
 from .sessions import Place
@@ -40,6 +40,13 @@ def watched(connection: Connection) -> Optional[int]:
         return None
 
 
+def remove(path: str) -> None:
+    """A session's notes."""
+    for which in range(2):
+        with suppress(OSError):
+            os.unlink(f"{path}.{which}")
+
+
 class ClientProcess:
     """What it tells is taken in by a thread of its own, which ends once it has left. All that it
     sends comes in the order in which it was sent."""
@@ -57,6 +64,7 @@ class ClientProcess:
         self._deeds: Dict[str, Callable[..., None]] = {
             "answer": self.group.take_answer,
             "back": self._take_back,
+            "forget": self._forget,
             "join": self._begin_join,
             "leave": self._take_leave,
             "logged": self._take_logged,
@@ -110,9 +118,9 @@ class ClientProcess:
         if self._watch is not None:
             os.close(self._watch)
         for path in self._asks:
-            for which in range(2):
-                with suppress(OSError):
-                    os.unlink(f"{path}.{which}")
+            remove(path)
+        with suppress(OSError):
+            os.unlink(f"{self._notes}{FORKED}")
 
     # what it did, where it is killed
 
@@ -130,6 +138,8 @@ class ClientProcess:
         try:
             if not self._is_dead():
                 raise LostError(why)
+            if os.path.exists(f"{self._notes}{FORKED}"):
+                raise LostError("it has forked, and its child may go on in its sessions")
             there = {it[:-2] for it in glob.glob(f"{glob.escape(self._notes)}-*.0")}
             # Of a session that it had begun to make, and in which nothing was done, it hasn't told.
             untold = any(notes_of(path) for path in there - {*self._asks})
@@ -166,6 +176,12 @@ class ClientProcess:
 
     def _take_noted(self, which: int, asks: Any) -> None:
         self._asks[f"{self._notes}-{which}"] = asks
+
+    def _forget(self, which: int) -> None:
+        """All is there that these notes tell of, and their session does nothing more."""
+        path = f"{self._notes}-{which}"
+        self._asks.pop(path, None)
+        remove(path)
 
     def _take_unnoted(self) -> None:
         self._has_all_noted = False

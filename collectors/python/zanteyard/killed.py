@@ -49,11 +49,14 @@ class Killed:
         first = max(place.begun, self.backlog.next_number(place.number))
         before, answered = self.sorted_out(place.number, first)
         last = max((*before, *answered, first - 1))
-        found = []
+        found: List[Tuple[int, Logged]] = []
         place.begun, place.is_due, place.has_flag = first, True, False
         for note, _ in self.notes.get(place.number, ()):
             if note.outcome == "unknown" and note.is_last and note.number < first:
                 place.leave_open(note.number)
+                place.is_ended = note.number == last  # and it had no time to tell that
+        if place.is_ended:
+            return found
         for number in range(first, last + 1):
             logged = self.logged(number, before.get(number), answered.get(number))
             place.begun = number + 1

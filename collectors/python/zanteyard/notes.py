@@ -21,6 +21,7 @@ HEAD = struct.Struct("<II")
 ROOM = 1 << 16  # bytes of a file, asked for as it is made: they are there on a full disk, too
 TURN = 3 << 14  # bytes, behind which the other file is used, if it may be
 MOST = 1 << 26  # bytes of a file: who gets so far hands nothing over any more
+FORKED = "-forked"  # behind a process's path: a file that is there once it has forked
 logger = logging.getLogger("zanteyard")
 
 
@@ -61,6 +62,7 @@ class Notes:
         self.paths = [f"{path}.{which}" for which in range(2)]
         self.sent, self.tell_failure = sent, tell_failure
         self.count, self.has_failed = 0, False
+        self.is_over = False  # nobody reads them any more
         self.halves: List[Half] = []
         try:
             for each in self.paths:
@@ -73,6 +75,8 @@ class Notes:
     def write(self, session: int, number: int, *more: Any) -> None:
         """A Note's fields, by one call of the system's."""
         if self.has_failed:
+            if self.is_over:
+                self.let_go()
             return
         try:
             half = self.half if self.half.at < TURN else self.turned()
@@ -110,8 +114,25 @@ class Notes:
             except OSError:
                 pass  # it isn't there; else who looks is told
 
+    def end(self) -> None:
+        """From any thread: nobody reads them any more, and they take no room. Who has the session's
+        turn may be writing: its descriptors are closed as it writes once more."""
+        self.has_failed = self.is_over = True
+        for path in self.paths:
+            try:
+                file = os.open(path, os.O_WRONLY | os.O_CLOEXEC)
+            except OSError:
+                continue  # it isn't there
+            try:
+                os.unlink(path)  # before it is emptied: it isn't to be taken for one without notes
+                os.ftruncate(file, 0)
+            except OSError:
+                pass  # another thread has done so
+            finally:
+                os.close(file)
+
     def close(self) -> None:
-        """For good, without a trace: all that was done is handed over."""
+        """For good, without a trace: all that was done is handed over, and nobody writes."""
         self.has_failed = True
         self.remove()
         self.let_go()
@@ -119,9 +140,12 @@ class Notes:
     def let_go(self) -> None:
         """Of the files, which stay."""
         self.has_failed = True
-        for half in self.halves:
+        while self.halves:
+            try:
+                half = self.halves.pop()
+            except IndexError:
+                return  # another thread has let them go
             os.close(half.file)
-        self.halves = []
 
 
 def notes_of(path: str) -> Optional[List[Note]]:

@@ -56,16 +56,20 @@ LIVES = """concat_ws(' ', extract(epoch FROM pg_postmaster_start_time()),
     (SELECT extract(epoch FROM stats_reset) FROM pg_stat_bgwriter))"""
 LIFE = f"""SELECT pg_backend_pid(),
     (SELECT {AGE} FROM pg_stat_activity WHERE pid = pg_backend_pid()), {LIVES}"""
-# A pooled connection may be another client's by now: the transaction, or the key of a statement of
-# the collector's own, has to be the killed process's. Where that is what it ran last, and it is
-# idle, it is done with it.
-RUNS_STILL = f"""SELECT state = 'idle' AND position(%s IN query) > 0 FROM pg_stat_activity
-    WHERE pid = %s AND {AGE} = %s"""
+# A pooled connection may be another client's by now: the transaction, or the statement of the
+# collector's own, has to be the killed process's. Where that very statement is what it ran last,
+# and it is idle, it is done with it; what it ran before may have the same key.
+CHANGES = OVERWRITE[OVERWRITE.index("run = ") : OVERWRITE.index(" AS before")]
+MAKES = FIRST[: FIRST.index(TRANSACTION)].rstrip()
+RUNS_STILL = f"""SELECT state = 'idle', position(%s IN query) > 0, position(%s IN query) > 0
+    FROM pg_stat_activity WHERE pid = %s AND {AGE} = %s"""
 WHAT_BECAME = f"""SELECT pg_xact_status(%s::text::xid8), {LIVES}"""
 ITS_ROW = """SELECT value FROM {table} WHERE key = %s AND run = %s AND session = %s
     AND number = %s"""
+THE_ROW = """SELECT (run, session, number) = (%s::text, %s::int, %s::bigint), value FROM {table}
+    WHERE key = %s"""
 END_IT = f"""SELECT pg_terminate_backend(pid) FROM pg_stat_activity WHERE pid = %s AND {AGE} = %s
-    AND CASE WHEN %s THEN position(%s IN query) > 0
+    AND CASE WHEN %s THEN position(%s IN query) > 0 OR position(%s IN query) > 0
     ELSE backend_xid::text = (%s::text::numeric %% 4294967296)::text END"""
 CONFLICTS = (errors.SerializationFailure, errors.DeadlockDetected)
 PATIENCE = 5.0  # seconds for a connection, and for an outcome
@@ -211,6 +215,15 @@ class PostgresStore:
                 raise OutcomeUnknown(str(error).strip()) from error
             raise  # the server has answered: it is aborted
 
+    def has_answered(self, error: BaseException) -> bool:
+        """Whether the server has refused the commit by this, so that nobody has to ask it."""
+        if not isinstance(error, psycopg2.Error) or error.pgcode is None:
+            return False
+        cursor = getattr(error, "cursor", None)
+        if cursor is None or cursor.connection is not self.connection or self.connection.closed:
+            return False  # it is about something else, or may have come behind the answer
+        return error.pgcode[:2] not in ("08", "57") and error.pgcode != "40003"
+
     def send_commit(self) -> None:
         if self.is_alone or self.before:
             return  # nothing is open
@@ -299,12 +312,40 @@ class PostgresStore:
 # What libpq takes from the environment where a dsn doesn't say it.
 WORDS = {
     **{"PGHOST": "host", "PGHOSTADDR": "hostaddr", "PGPORT": "port", "PGDATABASE": "dbname"},
-    **{"PGUSER": "user", "PGPASSWORD": "password", "PGSERVICE": "service"},
+    **{"PGUSER": "user", "PGPASSWORD": "password", "PGPASSFILE": "passfile"},
+    **{"PGOPTIONS": "options", "PGTARGETSESSIONATTRS": "target_session_attrs"},
+    **{"PGSERVICE": "service", "PGSERVICEFILE": "servicefile"},
 }
+
+
+PLAIN = {"target_session_attrs": "any"}  # in place of an empty one, which libpq refuses
 
 
 def environment() -> Dict[str, str]:
     return {word: os.environ[name] for name, word in WORDS.items() if os.environ.get(name)}
+
+
+def reached(dsn: Dict[str, str], around: Dict[str, str]) -> Optional[Dict[str, str]]:
+    """What leads from here to where it led a client with these words around it, whatever is around
+    this process; None where nothing does."""
+    here = environment()
+    if any("service" in words for words in (dsn, around, here)):
+        return dsn if here == around else None  # what a service says is known to libpq alone
+    # An empty word is as good as none, and libpq then doesn't look around for it.
+    found = {**{word: PLAIN.get(word, "") for word in here}, **around, **dsn}
+    return {word: said for word, said in found.items() if word != "servicefile"}
+
+
+def literal(text: str) -> str:
+    """As the server got it. One with a backslash isn't found, so that nothing is taken for it."""
+    return "'" + text.replace("'", "''") + "'"
+
+
+def statements_of(table: str, key: str, run: str, session: int, number: int) -> Tuple[str, str]:
+    """Of an `exchange` of the collector's own, what tells each of its two from all others."""
+    key, run = literal(key), literal(run)
+    changes, makes = CHANGES.format(table=table), MAKES.format(table=table)
+    return changes % (run, session, number, key), makes % (key, "''", run, session, number)
 
 
 def asked(
@@ -313,13 +354,22 @@ def asked(
     """What became of the transaction of a store whose process is killed. What its server's process
     is still about is waited for, for half of the time; then that process is ended."""
     transaction_id, pid, since, life, key, run, session, number = ticket
-    asks = Asks(extensions.make_dsn(**{**around, **dsn}), table, time.monotonic() + seconds)
+    words = reached(dsn, around)
+    if words is None:
+        return UNKNOWN
+    asks = Asks(extensions.make_dsn(**words), table, time.monotonic() + seconds)
     its = (key, run, session, number)
     if transaction_id is None:
-        if since is None or not asks.has_ended(pid, since, key, seconds):
+        statements = statements_of(table, *its)
+        seen = asks.seen_last(pid, since, statements, seconds) if since is not None else None
+        if seen is None:
             return UNKNOWN
-        row = asks.row(ITS_ROW, its)
-        return ("aborted", None) if row is None else ("committed", overwritten(row[0]))
+        row = asks.row(THE_ROW, (*its[1:], key))
+        if row is not None and row[0]:
+            return "committed", overwritten(row[1])
+        # Where there was no row an `exchange` goes on with another statement.
+        is_done = seen == "gone" or (seen == "changes" and row is not None)
+        return ("aborted", None) if is_done else UNKNOWN
     status, now = asks.status(transaction_id, pid, since, seconds)
     if status == "aborted":
         return "aborted", None
@@ -340,12 +390,14 @@ class Asks:
     def row(self, text: str, values: Sequence[Any]) -> Any:
         return answer(self.dsn, text.format(table=self.table), values, self.left())
 
-    def again(self, seconds: float, pid: Any, since: Any, transaction_id: Any, key: str) -> bool:
+    def again(
+        self, seconds: float, pid: Any, since: Any, transaction_id: Any, statements: Sequence[str]
+    ) -> bool:
         """Whether there is time to ask again, in a while."""
         left = self.ends - time.monotonic()
         if left < seconds / 2 and since is not None:
             is_alone = transaction_id is None
-            self.row(END_IT, (pid, since, is_alone, key, transaction_id or "0"))
+            self.row(END_IT, (pid, since, is_alone, *statements, transaction_id or "0"))
         time.sleep(min(0.02, max(0.0, left)))
         return left > 0
 
@@ -355,14 +407,20 @@ class Asks:
             status, life = self.row(WHAT_BECAME, (transaction_id,))
             if status != "in progress":
                 return status, life
-            if not self.again(seconds, pid, since, transaction_id, ""):
+            if not self.again(seconds, pid, since, transaction_id, ("", "")):
                 return None, life
 
-    def has_ended(self, pid: Any, since: Any, key: str, seconds: float) -> bool:
-        """Whether the statement isn't run any more that the killed process had sent."""
+    def seen_last(
+        self, pid: Any, since: Any, statements: Sequence[str], seconds: float
+    ) -> Optional[str]:
+        """Which of the killed process's two statements its server's process has done and does no
+        more: "changes" or "makes"; "gone" where there is no such process any more; or None."""
         while True:
-            found = self.row(RUNS_STILL, (key, pid, since))
-            if found is None or found[0]:
-                return True
-            if not self.again(seconds, pid, since, None, key):
-                return False
+            found = self.row(RUNS_STILL, (*statements, pid, since))
+            if found is None:
+                return "gone"
+            is_idle, changes, makes = found
+            if is_idle and (changes or makes):
+                return "changes" if changes else "makes"
+            if not self.again(seconds, pid, since, None, statements):
+                return None

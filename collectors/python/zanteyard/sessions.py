@@ -16,8 +16,10 @@ end within so many seconds; these calls may then raise OutcomeUnknown themselves
 any thread, has whatever waits for an answer over this connection wait no more, and the next
 transaction begin over another one: it is called where a client waits for what the audit asks.
 `claim(run_name, token, seconds)` raises NameTaken where the store knows the name, but for a run
-with this token, and OutcomeUnknown where it hasn't said so after so many seconds. `statement` is
-what it has run last, as who is told of a violation should see it.
+with this token, and OutcomeUnknown where it hasn't said so after so many seconds.
+`has_answered(error)` says that what `commit` raised is the store's own answer: nothing of it was
+committed, and nobody has to ask. `statement` is what it has run last, as who is told of a violation
+should see it.
 """
 
 from __future__ import annotations
@@ -495,8 +497,8 @@ class Transaction:
         except Aborted:
             self.rollback()
             raise
-        except Exception:
-            if is_sent and self.written and not self.is_over:
+        except Exception as error:
+            if is_sent and self.written and not (self.is_over or self.was_answered(error)):
                 self.find_out_behind()
             self.rollback()
             raise
@@ -545,6 +547,10 @@ class Transaction:
 
     def give_up(self) -> None:
         self.log((), (), "aborted")
+
+    def was_answered(self, error: Exception) -> bool:
+        has_answered = getattr(self.store, "has_answered", None)
+        return has_answered is not None and bool(has_answered(error))
 
     def find_out_behind(self) -> None:
         """Something else was raised than stores do, as by a handler of SIGALRM: it may have come

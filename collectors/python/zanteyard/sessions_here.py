@@ -33,6 +33,9 @@ class SessionsHere:
             if is_open:
                 place.is_due = True
                 self._give_back(place)
+            notes, session.notes = session.notes, None
+            if notes is not None:
+                self._forget(notes)
         finally:
             session.turn.release()
 
@@ -45,6 +48,9 @@ class SessionsHere:
     def _notes_of(self, store: Store) -> Optional[Notes]:
         """Where what a session does is noted for who finds this process killed."""
         return None
+
+    def _forget(self, notes: Notes) -> None:
+        """Of a session that does nothing more, for who has its turn."""
 
     def _renew(self, session: Session) -> Optional[Place]:
         """For a session that has ended: another one's place, or its own, and unaudited."""
