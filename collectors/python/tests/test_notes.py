@@ -205,7 +205,9 @@ os.kill(os.getpid(), signal.SIGKILL)
                 ended = subprocess.run(call, stdout=subprocess.PIPE, timeout=60.0)
                 self.assertEqual(ended.returncode, -signal.SIGKILL)
                 until = time.monotonic() + 60.0
-                while not live.is_over and time.monotonic() < until:
+                # its files are removed last
+                while not live.is_over or os.listdir(server.notes):
+                    self.assertLess(time.monotonic(), until)
                     time.sleep(0.01)
                 self.assertEqual(live._places.numbers(), [1])
                 self.assertEqual(os.listdir(server.notes), [])

@@ -104,10 +104,11 @@ class Package(unittest.TestCase):
                 self.assertEqual(ended.returncode, wanted, ended.stdout + ended.stderr)
 
     def test_what_it_says_of_its_auditor(self):
-        first, second = self.zanteyard("--version").stdout.splitlines()
+        first, *programs = self.zanteyard("--version").stdout.splitlines()
         self.assertEqual(first, f"zanteyard {VERSION}")
-        self.assertIn(f"{self.folder}/venv/", second)
-        self.assertIn(": proved by " if self.is_of_the_tree else "NOT PROVED", second)
+        self.assertEqual([line.split()[0] for line in programs], ["auditor", "checker"])
+        self.assertIn(f"{self.folder}/venv/", programs[0])
+        self.assertIn(": proved by " if self.is_of_the_tree else "NOT PROVED", programs[0])
         self.assertEqual("+unproved" in os.path.basename(self.wheel), not self.is_of_the_tree)
 
     def test_a_page_from_a_demonstration(self):
