@@ -179,9 +179,11 @@ client = AuditClient(sys.argv[2])
 session = client.session(SQLiteStore(sys.argv[3]))
 add = lambda t: t.put("x", str(int(t.get("x") or 0) + 1))
 for _ in range(5): session.run(add)
+parent = os.getpid()
 child = os.fork()
 if child == 0:
     assert client.is_over
+    while os.getppid() == parent: time.sleep(0.01)
     for _ in range(3): session.run(add)
     time.sleep(1.0)
     os._exit(0)
