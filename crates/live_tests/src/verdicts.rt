@@ -65,7 +65,7 @@ fn look_on(latest: &Latest, seat: ReaderSeat) -> bool
 {
     let mut seat = seat;
     let mut last = 0u64;
-    for _turn in 0..100_000_000u64 {
+    for _turn in 0..10_000_000_000u64 {
         if last == 100 {
             return true;
         }
