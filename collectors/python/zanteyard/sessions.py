@@ -362,6 +362,7 @@ class Transaction:
         self.began, self.caller = (time.time(), caller()) if holds else (0.0, "")
         self.sent: Tuple[str, ...] = ()  # keys that were written and needn't be at the commit
         self.statements: Dict[Deed, str] = {}  # of each deed, as Logged has them
+        self.unclear: Optional[Exception] = None  # why what it did isn't known, if that is so
 
     def still_open(self) -> None:
         """What is done with a transaction that has ended would be one of its own in the store."""
@@ -503,8 +504,9 @@ class Transaction:
                 session.used_at = time.monotonic()
             # Nothing is known of a fence without its read: who reads from it waits for it then.
             if not (is_last and FENCE in writes):
-                if session.unclaimed is not None:
-                    session.miss(self.number, session.unclaimed)
+                unclear = session.unclaimed or (self.unclear if outcome != "aborted" else None)
+                if unclear is not None:
+                    session.miss(self.number, unclear)
                 elif not session.tell(self.hand_in, reads, writes, outcome):
                     session.miss(self.number)
             if is_last:
