@@ -9,7 +9,7 @@ set -euo pipefail
 cd "$(dirname "$0")"
 if [ "${1:-}" = --install ]; then
     apt-get update -qq
-    DEBIAN_FRONTEND=noninteractive apt-get install -y -qq postgresql python3-psycopg2 python3-venv python3-setuptools \
+    DEBIAN_FRONTEND=noninteractive apt-get install -y -qq postgresql python3-psycopg2 python3-pglast python3-venv python3-setuptools \
         python3-wheel mypy python3-pycodestyle chromium mariadb-server python3-pymysql redis-server python3-redis > /dev/null
 fi
 audit=${COBRA_AUDIT:-../../crates/cobra_audit/out/cobra_audit}
@@ -44,7 +44,7 @@ if command -v mypy > /dev/null; then
 else
     echo "skipped: mypy, which isn't installed (no type was checked)"
 fi
-styled="zanteyard make_wheel.py ../../examples/postgres_live.py ../../examples/store_faults.py"
+styled="zanteyard make_wheel.py ../../examples/postgres_live.py ../../examples/store_faults.py ../../examples/bank.py"
 if command -v ruff > /dev/null; then
     ruff check --no-cache --line-length 100 --select E,W --ignore E203,E402,E701,E731 $styled
 elif "$python" -m pycodestyle --version > /dev/null 2>&1; then

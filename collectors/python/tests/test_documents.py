@@ -27,6 +27,7 @@ ELSEWHERE = {
     r"zanteyard audit postgres .*": "test_commands, with less time",
     r"zanteyard audit (mariadb|redis|sqlite) .*": "test_stores, with less time",
     r"/usr/bin/python3 examples/store_faults\.py .*": "test_stores, which compares the tables",
+    r"/usr/bin/python3 examples/bank\.py .*": "test_sql_bank, with less time",
     r"/usr/bin/python3 examples/postgres_\w+\.py .*": "test.sh and test_examples, with less time",
 }
 

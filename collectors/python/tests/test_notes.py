@@ -89,7 +89,7 @@ class Noted(unittest.TestCase):
                 self.assertEqual(len(self.failures), 1)
 
     def test_another_version_is_not_guessed_at(self):
-        with mock.patch("zanteyard.notes.VERSION", 2):
+        with mock.patch("zanteyard.notes.VERSION", 3):
             self.notes.write(0, 0, "aborted", None)
         self.assertIsNone(notes_of(self.path))
 

@@ -21,7 +21,7 @@ UNKNOWN: Found = ("unknown", None)
 logger = logging.getLogger("zanteyard")
 
 
-KINDS = ("postgres", "mariadb", "redis", "sqlite")
+KINDS = ("postgres", "mariadb", "redis", "sqlite", "sql")
 
 
 def find_out(asks: Any, ticket: Any, seconds: float) -> Found:

@@ -148,9 +148,18 @@ class AuditClient(SessionsHere):
 
     def miss(self, session: int, number: int, error: Exception) -> None:
         """It isn't known whether a session has handed in what it did under this number."""
+        if self._handover.lost is None:  # first: who has heard of it alone wouldn't look for why
+            self._lose(str(error))
         self._handover.put_behind("missed", session, number)
+
+    def lose(self, error: Exception) -> None:
+        """Something was done that isn't audited. That is told at once, or, where it can't be, by
+        notes that aren't there if this process is killed."""
         if self._handover.lost is None:
             self._lose(str(error))
+        if not self._handover.tell_lost(self.policy.wait):
+            for notes in list(self._notes):
+                notes.remove()
 
     def take_close(self, session: int) -> None:
         """Nothing more of this session comes."""

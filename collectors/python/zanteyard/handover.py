@@ -54,6 +54,11 @@ class Handover:
         self.lost = why
         self._wake.set()
 
+    def tell_lost(self, seconds: float) -> bool:
+        """Whether it could be told in so many seconds why nothing more is handed over."""
+        self._told_lost = self.lost
+        return self._messages.tell("lost", self.lost, seconds=seconds)
+
     def begin_anew(self) -> None:
         """What ends from here on is handed over; what has ended is known by its number."""
         self.lost = None
@@ -84,12 +89,12 @@ class Handover:
             behind = _taken_from(self._behind, self._behind.qsize())
             while self.dropped or not self._waiting.empty():
                 self._send(_taken_from(self._waiting, min(self._waiting.qsize(), LONGEST)))
-            for message in behind:
-                self._messages.send(*message)
             lost = self.lost
             if lost is not None and self._told_lost is not lost:
                 self._told_lost = lost
                 self._messages.send("lost", lost)
+            for message in behind:  # what was missed among them: by then it is known why
+                self._messages.send(*message)
 
     def _send(self, logged: List[Packed]) -> None:
         dropped, self.dropped = self.dropped, 0

@@ -3,7 +3,9 @@
 Each number that it may have used is handed in, once: what had come from itself by then isn't looked
 for; what was answered is logged as it would have been; the store is asked for what was on its way
 to it; an attempt of which nothing was sent to be committed did nothing. What can't be found out is
-logged with its writes alone, as the last of its session (docs/COLLECTORS.md).
+logged with its writes alone, as the last of its session (docs/COLLECTORS.md). Where a client itself
+didn't know what it had done, as one of an application's own SQL may not, that is lost, unless the
+store says that nothing of it was committed.
 """
 
 from __future__ import annotations
@@ -94,6 +96,8 @@ class Killed:
         """None for a fence of which nobody knows whether it is there."""
         if answered is None:
             return NOTHING if before is None else self.asked(*before)
+        if answered.unclear is not None and answered.outcome != "aborted":
+            raise LostError(answered.unclear)
         if answered.outcome == "committed":
             packed = answered.packed or (before and before[0].packed)
             if not packed:
@@ -109,13 +113,15 @@ class Killed:
         """What was sent to be committed and not answered."""
         assert note.packed is not None
         logged = unpacked(note.packed)
-        if not logged.writes:
+        if not logged.writes and note.unclear is None:
             return NOTHING  # whether what it has read is to be checked isn't known
         outcome, overwritten = find_out(how, note.ticket, SECONDS)
         told = f"{note.session}.{note.number} of a killed process"
         logger.info("%s is %s by the store's word", told, outcome)
         if outcome == "aborted":
             return NOTHING
+        if note.unclear is not None:
+            raise LostError(note.unclear)
         if outcome == "committed" and note.has_reads:
             return logged
         if outcome == "committed" and overwritten is not None and len(logged.writes) == 1:

@@ -18,8 +18,10 @@ transaction begin over another one: it is called where a client waits for what t
 `claim(run_name, token, seconds)` raises NameTaken where the store knows the name, but for a run
 with this token, and OutcomeUnknown where it hasn't said so after so many seconds.
 `has_answered(error)` says that what `commit` raised is the store's own answer: nothing of it was
-committed, and nobody has to ask. `statement` is what it has run last, as who is told of a violation
-should see it.
+committed, and nobody has to ask. `look_up(transaction)` comes before a client's commit is noted and
+sent, and raises Aborted alone: a store whose clients don't read and write by a Transaction says
+there what they did, or, as its `unclear`, why that isn't known. `statement` is what it has run
+last, as who is told of a violation should see it.
 """
 
 from __future__ import annotations
@@ -399,6 +401,7 @@ class Transaction:
         self.sent: Tuple[str, ...] = ()  # keys that were written and needn't be at the commit
         self.statements: Dict[Deed, str] = {}  # of each deed, as Logged has them
         self.prepared: Any = None  # what is logged where it is committed, and the same as bytes
+        self.unclear: Optional[Exception] = None  # why what it did isn't known, if that is so
 
     def still_open(self) -> None:
         """What is done with a transaction that has ended would be one of its own in the store."""
@@ -478,6 +481,9 @@ class Transaction:
         self.is_committing, is_sent = True, False
         is_late = False  # it is noted when it is known by what the store is asked for it
         try:
+            look_up = getattr(self.store, "look_up", None) if self.holds else None
+            if look_up is not None:
+                look_up(self)
             is_to_note = self.holds or len(self.sent) < len(self.written)
             if is_to_note and self.session.notes is not None:
                 is_late = not self.writes_at_once
@@ -515,16 +521,19 @@ class Transaction:
         """From here on the store may have committed what it writes."""
         notes = self.session.notes
         assert notes is not None
+        has_written = bool(self.written) or self.unclear is not None  # or may have
+        why = self.session.unclaimed or self.unclear if has_written else None
         try:
             reads = self.reads if has_reads else ()
             logged = self.logged(reads, self.written, "committed")
             packed, name = as_bytes(logged), self.name
             if has_reads:
                 self.prepared = (logged, packed)
-            ticket = ticket_of(self.store, (key, *name)) if self.written else None
+            ticket = ticket_of(self.store, (key, *name)) if has_written else None
         except Exception as error:
             return notes.fail(error)
-        notes.write(name[1], self.number, None, packed, ticket, has_reads)
+        more = (False, str(why)) if why is not None else ()
+        notes.write(name[1], self.number, None, packed, ticket, has_reads, *more)
 
     def note_answer(self, logged: Logged, is_last: bool) -> None:
         """What is known by now, before it is handed in."""
@@ -537,6 +546,14 @@ class Transaction:
                     return notes.fail(error)
             more = (packed, None, True, True) if is_last else (packed,)
             notes.write(self.session.number or 0, self.number, logged.outcome, *more)
+
+    def note_unclear(self, outcome: str, is_last: bool, why: Exception) -> None:
+        """What is known by now, where that isn't enough: for who finds this process killed before
+        it has told so."""
+        notes = self.session.notes
+        if notes is not None:
+            more = (None, None, True, is_last, str(why))
+            notes.write(self.session.number or 0, self.number, outcome, *more)
 
     def rollback(self) -> None:
         if not self.is_over:
@@ -600,8 +617,10 @@ class Transaction:
                 session.used_at = time.monotonic()
             # Nothing is known of a fence without its read: who reads from it waits for it then.
             if not (is_last and FENCE in writes):
-                if session.unclaimed is not None:
-                    session.miss(self.number, session.unclaimed)
+                unclear = session.unclaimed or (self.unclear if outcome != "aborted" else None)
+                if unclear is not None:
+                    self.note_unclear(outcome, is_last, unclear)
+                    session.miss(self.number, unclear)
                 elif not session.tell(self.hand_in, reads, writes, outcome, is_last):
                     session.miss(self.number)
             if is_last:

@@ -1,0 +1,156 @@
+"""Processes of an application with SQL of its own that are killed: what they did is in the log, and
+where they didn't know that themselves, the audit says so, and makes nothing up."""
+
+from __future__ import annotations
+
+import logging
+import os
+import signal
+import subprocess
+import sys
+import time
+import unittest
+from typing import Any, Dict, Set, Tuple
+
+from zanteyard import RATHER_WAIT, AuditorApart, AuditServer, LiveAuditor, Policy, Session
+from zanteyard.asking import find_out
+from zanteyard.own_folder import OwnFolder
+from zanteyard.workloads import Nothing
+
+try:
+    import psycopg2
+    from psycopg2 import extensions
+
+    from zanteyard.postgres_sql import audited
+except ImportError:
+    psycopg2 = None  # type: ignore[assignment]
+
+from tests.test_sql import LACKING, OverAServer
+
+PLACE = os.path.join(os.path.dirname(os.path.abspath(__file__)), "..")
+CLIENT = os.path.join(PLACE, "tests", "killed_sql_client.py")
+SOON = 60.0  # seconds, where other programs have the processors
+SCHEMA = """CREATE TABLE t (id int PRIMARY KEY, v int); CREATE TABLE rows (id text PRIMARY KEY);
+INSERT INTO t VALUES (1, 0), (2, 0), (3, 0)"""
+PLACES = (
+    *("in its transaction", "before its look up", "behind its look up", "before a note"),
+    *("behind a note", "before its commit", "in its commit", "behind its commit"),
+    *("before its take", "behind its take"),
+)
+SENT = PLACES.index("in its commit")  # from here on the commit was sent
+
+
+class KilledSql(OverAServer):
+    def setUp(self) -> None:
+        super().setUp()
+        logging.getLogger("zanteyard").setLevel(logging.CRITICAL)
+        self.addCleanup(logging.getLogger("zanteyard").setLevel, logging.NOTSET)
+
+    def wait_for(self, condition: Any) -> None:
+        until = time.monotonic() + SOON
+        while not condition() and time.monotonic() < until:
+            time.sleep(0.01)
+        self.assertTrue(condition())
+
+    def ran(self, where: str, kind: str = "-") -> Any:
+        """One that is killed there beside one that stays: the outcome, and of the killed one's last
+        transaction, which comes behind four, whether it is in the store."""
+        place = self.database(SCHEMA, ["t", "rows"])
+        with AuditorApart(4) as auditor, OwnFolder() as folder:
+            live = LiveAuditor(auditor, every=200, seconds=0.3, policy=Policy(30.0, begins_anew=False))
+            with AuditServer(live, f"{folder}/audit") as server:
+                stays = self.client(server.path, place, "1", "-", "-", "0.01")
+                killed = self.client(server.path, place, "2", where, kind, "0.0")
+                killed.wait(SOON)
+                self.assertEqual(killed.returncode, -signal.SIGKILL)
+                done = live.handed_in
+                self.wait_for(lambda: live.is_over or live.handed_in > done + 20)
+                stays.stdin.write("\n")
+                stays.stdin.flush()
+                stays.wait(SOON)
+                self.assertEqual(stays.returncode, 0)
+            outcome = live.stop()
+            if outcome.kind == "serial":
+                self.each_commit_is_in_the_log(place, auditor)
+        return outcome, any(it.startswith("2.") and it > "2.4" for it in self.rows(place))
+
+    def client(self, *arguments: str) -> Any:
+        pipes = {"stdin": subprocess.PIPE, "stdout": subprocess.PIPE, "text": True}
+        client: Any = subprocess.Popen([sys.executable, CLIENT, PLACE, *arguments], **pipes)
+        self.addCleanup(client.stdin.close)
+        self.addCleanup(client.stdout.close)
+        self.addCleanup(client.wait)
+        self.addCleanup(client.kill)
+        self.assertEqual(client.stdout.readline(), "begun\n")
+        return client
+
+    def asked(self, place: str, text: str) -> Any:
+        other = psycopg2.connect(place)
+        cursor = other.cursor()
+        cursor.execute(text)
+        found = cursor.fetchall()
+        other.close()
+        return found
+
+    def rows(self, place: str) -> Set[str]:
+        return {row for (row,) in self.asked(place, "SELECT id FROM rows")}
+
+    def each_commit_is_in_the_log(self, place: str, auditor: Any) -> None:
+        log: Dict[Tuple[int, int], Set[str]] = {}
+        for session, txns in enumerate(auditor.history):
+            for number, logged in enumerate(txns, auditor.marks[session]):
+                log[session, number] = set(logged.writes)
+        marks = auditor.marks
+        entries = self.asked(place, "SELECT z.name || ' ' || key, session, number FROM"
+                             " zanteyard_writes JOIN zanteyard_tables z USING (relation)")
+        there = {(session, number, key) for key, session, number in entries}
+        self.assertEqual({f"rows {it}" for it in self.rows(place)},
+                         {key for _, _, key in there if key.startswith("rows ")})
+        for session, number, key in there:
+            if number >= marks[session]:  # else it was forgotten
+                self.assertIn(key, log[session, number])
+        for (session, number), keys in log.items():
+            for key in keys:
+                if not key.startswith("zanteyard "):
+                    self.assertIn((session, number, key), there)
+
+
+@unittest.skipIf(LACKING, f"not installed or not built: {', '.join(LACKING)}")
+class Clear(KilledSql):
+    def test_at_each_place_of_a_transaction(self) -> None:
+        for at, where in enumerate(PLACES):
+            with self.subTest(where=where):
+                outcome, is_there = self.ran(where)
+                self.assertEqual(outcome.kind, "serial", str(outcome))
+                self.assertEqual(is_there, at >= SENT)
+
+
+@unittest.skipIf(LACKING, f"not installed or not built: {', '.join(LACKING)}")
+class Unclear(KilledSql):
+    def test_where_it_was_never_committed_nothing_is_unclear(self) -> None:
+        for where in PLACES[:SENT]:
+            for kind in ("reads unaudited", "writes unaudited alone"):
+                if kind.endswith("alone") and not where.endswith(("a note", "its commit")):
+                    continue
+                with self.subTest(where=where, kind=kind):
+                    outcome, is_there = self.ran(where, kind)
+                    self.assertEqual((outcome.kind, is_there), ("serial", False), str(outcome))
+
+    def test_where_it_was_the_audit_says_so(self) -> None:
+        for where in ("in its commit", "behind its commit", "before a miss", "behind a miss"):
+            for kind in ("reads unaudited", "writes unaudited alone"):
+                with self.subTest(where=where, kind=kind):
+                    outcome, is_there = self.ran(where, kind)
+                    self.assertEqual((outcome.kind, is_there), ("incomplete", True), str(outcome))
+                    self.assertIn("a statement was run unaudited", str(outcome.failure))
+
+    def test_what_has_read_alone_counts_once_it_was_answered(self) -> None:
+        """Before that nobody knows what it has read, and nobody can read from it."""
+        for where, wanted in (("behind its commit", "serial"), ("before a miss", "incomplete")):
+            with self.subTest(where=where):
+                outcome, _ = self.ran(where, "reads unaudited alone")
+                self.assertEqual(outcome.kind, wanted, str(outcome))
+
+
+if __name__ == "__main__":
+    unittest.main()
