@@ -10,13 +10,15 @@ import time
 import unittest
 from unittest import mock
 
-from zanteyard import AuditClient, Auditor, AuditServer, LiveAuditor, Logged, Policy
+from zanteyard import AuditClient, Auditor, AuditServer, LiveAuditor, Logged, Policy, Session
 from zanteyard.auditor import FENCE, PROGRAM
 from zanteyard.backlog import Backlog
+from zanteyard.errors import AuditLostError
+from zanteyard.handover import Handover
 from zanteyard.killed import NOTHING, Killed, LostError
 from zanteyard.memory_store import MemoryStore
 from zanteyard.notes import FORKED, HEAD, ROOM, Notes, notes_of
-from zanteyard.records import as_bytes
+from zanteyard.records import as_bytes, unpacked
 from zanteyard.sessions import Place
 
 from .test_live import add_one
@@ -155,6 +157,45 @@ class Noted(unittest.TestCase):
         with self.assertRaises(LostError):
             Killed({self.path: None}, "run", Backlog(8))
 
+    UNCLEAR = "a statement of it isn't understood"
+
+    def unclear(self, outcome, **more):
+        """A transaction of which its client didn't know itself what it had done."""
+        ticket = more.get("ticket", ("x",))
+        self.notes.write(0, 0, None, as_bytes(more.get("did", DID)), ticket, True, False, self.UNCLEAR)
+        if outcome is not None:
+            self.notes.write(0, 0, outcome, None, None, True, more.get("is_last", False), self.UNCLEAR)
+
+    def test_what_its_client_did_not_know_is_lost(self):
+        for outcome, is_last in (("committed", False), ("unknown", True), ("unknown", False)):
+            with self.subTest(outcome=outcome, is_last=is_last):
+                self.setUp()
+                self.unclear(outcome, is_last=is_last)
+                with self.assertRaisesRegex(LostError, self.UNCLEAR):
+                    self.told()
+
+    def test_where_it_was_not_answered_the_store_is_asked(self):
+        """Also where nothing is known that it has written."""
+        for did in (DID, Logged((), ())):
+            for became in ("committed", "unknown", "aborted"):
+                with self.subTest(became=became, did=did):
+                    self.setUp()
+                    self.unclear(None, did=did)
+                    with mock.patch("zanteyard.killed.find_out", return_value=(became, None)):
+                        if became == "aborted":
+                            self.assertEqual(self.told()[0], [(0, NOTHING), (1, NOTHING)])
+                            continue
+                        with self.assertRaisesRegex(LostError, self.UNCLEAR):
+                            self.told()
+
+    def test_where_nothing_of_it_was_committed_nothing_is_unclear(self):
+        self.unclear("aborted")
+        self.assertEqual(self.told()[0], [(0, NOTHING), (1, NOTHING)])
+
+    def test_what_was_told_already_is_not_unclear_once_more(self):
+        self.unclear("committed")
+        self.assertEqual(self.told(come=1)[0], [(1, NOTHING)])
+
     def test_nothing_at_all(self):
         place = Place(0, 7)
         self.assertEqual(self.told(place), ([(7, NOTHING)], place))
@@ -165,6 +206,60 @@ class Noted(unittest.TestCase):
         with open(f"{self.path}.0", "rb") as file:
             length, _ = HEAD.unpack(file.read(HEAD.size))
         self.assertEqual(self.notes.half.at, HEAD.size + length)
+
+
+class Doubtful(MemoryStore):
+    """In place of an application's own SQL: it says at its commit what it did, or that it can't."""
+
+    why = None
+
+    def connect(self):
+        made = super().connect()
+        made.look_up = self.look_up
+        return made
+
+    def look_up(self, transaction):
+        transaction.unclear = self.why and AuditLostError(self.why)
+        transaction.reads.add(("y", "init"))
+
+
+class WhatIsNoted(unittest.TestCase):
+    """By a session whose store looks up before the commit what was done."""
+
+    setUp, UNCLEAR = Noted.setUp, Noted.UNCLEAR
+
+    def run_one(self, why):
+        store, told = Doubtful(), []
+        store.why = why
+        auditor = mock.Mock(run_name="run", is_named=False, policy=Policy(30.0))
+        auditor.miss = lambda *missed: told.append(missed)
+        session = Session(auditor, 0, store.connect(), "run")
+        session.notes = self.notes
+        session.run(add_one("x"))
+        return notes_of(self.path), told
+
+    def test_what_was_looked_up_is_noted_and_handed_in(self):
+        (before, answered), told = self.run_one(None)
+        self.assertIn(("y", "init"), unpacked(before.packed).reads)
+        self.assertEqual((before.unclear, answered.unclear, told), (None, None, []))
+
+    def test_that_it_is_unclear_is_noted_before_and_behind(self):
+        (before, answered), told = self.run_one(self.UNCLEAR)
+        self.assertEqual((before.unclear, answered.unclear), (self.UNCLEAR, self.UNCLEAR))
+        self.assertEqual((before.outcome, answered.outcome), (None, "committed"))
+        self.assertEqual([str(error) for _, _, error in told], [self.UNCLEAR])
+
+
+class Lost(unittest.TestCase):
+    def test_why_is_sent_before_what_was_missed(self):
+        """Else who is killed in between is taken for one that has told all."""
+        messages, sent = mock.Mock(), []
+        messages.send = lambda kind, *_: sent.append(kind)
+        handover = Handover(messages, 8)
+        handover.put_behind("missed", 0, 1)
+        handover.lose("why")
+        handover.send_all()
+        self.assertEqual(sent, ["lost", "missed"])
 
 
 @unittest.skipUnless(os.path.isfile(PROGRAM), f"{PROGRAM} is not built")

@@ -10,6 +10,7 @@ import threading
 import time
 import unittest
 from typing import Any
+from unittest import mock
 
 from zanteyard import RATHER_WAIT, Auditor, AuditorApart, LiveAuditor
 
@@ -18,6 +19,7 @@ try:
     from psycopg2 import extensions
 
     from zanteyard.postgres_sql import NotAuditedError, audited
+    from zanteyard.sql_notes import Notes
 except ImportError:
     psycopg2 = None  # type: ignore[assignment]
 
@@ -252,6 +254,156 @@ class Commits(Harmless):
         self.do(client, "UPDATE t SET v = v + 1 WHERE id = 1")  # over another one
         self.assertFalse(client.store.side.is_away)
         client.commit()
+
+
+@unittest.skipIf(LACKING, f"not installed or not built: {', '.join(LACKING)}")
+class Odd(Harmless):
+    def setUp(self) -> None:
+        super().setUp()
+        self.place = self.database(SCHEMA, ["t"])
+
+    def client(self, **more: Any) -> Any:
+        (made,) = self.clients(self.place, "serializable", ["t"], 1, **more)
+        return made
+
+    def test_a_commit_that_the_server_refuses(self) -> None:
+        self.run_sql(self.place, "ALTER TABLE t ADD UNIQUE (v) DEFERRABLE INITIALLY DEFERRED")
+        client = self.client()
+        self.do(client, "UPDATE t SET v = 20 WHERE id = 1")
+        with self.assertRaises(psycopg2.errors.UniqueViolation):
+            client.commit()
+        self.assertEqual(self.auditor.history[0][0].outcome, "aborted")
+        self.do(client, "UPDATE t SET v = 21 WHERE id = 1")
+        client.commit()
+        self.assertEqual(self.logged(0, 1), ({("t 1", "init")}, {"t 1"}))
+        self.assertEqual(self.auditor.outcome().kind, "serial")
+
+    def test_what_is_run_many_times_is_counted_as_the_driver_does(self) -> None:
+        plain, client = psycopg2.connect(self.place), self.client(unaudited="run")
+        seen = []
+        for each in (plain, client):
+            cursor = each.cursor()
+            for text, values in (
+                ("SELECT v FROM t WHERE id = %s", [(1,), (2,), (3,)]),
+                ("UPDATE t SET v = v WHERE id = %s RETURNING v", [(1,), (7,)]),
+                ("SHOW timezone", [(), ()]),
+                ("SET LOCAL lock_timeout = 9", [()]),
+                ("UPDATE t SET v = v", [(), ()]),
+                ("INSERT INTO t VALUES (%s, 1)", [(8,), (9,)]),
+                ("DELETE FROM t WHERE id = %s", []),
+            ):
+                cursor.execute("SELECT v FROM t WHERE id = 2")
+                cursor.executemany(text, values)
+                try:
+                    rows: Any = cursor.fetchall()
+                except psycopg2.ProgrammingError as error:
+                    rows = str(error)
+                at = cursor.rownumber, cursor.statusmessage
+                seen.append((each is plain, text, cursor.rowcount, rows, at))
+            each.rollback()
+        half = len(seen) // 2
+        self.assertEqual([it[1:] for it in seen[:half]], [it[1:] for it in seen[half:]])
+
+    def test_one_row_that_is_read_again_and_again(self) -> None:
+        client = self.client()
+        for _ in range(400):
+            self.do(client, "SELECT v FROM t WHERE id = 1")
+            self.do(client, "SELECT v FROM t WHERE id = 3")
+        self.assertEqual(len(client.notes.seen), 2)
+        client.commit()
+        self.assertEqual(self.logged(0, 0)[0], {("t 1", "init"), ("t 3", "init")})
+        self.assertEqual(self.auditor.outcome().kind, "serial")
+
+    def test_many_rows_take_no_room_without_end(self) -> None:
+        for text in ("SELECT v FROM t WHERE id = {}", "INSERT INTO t VALUES ({}, 0)"):
+            with self.subTest(text), Auditor(1, policy=RATHER_WAIT) as self.auditor:
+                client = self.client()
+                for key in range(10, 400):
+                    self.do(client, text.format(key))
+                self.assertLess(len(client.notes.seen) + len(client.notes.changed), 300)
+                client.commit()
+                self.assert_incomplete("more than 256")
+
+    def test_a_transaction_that_was_ended_past_the_audit_and_is_rolled_back(self) -> None:
+        client = self.client()
+        self.do(client, "UPDATE t SET v = 5 WHERE id = 1")
+        extensions.cursor(client).execute("COMMIT")
+        client.rollback()
+        self.assertEqual(self.value(self.place), 5)
+        self.assert_incomplete("ended by what isn't seen")
+
+    def test_an_unaudited_one_that_was_ended_past_the_audit(self) -> None:
+        client = self.client(unaudited="run")
+        self.do(client, "UPDATE t SET v = 5 WHERE id < 2")
+        extensions.cursor(client).execute("COMMIT")
+        client.commit()
+        self.assert_incomplete("a statement was run unaudited")
+
+    def test_what_a_signals_handler_raises_is_the_applications(self) -> None:
+        """It comes up in the midst of the audit, and isn't taken for a failure of that."""
+        for where in ("notes.saw", "store.side.ask", "store.side.get_ready", "store.side._send"):
+            with self.subTest(where), Auditor(1, policy=RATHER_WAIT) as self.auditor:
+                client = self.client()
+                self.do(client, "SELECT v FROM t WHERE id = 1")
+                client.commit()
+                *path, name = where.split(".")
+                of = client
+                for each in path:
+                    of = getattr(of, each)
+                with mock.patch.object(of if path != ["notes"] else Notes, name, self.ring):
+                    with self.assertRaisesRegex(RuntimeError, "time is up"):
+                        self.do(client, "SELECT v FROM t WHERE id = 1")
+                        client.commit()
+                client.rollback()
+                self.do(client, "UPDATE t SET v = v + 1 WHERE id = 1")
+                client.commit()
+                self.assertEqual(self.auditor.outcome().kind, "serial")
+
+    @staticmethod
+    def ring(*_: Any, **__: Any) -> None:
+        raise RuntimeError("the time is up")
+
+    def test_a_statement_that_was_prepared_and_isnt_known_to_be(self) -> None:
+        client = self.client()
+        send = client.store.side._send
+
+        def interrupted(text: str, *more: Any) -> Any:
+            found = send(text, *more)
+            if text.startswith("PREPARE"):
+                raise RuntimeError("the time is up")
+            return found
+
+        self.do(client, "SELECT v FROM t WHERE id = 1")
+        with mock.patch.object(client.store.side, "_send", interrupted):
+            with self.assertRaises(RuntimeError):
+                client.commit()
+        self.do(client, "UPDATE t SET v = 5 WHERE id = 1")
+        client.commit()
+        self.assertEqual(self.auditor.outcome().kind, "serial")
+
+    def test_a_server_without_room_for_another_connection(self) -> None:
+        """For who claims the run's name; the application's own is there."""
+        with Auditor(1, policy=RATHER_WAIT, run_name="mine") as self.auditor:
+            full = psycopg2.OperationalError("too many clients")
+            with mock.patch("zanteyard.postgres_store.connected", side_effect=full):
+                client = self.client()
+                self.do(client, "UPDATE t SET v = 5 WHERE id = 1")
+                client.commit()
+            self.assertEqual(self.value(self.place), 5)
+            self.assert_incomplete("too many clients")
+
+    def test_large_values_are_told_in_short(self) -> None:
+        client = self.client()
+        self.run_sql(self.place, "ALTER TABLE t ADD s text")
+        (client,) = self.clients(self.place, "serializable", ["t"], 1)
+        cursor = client.cursor()
+        cursor.execute("UPDATE t SET s = %s WHERE id = 1", ("x" * 1000000,))
+        client.commit()
+        self.do(client, "SELECT s, v FROM t WHERE id = 1")
+        client.commit()
+        its = self.auditor.history[1][1]
+        self.assertEqual(its.values, (("read", "t 1", "('" + "x" * 58 + " .."),))
+        self.assertLess(max(len(text) for _, text in its.statements), 1000)
 
 
 @unittest.skipIf(LACKING, f"not installed or not built: {', '.join(LACKING)}")

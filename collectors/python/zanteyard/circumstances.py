@@ -8,7 +8,7 @@ import os
 import sys
 import threading
 import time
-from typing import Any, Dict, Iterator, List, Tuple
+from typing import Any, Dict, Iterator, List, Sequence, Tuple
 
 from .records import History, Logged, Names
 
@@ -36,9 +36,22 @@ def brief(value: Any) -> str:
     """A value as a short text."""
     if value is None:
         return "nothing"
-    text = repr(value[:LETTERS]) if isinstance(value, str) else repr(value)
-    is_cut = len(text) > LETTERS or (isinstance(value, str) and len(value) > LETTERS)
-    return text[:LETTERS] + " .." if is_cut else text
+    is_long = isinstance(value, (str, bytes, list)) and len(value) > LETTERS
+    text = repr(value[:LETTERS] if is_long else value)
+    return text[:LETTERS] + " .." if is_long or len(text) > LETTERS else text
+
+
+def brief_row(row: Sequence[Any]) -> str:
+    """Several, of which none is made a text that is longer."""
+    if len(row) == 1:
+        return f"({brief(row[0]) if row[0] is not None else None},)"
+    texts: List[str] = []
+    for value in row:
+        texts.append("None" if value is None else brief(value))
+        if sum(map(len, texts)) > LETTERS:
+            break
+    text = f"({', '.join(texts)}{')' if len(texts) == len(row) else ''}"
+    return text if len(text) <= LETTERS and len(texts) == len(row) else text[:LETTERS] + " .."
 
 
 def clock_of(logged: Logged) -> str:

@@ -23,8 +23,9 @@ import psycopg2
 from psycopg2 import extensions
 
 from .errors import AbortedError, AuditLostError, StoreUnfitError
+from .foreign import is_foreign
 from .sessions import Transaction
-from .sql_notes import ENDED, MANY, Notes, Write
+from .sql_notes import ENDED, MANY, TOO_MANY, Notes, Write
 from .sql_side import limits
 from .sql_tables import renewed
 from .sql_versions import MOST, CutError
@@ -77,6 +78,8 @@ class Commit:
         except psycopg2.Error:
             raise  # of the application's own connection
         except Exception as error:
+            if is_foreign(error):
+                raise
             notes.doubt(f"what it did couldn't be looked up: {error!r}")
             writes = ()
         self._append(writes)
@@ -97,6 +100,8 @@ class Commit:
                 answered = side.ask(*asked, most=MOST)
                 reads = notes.reads(answered.histories, answered.versions)
         except Exception as error:
+            if is_foreign(error):
+                raise
             notes.doubt(f"the log of writes couldn't be asked: {error}")
             return ()
         if answered.fit != connection.tables.fit:
@@ -113,7 +118,7 @@ class Commit:
             transaction.written[write.row.name] = None if write.is_absent else _A_ROW
             transaction.was_run((write.row.name,), write.statement)
         if len(transaction.reads) > MANY or len(writes) > MANY:
-            notes.doubt(f"it has more than {MANY} reads, or writes")
+            notes.doubt(TOO_MANY)
         transaction.sent = tuple(transaction.written)
         return writes
 
@@ -132,7 +137,7 @@ class Commit:
             try:
                 cursor.execute(SAVE + until + entries + PUT_BACK + DONE, values)
             except Exception as error:
-                if self.connection.closed:
+                if self.connection.closed or is_foreign(error):
                     raise
                 cursor.execute(UNDO)
                 self.notes.doubt(f"what it wrote couldn't be logged: {error}")

@@ -14,6 +14,7 @@ from psycopg2 import extensions
 
 from .errors import AbortedError, AuditLostError, OutcomeUnknownError, StatementRefusedError
 from .errors import StoreUnfitError
+from .foreign import is_foreign
 from .locks import give_back
 from .sessions import Session, Transaction
 from .sql_commit import Commit
@@ -111,6 +112,8 @@ class AuditedConnection(extensions.connection):
             session.take_turn()
             try:
                 session.claim_name()
+            except psycopg2.Error as error:  # as the server has no room for another connection
+                session.unclaimed = AuditLostError(f"its name can't be claimed: {error}")
             finally:
                 give_back(session.turn, session.has_turn)
         except BaseException:
@@ -165,12 +168,12 @@ class AuditedConnection(extensions.connection):
             self.notes.doubt(ENDED)
         if self.transaction is not None or self.has_lost:
             return
+        self.notes, self.is_plain = Notes(), True
         if not self.has_session:
             self.has_lost = True
             self._lose(AuditLostError("no session was left for a connection"))
             return
         why = self._level_refused(text) if status == IDLE else None
-        self.notes, self.is_plain = Notes(), why is not None
         if why is not None:
             self.notes.doubt(why)
         if status == ACTIVE:
@@ -178,12 +181,17 @@ class AuditedConnection(extensions.connection):
         try:
             self.transaction = self.session.begin()
         except Exception as error:
+            if is_foreign(error):
+                raise
             self.has_lost = True
             self._lose(error)
             return
+        self.is_plain = why is not None
         try:
             self.store.side.get_ready()
         except Exception as error:
+            if is_foreign(error):
+                raise
             self.notes.doubt(f"the log of writes can't be reached: {error}")
 
     def _level_refused(self, text: str) -> Optional[str]:

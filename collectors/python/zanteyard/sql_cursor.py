@@ -9,7 +9,8 @@ from typing import Any, Iterable, List, Optional, Sequence, Tuple
 import psycopg2
 from psycopg2 import extensions
 
-from .circumstances import brief, caller
+from .circumstances import brief_row, caller
+from .foreign import is_foreign
 from .sql_notes import Row
 from .sql_statements import BESIDE, DELETE, INSERT, SELECT, Statement
 from .sql_versions import Snapshot
@@ -186,7 +187,7 @@ class AuditedCursor(extensions.cursor):
                 notes.doubt(f"it found a row of another key, or table: {told}")
             elif statement.kind == SELECT:
                 is_old = len(rows) > 1
-                value = brief(row[:columns])
+                value = brief_row(row[:columns])
                 notes.saw(Row(table, asked), int(version), snapshot, told, value, is_old)
             else:
                 notes.wrote_in(int(version))
@@ -232,6 +233,8 @@ class AuditedCursor(extensions.cursor):
             else:
                 connection.notes.doubt(f"what came of it can't be read: {told}")
         except Exception as error:
+            if is_foreign(error):
+                raise
             connection.notes.doubt(f"a statement couldn't be noted: {error!r}")
 
     # what the application sees
@@ -298,11 +301,21 @@ class AuditedCursor(extensions.cursor):
         return self._given
 
     def executemany(self, query: Any, vars_list: Iterable[Any]) -> None:
-        count = 0
+        """As the driver does, which throws rows away; where nothing was run its result stays, with
+        no row left."""
+        count, has_run = 0, False
         for each in vars_list:
             self.execute(query, each)
-            count += max(0, self.rowcount)
-        self._given = Given([], None, count, self.statusmessage)
+            has_run, one = True, counted(self.statusmessage)
+            count = -1 if -1 in (count, one) else count + one
+        described = None if has_run else self.description
+        self._given = Given([], described, count, self.statusmessage, self.rownumber * (not has_run))
+
+
+def counted(status: Optional[str]) -> int:
+    """How many rows the server says that a statement was about; -1 where it doesn't say that."""
+    last = (status or "").split(" ")[-1]
+    return int(last) if last.isdigit() else -1
 
 
 def _refused(name: str) -> Any:

@@ -12,6 +12,7 @@ from .sql_versions import MOST, CutError, History, Snapshot, UnclearError
 RowKey = Tuple[int, str]  # the table's oid, and the text of the row's key
 ENDED = "its transaction was ended by what isn't seen"
 MANY = 256  # reads, or writes, of a transaction that can be audited
+TOO_MANY = f"it has more than {MANY} reads, or writes"
 Finds = Callable[[History], Source]
 
 
@@ -77,7 +78,7 @@ class Notes:
     are_several: bool = False
     unclear: Optional[str] = None
     pending: Optional[str] = None  # a statement that was sent, and of which nothing is noted yet
-    seen: List[Seen] = field(default_factory=list)
+    seen: Dict[Tuple[RowKey, Optional[int]], Seen] = field(default_factory=dict)
     changed: Dict[RowKey, Changed] = field(default_factory=dict)
 
     def wrote_in(self, transaction: int) -> None:
@@ -114,7 +115,7 @@ class Notes:
                 self.doubt(f"{row.name} isn't as this transaction has written it")
                 return
         find: Finds = lambda history: history.of_version(version, seen)
-        self.seen.append(Seen(row, find, statement, value))
+        self._keep(version, Seen(row, find, statement, value))
 
     def missed(self, row: Row, seen: Snapshot, statement: str) -> None:
         """A row that wasn't there."""
@@ -124,12 +125,19 @@ class Notes:
                 self.doubt(f"{row.name} isn't there, which this transaction has written")
             return
         find: Finds = lambda history: history.of_absence(seen)
-        self.seen.append(Seen(row, find, statement, "nothing"))
+        self._keep(None, Seen(row, find, statement, "nothing"))
+
+    def _keep(self, version: Optional[int], seen: Seen) -> None:
+        """One for each version, of however many statements: all have the same snapshot."""
+        if len(self.seen) > MANY:
+            self.doubt(TOO_MANY)
+        else:
+            self.seen.setdefault((seen.row.key, version), seen)
 
     def inserted(self, row: Row, statement: str) -> None:
         own = self.changed.get(row.key)
         if own is None:
-            self.changed[row.key] = Changed(row, False, True, statement)
+            self._change(Changed(row, False, True, statement))
         elif own.is_there:
             self.doubt(f"{row.name} was inserted where this transaction has it")
         else:
@@ -139,11 +147,17 @@ class Notes:
         """An update, or a delete, of a row that was there."""
         own = self.changed.get(row.key)
         if own is None:
-            self.changed[row.key] = Changed(row, True, is_there, statement)
+            self._change(Changed(row, True, is_there, statement))
         elif not own.is_there:
             self.doubt(f"{row.name} was there after this transaction had deleted it")
         else:
             own.is_there, own.statement = is_there, statement
+
+    def _change(self, changed: Changed) -> None:
+        if len(self.changed) > MANY:
+            self.doubt(TOO_MANY)
+        else:
+            self.changed[changed.row.key] = changed
 
     # what is logged of it
 
@@ -154,7 +168,7 @@ class Notes:
 
     @property
     def keys(self) -> List[RowKey]:
-        return [*dict.fromkeys([*(it.row.key for it in self.seen), *self.changed])]
+        return [*dict.fromkeys([*(it.row.key for it in self.seen.values()), *self.changed])]
 
     @property
     def overwritten(self) -> List[Row]:
@@ -167,7 +181,7 @@ class Notes:
         """Where one is unclear it is left out, and the reason is kept. Raises CutError where more
         entries would tell it."""
         found = [
-            self._read(it.row, it.find, it.statement, it.value, histories) for it in self.seen
+            self._read(it.row, it.find, it.statement, it.value, histories) for it in self.seen.values()
         ]
         for key, it in self.changed.items():
             version = versions.get(key)

@@ -155,17 +155,19 @@ class Side:
         the catalog takes longer than to run it."""
         self.store.begin_alone(self.seconds)  # which may be another connection
         if self._prepared_for is not self.store.connection or len(self._prepared) >= PREPARED:
-            self._prepared_for, self._prepared = self.store.connection, {}
+            self._prepared_for, self._prepared = None, {}
             self._send("DEALLOCATE ALL; SET plan_cache_mode = force_generic_plan")
+            self._prepared_for = self.store.connection
         name = self._prepared.get(text)
         if name is None:
+            its, self._prepared_for = self._prepared_for, None  # where it is there and not known
             name = f"zanteyard_{len(self._prepared)}"
             numbers = itertools.count(1)
             planned = re.sub(
                 "%s|%%", lambda it: "%" if it[0] == "%%" else f"${next(numbers)}", text
             )
             self._send(f"PREPARE {name} AS {planned}".replace("%", "%%"))
-            self._prepared[text] = name
+            self._prepared[text], self._prepared_for = name, its
         return f"EXECUTE {name} ({', '.join(['%s'] * len(values))})", values
 
     def _run(self, text: str, values: Sequence[Any]) -> List[Any]:
