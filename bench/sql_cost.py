@@ -1,8 +1,9 @@
 #!/usr/bin/python3
-"""What an audit of an application's own SQL costs it (docs/SQL.md): transactions a second, plain and
-audited, in one run over a PostgreSQL of its own. Each reads two rows by key and updates one.
+"""What an audit of an application's own SQL costs it (docs/SQL.md): transactions a second, plain
+and audited, in one run over a PostgreSQL of its own. Each reads two rows by key and updates one.
 
-    /usr/bin/python3 bench/sql_cost.py [--threads 4] [--seconds 5] [--level serializable] [--profile]
+    /usr/bin/python3 bench/sql_cost.py [--threads 4] [--rows 1000] [--seconds 5]
+        [--level serializable] [--profile]
 """
 
 from __future__ import annotations
@@ -25,14 +26,12 @@ from zanteyard import RATHER_WAIT, AuditorApart, LiveAuditor
 from zanteyard.cluster import Cluster
 from zanteyard.postgres_sql import audited, prepare
 
-ROWS = 1000
 
-
-def work(connection, seed, ends, done):
+def work(connection, seed, rows, ends, done):
     chance, cursor = random.Random(seed), connection.cursor()
     committed = aborted = 0
     while time.monotonic() < ends:
-        one, other = chance.sample(range(ROWS), 2)
+        one, other = chance.sample(range(1, rows + 1), 2)
         try:
             cursor.execute("SELECT v FROM t WHERE id = %s", (one,))
             cursor.execute("SELECT v FROM t WHERE id = %s", (other,))
@@ -45,17 +44,17 @@ def work(connection, seed, ends, done):
     done.append((committed, aborted))
 
 
-def run(connections, seconds, level):
+def run(connections, rows, seconds, level):
     done, ends = [], time.monotonic() + seconds
     for connection in connections:
         connection.set_session(isolation_level=level)
     threads = [
-        threading.Thread(target=work, args=(it, at, ends, done))
+        threading.Thread(target=work, args=(it, at, rows, ends, done))
         for at, it in enumerate(connections[1:], 1)
     ]
     for thread in threads:
         thread.start()
-    work(connections[0], 0, ends, done)
+    work(connections[0], 0, rows, ends, done)
     for thread in threads:
         thread.join()
     committed, aborted = (sum(its) for its in zip(*done))
@@ -65,6 +64,7 @@ def run(connections, seconds, level):
 def main():
     asked = argparse.ArgumentParser(description=__doc__.splitlines()[0])
     asked.add_argument("--threads", type=int, default=4)
+    asked.add_argument("--rows", type=int, default=1000)
     asked.add_argument("--seconds", type=float, default=5.0)
     asked.add_argument("--level", default="serializable")
     asked.add_argument("--profile", action="store_true", help="of one of the audited threads")
@@ -73,15 +73,16 @@ def main():
         admin = psycopg2.connect(cluster.dsn)
         with admin, admin.cursor() as cursor:
             cursor.execute("CREATE TABLE t (id int PRIMARY KEY, v int)")
-            cursor.execute("INSERT INTO t SELECT g, 0 FROM generate_series(0, %s) g", (ROWS,))
+            cursor.execute("INSERT INTO t SELECT g, 0 FROM generate_series(1, %s) g", (asked.rows,))
         prepare(cluster.dsn, ["t"])
         live = LiveAuditor(auditor, policy=RATHER_WAIT)
-        for name, more in (("plain", {}), ("audited", {"connection_factory": audited(live, ["t"])})):
+        audit = {"connection_factory": audited(live, ["t"])}
+        for name, more in (("plain", {}), ("audited", audit)):
             connections = [psycopg2.connect(cluster.dsn, **more) for _ in range(asked.threads)]
             profile = cProfile.Profile() if asked.profile and more else None
             if profile:
                 profile.enable()
-            committed, aborted = run(connections, asked.seconds, asked.level)
+            committed, aborted = run(connections, asked.rows, asked.seconds, asked.level)
             if profile:
                 profile.disable()
                 pstats.Stats(profile).sort_stats("tottime").print_stats(35)

@@ -59,6 +59,9 @@ for each in "MariaDB mariadb_server mariadbd pymysql" "Redis redis_server redis_
         echo "skipped: what needs $name and $driver, which aren't both installed (nothing was audited over it)"
     fi
 done
+if ! "$python" -c "import psycopg2, pglast" 2> /dev/null; then
+    echo "skipped: what needs psycopg2 and pglast, which aren't both installed (no application's own SQL was audited)"
+fi
 if ! "$python" -c "import psycopg2" 2> /dev/null || ! "$python" -c "import sys; from zanteyard.cluster import program; sys.exit(not program('initdb'))"; then
     echo "skipped: what needs PostgreSQL and psycopg2, which aren't both installed (nothing was audited live)"
     exit 0

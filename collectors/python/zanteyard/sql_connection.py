@@ -4,6 +4,7 @@ transactions."""
 from __future__ import annotations
 
 import logging
+import os
 import queue
 import threading
 import weakref
@@ -78,6 +79,7 @@ class AuditedConnection(extensions.connection):
         self.has_lost = False
         self.has_session = True
         self.is_plain = False  # whether statements go to the server as they are
+        self.folder = os.getcwd() + os.sep
         self.turn = threading.RLock()  # around a statement and what is noted of it
         try:
             self._check_text()

@@ -79,6 +79,8 @@ class AuditedCursor(extensions.cursor):
 
     def _run(self, connection: Any, text: str, statement: Optional[Statement]) -> None:
         place = caller()
+        if place.startswith(connection.folder):  # told from there on
+            place = place[len(connection.folder) :]
         told = " ".join(text.split())[:LETTERS] + (f"  -- {place}" if place else "")
         notes = connection.notes
         notes.pending = told
@@ -308,8 +310,8 @@ class AuditedCursor(extensions.cursor):
             self.execute(query, each)
             has_run, one = True, counted(self.statusmessage)
             count = -1 if -1 in (count, one) else count + one
-        described = None if has_run else self.description
-        self._given = Given([], described, count, self.statusmessage, self.rownumber * (not has_run))
+        described, at = (None, 0) if has_run else (self.description, self.rownumber)
+        self._given = Given([], described, count, self.statusmessage, at)
 
 
 def counted(status: Optional[str]) -> int:

@@ -181,7 +181,8 @@ class Notes:
         """Where one is unclear it is left out, and the reason is kept. Raises CutError where more
         entries would tell it."""
         found = [
-            self._read(it.row, it.find, it.statement, it.value, histories) for it in self.seen.values()
+            self._read(it.row, it.find, it.statement, it.value, histories)
+            for it in self.seen.values()
         ]
         for key, it in self.changed.items():
             version = versions.get(key)
