@@ -62,6 +62,9 @@ class Dying:
         self.around(session.notes, "write", "a note")
         self.around(session.auditor, "take_packed", "its take")
         self.around(session.auditor, "miss", "a miss")
+        self.around(session.store.beside, "exchange", "its exchange")
+        for name in ("flag", "write_mark", "read_mark"):
+            self.around(session, name, f"a {name}")
 
 
 def work(connection, client, chance, kind, dying, pause, ends):
@@ -81,6 +84,9 @@ def work(connection, client, chance, kind, dying, pause, ends):
             if dying.comes("in its transaction"):
                 die()
             connection.commit()
+            if is_unclear and dying.comes("soon"):
+                time.sleep(0.06 * chance.random())
+                die()
         except psycopg2.Error:
             connection.rollback()
         time.sleep(chance.random() * pause)

@@ -5,6 +5,7 @@ from __future__ import annotations
 
 import logging
 import os
+import random
 import signal
 import subprocess
 import sys
@@ -12,16 +13,11 @@ import time
 import unittest
 from typing import Any, Dict, Set, Tuple
 
-from zanteyard import RATHER_WAIT, AuditorApart, AuditServer, LiveAuditor, Policy, Session
-from zanteyard.asking import find_out
+from zanteyard import AuditorApart, AuditServer, LiveAuditor, Policy
 from zanteyard.own_folder import OwnFolder
-from zanteyard.workloads import Nothing
 
 try:
     import psycopg2
-    from psycopg2 import extensions
-
-    from zanteyard.postgres_sql import audited
 except ImportError:
     psycopg2 = None  # type: ignore[assignment]
 
@@ -52,15 +48,16 @@ class KilledSql(OverAServer):
             time.sleep(0.01)
         self.assertTrue(condition())
 
-    def ran(self, where: str, kind: str = "-") -> Any:
+    def ran(self, where: str, kind: str = "-", name: str = "2", every: int = 200) -> Any:
         """One that is killed there beside one that stays: the outcome, and of the killed one's last
         transaction, which comes behind four, whether it is in the store."""
         place = self.database(SCHEMA, ["t", "rows"])
         with AuditorApart(4) as auditor, OwnFolder() as folder:
-            live = LiveAuditor(auditor, every=200, seconds=0.3, policy=Policy(30.0, begins_anew=False))
+            policy = Policy(30.0, begins_anew=False)
+            live = LiveAuditor(auditor, every=every, seconds=0.3, policy=policy)
             with AuditServer(live, f"{folder}/audit") as server:
                 stays = self.client(server.path, place, "1", "-", "-", "0.01")
-                killed = self.client(server.path, place, "2", where, kind, "0.0")
+                killed = self.client(server.path, place, name, where, kind, "0.0")
                 killed.wait(SOON)
                 self.assertEqual(killed.returncode, -signal.SIGKILL)
                 done = live.handed_in
@@ -72,7 +69,8 @@ class KilledSql(OverAServer):
             outcome = live.stop()
             if outcome.kind == "serial":
                 self.each_commit_is_in_the_log(place, auditor)
-        return outcome, any(it.startswith("2.") and it > "2.4" for it in self.rows(place))
+        rows = [it.split(".") for it in self.rows(place)]
+        return outcome, any(it[0] == name and int(it[1]) > 4 for it in rows)
 
     def client(self, *arguments: str) -> Any:
         pipes = {"stdin": subprocess.PIPE, "stdout": subprocess.PIPE, "text": True}
@@ -124,6 +122,13 @@ class Clear(KilledSql):
                 self.assertEqual(outcome.kind, "serial", str(outcome))
                 self.assertEqual(is_there, at >= SENT)
 
+    def test_in_meetings(self) -> None:
+        for where in ("before its exchange", "behind its exchange", "behind a flag",
+                      "behind a write_mark", "behind a read_mark"):
+            with self.subTest(where=where):
+                outcome, _ = self.ran(where, every=60)
+                self.assertEqual(outcome.kind, "serial", str(outcome))
+
 
 @unittest.skipIf(LACKING, f"not installed or not built: {', '.join(LACKING)}")
 class Unclear(KilledSql):
@@ -150,6 +155,39 @@ class Unclear(KilledSql):
             with self.subTest(where=where):
                 outcome, _ = self.ran(where, "reads unaudited alone")
                 self.assertEqual(outcome.kind, wanted, str(outcome))
+
+    def test_soon_behind_its_commit(self) -> None:
+        """As what it has missed is on its way to the auditor's process."""
+        for at in range(5):
+            with self.subTest(at=at):
+                outcome, is_there = self.ran("soon", "writes unaudited alone", f"2{at}")
+                self.assertEqual((outcome.kind, is_there), ("incomplete", True), str(outcome))
+
+
+@unittest.skipIf(LACKING, f"not installed or not built: {', '.join(LACKING)}")
+class AtAnyTime(KilledSql):
+    def test_by_tens(self) -> None:
+        place, chance = self.database(SCHEMA, ["t", "rows"]), random.Random(1)
+        with AuditorApart(16) as auditor, OwnFolder() as folder:
+            policy = Policy(30.0, begins_anew=False)
+            live = LiveAuditor(auditor, every=150, seconds=0.3, policy=policy)
+            with AuditServer(live, f"{folder}/audit") as server:
+                stays = self.client(server.path, place, "1", "-", "-", "0.01")
+                for at in range(4):
+                    doomed = [self.client(server.path, place, f"2{at}{it}", "-", "-", "0.003")
+                              for it in range(3)]
+                    time.sleep(0.3 + 0.3 * chance.random())
+                    for client in doomed:
+                        client.kill()
+                        time.sleep(chance.choice((0.0, 0.02)))
+                cuts = live.cuts
+                self.wait_for(lambda: live.is_over or live.cuts > cuts)
+                stays.stdin.write("\n")
+                stays.stdin.flush()
+                stays.wait(SOON)
+            outcome = live.stop()
+            self.assertEqual(outcome.kind, "serial", str(outcome))
+            self.each_commit_is_in_the_log(place, auditor)
 
 
 if __name__ == "__main__":
