@@ -1,6 +1,7 @@
 """What a client's process notes, as who finds it killed reads it."""
 import errno
 import logging
+import math
 import os
 import signal
 import subprocess
@@ -228,13 +229,15 @@ class WhatIsNoted(unittest.TestCase):
 
     setUp, UNCLEAR = Noted.setUp, Noted.UNCLEAR
 
-    def run_one(self, why):
+    def run_one(self, why, unclaimed=None):
         store, told = Doubtful(), []
         store.why = why
         auditor = mock.Mock(run_name="run", is_named=False, policy=Policy(30.0))
         auditor.miss = lambda *missed: told.append(missed)
         session = Session(auditor, 0, store.connect(), "run")
         session.notes = self.notes
+        if unclaimed:
+            session.unclaimed, session.claim_at = AuditLostError(unclaimed), math.inf
         session.run(add_one("x"))
         return notes_of(self.path), told
 
@@ -247,6 +250,11 @@ class WhatIsNoted(unittest.TestCase):
         (before, answered), told = self.run_one(self.UNCLEAR)
         self.assertEqual((before.unclear, answered.unclear), (self.UNCLEAR, self.UNCLEAR))
         self.assertEqual((before.outcome, answered.outcome), (None, "committed"))
+        self.assertEqual([str(error) for _, _, error in told], [self.UNCLEAR])
+
+    def test_so_is_that_its_names_may_be_anothers(self):
+        (before, answered), told = self.run_one(None, self.UNCLEAR)
+        self.assertEqual((before.unclear, answered.unclear), (self.UNCLEAR, self.UNCLEAR))
         self.assertEqual([str(error) for _, _, error in told], [self.UNCLEAR])
 
 
@@ -405,6 +413,21 @@ os.kill(os.getpid(), signal.SIGKILL)
         self.wait_for(lambda: not os.listdir(server.notes))
         transaction.commit()
         self.assertEqual(notes.halves, [])
+
+    def test_what_is_not_audited_is_told_at_once(self):
+        live, _, client = self.audited()
+        client.lose(AuditLostError("a connection isn't audited"))
+        self.wait_for(lambda: live.is_over)
+        self.assertIn("a connection isn't audited", str(live.outcome.failure))
+        client.leave()
+
+    def test_where_it_can_not_be_told_its_notes_tell_so(self):
+        live, server, client = self.audited()
+        client.session(MemoryStore().connect())
+        with mock.patch.object(client._messages, "tell", return_value=False):
+            client.lose(AuditLostError("a connection isn't audited"))
+        self.assertEqual(os.listdir(server.notes), [])
+        client.leave()
 
     def test_where_nothing_can_be_noted_clients_go_on(self):
         logging.getLogger("zanteyard").setLevel(logging.CRITICAL)

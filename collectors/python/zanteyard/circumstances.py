@@ -37,7 +37,10 @@ def brief(value: Any) -> str:
     if value is None:
         return "nothing"
     is_long = isinstance(value, (str, bytes, list)) and len(value) > LETTERS
-    text = repr(value[:LETTERS] if is_long else value)
+    try:
+        text = repr(value[:LETTERS] if is_long else value)
+    except Exception:  # of a type of the application's
+        text = f"of {type(value).__name__}"
     return text[:LETTERS] + " .." if is_long or len(text) > LETTERS else text
 
 
