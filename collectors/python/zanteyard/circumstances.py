@@ -37,24 +37,25 @@ def brief(value: Any) -> str:
     if value is None:
         return "nothing"
     is_long = isinstance(value, (str, bytes, list)) and len(value) > LETTERS
-    try:
-        text = repr(value[:LETTERS] if is_long else value)
-    except Exception:  # of a type of the application's
-        text = f"of {type(value).__name__}"
+    text = repr(value[:LETTERS] if is_long else value)
     return text[:LETTERS] + " .." if is_long or len(text) > LETTERS else text
 
 
 def brief_row(row: Sequence[Any]) -> str:
-    """Several, of which none is made a text that is longer."""
-    if len(row) == 1:
-        return f"({brief(row[0]) if row[0] is not None else None},)"
+    """Several, of which none is made a text that is longer. Raises nothing."""
     texts: List[str] = []
     for value in row:
-        texts.append("None" if value is None else brief(value))
+        try:
+            texts.append("None" if value is None else brief(value))
+        except Exception:  # of a type of the application's
+            texts.append(f"of {type(value).__name__}")
         if sum(map(len, texts)) > LETTERS:
             break
-    text = f"({', '.join(texts)}{')' if len(texts) == len(row) else ''}"
-    return text if len(text) <= LETTERS and len(texts) == len(row) else text[:LETTERS] + " .."
+    if len(texts) == len(row) == 1:
+        return f"({texts[0]},)"
+    text = f"({', '.join(texts)})"
+    is_whole = len(text) <= LETTERS and len(texts) == len(row)
+    return text if is_whole else text[:LETTERS] + " .."
 
 
 def clock_of(logged: Logged) -> str:
