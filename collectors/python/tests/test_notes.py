@@ -20,7 +20,7 @@ from zanteyard.killed import NOTHING, Killed, LostError
 from zanteyard.memory_store import MemoryStore
 from zanteyard.notes import FORKED, HEAD, ROOM, Notes, notes_of
 from zanteyard.records import as_bytes, unpacked
-from zanteyard.sessions import Place
+from zanteyard.sessions import OutcomeUnknown, Place
 
 from .test_live import add_one
 
@@ -428,6 +428,27 @@ os.kill(os.getpid(), signal.SIGKILL)
             client.lose(AuditLostError("a connection isn't audited"))
         self.assertEqual(os.listdir(server.notes), [])
         client.leave()
+
+    def test_a_session_that_ends_unclear_is_not_closed(self):
+        """What nobody hands in may have been read by others."""
+        live, _, client = self.audited()
+        store = Doubtful()
+        store.why = "a statement of it isn't understood"
+        one, other = client.session(store.connect(), 0.1), live.session(MemoryStore.connect(store))
+        commit = one.store.commit
+
+        def unanswered():
+            commit()
+            self.assertEqual(other.run(lambda transaction: transaction.get("x")), "1")
+            raise OutcomeUnknown("no answer came")
+
+        one.store.commit, one.store.outcome = unanswered, lambda: "unknown"
+        with self.assertRaises(OutcomeUnknown), client._handover._sending:
+            one.run(lambda transaction: transaction.put("x", "1"))
+        client.leave()
+        outcome = live.stop()
+        self.assertEqual(outcome.kind, "incomplete", str(outcome))
+        self.assertIn("isn't understood", str(outcome))
 
     def test_where_nothing_can_be_noted_clients_go_on(self):
         logging.getLogger("zanteyard").setLevel(logging.CRITICAL)
