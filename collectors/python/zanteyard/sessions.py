@@ -40,6 +40,7 @@ from .auditor import FENCE, FLAG, MARK
 from .circumstances import brief, caller
 from .errors import AbortedError, AuditLostError, NameTakenError, OutcomeUnknownError
 from .errors import StoreLateError
+from .forks import UNAUDITED, keep
 from .locks import give_back, take
 from .notes import Notes
 from .records import Deed, Found, Logged, Name, Read, Source, Store, as_bytes
@@ -123,6 +124,7 @@ class Session:
         self.notes: Optional[Notes] = None  # for who finds this process killed
         # For how many seconds this client waited for the audit: in all, and at most at a time.
         self.waited = self.longest = 0.0
+        keep(self)
 
     @property
     def number(self) -> Optional[int]:
@@ -441,6 +443,8 @@ class Transaction:
     def source(self, name: Optional[Name]) -> Source:
         if name is None or name[0] != self.session.run_name:
             return "init"  # it was there before this run
+        if name[1] >= UNAUDITED > (self.session.number or 0) and self.unclear is None:
+            self.unclear = AuditLostError("it has read what a forked child wrote, unaudited")
         return (name[1], name[2])
 
     def put(self, key: str, value: Any, statement: Optional[str] = None) -> None:
