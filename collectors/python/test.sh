@@ -52,7 +52,7 @@ elif "$python" -m pycodestyle --version > /dev/null 2>&1; then
 else
     echo "skipped: ruff or pycodestyle, neither of which is installed (no line was measured)"
 fi
-limited 900 -m unittest
+limited 1800 -m unittest
 for each in "MariaDB mariadb_server mariadbd pymysql" "Redis redis_server redis_server redis"; do
     read -r name module program driver <<< "$each"
     if ! "$python" -c "import $driver, sys; from zanteyard.$module import $program; sys.exit(not $program())" 2> /dev/null; then
