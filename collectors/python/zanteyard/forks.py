@@ -23,7 +23,7 @@ class _Nobody:
     def take(self, *_: object) -> None:
         pass
 
-    take_packed = take_close = miss = take
+    take_packed = take_close = miss = lose = take
 
 
 def keep(session: Any) -> None:
