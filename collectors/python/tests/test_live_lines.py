@@ -22,7 +22,7 @@ RUNS, AT_ONCE = 300, 8
 FORMATS = os.path.join(os.path.dirname(os.path.abspath(__file__)), "../../../docs/FORMATS.md")
 WRITE, READ = b'["offer",0,0,[[[],[5]]]]', b'["offer",1,0,[[[[5,0,0]],[]]]]'
 END = b'["end"]\n'
-MANY = 12000  # lines: more than wait in pipes, at the desk, in the ring and in a block that was read
+MANY = 12000  # lines: more than wait in pipes, at the desk, in the ring and in a block
 
 
 def given(*lines, rest=b"", **how):
@@ -162,7 +162,7 @@ class Lines(unittest.TestCase):
         self.assertEqual(last_report(told)[2:4], ["serial", [2, 1]])
 
     def test_its_reader_is_killed(self):
-        """It ends with its next line, or its input, says that a device failed, and no more waits."""
+        """It ends with its next line, and says that a device failed; no one waits any more."""
         reader = subprocess.Popen(
             [sys.executable, "-c", "import time; time.sleep(600)"], stdin=subprocess.PIPE
         )
