@@ -7,6 +7,8 @@ import json
 import os
 import random
 import signal
+import socket
+import struct
 import subprocess
 import sys
 import tempfile
@@ -200,6 +202,22 @@ class Lines(unittest.TestCase):
                                stderr=subprocess.PIPE, timeout=SECONDS)
         self.assertEqual((ended.returncode, ended.stdout), (1, b""))
         self.assertEqual(ended.stderr, b"device failed\n")
+
+    def test_an_input_that_fails_in_the_middle(self):
+        """A connection that is reset. What had come is told of, and reported on, up to the end."""
+        with socket.create_server(("127.0.0.1", 0)) as server:
+            writer = socket.create_connection(server.getsockname())
+            reader, _ = server.accept()
+        pipes = {"stdout": subprocess.PIPE, "stderr": subprocess.PIPE, "bufsize": 0}
+        running = subprocess.Popen([live_path()], stdin=reader, **pipes)
+        reader.close()
+        writer.sendall(OPEN + b"\n" + WRITE + b"\n" + READ)
+        first = running.stdout.readline()
+        writer.setsockopt(socket.SOL_SOCKET, socket.SO_LINGER, struct.pack("ii", 1, 0))
+        writer.close()
+        told, words = running.communicate(timeout=SECONDS)
+        self.assertEqual((running.returncode, words), (1, b"device failed\n"))
+        judge([OPEN, WRITE], first + told)
 
     def test_its_writer_is_killed(self):
         """Whoever writes its lines is killed in the middle of one: all whole lines are told of."""
