@@ -16,8 +16,10 @@ from .errors import ProgramMissingError
 
 AUDITOR = "cobra_audit"
 CHECKER = "cobra_check"  # checks stored replies
+LIVE = "cobra_live"  # the running auditor, line by line
 ENVIRONMENT = "COBRA_AUDIT"  # the environment's name for a program that comes before all others
 CHECKER_ENVIRONMENT = "COBRA_CHECK"  # the same of the checker
+LIVE_ENVIRONMENT = "COBRA_LIVE"  # and of the running auditor
 PACKAGE = os.path.dirname(os.path.abspath(__file__))
 PACKED = os.path.join(PACKAGE, "programs")
 NOTE = os.path.join(PACKED, "made.json")
@@ -25,6 +27,7 @@ BUILT = os.path.normpath(os.path.join(PACKAGE, f"../../../crates/{AUDITOR}/out/{
 CHECKER_BUILT = os.path.normpath(
     os.path.join(PACKAGE, f"../../../crates/{CHECKER}/out/{CHECKER}")
 )
+LIVE_BUILT = os.path.normpath(os.path.join(PACKAGE, f"../../../crates/{LIVE}/out/{LIVE}"))
 
 
 @dataclass(frozen=True)
@@ -57,6 +60,11 @@ def program_path(environment: Mapping[str, str] = os.environ) -> str:
 def checker_path(environment: Mapping[str, str] = os.environ) -> str:
     """The same of the program that checks stored replies."""
     return _path(environment, CHECKER_ENVIRONMENT, CHECKER, CHECKER_BUILT)
+
+
+def live_path(environment: Mapping[str, str] = os.environ) -> str:
+    """The same of the running auditor."""
+    return _path(environment, LIVE_ENVIRONMENT, LIVE, LIVE_BUILT)
 
 
 def _path(environment: Mapping[str, str], name: str, program: str, built: str) -> str:

@@ -3,9 +3,11 @@
 
 mod live;
 mod live_core;
+mod patience;
 mod running;
 mod searching;
 mod steps;
 
 pub use live::{AuditorSide, Effort, audit_live};
 pub use live_core::Core;
+pub use patience::Patience;

@@ -10,6 +10,7 @@ ghost use Rattle.live_audit.specs.Running.{AreEnded, HasEnded, HasMoved, HasPubl
 ghost use Rattle.live_audit.specs.Truth.{IsTrueEntry, accepted_history};
 
 use crate::live_core::Core;
+use crate::patience::Patience;
 use crate::running::Running;
 use crate::searching::{solved, start};
 use fragment_intake::{AuditorPass, Desk};
@@ -20,7 +21,6 @@ use round_state::Engine;
 use std::alloc::Global;
 use std::sync::atomic::{AtomicBool, Ordering};
 use std::sync::{Arc, Wait};
-use std::thread;
 use std::thread::{Scope, Threads};
 use txn::Refusal;
 
@@ -46,12 +46,13 @@ fn send<R: Wait>(rt: &R, sender: &mut ReportSender, entry: Entry)
     ensures ring { sender.new.ring ≡ sender.old.ring }
 {
     let mut entry = entry;
+    let mut patience = Patience::new();
     for _ in rt.forever() {
         match sender.send(entry) {
             Ok(()) => return,
             Err(back) => entry = back,
         }
-        thread::yield_now();
+        patience.wait(rt);
     }
     unreachable!()
 }
@@ -138,13 +139,13 @@ fn take_until<R: Wait>(
     ensures ended { AreEnded running.new.ended side.new.pass.1 }
     ensures same { (side.new.pass.0 ≡ side.old.pass.0) × (side.new.sender.ring ≡ side.old.sender.ring) × (side.new.seat ≡ side.old.seat) }
 {
+    let mut patience = Patience::new();
     for _ in rt.forever() {
         if ended.load(Ordering::SeqCst) || running.is_over() {
             return;
         }
-        if !take_one(rt, desk, side, running) {
-            thread::yield_now();
-        }
+        let is_taken = take_one(rt, desk, side, running);
+        patience.after(rt, is_taken);
     }
     unreachable!()
 }
@@ -274,6 +275,7 @@ fn take_all<'s, E, R: Threads + Wait, S: Solver + Sync>(
     ensures ended { (collector : ℕ) → collector < 4 → HasEnded collector side.new.pass.1 }
     ensures same { (side.new.pass.0 ≡ side.old.pass.0) × (side.new.sender.ring ≡ side.old.sender.ring) × (side.new.seat.word ≡ side.old.seat.word) }
 {
+    let mut patience = Patience::new();
     for _ in rt.forever() {
         if running.is_over() {
             return;
@@ -283,8 +285,8 @@ fn take_all<'s, E, R: Threads + Wait, S: Solver + Sync>(
             make_round_meanwhile(
                 scope, rt, alloc, desk, latest, side, running, solver, workers,
             );
-        } else if is_idle {
-            thread::yield_now();
+        } else {
+            patience.after(rt, !is_idle);
         }
     }
     unreachable!()

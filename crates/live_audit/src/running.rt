@@ -16,6 +16,13 @@ use std::alloc::Global;
 /// So many parcels are taken in before a round is made while more wait.
 const MOST_UNASKED: u64 = 1024;
 
+/// Whether the parcel tells that nothing more comes.
+fn is_end(parcel: &Parcel) -> bool
+    ensures { IsTrue result → parcel.now.item ≡ Item.End }
+{
+    matches!(parcel.item, Item::End)
+}
+
 /// An auditor between two rounds.
 #[derive(Drop)]
 pub(crate) struct Running {
@@ -60,8 +67,9 @@ impl Running {
         ensures ended { (taken : List Parcel) → AreEnded self.old.ended taken → AreEnded self.new.ended (taken ++ parcel ∷ []) }
     {
         self.note_end(&parcel);
+        let is_end = is_end(&parcel);
         let entry = self.core.took(parcel);
-        self.count(&entry);
+        self.count(&entry, is_end);
         entry
     }
 
@@ -71,16 +79,16 @@ impl Running {
         ensures core { self.new.core ≡ self.old.core }
         ensures ended { (taken : List Parcel) → AreEnded self.old.ended taken → AreEnded self.new.ended (taken ++ parcel.now ∷ []) }
     {
-        if matches!(parcel.item, Item::End) {
+        if is_end(parcel) {
             self.ended[parcel.collector as usize] = true;
         }
     }
 
-    /// Counts what was accepted.
-    fn count(&mut self, entry: &Entry)
+    /// Counts what was accepted, unless it was an end.
+    fn count(&mut self, entry: &Entry, is_end: bool)
         ensures same { (self.new.core ≡ self.old.core) × (self.new.ended ≡ self.old.ended) }
     {
-        if matches!(entry, Entry::Accepted { .. }) && self.unasked < MOST_UNASKED {
+        if !is_end && matches!(entry, Entry::Accepted { .. }) && self.unasked < MOST_UNASKED {
             self.unasked += 1;
         }
     }

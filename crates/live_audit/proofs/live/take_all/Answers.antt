@@ -38,22 +38,6 @@ loop-preserved-then-wants_round g c =
       its_word = made.ensures.same.2 ∙ ap (λ seat. seat.word) one.ensures.same.2 ∙ i.its_word;
     }
 
-pub loop-preserved-then-is_idle : goal.loop-preserved-then-is_idle
-loop-preserved-then-is_idle g c =
-    let i = c.loop.invariant in let one = c.take_one-is_idle in
-    let first = c.args.side.now in let before = c.loop.side in let after = one.new.side in
-    record {
-      moved = moved_on c.args.running.now.core c.loop.running.core one.new.running.core first.pass.1 before.pass.1 after.pass.1 first.sender.sent before.sender.sent after.sender.sent i.moved one.ensures.moved;
-      between = record { closed = one.ensures.round ∙ i.between.closed; told = one.ensures.told };
-      ended = one.ensures.ended;
-      effort = subst (λ (search : Search). IsEffort search.budget search.depth c.args.workers) (sym one.ensures.moved.search) i.effort;
-      desk = one.ensures.same.0 ∙ i.desk;
-      ring = one.ensures.same.1 ∙ i.ring;
-      word = ap (λ seat. seat.word) one.ensures.same.2 ∙ i.word;
-      its_desk = one.ensures.same.0 ∙ i.its_desk;
-      its_word = ap (λ seat. seat.word) one.ensures.same.2 ∙ i.its_word;
-    }
-
 pub loop-preserved : goal.loop-preserved
 loop-preserved g c =
     let i = c.loop.invariant in let one = c.take_one-is_idle in

@@ -14,24 +14,9 @@ loop-init g c = record {
   its_desk = c.requires.desk;
 }
 
-pub loop-preserved-then-not-take_one : goal.loop-preserved-then-not-take_one
-loop-preserved-then-not-take_one g c =
-    let i = c.loop.invariant in let one = c.take_one in
-    let first = c.args.side.now in let before = c.loop.side in let after = one.new.side in
-    record {
-      moved = moved_on c.args.running.now.core c.loop.running.core one.new.running.core first.pass.1 before.pass.1 after.pass.1 first.sender.sent before.sender.sent after.sender.sent i.moved one.ensures.moved;
-      told = one.ensures.told;
-      round = one.ensures.round ∙ i.round;
-      ended = one.ensures.ended;
-      desk = one.ensures.same.0 ∙ i.desk;
-      ring = one.ensures.same.1 ∙ i.ring;
-      seat = one.ensures.same.2 ∙ i.seat;
-      its_desk = one.ensures.same.0 ∙ i.its_desk;
-    }
-
 pub loop-preserved : goal.loop-preserved
 loop-preserved g c =
-    let i = c.loop.invariant in let one = c.take_one in
+    let i = c.loop.invariant in let one = c.take_one-is_taken in
     let first = c.args.side.now in let before = c.loop.side in let after = one.new.side in
     record {
       moved = moved_on c.args.running.now.core c.loop.running.core one.new.running.core first.pass.1 before.pass.1 after.pass.1 first.sender.sent before.sender.sent after.sender.sent i.moved one.ensures.moved;

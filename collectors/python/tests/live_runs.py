@@ -1,0 +1,246 @@
+"""Runs of `cobra_live`: generated lines, and what was told of them, judged by plain models.
+
+`judge` goes through what was told, in its order, beside the lines, with the plain model of the
+auditor (bench/judge.py): of each item whether it is accepted, or why not; which cut is owed. Each
+report is judged twice: by that model over what remained when its round began, and over the whole
+history of what had been accepted then, as if nothing had ever been cut away (`verdict_of`).
+"""
+
+import json
+import os
+import subprocess
+import sys
+import threading
+import time
+
+from zanteyard.programs import live_path
+
+sys.path.insert(0, os.path.join(os.path.dirname(os.path.abspath(__file__)), "../../../bench"))
+from fuzz_lines import Store, compact  # noqa: E402
+from judge import Model, NAMES, command_of, text, txn_of  # noqa: E402
+from plain_verdicts import (  # noqa: E402
+    NO, SPENT, YES, Parts, Relation, Wrong, cut_of, has_order, scan,
+)
+
+FARTHEST = 20000  # nodes or fronts that are looked at over a whole history
+SECONDS = 60.0
+
+
+class Live:
+    """The program beside pipes; a thread of its own reads what it tells, as it comes."""
+
+    def __init__(self):
+        pipes = {"stdin": subprocess.PIPE, "stdout": subprocess.PIPE, "stderr": subprocess.PIPE}
+        self.running = subprocess.Popen([live_path()], bufsize=0, **pipes)
+        self.told = []
+        self.reader = threading.Thread(target=self._read, daemon=True)
+        self.reader.start()
+
+    def _read(self):
+        for line in self.running.stdout:
+            self.told.append(line)
+
+    def give(self, *lines):
+        for line in lines:
+            self.running.stdin.write(line + b"\n")
+
+    def wait_for(self, has_come):
+        """Waits until this is so of the lines told so far, as lists; gives them."""
+        until = time.monotonic() + SECONDS
+        while time.monotonic() < until:
+            told = [json.loads(line) for line in list(self.told)]
+            if has_come(told):
+                return told
+            time.sleep(0.002)
+        raise AssertionError(f"it hasn't come: {self.told[-5:]}")
+
+    def end(self):
+        """Ends its input: all that was told, its status and its words."""
+        self.running.stdin.close()
+        words = self.running.stderr.read()
+        self.reader.join(SECONDS)
+        status = self.running.wait(SECONDS)
+        self.running.stdout.close()
+        self.running.stderr.close()
+        return b"".join(self.told), status, words
+
+
+def generated(dice):
+    """The lines of a run, in chunks: what a small store has executed, each session's fragments in
+    their order and the sessions in any; some once more or too early; closes, and lines that are
+    none."""
+    sessions = dice.choice((1, 2, 2, 3, 3, 4))
+    limit = dice.choice((12, 30, 4096, 4096, 4096))
+    effort = [dice.choice((1, 64, 4096, 4096, 65536)), dice.choice((0, 0, 2)), dice.choice((1, 2))]
+    store = Store(dice, sessions)
+    chunks = [[compact(["open", sessions, limit, *effort])]]
+    sent = [0] * sessions
+    for _ in range(dice.randrange(1, 9)):
+        for _ in range(dice.randrange(6)):
+            store.execute()
+        chunk = []
+        for session in dice.sample(range(sessions), sessions):
+            chunk += offers(dice, store, session, sent)
+        chunk += odd_lines(dice, sessions, sent)
+        if dice.random() < 0.1:  # some come too early, and what follows them, too
+            dice.shuffle(chunk)
+        chunks.append(chunk)
+    if dice.random() < 0.5:
+        chunks.append([compact(["close", session]) for session in range(sessions)])
+    return chunks
+
+
+def offers(dice, store, session, sent):
+    """All that waits in the session, in fragments of any length."""
+    found, waiting = [], store.waiting[session][sent[session]:]
+    while waiting:
+        piece = waiting[:dice.randrange(1, 4)]
+        found.append(compact(["offer", session, sent[session], piece]))
+        sent[session] += len(piece)
+        waiting = waiting[len(piece):]
+    return found
+
+
+def odd_lines(dice, sessions, sent):
+    odd = [
+        b"", b"nonsense", b'["round",4096,0,1]', b'["open",1,8]', b'["close"]', b"\xff\xfe",
+        compact(["offer", sessions, 0, [[[], [5]]]]),
+        compact(["offer", 0, sent[0] + 1, [[[], [5]]]]),
+        compact(["offer", 0, 0, [[[], [5, 5]]]]),
+        compact(["offer", 0, max(sent[0] - 1, 0), [[[], []]] * 2]),
+        compact(["close", 70]),
+    ]
+    return dice.sample(odd, dice.choice((0, 0, 1, 2)))
+
+
+def run(chunks, pause):
+    """What the program tells of these lines, with its status and its words; between two chunks it
+    is given a while, `pause()` seconds."""
+    live = Live()
+    for chunk in chunks:
+        live.give(*chunk)
+        time.sleep(pause())
+    return live.end()
+
+
+def verdict_of(history, counts):
+    """The verdict of so many transactions of each session, by its definition: by trial of all
+    orders, or else by a search. None where both would take too long."""
+    parts = Parts([0] * len(counts), [txns[:count] for txns, count in zip(history, counts)],
+                  [False] * len(counts))
+    found = has_order(parts, FARTHEST)
+    if found is None:
+        found, _ = scan(Relation(parts), parts.has_bad_read(), FARTHEST)
+        found = {YES: True, NO: False, SPENT: None}[found]
+    if found is None:
+        return None
+    return "violated" if not found else "pending" if parts.has_pending() else "serial"
+
+
+class Judge:
+    """What was told so far, beside the lines."""
+
+    def __init__(self, lines):
+        opening = json.loads(lines[0])
+        self.lines, self.next = lines, 1
+        self.effort = opening[3:]
+        self.model = Model()
+        self.model.open(*opening[1:3])
+        self.history = [[] for _ in range(opening[1])]  # all that was accepted, in whole
+        self.counted = [0] * opening[1]  # by the last report
+        self.cuts = [None]  # of which one is owed now
+        self.kinds = []
+        self.told_cuts = 0
+        self.begin_anew()
+
+    def counts(self):
+        return [len(txns) for txns in self.history]
+
+    def begin_anew(self):
+        """A round may begin on what there is now, or on any state that comes."""
+        self.states = [(self.counts(), self.model.parts.copy())]
+
+    def take(self, told):
+        """One more line that was told; raises Wrong."""
+        if told[0] == "cut":
+            self.take_cut(told)
+            return
+        if None not in self.cuts:
+            raise Wrong(f"a cut is owed, told is {told}")
+        self.cuts = [None]
+        if told[0] == "report":
+            self.take_report(told)
+        elif told[0] != "end":
+            self.take_answer(told)
+        elif self.counted != self.counts():
+            raise Wrong(f"the last report counts {self.counted} of {self.counts()}")
+
+    def take_answer(self, told):
+        """It is the one that the plain model owes to the next line."""
+        if self.next == len(self.lines):
+            raise Wrong(f"{told} is about no line")
+        line, self.next = self.lines[self.next], self.next + 1
+        owed = self.owed_to(line)
+        if told != owed:
+            raise Wrong(f"owed is {owed}, told is {told}")
+        self.states.append((self.counts(), self.model.parts.copy()))
+
+    def owed_to(self, line):
+        command = command_of(line)
+        if command is None or command[0] not in ("offer", "close"):
+            return ["badline", self.next]
+        about = command[1:3] if command[0] == "offer" else [command[1], None]
+        reply = json.loads(getattr(self.model, command[0])(*command[1:]))
+        if reply[0] == "no":
+            return ["refused", *about, reply[1], NAMES[reply[1]]]
+        if command[0] == "close":
+            return ["closed", command[1]]
+        self.history[command[1]] += map(txn_of, command[3])
+        return ["accepted", *about]
+
+    def take_report(self, told):
+        """It is right of some state since the last one, and of the whole history up to there."""
+        if any(now < before for now, before in zip(told[3], self.counted)):
+            raise Wrong(f"{told[3]}: less than was counted before")
+        states = [parts for counts, parts in self.states if counts == told[3]]
+        if not states:
+            raise Wrong(f"{told[3]} were never taken in")
+        self.model.snapshot = states[-1]
+        self.model.judge_report(["finish", *self.effort], text(told))
+        if told[2] != "spent":
+            whole = verdict_of(self.history, told[3])
+            if whole not in (None, told[2]):
+                raise Wrong(f"over the whole history it is {whole}")
+        self.model.held = None
+        is_yes = told[2] in ("serial", "pending")
+        self.cuts = [cut_of(parts, Relation(parts)) for parts in states] if is_yes else [None]
+        self.counted = told[3]
+        self.kinds.append(told[2])
+        self.begin_anew()
+
+    def take_cut(self, told):
+        for cut in self.cuts:
+            if cut and text(told) == text(["cut", *cut]):
+                self.model.held = cut
+                self.model.truncate()
+                self.cuts = [None]
+                self.told_cuts += 1
+                self.begin_anew()
+                return
+        raise Wrong(f"{told} isn't owed")
+
+
+def judge(lines, told):
+    """Whether this, as bytes, is what may be told of these lines; raises Wrong. Gives the kinds of
+    the reports, and how many cuts there were."""
+    replies = told.split(b"\n")
+    if replies.pop():
+        raise Wrong("a last line without LF")
+    if replies.count(b'["end"]') != 1 or replies[-1] != b'["end"]':
+        raise Wrong("it has no end, or goes on behind it")
+    judged = Judge(lines)
+    for reply in replies:
+        judged.take(json.loads(reply))
+    if judged.next != len(lines):
+        raise Wrong(f"line {judged.next + 1} isn't told of")
+    return judged.kinds, judged.told_cuts

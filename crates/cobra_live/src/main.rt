@@ -1,0 +1,86 @@
+//! The running auditor: reads lines on standard input, and writes on standard output what comes of them, as it comes.
+#![tactic(auto)]
+
+use cobra::{Asked, ReaderSource, WriterSink, asked_of, write_all};
+use guided_search::Guided;
+use live_lines::{LiveExit, LiveFailure, exit_of, run_live};
+use shared_search::{OpenGate, Shared};
+use std::env;
+use std::io::ErrorKind;
+use std::process::ExitCode;
+
+const VERSION: &str = "cobra_live 0.1.0\n";
+
+const USAGE: &str = "usage: cobra_live [--help | --version] < LINES";
+
+const HELP: &str =
+    r#"cobra_live is the running auditor of Zanteyard: it checks from logs that a transactional key-value
+store was serializable, each session's order kept, while the store is in use. It reads lines on
+standard input, answers none of them, and writes on standard output what comes of them, as it comes.
+
+  cobra_live < LINES       audits to the end of the lines
+  cobra_live --help        writes this
+  cobra_live --version     writes the version
+
+The first line tells how many sessions there are, how many transactions may remain at a time, and the
+budget, depth and workers of each round. All others offer transactions of a session, or close one.
+Here the first transaction of session 0 writes key 5:
+
+  ["open",1,8,4096,0,1]
+  ["offer",0,0,[[[],[5]]]]
+
+What comes of it. Reports come whenever no line waits, and at the end, so there may be more of them:
+
+  ["accepted",0,0]
+  ["report",1,"serial",[1],[[0,0]]]
+  ["end"]
+
+Read what it writes while you write lines: it waits for its reader, and drops nothing.
+
+The exit status is 0 where all lines were read and all that came of them was written, whatever was
+reported; 1 where a device failed or memory was wanting, and 2 where the first line opens nothing,
+which standard error then tells; 2 for other arguments, too.
+
+docs/FORMATS.md describes what it reads and writes; docs/COLLECTORS.md, what has to be logged.
+"#;
+
+/// What the arguments ask for. One that isn't UTF-8 is unknown.
+fn asked(rt: &HostRuntime) -> Result<Asked, LiveFailure> {
+    match env::args(rt) {
+        Ok(args) => {
+            let args: Vec<String> = args.collect(rt.alloc())?;
+            Ok(asked_of(&args))
+        }
+        Err(error) if error.kind() == ErrorKind::InvalidData => Ok(Asked::Unknown),
+        Err(_) => Err(LiveFailure::NoMemory),
+    }
+}
+
+fn told(rt: &HostRuntime, text: &str) -> Result<(), LiveFailure> {
+    let mut output = WriterSink::new(rt.stdout());
+    write_all(&mut output, text.as_bytes())?;
+    Ok(())
+}
+
+fn main(rt: HostRuntime) -> ExitCode {
+    let input = ReaderSource::new(rt.stdin());
+    let output = WriterSink::new(rt.stdout());
+    let solver = Guided::new(Shared::new(&rt, OpenGate));
+    let exit = match asked(&rt) {
+        Ok(Asked::Work) => match run_live(&rt, rt.alloc(), &solver, input, output) {
+            Ok(_) => exit_of(Ok(())),
+            Err(failure) => exit_of(Err(failure)),
+        },
+        Ok(Asked::Help) => exit_of(told(&rt, HELP)),
+        Ok(Asked::Version) => exit_of(told(&rt, VERSION)),
+        Ok(Asked::Unknown) => LiveExit {
+            status: 2,
+            words: Some(USAGE),
+        },
+        Err(failure) => exit_of(Err(failure)),
+    };
+    if let Some(words) = exit.words {
+        let _ = eprintln!(rt; "{words}");
+    }
+    ExitCode::from(exit.status)
+}

@@ -1,0 +1,5 @@
+pub mod Audits
+pub mod NotedItems
+pub mod Sending
+pub mod ToldLines
+pub mod WholeRuns

@@ -1,0 +1,48 @@
+-- A run of which all was taken, told and heard of.
+use Rattle.std.proofs.Common.{arith, ◌≡◌, ℕ, List, [], ◌∷◌, ◌++◌, length, Option, Result, Ok, Err, refl, sym, ap, ◌∙◌, subst, append-nil}
+use Rattle.std.specs.Prelude.{OnOk, OnErr, slice_index}
+use Rattle.std.specs.Io.KnownBytes.{Appends}
+use Rattle.std.proofs.lemmas.List.Elements.{filter-append}
+use Rattle.fragment_intake.specs.Collectors.{Counts}
+use Rattle.fragment_intake.specs.Delivers.{of}
+use Rattle.fragment_intake.specs.declared.rules.Parcel.{Parcel}
+use Rattle.report_queue.specs.declared.entries.Entry.{Entry}
+use Rattle.live_lines.specs.declared.failures.LiveFailure.{LiveFailure}
+use Rattle.live_lines.specs.declared.notes.Note.{Note}
+use Rattle.live_lines.specs.declared.openings.Opening.{Opening}
+use Rattle.live_lines.specs.declared.threads.Returned.{Returned}
+use Rattle.live_lines.specs.Notes.{about_each}
+use Rattle.live_lines.specs.Runs.{IsRunOf}
+use Rattle.live_lines.specs.Tells.{Tells}
+use Rattle.live_lines.specs.Threads.{HasDone}
+
+none_of : (parcels : List Parcel) → length parcels ≡ 0 → parcels ≡ []
+none_of [] none = refl
+none_of (first ∷ more) none = absurd (omega arith)
+
+-- where nothing of the first collector's is left, all that it submitted was taken
+pub nothing_left : (counts : List ℕ) (taken left submitted : List Parcel) → Counts counts left → slice_index counts 0 ≡ 0 → of 0 (taken ++ left) ≡ submitted → of 0 taken ≡ submitted
+nothing_left counts taken left submitted counted none whole =
+    let empty = none_of (of 0 left) (sym (counted.1 0 (omega arith)) ∙ none) in
+    sym (filter-append _ taken left ∙ ap (λ more. of 0 taken ++ more) empty ∙ append-nil (of 0 taken)) ∙ whole
+
+all_went_well : (A : Type 0) (end : Result (Unit {0}) LiveFailure) → OnErr end ⊥ → OnOk end A → A
+all_went_well A (Ok done) well a = a
+all_went_well A (Err failure) well a = absurd well
+
+pub has_run : {W : Type 0} (opening : Opening) (contents : W → Option (List ℕ)) (sink : W) (returned : Returned W) → OnErr returned.written.end ⊥
+    → returned.written.reader.received ≡ returned.side.sender.sent → returned.written.coming.received ≡ returned.read.notes.sent → of 0 returned.side.pass.1 ≡ returned.read.passes.0.2
+    → HasDone opening contents sink returned → (text : List ℕ) × Appends (contents sink) (contents returned.written.sink) text × IsRunOf opening text
+has_run opening contents sink returned well heard told taken done =
+    let written = all_went_well _ returned.written.end well done.written in (
+      written.0,
+      written.1,
+      record {
+        taken = returned.side.pass.1;
+        sent = returned.side.sender.sent;
+        notes = returned.read.notes.sent;
+        audited = done.audited;
+        items = done.items ∙ ap about_each (sym taken);
+        tells = subst (λ (p : List Note × List Entry). Tells p.0 p.1 written.0) (λ i. (told i, heard i)) written.2;
+      },
+    )

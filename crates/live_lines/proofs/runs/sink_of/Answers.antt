@@ -1,0 +1,9 @@
+use Rattle.std.proofs.Common.{sym, ◌∙◌}
+use Rattle.live_lines.proofs.WholeRuns.{has_run}
+use Rattle.live_lines.proofs.runs.sink_of.Goals as goal
+
+pub returns : goal.returns
+returns g c = λ opening sink done.
+    let whole = c.is_whole-is_whole.ensures in
+    let well = c.in_ok-end_of.ensures in
+    has_run opening g.W.ByteSink.contents sink c.args.returned well.0 (sym whole.same.0 ∙ (whole.heard well.1).0) (sym whole.same.1 ∙ (whole.heard well.1).1) (whole.taken well.1) done

@@ -1,0 +1,9 @@
+pub mod Audits
+pub mod Ends
+pub mod Failures
+pub mod Notes
+pub mod Runs
+pub mod Stations
+pub mod Tells
+pub mod Texts
+pub mod Threads

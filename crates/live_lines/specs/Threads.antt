@@ -1,0 +1,62 @@
+-- For private clauses: what the threads of a run come back with.
+use Rattle.std.specs.Prelude.{◌≡◌, ℕ, List, [], Option, OnOk}
+use Rattle.std.specs.Io.KnownBytes.{Appends}
+use Rattle.fragment_intake.specs.Collectors.{AreCollectorsOf, Collector}
+use Rattle.report_queue.specs.Rings.{Receiving}
+use Rattle.live_lines.specs.declared.halls.Hall.{Hall}
+use Rattle.live_lines.specs.declared.reading.Read.{Read}
+use Rattle.live_lines.specs.declared.writing.Written.{Written}
+use Rattle.live_audit.specs.declared.live.AuditorSide.{AuditorSide}
+use Rattle.live_lines.specs.declared.openings.Opening.{Opening}
+use Rattle.live_lines.specs.declared.threads.Returned.{Returned}
+use Rattle.live_lines.specs.Audits.{HasAudited, IsSameSide}
+use Rattle.live_lines.specs.Ends.{Noting, Noted}
+use Rattle.live_lines.specs.Notes.{items_in, about_each}
+use Rattle.live_lines.specs.Tells.{Tells}
+
+-- the pass is the collector's again
+abbrev pub IsSamePass : Collector → Collector → Type 0
+IsSamePass old new = (new.0 ≡ old.0) × (new.1 ≡ old.1)
+
+abbrev pub AreSamePasses : Collector × Collector × Collector × Collector → Collector × Collector × Collector × Collector → Type 0
+AreSamePasses old new = IsSamePass old.0 new.0 × IsSamePass old.1 new.1 × IsSamePass old.2 new.2 × IsSamePass old.3 new.3
+
+-- nothing was submitted yet
+abbrev pub AreFresh : Collector × Collector × Collector × Collector → Type 0
+AreFresh passes = (passes.0.2 ≡ []) × (passes.1.2 ≡ []) × (passes.2.2 ≡ []) × (passes.3.2 ≡ [])
+
+-- The reader is back with its passes, and of each item of the first collector's it has sent a note.
+pub record HasRead (passes : Collector × Collector × Collector × Collector) (notes : Noting) (back : Read) : Type 0 where
+  pub passes_are : AreSamePasses passes back.passes
+  pub ring : back.notes.ring ≡ notes.ring
+  pub items : items_in back.notes.sent ≡ about_each back.passes.0.2
+
+-- The writer is back, and where all went well what was appended is what is written for the notes and the entries that it has received.
+pub record HasWritten {W : Type 0} (contents : W → Option (List ℕ)) (sink : W) (reader : Receiving) (coming : Noted) (back : Written W) : Type 0 where
+  pub ring : back.reader.ring ≡ reader.ring
+  pub notes : back.coming.ring ≡ coming.ring
+  pub written : OnOk back.end ((text : List ℕ) × Appends (contents sink) (contents back.sink) text × Tells back.coming.received back.reader.received text)
+
+-- the passes are of the hall's desk
+abbrev pub AreOfDesk : Hall → Collector × Collector × Collector × Collector → Type 0
+AreOfDesk hall passes = (passes.0.0 ≡ hall.desk.0) × (passes.1.0 ≡ hall.desk.0) × (passes.2.0 ≡ hall.desk.0) × (passes.3.0 ≡ hall.desk.0)
+
+-- reader, writer and auditor came back, and did what each is to do
+pub record HasReturned {W : Type 0} (opening : Opening) (contents : W → Option (List ℕ)) (sink : W) (passes : Collector × Collector × Collector × Collector) (notes : Noting) (reader : Receiving) (coming : Noted) (side : AuditorSide) (returned : Returned W) : Type 0 where
+  pub read : HasRead passes notes returned.read
+  pub written : HasWritten contents sink reader coming returned.written
+  pub side_is : IsSameSide side returned.side
+  pub audited : HasAudited opening returned.side.pass.1 returned.side.sender.sent
+
+-- what came back is of this hall
+pub record IsOfHall {W : Type 0} (hall : Hall) (returned : Returned W) : Type 0 where
+  pub collectors : AreCollectorsOf hall.desk returned.read.passes
+  pub auditor : returned.side.pass.0 ≡ hall.desk.0
+  pub ring : returned.written.reader.ring ≡ returned.side.sender.ring
+  pub notes : returned.written.coming.ring ≡ returned.read.notes.ring
+
+-- it did what each thread is to do
+pub record HasDone {W : Type 0} (opening : Opening) (contents : W → Option (List ℕ)) (sink : W) (returned : Returned W) : Type 0 where
+  pub items : items_in returned.read.notes.sent ≡ about_each returned.read.passes.0.2
+  pub written : OnOk returned.written.end ((text : List ℕ) × Appends (contents sink) (contents returned.written.sink) text × Tells returned.written.coming.received returned.written.reader.received text)
+  pub audited : HasAudited opening returned.side.pass.1 returned.side.sender.sent

@@ -1,0 +1,93 @@
+ghost use Rattle.std.specs.Prelude.{◌≡◌, ◌≤◌, IfOk, IfErr, IfSome};
+ghost use Rattle.serde_json.specs.View.{view, items_view};
+ghost use Rattle.order_check.specs.Effort.{IsEffort};
+ghost use Rattle.log_text.specs.Numbers.{number_within};
+
+use crate::failures::LiveFailure;
+use byte_lines::{ByteSource, LineReader, Next};
+use live_audit::Effort;
+use serde_json::Value;
+use std::alloc::Global;
+use std::str;
+
+const MOST_BUDGET: u64 = 1 << 32;
+
+const MOST_DEPTH: u64 = 6;
+
+const MOST_WORKERS: u64 = 16;
+
+/// What the first line says: how many sessions there are, how many transactions may remain at a time, and what each round may cost.
+#[derive(Clone, Copy, Debug, PartialEq, Eq)]
+pub struct Opening {
+    pub sessions: u64,
+    pub limit: u64,
+    pub effort: Effort,
+}
+
+fn number_within(least: u64, most: u64, value: &Value) -> Option<u64>
+    ensures form { result ≡ number_within least most (view value.now) }
+    ensures within { IfSome result (λ n. (least ≤ n) × (n ≤ most)) }
+{
+    let number = value.as_u64()?;
+    if least <= number && number <= most {
+        Some(number)
+    } else {
+        None
+    }
+}
+
+fn opening_in(items: &[Value]) -> Option<Opening>
+    ensures effort { IfSome result (λ opening. IsEffort opening.effort.budget opening.effort.depth opening.effort.workers) }
+{
+    match items {
+        [name, sessions, limit, budget, depth, workers] if name.as_str() == Some("open") => {
+            Some(Opening {
+                sessions: sessions.as_u64()?,
+                limit: limit.as_u64()?,
+                effort: Effort {
+                    budget: number_within(1, MOST_BUDGET, budget)?,
+                    depth: number_within(0, MOST_DEPTH, depth)?,
+                    workers: number_within(1, MOST_WORKERS, workers)?,
+                },
+            })
+        }
+        _ => None,
+    }
+}
+
+fn opening_of(value: &Value) -> Option<Opening>
+    ensures effort { IfSome result (λ opening. IsEffort opening.effort.budget opening.effort.depth opening.effort.workers) }
+{
+    opening_in(value.as_array()?.as_slice())
+}
+
+fn opening_on(alloc: Global, line: &[u8]) -> Result<Opening, LiveFailure>
+    ensures effort { IfOk result (λ opening. IsEffort opening.effort.budget opening.effort.depth opening.effort.workers) }
+{
+    let Ok(text) = str::from_utf8(line) else {
+        return Err(LiveFailure::Opening);
+    };
+    let value = match Value::from_str(alloc, text) {
+        Ok(value) => value,
+        Err(error) if error.is_memory() => return Err(LiveFailure::NoMemory),
+        Err(_) => return Err(LiveFailure::Opening),
+    };
+    match opening_of(&value) {
+        Some(opening) => Ok(opening),
+        None => Err(LiveFailure::Opening),
+    }
+}
+
+/// Reads the first line.
+pub fn read_opening<S: ByteSource>(
+    alloc: Global,
+    lines: &mut LineReader,
+    source: &mut S,
+) -> Result<Opening, LiveFailure>
+    ensures effort { IfOk result (λ opening. IsEffort opening.effort.budget opening.effort.depth opening.effort.workers) }
+{
+    match lines.next_line(source)? {
+        Next::Line(line) => opening_on(alloc, &line),
+        Next::TooLong | Next::End => Err(LiveFailure::Opening),
+    }
+}
