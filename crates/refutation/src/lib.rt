@@ -21,6 +21,6 @@ pub use laws::{
 };
 pub use pruned::Pruned;
 pub use reads::{is_overwritten, is_silent, reads_of};
-pub use shortening::{shortened, shortened_with};
+pub use shortening::shortened;
 pub use trees::{Leaf, Tree};
 pub use used::UsedSides;
