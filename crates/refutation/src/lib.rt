@@ -23,4 +23,3 @@ pub use pruned::Pruned;
 pub use reads::{is_overwritten, is_silent, reads_of};
 pub use shortening::shortened;
 pub use trees::{Leaf, Tree};
-pub use used::UsedSides;

@@ -1,4 +1,4 @@
-ghost use Rattle.std.specs.Prelude.{◌≡◌, ◌≢◌, ◌↔◌, ◌⊎◌, ◌∷◌, [], Contains, IfOk, IsTrue, OnOk, Some, List};
+ghost use Rattle.std.specs.Prelude.{◌≡◌, ◌≢◌, ◌↔◌, ◌⊎◌, ◌∷◌, [], Contains, IfOk, IsTrue, OnOk, Some, List, length};
 ghost use Rattle.txn.specs.declared.transactions.TxnId.{TxnId};
 ghost use Rattle.txn.specs.declared.choices.Arc.TheVariants.{Taken};
 ghost use Rattle.refutation.specs.Pruned.{UseSide};
@@ -38,7 +38,9 @@ impl UsedSides {
         }
     }
 
-    pub fn len(&self) -> usize {
+    pub fn len(&self) -> usize
+        ensures { result ≡ length self.now }
+    {
         self.sides.len()
     }
 
