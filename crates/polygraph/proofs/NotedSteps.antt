@@ -10,10 +10,10 @@ use Rattle.order_check.specs.Cycles.{Sides, AreForced, IsFullLog, sides_after, s
 use Rattle.order_check.specs.Known.{IsChoice}
 use Rattle.refutation.specs.Laws.{ForcedWithMore, ForcedBoth, AfterMore, AfterBoth, RefutesWithMore}
 use Rattle.forced_choices.specs.BranchState.{BranchState, arc_of, assumed, all_taken, AreForcedBy}
-use Rattle.polygraph.specs.declared.solving.Cube.{Cube}
-use Rattle.polygraph.specs.declared.solving.Cube.TheVariants.{Yes, No, Spent}
+use Rattle.polygraph.specs.declared.found.Found.{Found}
+use Rattle.polygraph.specs.declared.found.Found.TheVariants.{Yes, No, Spent}
 use Rattle.polygraph.specs.Noted.{IsNoted}
-use Rattle.polygraph.specs.Shown.{IsShown, IsAbove}
+use Rattle.polygraph.specs.Shown.{told_of, IsShown, StandsAbove, IsAbove}
 
 -- the laws of the crate below
 pub record Laws : Type 0 where
@@ -63,15 +63,20 @@ more_choices before after choices more choice are same all k d within =
     let here : All (IsChoice before) (choice ∷ more) = subst (λ cs. All (IsChoice before) cs) are all in
     subst (λ parts. let P = λ (c : Choice). IsChoice parts c in All P more) (sym same) (λ k d within. here (suc k) d (omega arith)) k d within
 
-pub search_shown : (law : RefutesWithMore) (branch : BranchState) (steps : List ForceStep) (found whole : Cube) → IsNoted branch steps → IsShown branch found →
-    ((parts : Parts) (taken : List (TxnId × TxnId)) (more most : ℕ) → AreForced parts taken steps → IsAbove parts (sides_after taken steps) more most found → IsAbove parts taken more (most + 1) whole) →
-    IsAbove branch.parts (assumed branch.levels) (2 * length branch.levels) 4095 whole
-search_shown law branch steps found whole noted shown above = above branch.parts (assumed branch.levels) (2 * length branch.levels) 4094 noted.forced (to_above found shown)
+pub search_shown : (law : RefutesWithMore) (branch : BranchState) (steps : List ForceStep) (found whole : Found) → IsNoted branch steps → IsShown branch found →
+    ((parts : Parts) (taken : List (TxnId × TxnId)) (more most : ℕ) → AreForced parts taken steps → StandsAbove parts (sides_after taken steps) more most found → StandsAbove parts taken more (most + 1) whole) →
+    IsAbove branch.parts (assumed branch.levels) (2 * length branch.levels) 4095 (told_of whole)
+search_shown law branch steps found whole noted shown above = told whole (above branch.parts (assumed branch.levels) (2 * length branch.levels) 4094 noted.forced (to_above found shown))
   where
-    to_above : (f : Cube) → IsShown branch f → IsAbove branch.parts (sides_after (assumed branch.levels) steps) (2 * length branch.levels) 4094 f
+    to_above : (f : Found) → IsShown branch f → StandsAbove branch.parts (sides_after (assumed branch.levels) steps) (2 * length branch.levels) 4094 f
     to_above (Yes order) h = h
-    to_above (No tree) h = (law branch.parts tree (all_taken branch.log branch.levels) (sides_after (assumed branch.levels) steps) noted.among h.0, h.1)
+    to_above (No pruned) h = (record { right = h.0.right; among = λ side has. noted.among side (h.0.among side has) }, h.1)
     to_above Spent h = h
+
+    told : (f : Found) → StandsAbove branch.parts (assumed branch.levels) (2 * length branch.levels) (4094 + 1) f → IsAbove branch.parts (assumed branch.levels) (2 * length branch.levels) 4095 (told_of f)
+    told (Yes order) h = h
+    told (No pruned) h = let low = h.1 in (law branch.parts pruned.tree pruned.used (assumed branch.levels) h.0.among h.0.right, omega (arith, low))
+    told Spent h = h
 
 -- before any side is assumed the steps are those of the log
 pub noted_first : (parts : Parts) (log : List ForceStep) (branch : BranchState) (steps : List ForceStep) → branch ≡ record { parts = parts; log = log; levels = [] } → steps ≡ log → IsFullLog parts log → IsNoted branch steps

@@ -11,10 +11,13 @@ use Rattle.order_check.specs.Search.{Outcome, has_order, no_order, used_up, IsHo
 use Rattle.order_check.specs.TakenSides.{KeepsSides}
 use Rattle.refutation.specs.declared.trees.Leaf.{Leaf}
 use Rattle.refutation.specs.declared.trees.Leaf.TheVariants as leaves
+use Rattle.refutation.specs.Pruned.{Stands}
 use Rattle.refutation.specs.Refutes.{IsClosed, Refutes, depth_of}
 use Rattle.forced_choices.specs.BranchState.{BranchState, arc_of, assumed, all_taken}
 use Rattle.polygraph.specs.declared.bad_reads.BadRead.{BadRead}
 use Rattle.polygraph.specs.declared.bad_reads.BadRead.TheVariants as bad_reads
+use Rattle.polygraph.specs.declared.found.Found.{Found}
+use Rattle.polygraph.specs.declared.found.Found.TheVariants as at_node
 use Rattle.polygraph.specs.declared.solving.Cube.{Cube}
 use Rattle.polygraph.specs.declared.solving.Cube.TheVariants as cubes
 
@@ -45,17 +48,29 @@ OrderKeeps sides (cubes.Yes order) = KeepsSides order sides
 OrderKeeps sides (cubes.No tree) = ⊤
 OrderKeeps sides cubes.Spent = ⊤
 
--- what is found at the node of the branch is shown: a tree stands below all that is forced there
-abbrev pub IsShown : BranchState → Cube → Type 0
-IsShown branch (cubes.Yes order) = Explains branch.parts order
-IsShown branch (cubes.No tree) = Refutes branch.parts tree (all_taken branch.log branch.levels) × (depth_of tree + 2 * length branch.levels ≤ 4094)
-IsShown branch cubes.Spent = ⊤
+-- what is told of what was found at a node: of what is kept of a tree the tree
+abbrev pub told_of : Found → Cube
+told_of (at_node.Yes order) = cubes.Yes order
+told_of (at_node.No pruned) = cubes.No pruned.tree
+told_of at_node.Spent = cubes.Spent
 
--- the same where one more side is assumed: a tree stands above what that side forces
-abbrev pub IsShownBeyond : BranchState → Choice → Side → Cube → Type 0
-IsShownBeyond branch choice side (cubes.Yes order) = Explains branch.parts order
-IsShownBeyond branch choice side (cubes.No tree) = Refutes branch.parts tree (arc_of choice side ∷ all_taken branch.log branch.levels) × (depth_of tree + 2 * length branch.levels ≤ 4093)
-IsShownBeyond branch choice side cubes.Spent = ⊤
+-- what is found at the node of the branch is shown: what is kept of a tree stands below all that is forced there
+abbrev pub IsShown : BranchState → Found → Type 0
+IsShown branch (at_node.Yes order) = Explains branch.parts order
+IsShown branch (at_node.No pruned) = Stands branch.parts (all_taken branch.log branch.levels) pruned × (depth_of pruned.tree + 2 * length branch.levels ≤ 4094)
+IsShown branch at_node.Spent = ⊤
+
+-- the same where one more side is assumed: what is kept of a tree stands above what that side forces
+abbrev pub IsShownBeyond : BranchState → Choice → Side → Found → Type 0
+IsShownBeyond branch choice side (at_node.Yes order) = Explains branch.parts order
+IsShownBeyond branch choice side (at_node.No pruned) = Stands branch.parts (arc_of choice side ∷ all_taken branch.log branch.levels) pruned × (depth_of pruned.tree + 2 * length branch.levels ≤ 4093)
+IsShownBeyond branch choice side at_node.Spent = ⊤
+
+-- above its steps what is kept of a tree stands from these sides on, and is at most so deep
+abbrev pub StandsAbove : Parts → List (TxnId × TxnId) → ℕ → ℕ → Found → Type 0
+StandsAbove parts taken more most (at_node.Yes order) = Explains parts order
+StandsAbove parts taken more most (at_node.No pruned) = Stands parts taken pruned × (depth_of pruned.tree + more ≤ most)
+StandsAbove parts taken more most at_node.Spent = ⊤
 
 -- above its steps a tree refutes the parts from these sides on, and is at most so deep
 abbrev pub IsAbove : Parts → List (TxnId × TxnId) → ℕ → ℕ → Cube → Type 0

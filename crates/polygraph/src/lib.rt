@@ -3,6 +3,8 @@
 
 mod bad_reads;
 mod cubes;
+mod found;
+mod noted;
 mod ordering;
 mod problems;
 mod scanning;

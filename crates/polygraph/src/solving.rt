@@ -4,7 +4,7 @@ ghost use Rattle.polygraph.specs.Outcomes.{IsCube, cube_count, split_choices};
 ghost use Rattle.polygraph.specs.Solving.{IsLawful};
 ghost use Rattle.polygraph.specs.declared.solving.Cube.TheVariants as cubes;
 
-use crate::cubes::{branch_at, search, sides_at};
+use crate::cubes::{branch_at, search};
 use crate::problems::Problem;
 use order_check::scans_are_bounded;
 use refutation::Tree;
@@ -71,7 +71,6 @@ pub fn solve_cube(
     scans_are_bounded();
     let choices = problem.choices(depth);
     let (mut branch, steps) = branch_at(alloc, problem.known(), choices, cube)?;
-    let taken = sides_at(alloc, choices, cube)?;
-    let found = search(alloc, &mut branch, taken, steps.as_slice(), share)?;
+    let found = search(alloc, &mut branch, steps.as_slice(), share)?;
     Ok(found)
 }

@@ -5,11 +5,13 @@ mod arcs;
 mod checking;
 mod joining;
 mod laws;
+mod pruned;
 mod pruning;
 mod reads;
 mod shortening;
 mod steps;
 mod trees;
+mod used;
 
 pub use checking::check;
 pub use joining::join;
@@ -17,6 +19,7 @@ pub use laws::{
     after_both, after_more, forced_both, forced_with_more, joined_depth, joined_trees_refute,
     refuted_has_no_order, refutes_with_more,
 };
+pub use pruned::Pruned;
 pub use reads::{is_overwritten, is_silent, reads_of};
-pub use shortening::{shortened, shortened_with};
+pub use shortening::shortened;
 pub use trees::{Leaf, Tree};

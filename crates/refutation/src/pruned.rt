@@ -1,0 +1,154 @@
+ghost use Rattle.std.specs.Prelude.{◌≡◌, ◌↔◌, ◌+◌, ◌≤◌, ◌∷◌, Contains, IfOk, IsTrue, OnOk, List, max, reverse};
+ghost use Rattle.txn.specs.declared.transactions.TxnId.{TxnId};
+ghost use Rattle.txn.specs.Choices.{first_side, second_side};
+ghost use Rattle.order_check.specs.declared.remainder.Parts.{Parts};
+ghost use Rattle.order_check.specs.Cycles.{IsForced, AreForced, sides_after, side_taken};
+ghost use Rattle.order_check.specs.Known.{IsChoice};
+ghost use Rattle.refutation.specs.declared.trees.Tree.{Close};
+ghost use Rattle.refutation.specs.Pruned.{AreAmong, Stands};
+ghost use Rattle.refutation.specs.Refutes.{IsClosed, depth_of};
+
+use crate::steps::{first_side, second_side, side_not_taken, side_taken};
+use crate::trees::{Leaf, Tree};
+use crate::used::UsedSides;
+use std::alloc::Global;
+use txn::{Choice, ForceStep, NoMemory, Sequence, TxnId};
+
+/// A tree that takes no side that none of its cycles uses, with the sides that have to be taken above it.
+#[derive(Drop)]
+pub struct Pruned {
+    pub tree: Tree,
+    pub used: UsedSides,
+}
+
+/// A whole copy.
+fn copy_of_step(step: &ForceStep) -> Result<ForceStep, NoMemory>
+    ensures { IfOk result (λ copy. copy ≡ step.now) }
+{
+    Ok(ForceStep {
+        choice: step.choice,
+        side: step.side,
+        cycle: step.cycle.clone()?,
+    })
+}
+
+/// Keeps the step if its side is used behind it. What is kept stands the last one first.
+fn keep_used(
+    step: &ForceStep,
+    used: &mut UsedSides,
+    kept: &mut Vec<ForceStep>,
+) -> Result<(), NoMemory>
+    ensures { OnOk result ((parts : Parts) (before all : List (TxnId × TxnId)) → IsForced parts before step.now → AreAmong used.old (side_taken step.now ∷ before) → AreForced parts used.old (reverse kept.old.items) → AreAmong all (sides_after used.old (reverse kept.old.items))
+        → AreAmong used.new before × AreForced parts used.new (reverse kept.new.items) × AreAmong all (sides_after used.new (reverse kept.new.items))) }
+{
+    if used.remove(side_taken(step)) {
+        used.add_arcs(step.cycle.as_slice(), Some(side_not_taken(step)))?;
+        kept.push(copy_of_step(step)?)?;
+    }
+    Ok(())
+}
+
+/// The steps the other way round.
+fn turned(steps: Vec<ForceStep>) -> Vec<ForceStep>
+    ensures { result.items ≡ reverse steps.items }
+{
+    let mut steps = steps;
+    steps.as_mut_slice().reverse();
+    steps
+}
+
+/// The steps whose sides are used behind them.
+fn used_steps(
+    alloc: Global,
+    steps: &[ForceStep],
+    used: &mut UsedSides,
+) -> Result<Vec<ForceStep>, NoMemory>
+    ensures { IfOk result (λ kept. (parts : Parts) (taken : List (TxnId × TxnId)) → AreForced parts taken steps.now → AreAmong used.old (sides_after taken steps.now)
+        → AreAmong used.new taken × AreForced parts used.new kept.items × AreAmong used.old (sides_after used.new kept.items)) }
+{
+    let mut kept = Vec::new(alloc);
+    let mut left = steps;
+    while let Some((step, before)) = left.split_last() {
+        keep_used(step, used, &mut kept)?;
+        left = before;
+    }
+    Ok(turned(kept))
+}
+
+/// The sides that the leaf's cycle uses.
+fn used_by(alloc: Global, leaf: &Leaf) -> Result<UsedSides, NoMemory>
+    ensures { IfOk result (λ used. (parts : Parts) (taken : List (TxnId × TxnId)) → IsClosed parts taken leaf.now → IsClosed parts used leaf.now × AreAmong used taken) }
+{
+    let mut used = UsedSides::none(alloc);
+    match leaf {
+        Leaf::Cycle(arcs) => {
+            used.add_arcs(arcs.as_slice(), None)?;
+            Ok(used)
+        }
+        Leaf::NoWrite(..) | Leaf::Gone(..) => Ok(used),
+    }
+}
+
+impl Pruned {
+    /// The leaf, and what its cycle uses.
+    pub fn leaf(alloc: Global, leaf: Leaf) -> Result<Pruned, NoMemory>
+        ensures tree { IfOk result (λ pruned. pruned.tree ≡ Close leaf) }
+        ensures stands { IfOk result (λ pruned. (parts : Parts) (taken : List (TxnId × TxnId)) → IsClosed parts taken leaf → Stands parts taken pruned) }
+    {
+        let used = used_by(alloc, &leaf)?;
+        let tree = Tree::Close(leaf);
+        Ok(Pruned { tree, used })
+    }
+
+    /// The steps whose sides are used behind them, above the rest; where there are none, the rest.
+    pub fn above(alloc: Global, steps: &[ForceStep], rest: Pruned) -> Result<Pruned, NoMemory>
+        ensures stands { IfOk result (λ whole. (parts : Parts) (taken : List (TxnId × TxnId)) → AreForced parts taken steps.now → Stands parts (sides_after taken steps.now) rest → Stands parts taken whole) }
+        ensures depth { IfOk result (λ whole. depth_of whole.tree ≤ depth_of rest.tree + 1) }
+    {
+        let Pruned { tree, mut used } = rest;
+        let kept = used_steps(alloc, steps, &mut used)?;
+        if kept.is_empty() {
+            return Ok(Pruned { tree, used });
+        }
+        let tree = Tree::Force {
+            steps: Sequence::new(kept),
+            rest: Box::new(alloc, tree)?,
+        };
+        Ok(Pruned { tree, used })
+    }
+
+    /// Whether a cycle of the tree uses the side.
+    pub fn uses(&self, side: (TxnId, TxnId)) -> bool
+        ensures { IsTrue result ↔ Contains self.now.used side }
+    {
+        self.used.has(side)
+    }
+
+    /// A split between both trees; or the first that doesn't use its side, alone.
+    pub fn split(
+        alloc: Global,
+        choice: Choice,
+        first: Pruned,
+        second: Pruned,
+    ) -> Result<Pruned, NoMemory>
+        ensures stands { IfOk result (λ whole. (parts : Parts) (taken : List (TxnId × TxnId)) → IsChoice parts choice → Stands parts (first_side choice ∷ taken) first → Stands parts (second_side choice ∷ taken) second → Stands parts taken whole) }
+        ensures depth { IfOk result (λ whole. depth_of whole.tree ≤ max (depth_of first.tree) (depth_of second.tree) + 1) }
+    {
+        if !first.uses(first_side(choice)) {
+            return Ok(first);
+        }
+        if !second.uses(second_side(choice)) {
+            return Ok(second);
+        }
+        let (mut one, mut other) = (first.used, second.used);
+        one.remove(first_side(choice));
+        other.remove(second_side(choice));
+        let used = one.united(other)?;
+        let tree = Tree::Split {
+            choice,
+            first: Box::new(alloc, first.tree)?,
+            second: Box::new(alloc, second.tree)?,
+        };
+        Ok(Pruned { tree, used })
+    }
+}
