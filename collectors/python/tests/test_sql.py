@@ -141,6 +141,8 @@ SCRIPT: List[Any] = [
     ("SELECT owner FROM accounts WHERE id = %s", (None,)),
     ("SELECT owner, balance::numeric(7,2), now() > '2000-01-01' FROM accounts WHERE id = 3", None),
     ("SELECT 1", None),
+    ("; SELECT balance FROM accounts WHERE id = 1;", None),
+    ("-- one\n; UPDATE accounts SET balance = 7 WHERE id = 1 RETURNING U&'\\0061', 2", None),
     ("SELECT %s, %s", ("a", None)),
     ("UPDATE accounts SET balance = balance - %s WHERE id = %s", (5, 1)),
     ("UPDATE accounts SET balance = balance - %s WHERE id = %s RETURNING *", (5, 1)),

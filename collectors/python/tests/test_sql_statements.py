@@ -37,6 +37,9 @@ SELECT * FROM accounts WHERE id = id
 SELECT * FROM accounts WHERE id = 1 + 0
 SELECT * FROM accounts WHERE id = 1.5
 SELECT * FROM accounts WHERE id = 1.0
+SELECT * FROM accounts WHERE id = U&'\\0031'
+SELECT * FROM accounts WHERE id = U&'\\0031' /* one */;
+DELETE FROM accounts WHERE id = 1 RETURNING owner U&"name"
 SELECT * FROM accounts WHERE id = 1e1
 SELECT * FROM accounts WHERE id = 99999999999999999999
 SELECT * FROM accounts WHERE id = true
@@ -177,6 +180,8 @@ AUDITED = [
      "select", A, ("('-5'::pg_catalog.int8)",)),
     ("SELECT x.* FROM accounts x WHERE 7 = id", "select", A, ("('7'::pg_catalog.int8)",)),
     ("SELECT 1 FROM accounts WHERE id = '12'", "select", A, ("('12'::pg_catalog.int8)",)),
+    ("/* a */ ;; SELECT U&'x' FROM accounts WHERE id = '12'", "select", A,
+     ("('12'::pg_catalog.int8)",)),
     ("SELECT 1 FROM accounts WHERE id = 5000000000", "select", A,
      ("('5000000000'::pg_catalog.int8)",)),
     ("SELECT 1 FROM accounts WHERE id = NULL", "select", A, None),

@@ -350,10 +350,14 @@ class _Reader:
     # its text
 
     def tokens(self) -> List[Any]:
-        """Without comments, and without what ends it."""
+        """Without comments, and without empty statements in front of it and behind it."""
         found = [one for one in scan(self.text) if one.name not in ("SQL_COMMENT", "C_COMMENT")]
+        while found and found[0].name == "ASCII_59":
+            found.pop(0)
         while found and found[-1].name == "ASCII_59":
             found.pop()
+        if found and found[-1].name in ("USCONST", "UIDENT"):  # the parser's scanner cuts it short
+            self.no("it ends with a text, or a name, that is written U&")
         return found
 
     def whole(self) -> str:
