@@ -4,7 +4,9 @@ import tempfile
 import threading
 import unittest
 
+from zanteyard.auditor import Auditor
 from zanteyard.forks import UNAUDITED
+from zanteyard.sessions import Session
 from zanteyard.sqlite_store import SQLiteStore, prepare
 
 from .test_live import WithProgram, add_one, set_to
@@ -62,6 +64,35 @@ class Forks(WithProgram):
         self.assertEqual(in_child(lambda: self.session.run(add_one("z"))), 0)
         self.session.run(add_one("x"))
         self.assertEqual(self.audit.stop().kind, "serial")
+
+    def test_a_session_that_a_child_makes_is_none_that_its_parent_makes(self):
+        def write():
+            made = self.audit.session(InEachProcess(self.path))
+            made.run(set_to("x", 5))
+            made.close()
+
+        self.session.run(set_to("x", 1))
+        self.assertEqual(in_child(write), 0)
+        other = self.audit.session(InEachProcess(self.path))
+        other.run(set_to("y", 1))
+        self.session.run(add_one("x"))
+        self.assertEqual(self.session.run(lambda transaction: transaction.get("x")), 6)
+        outcome = self.audit.stop()
+        self.assertEqual(outcome.kind, "incomplete")
+        self.assertIn("a forked child", str(outcome.failure))
+        self.assertNotEqual(outcome.report and outcome.report.kind, "violated")
+
+    def test_a_child_has_no_part_in_an_auditor_without_a_thread(self):
+        def write():
+            Session(auditor, 1, InEachProcess(self.path)).run(set_to("y", 5))
+
+        with Auditor(2) as auditor:
+            session = Session(auditor, 0, InEachProcess(self.path))
+            session.run(set_to("x", 1))
+            self.assertEqual(in_child(write), 0)
+            Session(auditor, 1, InEachProcess(self.path)).run(set_to("z", 1))
+            session.run(add_one("x"))
+            self.assertEqual(auditor.outcome().kind, "serial")
 
     def test_a_transaction_that_is_under_way_is_the_childs_own(self):
         def go_on():

@@ -271,6 +271,32 @@ class Workloads(OverAServer):
         self.assertEqual(len([it for it in sources if it == "init"]), 1)
         self.assertEqual(len(sources), 10)
 
+    def test_what_a_forked_child_connects_to_by_its_parents_factory_isnt_audited(self) -> None:
+        place = self.database(SCHEMA + "INSERT INTO t VALUES (1, 0), (2, 0)", ["t"])
+        with AuditorApart(4) as auditor:
+            self.live = LiveAuditor(auditor, policy=RATHER_WAIT)
+            (one,) = self.clients(place, "serializable", ["t"], 1)
+            for key in (1, 2):
+                with one, one.cursor() as cursor:
+                    cursor.execute("UPDATE t SET v = 1 WHERE id = %s", (key,))
+                child = os.fork() if key == 1 else 0
+                if not child:
+                    (other,) = self.clients(place, "serializable", ["t"], 1)
+                    with other, other.cursor() as cursor:
+                        cursor.execute("UPDATE t SET v = 2 WHERE id = %s", (key,))
+                    other.close()
+                    if key == 1:
+                        os._exit(0)
+                else:
+                    self.assertEqual(os.waitpid(child, 0)[1], 0)
+            with one, one.cursor() as cursor:
+                cursor.execute("SELECT v FROM t WHERE id = 1")
+                self.assertEqual(cursor.fetchone(), (2,))
+            one.close()
+            outcome = self.live.stop()
+        self.assertEqual(outcome.kind, "incomplete", str(outcome))
+        self.assertIn("forked child", str(outcome.failure))
+
     @staticmethod
     def in_a_process(path: str, place: str) -> int:
         try:

@@ -4,7 +4,8 @@ Such a child has no part in the audit. Where it goes on in a session all the sam
 driver that connects anew in each process, the name beside what it writes must not be one that its
 parent gives to something else, or a serial run would look like a violation. So the child's
 transactions have names of a session that no audit is about: who reads what they wrote has read
-something unaudited, and the audit says that it is incomplete.
+something unaudited, and the audit says that it is incomplete. So it is of sessions that the child
+makes by its parent's auditor, whose numbers its parent may give to others.
 """
 
 from __future__ import annotations
@@ -27,8 +28,16 @@ class _Nobody:
 
 
 def keep(session: Any) -> None:
-    """It is to have no part in the audit in a child that is forked from here on."""
+    """It is to have no part in the audit in a child that is forked from here on; nor in this
+    process, where that is a child of the auditor's."""
     _sessions.add(session)
+    if is_forked(session.auditor):
+        _leave(session)
+
+
+def is_forked(auditor: Any) -> bool:
+    """Whether this process is a child that was forked from the auditor's."""
+    return bool(getattr(auditor, "process", os.getpid()) != os.getpid())
 
 
 def _leave(session: Any) -> None:

@@ -24,6 +24,7 @@ from .convener import Convener
 from .coverage import Coverage
 from .edges import coverage_from_now
 from .errors import AuditLostError
+from .forks import is_forked
 from .outcome import RATHER_LOSE_THE_AUDIT, Outcome, Policy
 from .pace import Pace
 from .places import Places
@@ -118,6 +119,8 @@ class LiveAuditor(SessionsHere):
     def session(self, store: Store, patience: float = PATIENCE) -> Session:
         """The session of a new client, which asks the store for so many seconds for an outcome that
         isn't known. Raises ValueError where none is left."""
+        if is_forked(self):  # threads that have its locks don't run here
+            return Session(self, 0, store, self.run_name, patience)
         place = self._places.take(self.policy.wait)
         if place is None:
             raise ValueError(f"no session is left of {self.auditor.sessions}")

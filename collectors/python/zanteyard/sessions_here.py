@@ -2,6 +2,7 @@
 
 from __future__ import annotations
 
+import os
 from typing import Optional
 
 from .meetings import Group
@@ -18,7 +19,7 @@ class SessionsHere:
     they wait."""
 
     def __init__(self, run_name: str, policy: Policy) -> None:
-        self.run_name, self.policy = run_name, policy
+        self.run_name, self.policy, self.process = run_name, policy, os.getpid()
         self._group = Group()
 
     def leave_session(self, session: Session) -> None:

@@ -12,6 +12,7 @@ from __future__ import annotations
 from dataclasses import dataclass
 from typing import Iterable, List, NamedTuple, Optional, Sequence, Tuple
 
+from .forks import UNAUDITED
 from .records import Source
 
 INIT = "init"  # what was there before anybody of this run had written it
@@ -38,6 +39,12 @@ class Entry(NamedTuple):
     run: str
     session: int
     of_session: int  # the transaction's number there
+
+    @property
+    def source(self) -> Source:
+        if self.session >= UNAUDITED:
+            raise UnclearError("it was written by a forked child, which isn't audited")
+        return (self.session, self.of_session)
 
 
 @dataclass(frozen=True)
@@ -88,7 +95,7 @@ class History:
             if entry.run == self.run and entry.transaction % 2**32 == version:
                 if entry.is_absent:
                     raise UnclearError("a row is there that its last writer has deleted")
-                return (entry.session, entry.of_session)
+                return entry.source
         return self._init(self.entries if seen is None else self._shown(seen))
 
     def of_absence(self, seen: Snapshot) -> Source:
@@ -118,7 +125,7 @@ class History:
         if entries and entries[0].run == self.run:
             if not entries[0].is_absent:
                 raise UnclearError("it was deleted by who isn't audited")
-            return (entries[0].session, entries[0].of_session)
+            return entries[0].source
         return self._init(entries)
 
     def _init(self, entries: Sequence[Entry]) -> Source:
