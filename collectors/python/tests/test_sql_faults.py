@@ -160,6 +160,23 @@ class Faults(OverAServer):
         self.one.commit()
         self.assertEqual(self.auditor.outcome().kind, "incomplete")
 
+    def test_a_transaction_past_the_audit_alone_is_told(self) -> None:
+        extensions.cursor(self.one).execute("UPDATE t SET v = 5 WHERE id = 1")
+        self.one.commit()
+        outcome = self.auditor.outcome()
+        self.assertEqual(outcome.kind, "incomplete")
+        self.assertIn("past the audit", str(outcome.failure))
+
+    def test_two_transactions_that_seem_one_are_no_violation(self) -> None:
+        self.do(self.one, "SELECT v FROM t WHERE id = 1")
+        extensions.cursor(self.one).execute("COMMIT; BEGIN ISOLATION LEVEL SERIALIZABLE")
+        for key in (1, 2):
+            self.do(self.two, f"UPDATE t SET v = 5 WHERE id = {key}")
+        self.two.commit()
+        self.do(self.one, "SELECT v FROM t WHERE id = 2")
+        self.one.commit()
+        self.assertEqual(self.auditor.outcome().kind, "incomplete")
+
     def test_a_table_that_is_another_one_by_now_is_told(self) -> None:
         for text in ("CREATE TEMP TABLE t (id int, v int)", "SET search_path = pg_temp"):
             for statement in ("SELECT * FROM t WHERE id = 9", "UPDATE t SET v = 1 WHERE id = 9"):

@@ -36,6 +36,7 @@ STRICT_LEVELS = (
     extensions.ISOLATION_LEVEL_SERIALIZABLE,
 )
 IDLE, ACTIVE = extensions.TRANSACTION_STATUS_IDLE, extensions.TRANSACTION_STATUS_INTRANS
+PAST = "statements were run past the audit"
 NO_AUTOCOMMIT = "statements outside of transactions aren't audited"
 
 
@@ -179,7 +180,7 @@ class AuditedConnection(extensions.connection):
         if why is not None:
             self.notes.doubt(why)
         if status == ACTIVE:
-            self.notes.doubt("statements were run past the audit")
+            self.notes.doubt(PAST)
         try:
             self.transaction = self.session.begin()
         except Exception as error:
@@ -226,6 +227,8 @@ class AuditedConnection(extensions.connection):
         with self.turn:
             transaction, self.transaction = self.transaction, None
             if transaction is None or transaction.is_over:
+                if not self.has_lost and self.info.transaction_status == ACTIVE:
+                    self._lose(AuditLostError(PAST))
                 self.has_lost = False
                 super().commit()
                 return

@@ -178,6 +178,7 @@ class AuditedCursor(extensions.cursor):
         if level not in STRICT:
             notes.doubt(f"it was run at {level}: {told}")
             return
+        notes.looked_at(snapshot)
         if meant != str(table.oid):
             notes.doubt(f"it was run over another table: {told}")
             return

@@ -77,6 +77,7 @@ class Notes:
     transaction: Optional[int] = None
     are_several: bool = False
     unclear: Optional[str] = None
+    snapshot: Optional[Snapshot] = None  # which all statements of a transaction have
     pending: Optional[str] = None  # a statement that was sent, and of which nothing is noted yet
     seen: Dict[Tuple[RowKey, Optional[int]], Seen] = field(default_factory=dict)
     changed: Dict[RowKey, Changed] = field(default_factory=dict)
@@ -87,6 +88,13 @@ class Notes:
             self.doubt(ENDED)
             self.are_several = True
         self.transaction = transaction
+
+    def looked_at(self, snapshot: Snapshot) -> None:
+        """What a statement was run in."""
+        if self.snapshot not in (None, snapshot):
+            self.doubt(ENDED)
+            self.are_several = True
+        self.snapshot = snapshot
 
     def doubt(self, why: str) -> None:
         if self.unclear is None:
