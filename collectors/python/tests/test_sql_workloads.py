@@ -297,6 +297,25 @@ class Workloads(OverAServer):
         self.assertEqual(outcome.kind, "incomplete", str(outcome))
         self.assertIn("forked child", str(outcome.failure))
 
+    def test_a_connection_that_a_forked_child_drops_is_still_its_parents(self) -> None:
+        place = self.database(SCHEMA + "INSERT INTO t VALUES (1, 0), (2, 0)", ["t"])
+        with AuditorApart(4) as auditor:
+            self.live = LiveAuditor(auditor, policy=RATHER_WAIT)
+            clients = self.clients(place, "serializable", ["t"], 1)
+            clients[0].cursor().execute("UPDATE t SET v = 1 WHERE id = 1")
+            clients[0].commit()
+            child = os.fork()
+            if not child:
+                clients.clear()
+                self.clients(place, "serializable", ["t"], 1)
+                os._exit(0)
+            self.assertEqual(os.waitpid(child, 0)[1], 0)
+            clients[0].cursor().execute("UPDATE t SET v = 2 WHERE id = 1")
+            clients[0].commit()
+            clients[0].close()
+            outcome = self.live.stop()
+        self.assertEqual(outcome.kind, "serial", str(outcome))
+
     @staticmethod
     def in_a_process(path: str, place: str) -> int:
         try:

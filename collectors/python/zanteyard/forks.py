@@ -35,9 +35,9 @@ def keep(session: Any) -> None:
         _leave(session)
 
 
-def is_forked(auditor: Any) -> bool:
-    """Whether this process is a child that was forked from the auditor's."""
-    return bool(getattr(auditor, "process", os.getpid()) != os.getpid())
+def is_forked(made: Any) -> bool:
+    """Whether this process is a child that was forked from the one in which this was made."""
+    return bool(getattr(made, "process", os.getpid()) != os.getpid())
 
 
 def _leave(session: Any) -> None:

@@ -16,6 +16,7 @@ from psycopg2 import extensions
 from .errors import AbortedError, AuditLostError, OutcomeUnknownError, StatementRefusedError
 from .errors import StoreUnfitError
 from .foreign import is_foreign
+from .forks import is_forked
 from .locks import give_back
 from .sessions import Session, Transaction
 from .sql_commit import Commit
@@ -53,7 +54,8 @@ def leave(session: Session, store: SqlStore) -> None:
         if session.current is not None:
             session.current.give_up()
         session.close()
-        store.beside.close()
+        if not is_forked(store):  # else the server would end the parent's
+            store.beside.close()
     except (ValueError, AttributeError, psycopg2.Error) as error:
         logger.warning("a session stays until it is idle: %s", error)
 

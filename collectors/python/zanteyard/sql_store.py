@@ -3,6 +3,7 @@ of the collector's own."""
 
 from __future__ import annotations
 
+import os
 import time
 import weakref
 from typing import Any, Dict, Optional, Sequence, Tuple
@@ -38,7 +39,7 @@ class SqlStore:
         self._connection = weakref.ref(connection)  # which ends as its last user drops it
         self.beside = PostgresStore(dsn, "serializable", patience=patience)
         self.side = Side(self.beside, wait)
-        self.dsn, self.is_alone = dsn, False
+        self.dsn, self.is_alone, self.process = dsn, False, os.getpid()
         self.error: Optional[Exception] = None  # what the application's commit has raised
         self.number: Optional[str] = None
         self.entry: Optional[Tuple[Any, ...]] = None
