@@ -316,6 +316,22 @@ class Workloads(OverAServer):
             outcome = self.live.stop()
         self.assertEqual(outcome.kind, "serial", str(outcome))
 
+    def test_a_transaction_that_a_forked_child_has_committed_is_unclear(self) -> None:
+        place = self.database(SCHEMA + "INSERT INTO t VALUES (1, 0), (2, 0)", ["t"])
+        with AuditorApart(4) as auditor:
+            self.live = LiveAuditor(auditor, policy=RATHER_WAIT)
+            (one,) = self.clients(place, "serializable", ["t"], 1)
+            one.cursor().execute("UPDATE t SET v = 1 WHERE id = 1")
+            child = os.fork()
+            if not child:
+                one.commit()
+                os._exit(0)
+            self.assertEqual(os.waitpid(child, 0)[1], 0)
+            one.commit()
+            one.close()
+            outcome = self.live.stop()
+        self.assertEqual(outcome.kind, "incomplete", str(outcome))
+
     @staticmethod
     def in_a_process(path: str, place: str) -> int:
         try:

@@ -20,7 +20,7 @@ import time
 from typing import Any, List, Optional, Sequence, Tuple
 
 import psycopg2
-from psycopg2 import extensions
+from psycopg2 import errors, extensions
 
 from .errors import AbortedError, AuditLostError, StoreUnfitError
 from .foreign import is_foreign
@@ -139,6 +139,9 @@ class Commit:
             except Exception as error:
                 if self.connection.closed or is_foreign(error):
                     raise
+                if isinstance(error, errors.NoActiveSqlTransaction):  # by a forked child, unseen
+                    self.notes.doubt(ENDED)
+                    return
                 cursor.execute(UNDO)
                 self.notes.doubt(f"what it wrote couldn't be logged: {error}")
                 return
