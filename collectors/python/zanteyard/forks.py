@@ -37,7 +37,8 @@ def keep(session: Any) -> None:
 
 def is_forked(made: Any) -> bool:
     """Whether this process is a child that was forked from the one in which this was made."""
-    return bool(getattr(made, "process", os.getpid()) != os.getpid())
+    process = getattr(made, "made_in", None)
+    return isinstance(process, int) and process != os.getpid()
 
 
 def _leave(session: Any) -> None:

@@ -19,7 +19,7 @@ class SessionsHere:
     they wait."""
 
     def __init__(self, run_name: str, policy: Policy) -> None:
-        self.run_name, self.policy, self.process = run_name, policy, os.getpid()
+        self.run_name, self.policy, self.made_in = run_name, policy, os.getpid()
         self._group = Group()
 
     def leave_session(self, session: Session) -> None:

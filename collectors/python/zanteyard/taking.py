@@ -56,7 +56,7 @@ class Takes:
         self.sessions, self.limit, self.path, self.script_path = sessions, limit, program, script
         self.policy, self.is_named = policy, run_name is not None
         self.run_name: str = run_name if run_name is not None else fresh_name()
-        self.process = os.getpid()
+        self.made_in = os.getpid()
         self.token = secrets.token_hex(12)  # of this run alone, also where its name isn't
         self.audits = 0
         self._waiting: Deque[Tuple[Any, ...]] = deque()
