@@ -39,7 +39,7 @@ class SqlStore:
         self._connection = weakref.ref(connection)  # which ends as its last user drops it
         self.beside = PostgresStore(dsn, "serializable", patience=patience)
         self.side = Side(self.beside, wait)
-        self.dsn, self.is_alone, self.process = dsn, False, os.getpid()
+        self.dsn, self.is_alone, self.made_in = dsn, False, os.getpid()
         self.error: Optional[Exception] = None  # what the application's commit has raised
         self.number: Optional[str] = None
         self.entry: Optional[Tuple[Any, ...]] = None
