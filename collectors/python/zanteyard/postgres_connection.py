@@ -36,6 +36,21 @@ def answer(dsn: str, text: str, values: Sequence[Any], seconds: float) -> Option
     return row
 
 
+def outcome_told(dsn: str, text: str, values: Sequence[Any], seconds: float) -> str:
+    """"committed", "aborted" or "unknown", of a transaction of whose number the statement gives the
+    status, and whether what it wrote is there. The number alone doesn't say it: a server that has
+    crashed gives that of one that was lost to another one. It is asked over a connection of its
+    own, since the one at hand may be broken."""
+    try:
+        found = answer(dsn, text, values, seconds)
+    except psycopg2.Error:
+        return "unknown"
+    status, is_there = found or (None, False)
+    if status == "aborted" or (status == "committed" and is_there):
+        return str(status)
+    return "unknown"
+
+
 def first_row(
     dsn: str, text: str, values: Sequence[Any], ends: float
 ) -> Optional[Sequence[Any]]:

@@ -15,7 +15,7 @@ from psycopg2 import errors, extensions
 
 from .asking import UNKNOWN, overwritten
 from .asking import Found as FoundOut
-from .postgres_connection import answer, connected
+from .postgres_connection import answer, connected, outcome_told
 from .records import Found, Name
 from .sessions import Aborted, NameTaken, OutcomeUnknown
 
@@ -258,20 +258,10 @@ class PostgresStore:
         return self.outcome_within(self.patience)
 
     def outcome_within(self, seconds: float) -> str:
-        """By a connection of its own, since the one at hand may be broken. A server that crashed
-        gives the number of a transaction that was lost to another one, so that it alone doesn't say
-        what was committed: the row has to be there, too."""
         if self.transaction_id is None:
             return "unknown"
         values = (self.transaction_id, *self.written)
-        try:
-            found = answer(self.dsn, STATUS.format(table=self.table), values, seconds)
-        except psycopg2.Error:
-            return "unknown"
-        status, is_there = found or (None, False)
-        if status == "aborted" or (status == "committed" and is_there):
-            return str(status)
-        return "unknown"
+        return outcome_told(self.dsn, STATUS.format(table=self.table), values, seconds)
 
     def asks(self) -> Any:
         """For another process of this machine; the environment's words for what the dsn lacks."""

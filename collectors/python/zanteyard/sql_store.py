@@ -14,7 +14,7 @@ from psycopg2 import extensions
 from .asking import UNKNOWN
 from .asking import Found as FoundOut
 from .errors import AbortedError, OutcomeUnknownError
-from .postgres_connection import answer
+from .postgres_connection import outcome_told
 from .postgres_store import LIFE, Asks, PostgresStore, reached
 from .postgres_store import asked as asked_beside
 from .records import Found, Name
@@ -128,21 +128,13 @@ class SqlStore:
         return self.outcome_within(self.beside.patience)
 
     def outcome_within(self, seconds: float) -> str:
-        """The number alone doesn't say it: a server that crashed gives one that was lost again."""
         if self.is_alone:
             return self.beside.outcome_within(seconds)
         if not self.number:
             return "unknown"
         text = STATUS.format(table=self.connection.tables.writes.replace("%", "%%"))
         values = (self.number, *(self.entry or (0, "", "", 0, 0)))
-        try:
-            found = answer(self.dsn, text, values, seconds)
-        except psycopg2.Error:
-            return "unknown"
-        status, is_there = found or (None, False)
-        if status == "aborted" or (status == "committed" and is_there):
-            return str(status)
-        return "unknown"
+        return outcome_told(self.dsn, text, values, seconds)
 
     # for who finds this process killed
 
