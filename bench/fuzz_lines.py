@@ -7,7 +7,8 @@ what was taken in so far; within a chunk it goes on as if all were accepted.
 import json
 from collections import defaultdict
 
-from judge import LONGEST, NUMBERS, WHOLE
+from judge import LONGEST, NUMBERS, WHOLE, txn_of
+from plain_verdicts import is_fence
 
 EDGES = (0, 1, 2, 3, 5, 6, 7, 8, 15, 16, 17, 63, 64, 65, 127, 128, 255, 256, 257, 4095, 4096, 4097,
          2**31 - 1, 2**31, 2**32 - 1, 2**32, 2**32 + 1, NUMBERS - 257, NUMBERS - 256, NUMBERS - 1,
@@ -26,7 +27,8 @@ NO_SPACES = ("\x0b", "\x0c", "\xa0", "\u2028", "\ufeff", "\x00", "/**/", "\\", "
 NO_TEXT = (b"\xff", b"\xfe\xff", b"\xc3", b"\xc0\x80", b"\xed\xa0\x80", b"\xf4\x90\x80\x80",
            b"\x80", b"\xe2\x28\xa1", b"\xf8\x88\x80\x80\x80", b"\xef\xbb\xbf", b"\x00", b"\r",
            b"\x1b", b"\x7f", b"\xef\xbb", b"\xf0\x9f\x98")
-WORDS = ("open", "offer", "close", "begin", "finish", "round", "truncate", "rebuild", "show")
+WORDS = ("open", "offer", "join", "close", "begin", "finish", "round", "truncate", "rebuild", "show",
+         "resume", "marks", "last", "resumed", "save", "remain")
 BUDGETS = (1, 1, 1, 2, 2, 3, 4, 5, 7, 8, 15, 16, 31, 32, 33, 64, 64, 128, 256)
 
 
@@ -41,6 +43,47 @@ def compact(told):
 def effort(dice):
     depth = dice.choice((0, 0, 0, 0, 1, 2, 3, 6))
     return [dice.choice(BUDGETS), depth, dice.choice((1, 1, 1, 1, 1, 1, 2, 16)) if depth else 1]
+
+
+def save(dice, sessions):
+    """What is asked of the parts."""
+    return ["save", *dice.choice((["marks"], ["last", dice.choice((0, 0, 1, 5, WHOLE - 1))],
+                                  ["remain", dice.randrange(sessions + 1), dice.randrange(9)]))]
+
+
+def handing(dice, handed, sessions, limit):
+    """A line of a hand-over that may well be taken next."""
+    if handed is None or dice.random() < 0.02:
+        return ["resume", sessions, limit]
+    if handed.parts is None:
+        return ["marks", [dice.choice((0, 0, 1, 3)) for _ in range(handed.sessions)],
+                [dice.random() < 0.1 for _ in range(handed.sessions)]]
+    turn, gone = dice.random(), handed.parts.gone
+    session = dice.choice([at for at, mark in enumerate(gone) if mark] or [0])
+    if turn < 0.3:
+        keys = sorted({dice.randrange(9) for _ in range(dice.randrange(4))}
+                      - (dict(handed.writers).keys() if dice.random() < 0.9 else set()))
+        return ["last", [[key, session, max(gone[session] - 1, 0)] for key in keys]]
+    if turn < 0.7:
+        session = dice.randrange(handed.sessions)
+        txn = dice.choice(([[], [5]], [[[5, "init"]], [6]], [[], []], [[[6, session, 99]], [5]]))
+        return ["offer", session, handed.parts.received()[session], [txn] * dice.randrange(3)]
+    return ["resumed"]
+
+
+def join(dice, parts, last_fence):
+    """A session that joins, or comes back, with a fence, and mostly may."""
+    sessions = len(parts.gone)
+    ended = [at for at in range(sessions) if parts.closed[at] and not parts.remaining[at]]
+    session = dice.choice((sessions, dice.choice(ended or [sessions]), dice.randrange(sessions + 1)))
+    first = parts.received()[session] if session < sessions else 0
+    fences = [me for me in parts.ids() if is_fence(parts.get(me))]
+    anchors = [*fences, *filter(None, [parts.base.get(0)])]
+    source = dice.choice(anchors) if anchors and dice.random() < 0.9 else ("init",)
+    if last_fence in anchors and dice.random() < 0.8:
+        source = last_fence
+    txns = [[[[0, *source]], [0]], [[], [5]]][: dice.choice((1, 1, 1, 2))]
+    return ["join", session, *([first] if first or dice.random() < 0.3 else []), txns]
 
 
 class Store:
@@ -99,7 +142,12 @@ class Store:
         return ("init",) if found is None or found == me else found
 
     def go_on(self, received):
-        """What was taken in waits no more. Another number of sessions may have been opened."""
+        """What was taken in waits no more. Sessions may have joined, or another number of them may
+        have been opened."""
+        joined = received[self.sessions:]
+        self.waiting += [[] for _ in joined]
+        self.first += joined
+        self.sessions += len(joined)
         if len(received) != self.sessions:
             self.sessions = len(received)
             self.waiting = [[] for _ in received]
@@ -126,9 +174,22 @@ class Scripts:
             self.most = dice.choice((12, 16))
         self.is_open, self.odd = False, dice.choice((0.0, 0.0, 0.05, 0.2))
         self.full = 0  # chunks that began with so much, one after another
+        self.joins = dice.choice((0.0, 0.05, 0.2)) if self.store.meets else 0.0
+        self.resumes = dice.random() < 0.25
 
-    def opening(self):
-        return [("script: open", compact(["open", self.sessions, self.limit]))]
+    def opening(self, model):
+        """The next line of what a script begins with."""
+        line = ["open", self.sessions, self.limit]
+        if self.resumes:
+            line = handing(self.dice, model.handed, self.sessions, self.limit)
+        return [self.told(line)]
+
+    def told(self, line):
+        """The line with its kind; it may be an odd one."""
+        kind = f"script: {line[0]}"
+        if self.dice.random() < self.odd:
+            line, kind = odd(self.dice, line), f"script: odd {line[0]}"
+        return kind, compact(line)
 
     def is_over(self, _):
         """Whether much remains, and nothing of it is settled."""
@@ -138,9 +199,9 @@ class Scripts:
         """Some thirty lines."""
         dice, store = self.dice, self.store
         if model.parts is None:
-            return self.opening()
-        received = model.parts.received()
-        store.go_on(received)
+            return self.opening(model)
+        store.go_on(model.parts.received())
+        self.sessions = store.sessions
         self.is_open = model.snapshot is not None
         sent, lines = [0] * self.sessions, []
         remaining = sum(map(len, model.parts.remaining))
@@ -150,12 +211,12 @@ class Scripts:
             if dice.random() < 0.5 and (remaining < most or dice.random() < 0.05):
                 line = self.offer(sent)
                 remaining += len(line[3])
+            elif dice.random() < (self.joins / 9 if self.is_open else self.joins):
+                line = self.join(model)
+                remaining += len(line[-1])
             else:
                 line = self.other()
-            kind = f"script: {line[0]}"
-            if dice.random() < self.odd:
-                line, kind = odd(dice, line), f"script: odd {line[0]}"
-            lines.append((kind, compact(line)))
+            lines.append(self.told(line))
         if remaining >= most:
             lines += [("script: round", compact(["round", 64, 0, 1])),
                       ("script: truncate", compact(["truncate"]))]
@@ -177,11 +238,22 @@ class Scripts:
         sent[session] += len(txns)
         return ["offer", session, first, txns]
 
+    def join(self, model):
+        """A session joins with a fence, which the store has run where it may well be taken in."""
+        line = join(self.dice, model.parts, self.store.last.get(0))
+        me = line[1], line[2] if len(line) == 4 else 0
+        if not self.is_open and not model.joining_fault(*me, list(map(txn_of, line[-1]))):
+            self.store.last[0] = me
+            self.store.writers[0].append(me)
+        return line
+
     def other(self):
         dice = self.dice
         turn = dice.random()
-        if turn < 0.2:
+        if turn < 0.15:
             return ["show"]
+        if turn < 0.2:
+            return save(dice, self.sessions)
         if turn < 0.45:
             self.is_open = not self.is_open
             return ["begin"] if self.is_open else ["finish", *effort(dice)]
@@ -191,7 +263,8 @@ class Scripts:
             return ["truncate"]
         if turn < 0.98:
             return ["rebuild"]
-        return ["close", dice.randrange(self.sessions + 1)] if dice.random() < 0.3 else ["show"]
+        closes = 0.9 if self.joins else 0.3
+        return ["close", dice.randrange(self.sessions + 1)] if dice.random() < closes else ["show"]
 
 
 def odd(dice, line):
@@ -245,6 +318,8 @@ class Mutated:
         """A command that may well be accepted."""
         dice, store = self.dice, self.store
         turn = dice.random()
+        if model.parts is None and (model.handed or turn > 0.7):
+            return handing(dice, model.handed, self.sessions, self.limit)
         if model.parts is None or turn < 0.05:
             return ["open", self.sessions, self.limit]
         if turn < 0.65:
@@ -256,6 +331,10 @@ class Mutated:
             return [dice.choice(("round", "finish")), *effort(dice)]
         if turn < 0.81:
             return ["close", dice.randrange(self.sessions)]
+        if turn < 0.83:
+            return join(dice, model.parts, store.last.get(0))
+        if turn < 0.85:
+            return save(dice, self.sessions)
         return [dice.choice(("show", "show", "show", "begin", "truncate", "rebuild"))]
 
     def chunk(self, model):

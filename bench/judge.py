@@ -22,7 +22,7 @@ WHOLE, NUMBERS = 2**64, 2**48
 DEEPEST, FARTHEST = 600, 400  # nodes that are searched here, and fronts that are tried
 NAMES = {1: "BadLine", 2: "BadSession", 3: "BadTxn", 4: "BadFence", 5: "Gap", 6: "Repeat",
          7: "Closed", 8: "Backlog", 9: "TooLong", 10: "RoundOpen", 11: "NoRound", 13: "NoCut",
-         16: "NoMemory"}
+         14: "BadParts", 16: "NoMemory", 17: "NotAnchored"}
 REFUSALS = {number: b'["no",%d,"%s"]' % (number, name.encode()) for number, name in NAMES.items()}
 OK = b'["ok"]'
 decode = json.JSONDecoder().decode
@@ -62,9 +62,32 @@ def is_nothing(parts):
     return not parts
 
 
+def is_save(parts):
+    if parts[0] == "remain":
+        return len(parts) == 3 and is_whole(parts[1], 256) and is_whole(parts[2])
+    return parts == ["marks"] or len(parts) == 2 and parts[0] == "last" and is_whole(parts[1])
+
+
+def is_marks(parts):
+    marks, flags = parts
+    return (type(marks) is list and all(map(is_whole, marks))
+            and type(flags) is list and all(type(flag) is bool for flag in flags))
+
+
+def is_writer(it):
+    return (type(it) is list and len(it) == 3 and is_whole(it[0]) and is_whole(it[1], 256)
+            and is_whole(it[2]))
+
+
+def is_last(parts):
+    return type(parts[0]) is list and all(map(is_writer, parts[0]))
+
+
 FORMS = {
     ("open", 3): lambda parts: all(map(is_whole, parts)),
     ("offer", 4): is_offer,
+    ("join", 3): lambda parts: is_offer([parts[0], 0, parts[1]]),
+    ("join", 4): is_offer,
     ("close", 2): lambda parts: is_whole(parts[0], 256),
     ("begin", 1): is_nothing,
     ("finish", 4): is_effort,
@@ -72,7 +95,16 @@ FORMS = {
     ("truncate", 1): is_nothing,
     ("rebuild", 1): is_nothing,
     ("show", 1): is_nothing,
+    ("save", 2): is_save,
+    ("save", 3): is_save,
+    ("save", 4): is_save,
+    ("resume", 3): lambda parts: all(map(is_whole, parts)),
+    ("marks", 3): is_marks,
+    ("last", 2): is_last,
+    ("resumed", 1): is_nothing,
 }
+BEGINNING = ("open", "resume")  # the words that may stand as long as no auditor is open
+HANDED = ("marks", "last", "resumed")  # and those that stand in a hand-over alone, beside offer
 
 
 def command_of(line):
@@ -131,18 +163,84 @@ def text(told):
     return json.dumps(told, separators=(",", ":")).encode()
 
 
+def told_txn(txn):
+    """A transaction, as a line has it."""
+    reads, writes = txn
+    return [[[key, "init"] if source == INIT else [key, *source] for key, source in reads], writes]
+
+
+def place_fault(parts, session, first):
+    """The number of the refusal of a fragment that doesn't come next in its session; else None."""
+    if session >= len(parts.gone):
+        return 2
+    received = parts.gone[session] + len(parts.remaining[session])
+    return 5 if first > received else 6 if first < received else None
+
+
+class HandOver:
+    """Parts that are handed over in place of an opening."""
+
+    def __init__(self, sessions, limit):
+        self.sessions, self.limit = sessions, limit
+        self.parts, self.writers = None, []
+
+    def owed(self, command):
+        """What is owed to the command; where it is done, the parts have changed."""
+        word, *told = command
+        if word == "offer" and self.parts:
+            return self.offer(*told)
+        if word not in HANDED or (self.parts is None) != (word == "marks"):
+            return REFUSALS[1]
+        return getattr(self, word)(*told)
+
+    def marks(self, marks, closed):
+        if len(marks) != self.sessions or len(closed) != self.sessions:
+            return REFUSALS[14]
+        self.parts = Parts(marks, [[] for _ in marks], closed)
+        return OK
+
+    def last(self, writers):
+        self.writers += [(key, (session, number)) for key, session, number in writers]
+        return OK
+
+    def offer(self, session, first, told):
+        fault = place_fault(self.parts, session, first)
+        if fault:
+            return REFUSALS[fault]
+        self.parts.remaining[session] += map(txn_of, told)
+        return OK
+
+    def resumed(self):
+        self.parts.base = dict(self.writers)
+        return OK if self.is_good() else REFUSALS[14]
+
+    def is_good(self):
+        """Whether the parts keep the rules."""
+        parts = self.parts
+        return (len(parts.base) == len(self.writers)
+                and sum(map(len, parts.remaining)) <= self.limit
+                and all(received <= NUMBERS for received in parts.received())
+                and all(map(parts.is_gone, parts.base.values()))
+                and not any(len(part) > 256 for me in parts.ids() for part in parts.get(me))
+                and not any(txn_fault(me, parts.get(me)) for me in parts.ids()))
+
+
 class Model:
     """The auditor as the documents say it: `judge` takes a line and the reply to it."""
 
     def __init__(self):
-        self.parts = self.limit = self.snapshot = self.held = None
+        self.parts = self.limit = self.snapshot = self.held = self.handed = None
         self.rounds = 0
         self.told = {}  # of what remains now: of each budget and depth, the report without number
 
     def judge(self, line, reply):
         """Raises Wrong where this isn't the reply that is owed to the line; neither has its LF."""
         command = command_of(line)
-        if command is None or (self.parts is None) != (command[0] == "open"):
+        if command is None:
+            owed = REFUSALS[1]
+        elif self.handed and command[0] not in BEGINNING:
+            owed = self.hand_over(command)
+        elif (self.parts is None) != (command[0] in BEGINNING) or command[0] in HANDED:
             owed = REFUSALS[1]
         elif command[0] in ("round", "finish"):
             owed = self.refused_round(command[0])
@@ -155,13 +253,30 @@ class Model:
             raise Wrong(f"owed is {owed[:300].decode()}")
 
     def open(self, sessions, limit):
-        if not 1 <= sessions <= 64:
-            return REFUSALS[2]
-        if not 1 <= limit <= 4096:
-            return REFUSALS[9]
-        self.limit = limit
+        refused = self.refused_opening(sessions, limit)
+        if refused:
+            return refused
+        self.limit, self.handed = limit, None
         self.parts = Parts([0] * sessions, [[] for _ in range(sessions)], [False] * sessions)
         return OK
+
+    def resume(self, sessions, limit):
+        refused = self.refused_opening(sessions, limit)
+        if refused:
+            return refused
+        self.handed = HandOver(sessions, limit)
+        return OK
+
+    def refused_opening(self, sessions, limit):
+        if not 1 <= sessions <= 64:
+            return REFUSALS[2]
+        return None if 1 <= limit <= 4096 else REFUSALS[9]
+
+    def hand_over(self, command):
+        owed = self.handed.owed(command)
+        if command == ["resumed"] and owed == OK:
+            self.parts, self.limit, self.handed = self.handed.parts, self.handed.limit, None
+        return owed
 
     def offer(self, session, first, told):
         parts, txns = self.parts, list(map(txn_of, told))
@@ -174,13 +289,49 @@ class Model:
         self.told = {}
         return OK
 
-    def place_fault(self, session, first):
-        if session >= len(self.parts.gone):
+    def join(self, session, *told):
+        parts, txns = self.parts, list(map(txn_of, told[-1]))
+        first = told[0] if len(told) == 2 else 0
+        fault = fragment_fault(session, first, txns)
+        if not fault:
+            fault = 10 if self.snapshot else self.joining_fault(session, first, txns)
+        if not fault and sum(map(len, parts.remaining)) + len(txns) > self.limit:
+            fault = 8
+        if fault:
+            return REFUSALS[fault]
+        if session == len(parts.gone):
+            parts.gone.append(0)
+            parts.remaining.append([])
+            parts.closed.append(False)
+        parts.remaining[session] += txns
+        parts.closed[session] = False
+        self.held, self.told = None, {}
+        return OK
+
+    def joining_fault(self, session, first, txns):
+        parts = self.parts
+        count = len(parts.gone)
+        if session < count and (not parts.closed[session] or parts.remaining[session]):
             return 2
-        if self.parts.closed[session]:
+        if session > count:
+            return 2
+        received = parts.gone[session] if session < count else 0
+        if first != received:
+            return 5 if first > received else 6
+        return None if self.is_anchored(txns[0]) else 17
+
+    def is_anchored(self, txn):
+        """Whether it is a fence that reads from one that remains, or from the last one that is gone."""
+        if not is_fence(txn):
+            return False
+        source = txn[0][0][1]
+        remains = source in self.parts.ids() and is_fence(self.parts.get(source))
+        return source != INIT and (remains or source == self.parts.base.get(0))
+
+    def place_fault(self, session, first):
+        if session < len(self.parts.gone) and self.parts.closed[session]:
             return 7
-        received = self.parts.gone[session] + len(self.parts.remaining[session])
-        return 5 if first > received else 6 if first < received else None
+        return place_fault(self.parts, session, first)
 
     def close(self, session):
         if session >= len(self.parts.gone):
@@ -219,6 +370,21 @@ class Model:
         last = [(key, *parts.base[key]) for key in sorted(parts.base)]
         remaining = sum(map(len, parts.remaining))
         return text(["show", parts.gone, parts.received(), parts.closed, last, remaining])
+
+    def save(self, what, *where):
+        parts = self.parts
+        if what == "marks":
+            return text(["marks", parts.gone, parts.closed])
+        if what == "last":
+            told = [[key, *parts.base[key]] for key in sorted(parts.base) if key >= where[0]]
+            return text(["last", told[:16384]])
+        session, number = where
+        if session >= len(parts.gone):
+            return REFUSALS[2]
+        gone = parts.gone[session]
+        first = max(gone, min(number, gone + len(parts.remaining[session])))
+        told = parts.remaining[session][first - gone:][:256]
+        return text(["offer", session, first, list(map(told_txn, told))])
 
     def refused_round(self, word):
         if word == "round":

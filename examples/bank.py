@@ -3,6 +3,7 @@
 
     /usr/bin/python3 examples/bank.py --level repeatable     finds its bug: customers overdraw
     /usr/bin/python3 examples/bank.py --level serializable   has none
+    /usr/bin/python3 examples/bank.py --driver psycopg       the same by psycopg 3
 
 Its rule: a customer's two accounts may not be below 0 together. Each withdrawal looks at both, and
 takes from one. It starts a server of its own, or takes one that is there (--dsn), in a schema that
@@ -23,14 +24,14 @@ HERE = os.path.dirname(os.path.abspath(__file__))
 sys.path.insert(0, os.path.join(os.path.dirname(HERE), "collectors", "python"))
 
 import psycopg2
-from psycopg2 import errors
 
 from zanteyard import RATHER_WAIT, AuditorApart, LiveAuditor, from_start, tell_violation
 from zanteyard.cluster import Cluster
-from zanteyard.postgres_sql import audited, prepare
+from zanteyard.postgres_sql import prepare
 
 CUSTOMERS, WORKERS = 20, 4
 TABLES = ("accounts", "transfers", "reports")
+AGAIN = ("SerializationFailure", "DeadlockDetected", "UniqueViolation")  # of either driver
 SCHEMA = """
 CREATE TABLE accounts (customer int, kind text, balance int NOT NULL, PRIMARY KEY (customer, kind));
 CREATE TABLE transfers (id bigserial PRIMARY KEY, customer int NOT NULL, kind text NOT NULL,
@@ -91,12 +92,19 @@ def in_transaction(connection, work, *values):
     """Again, where the server asks for that."""
     while True:
         try:
-            with connection, connection.cursor() as cursor:
+            with whole(connection), connection.cursor() as cursor:
                 return work(cursor, *values)
-        except (errors.SerializationFailure, errors.DeadlockDetected, errors.UniqueViolation):
-            time.sleep(random.uniform(0.0, 0.01))
         except Overdrawn:
             return None
+        except Exception as error:
+            if type(error).__name__ not in AGAIN:
+                raise
+            time.sleep(random.uniform(0.0, 0.01))
+
+
+def whole(connection):
+    """A transaction's block, by either driver: `with connection` closes one of psycopg 3's."""
+    return connection.transaction() if hasattr(connection, "transaction") else connection
 
 
 def worker(connection, ends):
@@ -142,6 +150,24 @@ def server(dsn):
         admin.close()
 
 
+def connected(dsn, asked, live):
+    if asked.driver == "psycopg":
+        import psycopg
+
+        from zanteyard.psycopg3_sql import audited
+
+        its = audited(live, TABLES)  # the first line
+        connection = its.connect(dsn)  # the second, changed
+        connection.isolation_level = psycopg.IsolationLevel[asked.level.upper().replace(" ", "_")]
+        return connection
+    from zanteyard.postgres_sql import audited
+
+    its = audited(live, TABLES)  # the first line
+    connection = psycopg2.connect(dsn, connection_factory=its)  # the second, changed
+    connection.set_session(isolation_level=asked.level)
+    return connection
+
+
 def run(dsn, asked, live):
     """The four workers, until the time is up or a violation was found."""
     ends_at = time.monotonic() + asked.seconds
@@ -149,12 +175,7 @@ def run(dsn, asked, live):
     def ends():
         return time.monotonic() > ends_at or live.is_over
 
-    connections = []
-    for _ in range(WORKERS):
-        its = audited(live, TABLES)  # the first line
-        connection = psycopg2.connect(dsn, connection_factory=its)  # the second, changed
-        connection.set_session(isolation_level=asked.level)
-        connections.append(connection)
+    connections = [connected(dsn, asked, live) for _ in range(WORKERS)]
     threads = [threading.Thread(target=worker, args=(one, ends)) for one in connections]
     for thread in threads:
         thread.start()
@@ -170,6 +191,7 @@ def main():
     asked = argparse.ArgumentParser(description=__doc__.splitlines()[0])
     levels = {"repeatable": "repeatable read", "serializable": "serializable"}
     asked.add_argument("--level", choices=levels, default="repeatable")
+    asked.add_argument("--driver", choices=("psycopg2", "psycopg"), default="psycopg2")
     asked.add_argument("--seconds", type=float, default=10.0)
     asked.add_argument("--dsn")
     asked = asked.parse_args()

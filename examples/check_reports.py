@@ -23,19 +23,27 @@ class Wrong(Exception):
 
 class History:
     """What was accepted: for each session its transactions, each with its reads and the keys that it writes; how many of them are
-    gone; and of each key the last gone writer."""
+    gone; and of each key the last gone writer. Where a script resumes another, what was gone before isn't known: of each session
+    the numbers below `known_from`."""
 
-    def __init__(self, sessions):
-        self.sessions = [[] for _ in range(sessions)]
-        self.gone, self.last = [0] * sessions, {}
+    def __init__(self, known_from):
+        self.sessions = [[] for _ in known_from]
+        self.known_from, self.gone, self.last = list(known_from), list(known_from), {}
 
     def offer(self, session, txns):
         for reads, writes in txns:
             sources = [(read[0], INIT if read[1] == INIT else (read[1], read[2])) for read in reads]
             self.sessions[session].append((sources, set(writes)))
 
+    def join(self, session, txns):
+        if session == len(self.sessions):
+            for numbers in (self.known_from, self.gone):
+                numbers.append(0)
+            self.sessions.append([])
+        self.offer(session, txns)
+
     def copy(self):
-        other = History(0)
+        other = History(self.known_from)
         other.sessions = [list(txns) for txns in self.sessions]
         other.gone, other.last = list(self.gone), dict(self.last)
         return other
@@ -46,15 +54,15 @@ class History:
         self.last.update(last)
 
     def counts(self):
-        return [len(txns) for txns in self.sessions]
+        return [first + len(txns) for first, txns in zip(self.known_from, self.sessions)]
 
     def get(self, txn):
         session, number = txn
-        if not (0 <= session < len(self.sessions) and 0 <= number < len(self.sessions[session])):
+        if not (session >= 0 and number >= 0 and self.is_received(txn)):
             raise Wrong(f"{txn} was not taken in")
         if number < self.gone[session]:
             raise Wrong(f"{txn} is gone")
-        return self.sessions[session][number]
+        return self.sessions[session][number - self.known_from[session]]
 
     def is_gone(self, txn):
         return txn[0] < len(self.sessions) and txn[1] < self.gone[txn[0]]
@@ -64,7 +72,7 @@ class History:
         return self.reads(txn, key, self.last.get(key, INIT))
 
     def is_received(self, txn):
-        return txn[0] < len(self.sessions) and txn[1] < len(self.sessions[txn[0]])
+        return txn[0] < len(self.sessions) and txn[1] < self.counts()[txn[0]]
 
     def reads(self, txn, key, source):
         return (key, source) in self.get(txn)[0]
@@ -224,9 +232,15 @@ def check_run(script, replies):
             continue
         command = json.loads(line)
         if command[0] == "open":
+            history = History([0] * command[1])
+        elif command[0] == "marks":
             history = History(command[1])
+        elif command[0] == "last":
+            history.last.update((key, (session, number)) for key, session, number in command[1])
         elif command[0] == "offer":
             history.offer(command[1], command[3])
+        elif command[0] == "join":
+            history.join(command[1], command[-1])
         elif command[0] == "begin":
             begun = history.copy()
         elif command[0] == "rebuild":

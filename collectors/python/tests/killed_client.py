@@ -11,7 +11,7 @@ from contextlib import suppress
 sys.path.insert(0, sys.argv[1])
 logging.getLogger("zanteyard").setLevel(logging.CRITICAL)
 
-from zanteyard import Aborted, AuditClient, OutcomeUnknown  # noqa: E402
+from zanteyard import Aborted, AuditClient, OutcomeUnknown, ProgramEndedError  # noqa: E402
 from zanteyard.store_kinds import MakeStore  # noqa: E402
 
 
@@ -67,7 +67,7 @@ class Dying:
         return call
 
 
-def work(session, client, seed, pause, workload):
+def work(session, client, seed, pause, workload, took):
     """Counts, or takes one of two that the other leaves; and each transaction has a row of its own."""
     chance, count = random.Random(seed), 0
     while True:
@@ -87,26 +87,37 @@ def work(session, client, seed, pause, workload):
                 if chance.random() < 0.2:
                     raise Aborted("for the sake of it")
 
+        began = time.monotonic()
         with suppress(Aborted, OutcomeUnknown):
             try:
                 session.run(body, attempts=1)
             except ValueError:
                 return  # it has left
+        took.append(max(took.pop(), time.monotonic() - began))
         time.sleep(chance.random() * pause)
+
+
+def patiently(deed, *arguments):
+    """The auditor's process may be being started, where other programs have the processors."""
+    for _ in range(5):
+        with suppress(ProgramEndedError):
+            return deed(*arguments)
+    return deed(*arguments)
 
 
 def main():
     _, _, path, kind, dsn, level, client, seed, where, left, pause, workload, sessions = sys.argv
     more = () if level == "-" else (level,)
-    audit = AuditClient(path)
+    audit = patiently(AuditClient, *path.split(" "))  # a socket's path, or a URL and an audit's name
     dying = Dying(where, int(left))
     made = []
     for _ in range(int(sessions)):
         store = MakeStore(kind, dsn, *more)()
-        made.append(audit.session(store))
+        made.append(patiently(audit.session, store))
         dying.beset(made[-1])
+    took = [[0.0] for _ in made]  # seconds, the longest
     threads = [
-        threading.Thread(target=work, daemon=True, args=(it, f"{client}.{at}", f"{seed} {at}", float(pause), workload))
+        threading.Thread(target=work, daemon=True, args=(it, f"{client}.{at}", f"{seed} {at}", float(pause), workload, took[at]))
         for at, it in enumerate(made)
     ]
     print("begun", flush=True)
@@ -116,6 +127,7 @@ def main():
         break
     os._exit(0) if where == "leaves without a word" else None
     audit.leave()
+    print("longest", max(it for (it,) in took), flush=True)
     os._exit(0)
 
 

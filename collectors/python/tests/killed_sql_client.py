@@ -1,5 +1,5 @@
 """A process of an application with SQL of its own that is killed where it is told: run by
-test_sql_killed.py."""
+test_sql_killed.py, and by test_psycopg3_killed.py over the other driver."""
 import logging
 import os
 import random
@@ -14,7 +14,18 @@ logging.getLogger("zanteyard").setLevel(logging.CRITICAL)
 import psycopg2  # noqa: E402
 
 from zanteyard import AuditClient  # noqa: E402
-from zanteyard.postgres_sql import audited  # noqa: E402
+
+IS_NEW = os.environ.get("ZANTEYARD_DRIVER") == "psycopg3"
+if IS_NEW:
+    import psycopg  # noqa: E402
+
+    from zanteyard.psycopg3_sql import audited  # noqa: E402
+
+    ERROR = psycopg.Error
+else:
+    from zanteyard.postgres_sql import audited  # noqa: E402
+
+    ERROR = psycopg2.Error
 
 # What makes a transaction unclear, in place of its last statement.
 UNCLEAR = {
@@ -87,7 +98,7 @@ def work(connection, client, chance, kind, dying, pause, ends):
             if is_unclear and dying.comes("soon"):
                 time.sleep(0.06 * chance.random())
                 die()
-        except psycopg2.Error:
+        except ERROR:
             connection.rollback()
         time.sleep(chance.random() * pause)
 
@@ -96,15 +107,19 @@ def main():
     _, _, path, dsn, client, where, kind, pause = sys.argv
     audit, dying = AuditClient(path), Dying(where)
     factory = audited(audit, ["t", "rows"], unaudited="run", wait=20.0)
-    connection = psycopg2.connect(dsn, connection_factory=factory)
-    connection.set_session(isolation_level="serializable")
+    if IS_NEW:
+        connection = factory.connect(dsn)
+        connection.isolation_level = psycopg.IsolationLevel.SERIALIZABLE
+    else:
+        connection = psycopg2.connect(dsn, connection_factory=factory)
+        connection.set_session(isolation_level="serializable")
     dying.beset(connection)
     chance = random.Random(client)
     ends = threading.Event()
     arguments = (connection, client, chance, kind, dying, float(pause), ends)
     thread = threading.Thread(target=work, args=arguments, daemon=True)
+    print("begun", flush=True)  # before it may be killed
     thread.start()
-    print("begun", flush=True)
     for _ in sys.stdin:
         break
     ends.set()

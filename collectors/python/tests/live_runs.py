@@ -17,7 +17,7 @@ from zanteyard.programs import live_path
 
 sys.path.insert(0, os.path.join(os.path.dirname(os.path.abspath(__file__)), "../../../bench"))
 from fuzz_lines import Store, compact  # noqa: E402
-from judge import Model, NAMES, command_of, text, txn_of  # noqa: E402
+from judge import Model, NAMES, command_of, fragment_fault, text, txn_of  # noqa: E402
 from plain_verdicts import (  # noqa: E402
     NO, SPENT, YES, Parts, Relation, Wrong, cut_of, has_order, scan,
 )
@@ -67,18 +67,20 @@ class Live:
 
 def generated(dice):
     """The lines of a run, in chunks: what a small store has executed, each session's fragments in
-    their order and the sessions in any; some once more or too early; closes, and lines that are
-    none."""
+    their order and the sessions in any; some once more or too early; sessions that join; closes,
+    and lines that are none."""
     sessions = dice.choice((1, 2, 2, 3, 3, 4))
     limit = dice.choice((12, 30, 4096, 4096, 4096))
     effort = [dice.choice((1, 64, 4096, 4096, 65536)), dice.choice((0, 0, 2)), dice.choice((1, 2))]
     store = Store(dice, sessions)
     chunks = [[compact(["open", sessions, limit, *effort])]]
     sent = [0] * sessions
+    joins = dice.choice((0.0, 0.0, 0.5))
     for _ in range(dice.randrange(1, 9)):
+        chunk = joining(dice, store, sent) if dice.random() < joins else []
+        sessions = len(sent)
         for _ in range(dice.randrange(6)):
             store.execute()
-        chunk = []
         for session in dice.sample(range(sessions), sessions):
             chunk += offers(dice, store, session, sent)
         chunk += odd_lines(dice, sessions, sent)
@@ -88,6 +90,20 @@ def generated(dice):
     if dice.random() < 0.5:
         chunks.append([compact(["close", session]) for session in range(sessions)])
     return chunks
+
+
+def joining(dice, store, sent):
+    """A session that joins with a fence that reads from the last one; or one that may not."""
+    session, fence = len(sent), store.last.get(0)
+    if fence is None or dice.random() < 0.2:
+        return [compact(["join", session, *dice.choice(([], [0], [1])), [[[], [5]]]])]
+    store.last[0] = session, 0
+    store.writers[0].append((session, 0))
+    store.sessions += 1
+    store.waiting.append([[[[0, *fence]], [0]]])
+    store.first.append(0)
+    sent.append(1)
+    return [compact(["join", session, store.waiting[session]])]
 
 
 def offers(dice, store, session, sent):
@@ -115,12 +131,21 @@ def odd_lines(dice, sessions, sent):
 
 def run(chunks, pause):
     """What the program tells of these lines, with its status and its words; between two chunks it
-    is given a while, `pause()` seconds."""
+    is given a while, `pause()` seconds, and longer before a join, which may meet no open round."""
     live = Live()
     for chunk in chunks:
+        if chunk and chunk[0].startswith(b'["join"'):
+            time.sleep(0.1)
         live.give(*chunk)
         time.sleep(pause())
     return live.end()
+
+
+def about_of(command):
+    """What an answer to the command names: its session, and the first number that it brings."""
+    if command[0] == "close":
+        return [command[1], None]
+    return [command[1], command[2] if len(command) == 4 else 0]
 
 
 def verdict_of(history, counts):
@@ -135,6 +160,16 @@ def verdict_of(history, counts):
     if found is None:
         return None
     return "violated" if not found else "pending" if parts.has_pending() else "serial"
+
+
+def met_round(command):
+    """What is told of a join that is right by itself and meets an open round."""
+    if command is None or command[0] != "join":
+        return None
+    about = about_of(command)
+    if fragment_fault(*about, list(map(txn_of, command[-1]))):
+        return None
+    return ["refused", *about, 10, NAMES[10]]
 
 
 class Judge:
@@ -180,22 +215,27 @@ class Judge:
         if self.next == len(self.lines):
             raise Wrong(f"{told} is about no line")
         line, self.next = self.lines[self.next], self.next + 1
-        owed = self.owed_to(line)
-        if told != owed:
-            raise Wrong(f"owed is {owed}, told is {told}")
+        command = command_of(line)
+        if told != met_round(command):
+            owed = self.owed_to(command)
+            if told != owed:
+                raise Wrong(f"owed is {owed}, told is {told}")
+            if owed[0] == "accepted" and command[0] == "join":
+                self.begin_anew()  # no round was open
         self.states.append((self.counts(), self.model.parts.copy()))
 
-    def owed_to(self, line):
-        command = command_of(line)
-        if command is None or command[0] not in ("offer", "close"):
+    def owed_to(self, command):
+        if command is None or command[0] not in ("offer", "join", "close"):
             return ["badline", self.next]
-        about = command[1:3] if command[0] == "offer" else [command[1], None]
+        about = about_of(command)
         reply = json.loads(getattr(self.model, command[0])(*command[1:]))
         if reply[0] == "no":
             return ["refused", *about, reply[1], NAMES[reply[1]]]
         if command[0] == "close":
             return ["closed", command[1]]
-        self.history[command[1]] += map(txn_of, command[3])
+        if command[1] == len(self.history):
+            self.history.append([])  # a session has joined
+        self.history[command[1]] += map(txn_of, command[-1])
         return ["accepted", *about]
 
     def take_report(self, told):

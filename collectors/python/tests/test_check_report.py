@@ -17,7 +17,9 @@ from .mutated_replies import mutations
 
 PLAIN = os.path.join(os.path.dirname(__file__), "../../../examples/check_reports.py")
 DATA = os.path.join(os.path.dirname(__file__), "../../../crates/cobra_examples/data")
-SCRIPTS = sorted(glob.glob(os.path.join(DATA, "*.jsonl")))
+RESUMED = os.path.join(DATA, "resumed.jsonl")
+SCRIPTS = [path for path in sorted(glob.glob(os.path.join(DATA, "*.jsonl")))
+           if "resumed" not in os.path.basename(path)]
 
 
 def lines_of(path):
@@ -25,11 +27,15 @@ def lines_of(path):
         return file.read().splitlines()
 
 
-def status_of(script, replies):
-    """How the checker ends over these lines."""
+def checked(script, replies):
+    """The checker's run over these lines."""
     turns = b"".join(b"%s\n%s\n" % both for both in zip(script, replies))
-    ended = subprocess.run([checker_path()], input=turns, stdout=subprocess.PIPE)
-    return ended.returncode
+    return subprocess.run([checker_path()], input=turns, stdout=subprocess.PIPE)
+
+
+def status_of(script, replies):
+    """How it ends."""
+    return checked(script, replies).returncode
 
 
 def changes(reply):
@@ -73,6 +79,14 @@ class StoredReplies(unittest.TestCase):
             with self.subTest(os.path.basename(path)):
                 replies = lines_of(path[: -len("jsonl")] + "replies")
                 self.assertEqual(status_of(lines_of(path), replies), 0)
+
+    def test_a_script_that_resumes_another_is_refused(self):
+        script, replies = lines_of(RESUMED), lines_of(RESUMED[: -len("jsonl")] + "replies")
+        ended = checked(script, replies)
+        self.assertEqual(ended.returncode, 3)
+        self.assertIn(b"reply 2 wrong: its script resumes another, and what had gone before isn't",
+                      ended.stdout)
+        self.assertTrue(plainly_right(plain_checker(), script, replies))
 
     def test_changed_replies_are_wrong(self):
         for name in ("three_rounds", "lost_update", "first_cut"):

@@ -14,7 +14,7 @@ sys.path.append(os.path.join(TOP, "bench"))
 import failing_devices  # noqa: E402
 import refused_memory  # noqa: E402
 
-REFUSALS = 40  # of each script, spread over all allocations that the program makes for it
+REFUSALS = 15  # of each script, spread over all allocations that the program makes for it
 
 
 @unittest.skipUnless(os.path.isfile(PROGRAM), f"{PROGRAM} is not built")

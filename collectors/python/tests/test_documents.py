@@ -24,11 +24,14 @@ ELSEWHERE = {
     r"venv/bin/.*": "test_package",
     r"\./test\.sh": "the gate, which has called this",
     r"rt .*": "the gate, which runs the same program on the same script",
+    r"python3 examples/journal\.py .*": "test_restarting, over an auditor that knows save",
+    r"zanteyard journal .*": "test_restarting, too",
+    r"zanteyard serve .*": "test_serving and test_machines, over folders and a Redis of their own",
     r"zanteyard audit postgres .*": "test_commands, with less time",
     r"zanteyard audit (mariadb|redis|sqlite) .*": "test_stores, with less time",
     r"/usr/bin/python3 examples/store_faults\.py .*": "test_stores, which compares the tables",
-    r"/usr/bin/python3 examples/bank\.py .*": "test_sql_bank, with less time",
-    r"/usr/bin/python3 examples/postgres_\w+\.py .*": "test.sh and test_examples, with less time",
+    r"/usr/bin/python3 examples/bank(_orm)?\.py .*": "test_sql_bank, with less time",
+    r"/usr/bin/python3 examples/postgres_\w+\.py .*": "test_postgres_live and test_examples, with less time",
 }
 
 
@@ -174,7 +177,7 @@ class Shown(unittest.TestCase):
     def test_tables_of_lines_and_replies(self):
         for name in DOCUMENTS:
             rows = re.findall(r"^\| `(\[.*\])` \| `(\[.*\])` \|$", text_of(name), re.MULTILINE)
-            begins = [at for at, row in enumerate(rows) if row[0].startswith('["open"')]
+            begins = [at for at, (line, _) in enumerate(rows) if line.startswith(('["open"', '["resume"'))]
             for start, end in zip(begins, [*begins[1:], len(rows)]):
                 with self.subTest(document=name, script=rows[start]):
                     lines, wanted = zip(*rows[start:end])

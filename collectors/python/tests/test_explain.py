@@ -74,8 +74,8 @@ class Explaining(unittest.TestCase):
         )
 
     def test_a_long_statement_is_cut(self):
-        line = list(words([[Logged((), ("x",), "committed", ((("x",), "y" * 241),))]]))[1]
-        self.assertEqual(line, f"    wrote x: {'y' * 240} ..")
+        line = list(words([[Logged((), ("x",), "committed", ((("x",), "y" * 301),))]]))[1]
+        self.assertEqual(line, f"    wrote x: {'y' * 150} .. {'y' * 150}")
 
 
 if __name__ == "__main__":

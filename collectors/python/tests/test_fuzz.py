@@ -16,8 +16,8 @@ sys.path.append(os.path.join(TOP, "bench"))
 import fuzz  # noqa: E402
 import judge  # noqa: E402
 
-LINES, SECONDS = 40000, 40.0  # what is tried, at most
-SEED = 1
+LINES, SECONDS = 15000, 15.0  # what is tried, at most; bench/fuzz.py tries more
+SEED = 3
 FOUND = 1500  # lines within which each lie is found
 LEFT = 3  # lines, at most, that the script of a lie is made small to
 

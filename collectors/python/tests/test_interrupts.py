@@ -8,7 +8,7 @@ import unittest
 
 from zanteyard import AuditLostError, Auditor, AuditorApart, Report, Session
 from zanteyard.auditor import PROGRAM
-from zanteyard.errors import ProgramEndedError
+from zanteyard.errors import ProgramEndedError, ProgramUnreachableError
 from zanteyard.memory_store import MemoryStore
 
 from .test_live import add_one, set_to
@@ -50,7 +50,7 @@ class Interrupted:
             call()
         except BaseException as error:
             sys.settrace(None)
-            if type(error) not in (self.kind, ProgramEndedError, AuditLostError):
+            if type(error) not in (self.kind, ProgramEndedError, ProgramUnreachableError, AuditLostError):
                 raise
         finally:
             sys.settrace(None)

@@ -1,5 +1,6 @@
 """Clients' processes that are killed, over PostgreSQL and SQLite: the audit goes on, each commit is
 in the log once, and its verdict is the log's."""
+import itertools
 import json
 import logging
 import os
@@ -19,6 +20,8 @@ from zanteyard.auditor import PROGRAM, is_own
 from zanteyard.cluster import Cluster, program
 from zanteyard.workloads import Nothing
 
+from .plain_sql import run_sql
+
 try:
     import psycopg2
 
@@ -29,7 +32,8 @@ except ImportError:
 
 PLACE = os.path.join(os.path.dirname(os.path.abspath(__file__)), "..")
 CLIENT = os.path.join(PLACE, "tests", "killed_client.py")
-SOON = 60.0  # seconds, where other programs have the processors
+SOON = 120.0  # seconds, where other programs have the processors
+TOGETHER = 3  # clients that are killed in one audit
 SEED = int(os.environ.get("ZANTEYARD_SEED", "1"))
 
 
@@ -157,16 +161,22 @@ class Killed(unittest.TestCase):
         *("before its commit", "behind its commit", "before its take", "behind its take"),
     )
 
+    def killed_at(self, places, left, **more):
+        """Clients that have come to these places, beside two that stay, in one audit."""
+        self.setUp()
+        self.audit(**more)
+        others = [self.client() for _ in range(2)]
+        killed = [self.client(where, count, 0.0) for where, count in zip(places, left)]
+        self.begun(*others, *killed)
+        for client in killed:
+            client.wait(SOON)
+            self.assertEqual(client.returncode, -signal.SIGKILL)
+
     def test_at_each_place_of_a_transaction(self):
-        for at, where in enumerate(self.PLACES):
-            with self.subTest(where=where):
-                self.setUp()
-                self.audit()
-                others = [self.client() for _ in range(2)]
-                killed = self.client(where, 5 + 3 * at, 0.0)
-                self.begun(*others, killed)
-                killed.wait(SOON)
-                self.assertEqual(killed.returncode, -signal.SIGKILL)
+        for at in range(0, len(self.PLACES), TOGETHER):
+            places = self.PLACES[at : at + TOGETHER]
+            with self.subTest(where=places):
+                self.killed_at(places, itertools.count(5 + 3 * at, 3))
                 done = self.live.handed_in
                 self.wait_for(lambda: self.live.handed_in > done + 20)
                 self.ended()
@@ -176,12 +186,7 @@ class Killed(unittest.TestCase):
     def test_in_meetings(self):
         for at, where in enumerate(self.MEETING):
             with self.subTest(where=where):
-                self.setUp()
-                self.audit(every=60)
-                others = [self.client(pause=0.005) for _ in range(2)]
-                killed = self.client(where, at % 4, 0.0)
-                self.begun(*others, killed)
-                killed.wait(SOON)
+                self.killed_at([where], [at % 4], every=60)
                 cuts, meetings = self.live.cuts, self.live.meetings
                 self.wait_for(lambda: self.live.meetings > meetings + 2)
                 self.wait_for(lambda: self.live.cuts > cuts)
@@ -192,7 +197,7 @@ class Killed(unittest.TestCase):
         self.audit(24, every=150)
         stays = [self.client(pause=0.01) for _ in range(2)]
         self.begun(*stays)
-        for _ in range(4):
+        for _ in range(3):
             doomed = [self.client(pause=0.003, workload=chance.choice(("counter", "mixed")), sessions=2) for _ in range(3)]
             self.begun(*doomed)
             time.sleep(0.3 + chance.random() * 0.3)
@@ -233,14 +238,7 @@ class KilledOverPostgres(Killed):
         prepare(self.dsn)
 
     def run_sql(self, text):
-        connection = psycopg2.connect(self.cluster.dsn)
-        connection.autocommit = True
-        try:
-            cursor = connection.cursor()
-            cursor.execute(text)
-            return cursor.fetchall() if cursor.description else None
-        finally:
-            connection.close()
+        return run_sql(self.cluster.dsn, text)
 
     def rows(self):
         return self.run_sql("SELECT key, run, session, number FROM zanteyard")

@@ -20,7 +20,7 @@ from zanteyard.programs import live_path
 from .live_runs import SECONDS, Live, Wrong, generated, judge, run
 
 OPEN = b'["open",2,64,4096,0,1]'
-RUNS, AT_ONCE = 300, 8
+RUNS, AT_ONCE = int(os.environ.get("ZANTEYARD_RUNS", "150")), 8
 FORMATS = os.path.join(os.path.dirname(os.path.abspath(__file__)), "../../../docs/FORMATS.md")
 WRITE, READ = b'["offer",0,0,[[[],[5]]]]', b'["offer",1,0,[[[[5,0,0]],[]]]]'
 END = b'["end"]\n'
@@ -81,8 +81,11 @@ class Lines(unittest.TestCase):
         lines = [OPEN, WRITE, READ, b"nonsense", b'["close",1]', b'["close",1]']
         told = given(*lines).stdout.splitlines(keepends=True)
         judge(lines, b"".join(told))
+        reports = [line for line in told if line.startswith(b'["report"')]
         for at, line in enumerate(told):
             for lie in (b"", line + line, line.replace(b"0", b"1"), line.replace(b"1", b"0")):
+                if lie == b"" and line in reports[1:]:
+                    continue  # whether a close finds a round under way is nobody's promise
                 if lie != line:
                     with self.subTest(line=line, lie=lie):
                         with self.assertRaises((Wrong, ValueError)):

@@ -16,7 +16,7 @@ from zanteyard.auditor import FENCE, PROGRAM
 from zanteyard.backlog import Backlog
 from zanteyard.errors import AuditLostError
 from zanteyard.handover import Handover
-from zanteyard.killed import NOTHING, Killed, LostError
+from zanteyard.killed import NOTHING, Killed, LostError, in_files
 from zanteyard.memory_store import MemoryStore
 from zanteyard.notes import FORKED, HEAD, ROOM, Notes, notes_of
 from zanteyard.records import as_bytes, unpacked
@@ -103,7 +103,7 @@ class Noted(unittest.TestCase):
         if come:
             backlog.count(0, come - 1)
         place = place or Place(0)
-        return [*Killed({self.path: None}, "run", backlog).told(place)], place
+        return [*Killed(in_files({self.path: None}), "run", backlog).told(place)], place
 
     def before(self, number, logged=DID, **more):
         self.notes.write(0, number, None, as_bytes(logged), None, True)
@@ -156,7 +156,7 @@ class Noted(unittest.TestCase):
             self.told()
         self.notes.remove()
         with self.assertRaises(LostError):
-            Killed({self.path: None}, "run", Backlog(8))
+            in_files({self.path: None})
 
     UNCLEAR = "a statement of it isn't understood"
 
@@ -356,7 +356,7 @@ os.kill(os.getpid(), signal.SIGKILL)
 
     def test_who_forks_is_marked_and_who_starts_a_program_is_not(self):
         _, _, client = self.audited()
-        mark = f"{client._notes_path}{FORKED}"
+        mark = f"{client._door._notes_path}{FORKED}"
         subprocess.run([sys.executable, "-c", ""], check=True)
         self.assertFalse(os.path.exists(mark))
         child = os.fork()
@@ -389,7 +389,7 @@ os.kill(os.getpid(), signal.SIGKILL)
         session, idle = (client.session(MemoryStore().connect()) for _ in range(2))
         session.run(add_one("x"))
         notes = session.notes
-        with mock.patch("zanteyard.client_process.ENDING", 0.1):
+        with mock.patch("zanteyard.socket_process.ENDING", 0.1):
             server._processes[0].messages._hang_up()
             self.wait_for(lambda: client.is_over and not os.listdir(server.notes))
             self.wait_for(lambda: not any(os.fstat(half.file).st_blocks for half in idle.notes.halves))

@@ -354,15 +354,15 @@ class Postgres(unittest.TestCase):
                 self.assertEqual(self.kind(), wanted)
 
     def took(self, seconds, error, call):
-        """At least one of three tries fails so in so many seconds, and half a second more: beside
-        other programs the others may take longer."""
+        """At least one of three tries fails so in so many seconds, and a little more: beside other
+        programs the others may take longer."""
         least = float("inf")
         for _ in range(3):
             began = time.monotonic()
             with self.assertRaises(error):
                 call()
             least = min(least, time.monotonic() - began)
-        self.assertLess(least, seconds + 0.5)
+        self.assertLess(least, seconds + 2.0)
 
     def test_a_server_that_stands_still_is_waited_for_no_longer_than_was_said(self):
         """It takes connections, and answers nothing to them; those of before go on."""

@@ -16,7 +16,39 @@ from .test_live import add_one
 PLACE = os.path.join(os.path.dirname(os.path.abspath(__file__)), "..")
 
 
-class Elsewhere(test_live.Meetings):
+class TwoProcesses:
+    """What two processes of clients do, however they reach the auditor's."""
+
+    def test_two_processes_meet(self):
+        live, store, other = self.live(4), MemoryStore(), self.another()
+        a, b, c, d = (each.session(store.connect()) for each in (self.client, self.client, other, other))
+        for turn in range(4):
+            for _ in range(5):
+                for session in (a, b, c, d):
+                    session.run(add_one("x"))
+            self.wait_for(lambda: live.cuts > turn)
+        other.leave()
+        self.assertEqual(self.ended(live).kind, "serial")
+        self.assertEqual(live.taken_in, sum(session.begun for session in (a, b, c, d)))
+
+    def test_who_leaves_leaves_its_sessions_to_others(self):
+        live, store, other = self.live(2, every=4), MemoryStore(), self.another()
+        a, b = self.client.session(store.connect()), other.session(store.connect())
+        for session in (a, b):
+            session.run(add_one("x"))
+        with self.assertRaisesRegex(ValueError, "no session is left"):
+            self.client.session(store.connect())
+        other.leave()
+        self.wait_for(live._places.numbers)
+        again = self.client.session(store.connect())
+        self.assertEqual((again.number, again.begun), (b.number, b.begun))
+        for session in (a, again, a, again):
+            session.run(add_one("x"))
+        self.wait_for(lambda: live.cuts)
+        self.assertEqual(self.ended(live).kind, "serial")
+
+
+class Elsewhere(TwoProcesses, test_live.Meetings):
     """All that meetings do over sessions of this process, over sessions that are behind a socket."""
 
     def live(self, sessions, *arguments, **more):
@@ -53,34 +85,6 @@ class Elsewhere(test_live.Meetings):
             began = time.monotonic()
             self.assertIsNone(client._requests.ask("join", False, seconds=0.1))
             self.assertLess(time.monotonic() - began, 10)
-
-    def test_two_processes_meet(self):
-        live, store, other = self.live(4), MemoryStore(), self.another()
-        a, b, c, d = (each.session(store.connect()) for each in (self.client, self.client, other, other))
-        for turn in range(4):
-            for _ in range(5):
-                for session in (a, b, c, d):
-                    session.run(add_one("x"))
-            self.wait_for(lambda: live.cuts > turn)
-        other.leave()
-        self.assertEqual(self.ended(live).kind, "serial")
-        self.assertEqual(live.taken_in, sum(session.begun for session in (a, b, c, d)))
-
-    def test_who_leaves_leaves_its_sessions_to_others(self):
-        live, store, other = self.live(2, every=4), MemoryStore(), self.another()
-        a, b = self.client.session(store.connect()), other.session(store.connect())
-        for session in (a, b):
-            session.run(add_one("x"))
-        with self.assertRaisesRegex(ValueError, "no session is left"):
-            self.client.session(store.connect())
-        other.leave()
-        self.wait_for(live._places.numbers)
-        again = self.client.session(store.connect())
-        self.assertEqual((again.number, again.begun), (b.number, b.begun))
-        for session in (a, again, a, again):
-            session.run(add_one("x"))
-        self.wait_for(lambda: live.cuts)
-        self.assertEqual(self.ended(live).kind, "serial")
 
     def test_a_process_that_is_lost_ends_the_audit_of_all_that_came(self):
         live, store, other = self.live(2, every=1000), MemoryStore(), self.another()

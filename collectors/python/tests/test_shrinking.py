@@ -10,11 +10,11 @@ from zanteyard import Aborted, Logged, Session, audited, dot_text, shrinking, sm
 from zanteyard.auditor import PROGRAM
 from zanteyard.explain import explain_history
 from zanteyard.memory_store import MemoryStore
-from zanteyard.shrinking import Part, named, refuted
+from zanteyard.shrinking import Part, named, refuted, statements_of
 
 from .test_examples import EXAMPLES
 
-MOST = 4096  # transactions
+FEW, MOST = 1024, 4096  # transactions
 SECONDS = 5.0
 SLOW = 6.0  # times as long, where other programs have the processors
 
@@ -76,9 +76,9 @@ class Shrinking(unittest.TestCase):
     def test_each_workload_and_level_in_time(self):
         for name, workload in workloads().items():
             for fault in ("write-skew", "lost-update"):  # as at repeatable read, and at read committed
-                for honest in (0, MOST - 96):
+                for honest, count in ((0, FEW), (MOST - 96, MOST))[: 1 + (name == "mixed")]:
                     with self.subTest(workload=name, fault=fault, honest=honest):
-                        history = history_of(workload, fault, honest)
+                        history = history_of(workload, fault, honest, count)
                         owed = "violated" if (fault, name) in self.OWED else "serial"
                         self.assertEqual(audited(history)[0].kind, owed)
                         if owed == "violated":
@@ -171,6 +171,14 @@ class Shrinking(unittest.TestCase):
         tell_violation([[lost], [lost]], "/nowhere/violation", tell=told.append)
         self.assertEqual(told[0].split(":")[0], "violated")
         self.assertEqual([line.split(":")[0] for line in told[-2:]], ["(/nowhere/violation can't be written"] * 2)
+
+    def test_a_long_statement_is_told_with_its_place(self):
+        place = "/a/long/way" * 8 + "/bank.py:104"
+        did = (("x",), "UPDATE t SET x = 1 " + "y" * 400 + f" -- {place}")
+        (line,) = statements_of(Logged((), ("x",), "committed", (did,)))
+        self.assertTrue(line.startswith("wrote x: UPDATE t SET x = 1 y"), line)
+        self.assertTrue(line.endswith(f" -- {place}"), line)
+        self.assertLess(len(line), 320)
 
     def test_the_names_of_a_refutation(self):
         report = audited([[Logged((("x", "init"),), ("x",))], [Logged((("x", "init"),), ("x",))]])[0]

@@ -40,7 +40,7 @@ INSERT INTO hall.seats VALUES ('a', 1, 'x'), ('a ', 1, 'y'), ('it''', 9000000000
 INSERT INTO "Odd % one" VALUES ('6f1e0c7e-0000-4000-8000-000000000001', 1, 2, 'three');
 """
 ENDED = "SELECT pg_terminate_backend(pid, 5000) FROM pg_stat_activity WHERE datname = %s"
-EMPTIED = """DROP SCHEMA IF EXISTS hall CASCADE; DROP SCHEMA public CASCADE; CREATE SCHEMA public;
+EMPTIED = """DROP SCHEMA IF EXISTS hall, "Hall" CASCADE; DROP SCHEMA public CASCADE; CREATE SCHEMA public;
     GRANT USAGE ON SCHEMA public TO public"""
 NAMES = ("accounts", "hall.seats", '"Odd % one"')
 

@@ -11,7 +11,7 @@ import subprocess
 import sys
 import time
 import unittest
-from typing import Any, Dict, Set, Tuple
+from typing import Any, Dict, Iterable, List, Sequence, Set, Tuple
 
 from zanteyard import AuditorApart, AuditServer, LiveAuditor, Policy
 from zanteyard.own_folder import OwnFolder
@@ -25,7 +25,7 @@ from tests.test_sql import LACKING, OverAServer
 
 PLACE = os.path.join(os.path.dirname(os.path.abspath(__file__)), "..")
 CLIENT = os.path.join(PLACE, "tests", "killed_sql_client.py")
-SOON = 60.0  # seconds, where other programs have the processors
+SOON = 120.0  # seconds, where other programs have the processors
 SCHEMA = """CREATE TABLE t (id int PRIMARY KEY, v int); CREATE TABLE rows (id text PRIMARY KEY);
 INSERT INTO t VALUES (1, 0), (2, 0), (3, 0)"""
 PLACES = (
@@ -33,10 +33,27 @@ PLACES = (
     *("behind a note", "before its commit", "in its commit", "behind its commit"),
     *("before its take", "behind its take"),
 )
-SENT = PLACES.index("in its commit")  # from here on the commit was sent
+BEFORE = PLACES[: PLACES.index("in its commit")]  # where no commit was sent
+TOGETHER = 5  # that are killed in one audit
+TRIES = 8  # to have a commit that the store doesn't abort
+
+
+def named(places: Iterable[str]) -> Iterable[Tuple[str, str]]:
+    """Each behind a name of its own."""
+    return ((str(number), where) for number, where in enumerate(places, 2))
+
+
+def is_right(where: str, is_there: bool) -> bool:
+    """Whether the last transaction of one that was killed there may be in the store, or not: of what
+    was sent, and of what is handed over, the store may have aborted it."""
+    if where in BEFORE:
+        return not is_there
+    return is_there or where != "behind its commit"
 
 
 class KilledSql(OverAServer):
+    driver = "psycopg2"
+
     def setUp(self) -> None:
         super().setUp()
         logging.getLogger("zanteyard").setLevel(logging.CRITICAL)
@@ -48,18 +65,37 @@ class KilledSql(OverAServer):
             time.sleep(0.01)
         self.assertTrue(condition())
 
-    def ran(self, where: str, kind: str = "-", name: str = "2", every: int = 200) -> Any:
-        """One that is killed there beside one that stays: the outcome, and of the killed one's last
-        transaction, which comes behind four, whether it is in the store."""
+    def ran(self, where: str, kind: str = "-", name: str = "2") -> Any:
+        """One that is killed there: the outcome, and whether its last transaction is in the
+        store."""
+        outcome, there = self.killed({name: where}, kind)
+        return outcome, name in there
+
+    def ran_until_committed(self, where: str, kind: str, name: str = "2") -> Any:
+        """The store may abort what was sent to be committed beside others: then once more."""
+        for _ in range(TRIES):
+            outcome, is_there = self.ran(where, kind, name)
+            if is_there:
+                break
+            self.assertEqual(outcome.kind, "serial", str(outcome))
+        return outcome, is_there
+
+    def killed(self, places: Dict[str, str], kind: str = "-", every: int = 200) -> Any:
+        """Clients of these names that are killed at these places, in one audit, beside one that
+        stays: the outcome, and those of which the last transaction, which comes behind four, is in
+        the store."""
         place = self.database(SCHEMA, ["t", "rows"])
-        with AuditorApart(4) as auditor, OwnFolder() as folder:
+        with AuditorApart(len(places) + 3) as auditor, OwnFolder() as folder:
             policy = Policy(30.0, begins_anew=False)
             live = LiveAuditor(auditor, every=every, seconds=0.3, policy=policy)
             with AuditServer(live, f"{folder}/audit") as server:
-                stays = self.client(server.path, place, "1", "-", "-", "0.01")
-                killed = self.client(server.path, place, name, where, kind, "0.0")
-                killed.wait(SOON)
-                self.assertEqual(killed.returncode, -signal.SIGKILL)
+                stays, *doomed = self.clients(
+                    (server.path, place, "1", "-", "-", "0.01"),
+                    *((server.path, place, *each, kind, "0.0") for each in places.items()),
+                )
+                for client in doomed:
+                    client.wait(SOON)
+                    self.assertEqual(client.returncode, -signal.SIGKILL)
                 done = live.handed_in
                 self.wait_for(lambda: live.is_over or live.handed_in > done + 20)
                 stays.stdin.write("\n")
@@ -70,16 +106,25 @@ class KilledSql(OverAServer):
             if outcome.kind == "serial":
                 self.each_commit_is_in_the_log(place, auditor)
         rows = [it.split(".") for it in self.rows(place)]
-        return outcome, any(it[0] == name and int(it[1]) > 4 for it in rows)
+        return outcome, {name for name, count in rows if name in places and int(count) > 4}
+
+    def clients(self, *each: Sequence[str]) -> List[Any]:
+        """Processes that have begun, side by side."""
+        begun = [self.client(*arguments) for arguments in each]
+        for client in begun:
+            self.assertEqual(client.stdout.readline(), "begun\n")
+        return begun
 
     def client(self, *arguments: str) -> Any:
         pipes = {"stdin": subprocess.PIPE, "stdout": subprocess.PIPE, "text": True}
-        client: Any = subprocess.Popen([sys.executable, CLIENT, PLACE, *arguments], **pipes)
+        environment = {**os.environ, "ZANTEYARD_DRIVER": self.driver}
+        client: Any = subprocess.Popen(
+            [sys.executable, CLIENT, PLACE, *arguments], env=environment, **pipes
+        )
         self.addCleanup(client.stdin.close)
         self.addCleanup(client.stdout.close)
         self.addCleanup(client.wait)
         self.addCleanup(client.kill)
-        self.assertEqual(client.stdout.readline(), "begun\n")
         return client
 
     def asked(self, place: str, text: str) -> Any:
@@ -116,30 +161,28 @@ class KilledSql(OverAServer):
 @unittest.skipIf(LACKING, f"not installed or not built: {', '.join(LACKING)}")
 class Clear(KilledSql):
     def test_at_each_place_of_a_transaction(self) -> None:
-        for at, where in enumerate(PLACES):
-            with self.subTest(where=where):
-                outcome, is_there = self.ran(where)
+        for at in range(0, len(PLACES), TOGETHER):
+            places = dict(named(PLACES[at : at + TOGETHER]))
+            with self.subTest(where=places):
+                outcome, there = self.killed(places)
                 self.assertEqual(outcome.kind, "serial", str(outcome))
-                if not where.endswith("take"):  # which may be of one that the store has aborted
-                    self.assertEqual(is_there, at >= SENT)
+                for name, where in places.items():
+                    self.assertTrue(is_right(where, name in there), where)
 
     def test_in_meetings(self) -> None:
-        for where in ("before its exchange", "behind its exchange", "behind a write_mark"):
-            with self.subTest(where=where):
-                outcome, _ = self.ran(where, every=60)
-                self.assertEqual(outcome.kind, "serial", str(outcome))
+        places = ("before its exchange", "behind its exchange", "behind a write_mark")
+        outcome, _ = self.killed(dict(named(places)), every=60)
+        self.assertEqual(outcome.kind, "serial", str(outcome))
 
 
 @unittest.skipIf(LACKING, f"not installed or not built: {', '.join(LACKING)}")
 class Unclear(KilledSql):
     def test_where_it_was_never_committed_nothing_is_unclear(self) -> None:
-        for where in ("in its transaction", "before a note", "behind a note", "before its commit"):
-            for kind in ("reads unaudited", "writes unaudited alone"):
-                if kind.endswith("alone") and not where.startswith("behind"):
-                    continue
-                with self.subTest(where=where, kind=kind):
-                    outcome, is_there = self.ran(where, kind)
-                    self.assertEqual((outcome.kind, is_there), ("serial", False), str(outcome))
+        places = ("in its transaction", "before a note", "behind a note", "before its commit")
+        for kind, those in (("reads unaudited", places), ("writes unaudited alone", places[2:3])):
+            with self.subTest(kind=kind):
+                outcome, there = self.killed(dict(named(those)), kind)
+                self.assertEqual((outcome.kind, there), ("serial", set()), str(outcome))
 
     def test_where_it_was_the_audit_says_so(self) -> None:
         for where in ("in its commit", "behind its commit", "before a miss", "behind a miss"):
@@ -147,7 +190,7 @@ class Unclear(KilledSql):
                 if kind == "reads unaudited" and where.endswith("a miss"):
                     continue
                 with self.subTest(where=where, kind=kind):
-                    outcome, is_there = self.ran(where, kind)
+                    outcome, is_there = self.ran_until_committed(where, kind)
                     self.assertEqual((outcome.kind, is_there), ("incomplete", True), str(outcome))
                     self.assertIn("a statement was run unaudited", str(outcome.failure))
 
@@ -174,10 +217,11 @@ class AtAnyTime(KilledSql):
             policy = Policy(30.0, begins_anew=False)
             live = LiveAuditor(auditor, every=150, seconds=0.3, policy=policy)
             with AuditServer(live, f"{folder}/audit") as server:
-                stays = self.client(server.path, place, "1", "-", "-", "0.01")
-                for at in range(4):
-                    doomed = [self.client(server.path, place, f"2{at}{it}", "-", "-", "0.003")
-                              for it in range(3)]
+                (stays,) = self.clients((server.path, place, "1", "-", "-", "0.01"))
+                for at in range(3):
+                    doomed = self.clients(
+                        *((server.path, place, f"2{at}{it}", "-", "-", "0.003") for it in range(3))
+                    )
                     time.sleep(0.3 + 0.3 * chance.random())
                     for client in doomed:
                         client.kill()

@@ -50,6 +50,23 @@ STATEMENTS = (
     ("INSERT INTO p VALUES (%s, %s, %s)", "kii"),
     ("INSERT INTO c (t) VALUES (%s) RETURNING id", "i"),
     ("UPDATE p SET v = %s WHERE x = %s AND y = %s", "iki"),
+    ("SELECT v, id FROM t WHERE id IN (%s, %s, 3) ORDER BY v DESC, id", "ii"),
+    ("SELECT x, y, v FROM p WHERE (y, x) IN ((%s, %s), (2, 'k2')) ORDER BY 1 FOR SHARE", "ik"),
+    ("SELECT t.s AS t_s FROM t WHERE t.id = %s AND t.v > %s ORDER BY t_s LIMIT 3", "ii"),
+    ("UPDATE t SET v = v + 1 WHERE id IN (%s, %s) AND v < %s RETURNING id, v", "iii"),
+    ("UPDATE t SET s = 'x' WHERE t.id = %s AND t.v = %s", "ii"),
+    ("DELETE FROM p WHERE p.x = %s AND p.y = %s AND p.v = %s", "kii"),
+    ("INSERT INTO t (id, v) SELECT a::int, b::int FROM (VALUES (%s, 1, 0), (%s, 2, 1))"
+     " AS z(a, b, c) ORDER BY c RETURNING t.id, t.v AS w", "ii"),
+    ("SELECT p.v, t.*, z.s FROM p LEFT JOIN t ON t.id = p.y LEFT JOIN t AS z ON z.id = t.v"
+     " WHERE p.x = %s AND p.y IN (%s, 2) ORDER BY p.y", "ki"),
+    ("SELECT t.id AS t_id, z.v FROM t LEFT OUTER JOIN p AS z ON t.s = z.x AND z.y = t.v"
+     " WHERE %s = t.id LIMIT 1 FOR UPDATE OF t", "i"),
+    ("SAVEPOINT a", ""),
+    ("SAVEPOINT \"A b\"", ""),
+    ("ROLLBACK TO SAVEPOINT a", ""),
+    ("ROLLBACK TO \"A b\"", ""),
+    ("RELEASE a", ""),
     ("SELECT 1", ""),
     ("SHOW timezone", ""),
     ("SET LOCAL statement_timeout = 50000", ""),

@@ -6,6 +6,7 @@ import dataclasses
 import random
 import unittest
 from typing import Any
+from unittest import mock
 
 try:
     from zanteyard import sql_shapes, sql_statements
@@ -27,11 +28,45 @@ SELECT * FROM accounts WHERE id > 1
 SELECT * FROM accounts WHERE id <> 1
 SELECT * FROM accounts WHERE id = 1 OR id = 2
 SELECT * FROM accounts WHERE NOT id = 1
-SELECT * FROM accounts WHERE id IN (1, 2)
-SELECT * FROM accounts WHERE id = ANY(ARRAY[1])
 SELECT * FROM accounts WHERE id BETWEEN 1 AND 1
-SELECT * FROM accounts WHERE id = 1 AND balance > 0
 SELECT * FROM accounts WHERE id = 1 AND id = 1
+SELECT * FROM accounts WHERE id = 1 AND id IN (1, 2)
+SELECT * FROM accounts WHERE id NOT IN (1, 2)
+SELECT * FROM accounts WHERE id IN (1, balance)
+SELECT * FROM accounts WHERE id IN (SELECT 1)
+SELECT * FROM accounts WHERE id IN (1, 2.5)
+SELECT * FROM accounts WHERE id = ALL(ARRAY[1])
+SELECT * FROM accounts WHERE id <> ANY(ARRAY[1])
+SELECT * FROM accounts WHERE id = ANY('{1}')
+SELECT * FROM accounts WHERE id = ANY(ARRAY[1]::int[])
+SELECT * FROM accounts WHERE id = ANY(ARRAY[ARRAY[1]])
+SELECT * FROM accounts WHERE id = 1 AND balance > (SELECT 1)
+SELECT * FROM accounts WHERE id = 1 AND mine(balance)
+SELECT * FROM accounts WHERE id = 1 AND balance <-> 1 > 0
+SELECT * FROM accounts WHERE id = 1 AND xmin = 5
+SELECT * FROM accounts WHERE id = 1 AND other.x
+SELECT * FROM accounts WHERE balance > 0
+SELECT * FROM accounts WHERE id = 1 OR balance > 0
+SELECT * FROM accounts WHERE (id = 1 AND balance > 0) OR id = 2
+SELECT * FROM hall.seats WHERE row IN ('a', 'b')
+SELECT * FROM hall.seats WHERE row = 'a' AND at > 1
+SELECT * FROM hall.seats WHERE (row, row) IN (('a', 'b'))
+SELECT * FROM hall.seats WHERE (row, at) IN (('a', 1), ('b', at))
+SELECT * FROM hall.seats WHERE (row, at) IN (SELECT 'a', 1)
+SELECT * FROM hall.seats WHERE (row, at) IN (('a', 1)) AND at = 1
+SELECT * FROM hall.seats WHERE (row, guest) IN (('a', 'b')) AND at = 1
+SELECT * FROM hall.seats WHERE (row, at) = ('a', 1)
+SELECT * FROM accounts WHERE id = 1 ORDER BY mine(id)
+SELECT * FROM accounts WHERE id = 1 ORDER BY nothing
+SELECT * FROM accounts WHERE id = 1 ORDER BY id USING OPERATOR(mine.<)
+SELECT * FROM accounts WHERE id = 1 ORDER BY (SELECT 1)
+SELECT * FROM accounts WHERE id = 1 LIMIT 0
+SELECT * FROM accounts WHERE id = 1 LIMIT ALL
+SELECT * FROM accounts WHERE id = 1 LIMIT 1 + 1
+SELECT * FROM accounts WHERE id = 1 LIMIT NULL
+SELECT * FROM accounts WHERE id = 1 ORDER BY id FETCH FIRST 1 ROW WITH TIES
+SELECT * FROM accounts WHERE id = 1 LIMIT 1 OFFSET 0
+SELECT * FROM accounts WHERE id IN (1, 2) LIMIT 2
 SELECT * FROM accounts WHERE id = balance
 SELECT * FROM accounts WHERE id = id
 SELECT * FROM accounts WHERE id = 1 + 0
@@ -57,6 +92,40 @@ SELECT * FROM accounts WHERE id = $1
 SELECT * FROM accounts WHERE true
 SELECT * FROM accounts a, accounts b WHERE a.id = 1
 SELECT * FROM accounts JOIN hall.seats ON true WHERE id = 1
+SELECT a.id FROM accounts a JOIN accounts b ON b.id = a.balance WHERE a.id = 1
+SELECT a.id FROM accounts a RIGHT JOIN accounts b ON b.id = a.balance WHERE a.id = 1
+SELECT a.id FROM accounts a FULL JOIN accounts b ON b.id = a.balance WHERE a.id = 1
+SELECT a.id FROM accounts a NATURAL LEFT JOIN accounts b WHERE a.id = 1
+SELECT a.id FROM accounts a LEFT JOIN accounts b USING (id) WHERE a.id = 1
+SELECT a.id FROM accounts a LEFT JOIN accounts b ON b.owner = a.owner WHERE a.id = 1
+SELECT a.id FROM accounts a LEFT JOIN accounts b ON b.id = a.balance AND b.owner = 'x' WHERE a.id = 1
+SELECT a.id FROM accounts a LEFT JOIN accounts b ON b.id = a.balance AND b.id = a.id WHERE a.id = 1
+SELECT a.id FROM accounts a LEFT JOIN accounts b ON b.id = a.balance OR true WHERE a.id = 1
+SELECT a.id FROM accounts a LEFT JOIN accounts b ON b.id = 5 WHERE a.id = 1
+SELECT a.id FROM accounts a LEFT JOIN accounts b ON b.id = b.balance WHERE a.id = 1
+SELECT a.id FROM accounts a LEFT JOIN accounts b ON a.id = a.balance WHERE a.id = 1
+SELECT a.id FROM accounts a LEFT JOIN accounts b ON b.id < a.balance WHERE a.id = 1
+SELECT a.id FROM accounts a LEFT JOIN accounts b ON b.id = a.balance + 1 WHERE a.id = 1
+SELECT a.id FROM accounts a LEFT JOIN accounts b ON b.id = xmin WHERE a.id = 1
+SELECT a.id FROM accounts a LEFT JOIN accounts b ON b.id = a.xmin WHERE a.id = 1
+SELECT a.id FROM accounts a LEFT JOIN accounts b ON b.id IN (a.balance) WHERE a.id = 1
+SELECT a.id FROM accounts a LEFT JOIN accounts b ON true WHERE a.id = 1
+SELECT a.id FROM accounts a LEFT JOIN accounts b ON b.id = a.balance WHERE b.id = 1
+SELECT a.id FROM accounts a LEFT JOIN accounts b ON b.id = a.balance WHERE id = 1
+SELECT a.id FROM accounts a LEFT JOIN accounts b ON b.id = a.balance WHERE a.id = 1 AND b.balance = 1
+SELECT a.id FROM accounts a LEFT JOIN accounts b ON b.id = a.balance WHERE a.id = 1 AND a.balance = 1
+SELECT balance FROM accounts a LEFT JOIN accounts b ON b.id = a.balance WHERE a.id = 1
+SELECT c.id FROM accounts a LEFT JOIN accounts b ON b.id = a.balance WHERE a.id = 1
+SELECT a.id FROM accounts a LEFT JOIN accounts a ON a.id = a.balance WHERE a.id = 1
+SELECT a.id FROM accounts a LEFT JOIN other b ON b.id = a.balance WHERE a.id = 1
+SELECT a.id FROM accounts a LEFT JOIN (SELECT 1 AS id) b ON b.id = a.balance WHERE a.id = 1
+SELECT a.id FROM accounts a LEFT JOIN hall.seats s ON s.at = a.balance WHERE a.id = 1
+SELECT a.id FROM accounts a LEFT JOIN hall.seats s ON s.at = a.balance AND s.row = 'a' WHERE a.id = 1
+SELECT a.id FROM (accounts a LEFT JOIN accounts b ON b.id = a.balance) WHERE a.id = 1
+SELECT a.id FROM accounts a LEFT JOIN (accounts b LEFT JOIN accounts c ON c.id = b.id) ON b.id = a.balance WHERE a.id = 1
+SELECT a.id FROM accounts a LEFT JOIN ONLY accounts b ON b.id = a.balance WHERE a.id = 1
+SELECT a.id FROM accounts a LEFT JOIN accounts b ON b.id = a.balance, accounts c WHERE a.id = 1
+SELECT accounts.id FROM accounts LEFT JOIN hall.accounts ON hall.accounts.id = accounts.id WHERE accounts.id = 1
 SELECT * FROM ONLY accounts WHERE id = 1
 SELECT * FROM (SELECT * FROM accounts) AS a WHERE id = 1
 SELECT * FROM accounts AS a (x) WHERE x = 1
@@ -72,8 +141,6 @@ SELECT sum(balance) FROM accounts WHERE id = 1
 SELECT max(balance) OVER () FROM accounts WHERE id = 1
 SELECT owner FROM accounts WHERE id = 1 GROUP BY owner
 SELECT owner FROM accounts WHERE id = 1 HAVING true
-SELECT * FROM accounts WHERE id = 1 ORDER BY id
-SELECT * FROM accounts WHERE id = 1 LIMIT 1
 SELECT * FROM accounts WHERE id = 1 OFFSET 1
 SELECT * FROM accounts WHERE id = 1 FOR UPDATE SKIP LOCKED
 SELECT * INTO copy FROM accounts WHERE id = 1
@@ -115,10 +182,22 @@ INSERT INTO accounts (tags[1]) VALUES (1)
 INSERT INTO accounts (id) VALUES (1) RETURNING (SELECT 1)
 INSERT INTO accounts (id) VALUES (1) RETURNING xmin
 INSERT INTO other (id) VALUES (1)
+INSERT INTO accounts (id) SELECT p FROM (SELECT 1) AS i(p)
+INSERT INTO accounts (id) SELECT p FROM (VALUES (1)) AS i(p) WHERE p > 1
+INSERT INTO accounts (id) SELECT q FROM (VALUES (1)) AS i(p)
+INSERT INTO accounts (id) SELECT p + 1 FROM (VALUES (1)) AS i(p)
+INSERT INTO accounts (id) SELECT i.p FROM (VALUES (1)) AS i(p)
+INSERT INTO accounts (id) SELECT p FROM (VALUES (mine())) AS i(p)
+INSERT INTO accounts (id) SELECT p FROM (VALUES (1)) AS i(p) LIMIT 1
+INSERT INTO accounts (id) SELECT DISTINCT p FROM (VALUES (1)) AS i(p)
+INSERT INTO accounts (id) SELECT p FROM (VALUES (1)) AS i(p), accounts
+INSERT INTO accounts (id) SELECT p FROM (VALUES (1)) AS i
+INSERT INTO accounts (id) SELECT p FROM LATERAL (VALUES (1)) AS i(p)
+INSERT INTO accounts (id) SELECT p FROM (VALUES (1)) AS i(p) ORDER BY mine(p)
+INSERT INTO accounts (id) TABLE other
 WITH a AS (SELECT 1) INSERT INTO accounts (id) VALUES (1)
 UPDATE accounts SET balance = 0
 UPDATE accounts SET balance = 0 WHERE id > 1
-UPDATE accounts SET balance = 0 WHERE id = 1 AND balance = 1
 UPDATE accounts SET id = 2 WHERE id = 1
 UPDATE accounts SET balance = (SELECT 1) WHERE id = 1
 UPDATE accounts SET (balance, owner) = (SELECT 1, 'a') WHERE id = 1
@@ -130,15 +209,11 @@ UPDATE accounts SET balance = 0 WHERE CURRENT OF c
 UPDATE ONLY accounts SET balance = 0 WHERE id = 1
 UPDATE hall.seats SET at = 2 WHERE row = 'a' AND at = 1
 DELETE FROM accounts
-DELETE FROM accounts WHERE id IN (1)
 DELETE FROM accounts USING other WHERE accounts.id = 1
 DELETE FROM accounts WHERE id = 1 RETURNING count(*)
 BEGIN
 COMMIT
 ROLLBACK
-SAVEPOINT a
-ROLLBACK TO SAVEPOINT a
-RELEASE a
 PREPARE TRANSACTION 'a'
 SET TRANSACTION ISOLATION LEVEL SERIALIZABLE
 SET search_path = x
@@ -206,6 +281,18 @@ AUDITED = [
      "RETURNING a.*, balance + 1 -- done", "update", A, ("('1'::pg_catalog.int8)",)),
     ("DELETE FROM accounts WHERE id = 1 RETURNING balance", "delete", A,
      ("('1'::pg_catalog.int8)",)),
+    ("SELECT accounts.id AS accounts_id FROM accounts WHERE accounts.id = 1 ORDER BY accounts_id,"
+     " accounts.balance DESC NULLS LAST LIMIT 1 FOR UPDATE OF accounts", "select", A,
+     ("('1'::pg_catalog.int8)",)),
+    ("SELECT 1 FROM accounts WHERE id IN (NULL) AND (1 != 1)", "select", A, None),
+    ("INSERT INTO accounts (owner, id) SELECT p0::VARCHAR, p1 FROM (VALUES ('a', 1, 0), ('b', 2, 1))"
+     " AS imp_sen(p0, p1, sen_counter) ORDER BY sen_counter RETURNING accounts.id, id AS id__1",
+     "insert", A, ()),
+    ("SAVEPOINT a", "savepoint", None, None),
+    ("ROLLBACK TO SAVEPOINT \"A b\"", "rollback to", None, None),
+    ("RELEASE a", "release", None, None),
+    ("select pg_catalog.version()", "beside", None, None),
+    ("select current_schema()", "beside", None, None),
     ("SELECT 1", "beside", None, None),
     ("SELECT now(), 'x' || 'y', 1 + 2", "beside", None, None),
     ("SET statement_timeout = '5s'", "beside", None, None),
@@ -230,6 +317,48 @@ class Statements(unittest.TestCase):
             with self.subTest(text):
                 found = sql_statements.parsed(text, TABLES)
                 self.assertEqual((found.kind, found.table, found.parts), (kind, table, parts))
+
+    def test_which_rows_are_named(self) -> None:
+        for text, keys, is_tested in (
+            ("SELECT 1 FROM accounts WHERE id IN (1, '2', NULL)", [("1",), ("2",)], False),
+            ("SELECT 1 FROM accounts WHERE id = ANY(ARRAY[5, -6]) ORDER BY id",
+             [("5",), ("-6",)], False),
+            ("DELETE FROM accounts WHERE id = 1 AND balance = 2", [("1",)], True),
+            ("UPDATE accounts SET balance = 1 WHERE balance IN (1, 2) AND accounts.id IN (3, 4)",
+             [("3",), ("4",)], True),
+            ("SELECT 1 FROM accounts WHERE id = 1 AND owner IS NULL AND (id > 2 OR balance = id)",
+             [("1",)], True),
+            ("SELECT 1 FROM accounts WHERE id = NULL AND balance = 1", [], True),
+            ("SELECT 1 FROM hall.seats AS s WHERE s.row IN ('a', 'b') AND s.at IN (1, 2)",
+             [("a", "1"), ("a", "2"), ("b", "1"), ("b", "2")], False),
+            ("SELECT 1 FROM hall.seats WHERE (at, row) IN ((1, 'a'), (NULL, 'b'), (2, 'c'))",
+             [("a", "1"), ("c", "2")], False),
+        ):
+            with self.subTest(text):
+                found = sql_statements.parsed(text, TABLES)
+                told = [tuple(str(part).split("'")[1] for part in key) for key in found.keys]
+                self.assertEqual((told, found.is_tested), (keys, is_tested))
+        self.assertEqual(sql_statements.parsed('SAVEPOINT "A b"', TABLES).written, "A b")
+
+    def test_which_rows_are_joined(self) -> None:
+        text = (
+            "SELECT accounts.id, hall.seats.*, b.owner AS o FROM accounts LEFT OUTER JOIN"
+            " hall.seats ON hall.seats.at = accounts.id AND accounts.owner = seats.row LEFT JOIN"
+            " accounts AS b ON b.id = seats.at WHERE accounts.id IN (1, 2) ORDER BY o, b.balance"
+        )
+        found = sql_statements.parsed(text, TABLES)
+        self.assertEqual((found.alias, found.written, len(found.keys)), ("accounts", '"accounts"', 2))
+        self.assertEqual([(it.table, it.alias, it.columns, it.written) for it in found.joined], [
+            (B, "seats", ('"accounts"."owner"', '"accounts"."id"'), '"hall"."seats"'),
+            (A, "b", ('"seats"."at"',), '"accounts"'),
+        ])
+        self.assertEqual(found.front, text[: text.index("FROM")])
+        types = dataclasses.replace(A, types=("bigint", "character varying", "numeric", "text[]"))
+        its = dataclasses.replace(TABLES, tables=(types, B, C))
+        for column, is_exact in (("id", True), ("owner", False), ("balance", False)):
+            text = f"SELECT a.id FROM accounts a LEFT JOIN accounts b ON a.{column} = b.id"
+            found = sql_statements.parsed(f"{text} WHERE a.id = 1", its)
+            self.assertEqual([it.is_exact for it in found.joined], [is_exact])
 
     def test_where_more_is_asked_for(self) -> None:
         text = "SELECT 'FROM' /* FROM */ FROM accounts AS é WHERE é.id = 1 FOR UPDATE; -- FROM"
@@ -287,6 +416,12 @@ class ByShape(unittest.TestCase):
         "SELECT balance AS a{}, 1.{}, {}e{} FROM accounts WHERE id = {}",
         "SELECT {}\n{} FROM accounts WHERE id = {}",
         "SELECT {}{} FROM accounts WHERE id = {}",
+        "SELECT 1 FROM accounts WHERE id IN ({}, {}, {})",
+        "DELETE FROM accounts WHERE id IN ({}, {}) AND balance = {} AND owner <> {}",
+        "SELECT 1 FROM hall.seats WHERE (at, row) IN (({}, {}), ({}, {})) ORDER BY {}",
+        "SELECT 1 FROM accounts WHERE id = {} ORDER BY id LIMIT {}",
+        "INSERT INTO accounts (id) SELECT p FROM (VALUES ({}, {})) AS i(p, q) ORDER BY q",
+        "SAVEPOINT a{}",
     )
     CONSTANTS = (
         *("0", "7", "007", "123456789", "1234567890", "12345678901234567890", "1.5", "NULL"),
@@ -311,12 +446,23 @@ class ByShape(unittest.TestCase):
             count += isinstance(wanted, sql_statements.Statement)
         self.assertGreater(count, 100)
         self.assertGreater(sum(it is not None for it in shapes._known.values()), 10)
+        found = [shape for (shape, _), it in shapes._known.items() if it is not None]
+        self.assertGreater(sum("'0'" in shape for shape in found), 5)
 
     def test_the_same_ones_too(self) -> None:
         shapes = sql_shapes.Shapes()
         for text in [*REFUSED, *(it[0] for it in AUDITED)] * 2:
             wanted = self.told(sql_statements.parsed, text)
             self.assertEqual(self.told(shapes.parsed, text), wanted)
+
+    def test_long_ones_are_not_all_kept(self) -> None:
+        shapes = sql_shapes.Shapes()
+        with mock.patch.object(sql_shapes, "LETTERS", 20_000):
+            for at in range(1, 9):
+                row = f"({', '.join(['1'] * 1000)}, {at * 'NULL, '}2)"
+                shapes.parsed(f"INSERT INTO accounts VALUES {row}", TABLES)
+                self.assertLess(sum(len(shape) for shape, _ in shapes._known), 24_000)
+        self.assertLess(len(shapes._known), 8)
 
     def test_other_tables_are_other_statements(self) -> None:
         shapes, text = sql_shapes.Shapes(), "SELECT * FROM accounts WHERE id = 1"

@@ -56,7 +56,7 @@ class Tagged:
 
     @property
     def tag(self) -> str:
-        running = self.client.transaction
+        running = self.client.its_transaction
         number = running.number if running else self.client.session.begun
         return f"{self.client.session.number}.{number}"
 
@@ -89,7 +89,7 @@ class Tagged:
                 self.step()
                 if self.chance.random() < 0.3:
                     time.sleep(0.002 * self.chance.random())
-            number = self.client.transaction.number
+            number = self.client.its_transaction.number
             if self.chance.random() < 0.1:
                 self.client.rollback()
                 return None

@@ -978,12 +978,16 @@ class SQLite(Each, unittest.TestCase):
             store.begin(), store.read("x")
         one.write("x", "1", NAME)
         began = time.monotonic()
+        ending = threading.Thread(target=self.end, args=(one,))
         if self.journal == "delete":
-            threading.Thread(target=lambda: contextlib.suppress(Aborted).__enter__() or self.end(one)).start()
+            ending.start()
+            self.addCleanup(ending.join)  # a connection that is closed while it is used crashes
             self.assertTrue(eventually(lambda: self.is_pending()))
         self.assertRaises(Aborted, other.write, "x", "2", NAME)
         self.assertLess(time.monotonic() - began, 15.0)
         other.rollback()
+        if self.journal == "delete":
+            ending.join()
 
     def end(self, store):
         with contextlib.suppress(Aborted):

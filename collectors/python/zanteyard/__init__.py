@@ -13,6 +13,7 @@
   over a Store; each of its transactions is a Transaction.
 - While clients run without an end: a LiveAuditor, which gives out sessions; for clients of other
   processes an AuditServer, and an AuditClient there. A Policy says what gives way.
+- Where its program is killed an auditor with a journal goes on; Auditor.resumed where all was.
 - What came of it: an Outcome, with the Report of its last round and what is Pending.
 - What is told of a violation: tell_violation does all of it; from_start, smaller, words,
   explain_history, reasons, audited, dot_text and draw are its parts.
@@ -30,14 +31,20 @@ from .errors import (
     AbortedError,
     AuditLostError,
     FullError,
+    JournalDamagedError,
+    JournalError,
+    JournalInUseError,
+    JournalVersionError,
     NameTakenError,
     NoCutError,
     NoMemoryError,
+    OtherVersionError,
     OutcomeUnknownError,
     ProgramEndedError,
     ProgramLateError,
     ProgramMissingError,
     RefusedError,
+    RoundTooLongError,
     ScriptMistakeError,
     StoreLateError,
     StoreUnfitError,
@@ -67,7 +74,10 @@ __all__ = [
     *("smaller", "tell_violation", "words"),
     # what is raised
     *("AbortedError", "AuditLostError", "FullError", "NameTakenError"),
-    *("NoCutError", "NoMemoryError", "OutcomeUnknownError", "ProgramEndedError"),
+    *("JournalError", "JournalDamagedError", "JournalInUseError", "JournalVersionError"),
+    "RoundTooLongError",
+    *("NoCutError", "NoMemoryError", "OtherVersionError", "OutcomeUnknownError"),
+    "ProgramEndedError",
     *("ProgramLateError", "ProgramMissingError", "RefusedError", "ScriptMistakeError"),
     *("StoreLateError", "StoreUnfitError", "ZanteyardError"),
     *("Aborted", "Ended", "Full", "Lost", "NameTaken", "NoCut", "NoMemory", "OutcomeUnknown"),

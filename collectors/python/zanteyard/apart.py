@@ -5,6 +5,7 @@ hand over what was logged, as bytes, and the rest is done beside them."""
 from __future__ import annotations
 
 import gc
+import logging
 import os
 import pickle
 import signal
@@ -16,11 +17,13 @@ from multiprocessing.connection import Connection, Pipe
 from multiprocessing.reduction import ForkingPickler
 from typing import Any, List, Optional, Sequence, Tuple
 
-from .auditor import Auditor, NoCut
+from .auditor import FENCE, Auditor, NoCut
 from .coverage import Coverage
-from .errors import RefusedError
+from .errors import ProgramUnreachableError, RefusedError, ZanteyardError
+from .outcome import RATHER_LOSE_THE_AUDIT
 from .pipes import ENDING, Ended, Late
 from .records import Cut, History, Logged, Report, as_bytes, unpacked
+from .resuming import Reopened
 from .taking import EFFORTS, SECONDS, Effort, Fragment, Full, Takes
 
 PLACE = os.path.dirname(os.path.dirname(os.path.abspath(__file__)))
@@ -29,18 +32,29 @@ START = (
     "from zanteyard.apart import serve; serve(int(sys.argv[2]))"
 )
 UNREACHABLE = "the process between this one and cobra_audit can't be reached"
+TRIES = 3  # processes that are started for one call
 MORE = 30.0  # seconds for an answer, beside what the program may take for its own
+logger = logging.getLogger("zanteyard")
 
 
 class AuditorApart(Takes):
     """In place of an Auditor: calls go to one in another process, and their results come from
-    there. For threads. Raises Ended where that process can't be reached."""
+    there. For threads. Raises Ended where that process can't be reached. With a journal another one
+    is started then, where it is a call that waits for it; what goes on there are lines' logs, since
+    statements and values are in no journal."""
 
     process: Any = None
     _connection: Any = None
 
     def _start(self, coverage: Optional[Coverage]) -> None:
         self.remaining, self.can_cut, self.left_out = 0, True, 0
+        self.audits += 1
+        its = (self.sessions, self.limit, self.path, self.run_name)
+        files = (self.script_path, self.journal, self.round_seconds)
+        self._begin_process("open", *its, *files, self.audits, coverage, self.has_sessions)
+
+    def _begin_process(self, name: str, *arguments: Any) -> None:
+        """With this call."""
         self._connection, theirs = Pipe()
         descriptor = str(theirs.fileno())
         self.process = subprocess.Popen(
@@ -50,19 +64,58 @@ class AuditorApart(Takes):
             pass_fds=[theirs.fileno()],
         )
         theirs.close()
-        self.audits += 1
         try:
-            more = (self.script_path, self.audits, coverage)
-            self._call("open", self.sessions, self.limit, self.path, *more)
+            self._ask(name, *arguments)
         except BaseException:
             self._end_program()
             raise
 
-    def _call(self, name: str, *arguments: Any, seconds: float = SECONDS + MORE) -> Any:
-        packed = ForkingPickler.dumps((name, arguments))
+    def _call(self, name: str, *arguments: Any) -> Any:
         with self.lock:
             if self._late is not None:
                 self._end_late(SECONDS)
+            try:
+                return self._ask(name, *arguments)
+            except ProgramUnreachableError as error:
+                if self.journal is None or self.is_ended:
+                    raise
+                why = error
+            for _ in range(TRIES):
+                try:
+                    self._start_again(why)
+                    return self._ask_again(name, *arguments)
+                except ProgramUnreachableError as error:
+                    why = error
+            raise why
+
+    def _start_again(self, error: Ended) -> None:
+        """Another process goes on by the journal."""
+        self._end_program()
+        logger.warning("%s; another one goes on by %s", error, self.journal)
+        self._be_in_step()
+        files = (self.script_path, self.journal, self.round_seconds)
+        self._begin_process("resume", self.path, *files)
+
+    def _ask_again(self, name: str, *arguments: Any) -> Any:
+        """What a process was asked that has ended. It may have done that, and told nobody."""
+        if name == "offer_all":
+            received = self._ask("get", "received")
+            arguments = ([it for it in arguments[0] if it[1] + len(it[2]) > received[it[0]]],)
+        if name == "close" and self._ask("get", "closed")[arguments[0]]:
+            return None
+        if name == "truncate":
+            remaining = self._ask("get", "remaining")
+            if remaining < self.remaining:
+                fence = self._ask("get", "base")[FENCE]
+                return Cut(fence, self.remaining - remaining), remaining
+            self._ask("last_round", EFFORTS)  # by which a cut is found
+        return self._ask(name, *arguments)
+
+    def _ask(self, name: str, *arguments: Any, seconds: Optional[float] = None) -> Any:
+        if seconds is None:
+            seconds = SECONDS + MORE + 2 * (self.round_seconds or 0)
+        packed = ForkingPickler.dumps((name, arguments))
+        with self.lock:
             self._leave_step()
             self._send(packed)
             try:
@@ -94,7 +147,7 @@ class AuditorApart(Takes):
             raise Ended(self._why_out) from error
         except (OSError, ValueError) as error:
             self._why_out = f"{UNREACHABLE}: {error}"
-            raise Ended(self._why_out) from error
+            raise ProgramUnreachableError(self._why_out) from error
 
     def _limit_sending(self, seconds: float) -> None:
         """How long what is sent may wait for room on its way."""
@@ -110,15 +163,17 @@ class AuditorApart(Takes):
             if not self._connection.poll(seconds):
                 raise Late(f"{UNREACHABLE}: it hasn't answered for {seconds:.3g} s")
         except (OSError, EOFError) as error:
-            raise Ended(f"{UNREACHABLE}: {error}") from error
+            raise ProgramUnreachableError(f"{UNREACHABLE}: {error}") from error
 
     def _receive(self) -> Tuple[bool, Any]:
         """Whether it failed, and the result, or why."""
         try:
-            is_failed, result = self._connection.recv()
+            is_failed, result, told = self._connection.recv()
         except (OSError, EOFError, pickle.UnpicklingError) as error:
             self._why_out = f"{UNREACHABLE}: {error}"
-            raise Ended(self._why_out) from error
+            raise ProgramUnreachableError(self._why_out) from error
+        for level, line in told:
+            logger.log(level, "%s", line)
         return is_failed, result
 
     def _prepare(self, kind: str, session: int, *offered: Any) -> Any:
@@ -193,6 +248,29 @@ class AuditorApart(Takes):
     def base(self) -> Any:
         return self._call("get", "base")
 
+    def note_sessions(self) -> None:
+        super().note_sessions()
+        if self.journal is not None:
+            self._call("note_sessions")
+
+    @property
+    def received(self) -> Any:
+        return self._call("get", "received")
+
+    @property
+    def closed(self) -> Any:
+        return self._call("get", "closed")
+
+    @property
+    def violation(self) -> Optional[Report]:
+        if self.journal is None:
+            return None
+        try:
+            told: Optional[Report] = self._call("get", "violation")
+        except ZanteyardError:
+            return None  # it can't be reached, and the journal still has it
+        return told
+
     @property
     def script_failure(self) -> Any:
         return self._call("get", "script_failure")
@@ -200,7 +278,7 @@ class AuditorApart(Takes):
     def _end_program(self) -> Optional[int]:
         self._late = None
         try:
-            status: Optional[int] = self._call("end", seconds=2 * ENDING)
+            status: Optional[int] = self._ask("end", seconds=2 * ENDING)
         except Ended:
             status = None
         self._connection.close()
@@ -216,7 +294,26 @@ class AuditorApart(Takes):
 
 
 class OfPacked(Auditor):
-    """An Auditor of transactions that are packed, and that stay so in its history."""
+    """An Auditor of transactions that are packed, and that stay so in its history: of which audit
+    of its run, and where that began."""
+
+    def __init__(
+        self,
+        *arguments: Any,
+        audits: int = 1,
+        coverage: Optional[Coverage] = None,
+    ) -> None:
+        self._earlier, self._began = audits - 1, coverage
+        super().__init__(*arguments)
+
+    def _start(self, _: Optional[Coverage]) -> None:
+        self.audits = self._earlier
+        super()._start(self._began)
+
+    def _go_on_by(self, found: Reopened) -> None:
+        super()._go_on_by(found)
+        packed: Any = [[*map(as_bytes, txns)] for txns in self.history]
+        self.history = packed
 
     def txn(self, packed: bytes) -> List[Any]:
         return super().txn(unpacked(packed))
@@ -226,25 +323,59 @@ class OfPacked(Auditor):
         return as_bytes(logged), left_out
 
 
+class Telling(logging.Handler):
+    """Keeps the log's lines, with their levels."""
+
+    def __init__(self, told: List[Tuple[int, str]]) -> None:
+        super().__init__()
+        self.told = told
+
+    def emit(self, record: logging.LogRecord) -> None:
+        self.told.append((record.levelno, record.getMessage()))
+
+
 class Served:
     """The other process's end of the calls."""
 
     def __init__(self) -> None:
         self.auditor: Any = None  # an OfPacked, once it is opened
+        self.told: List[Tuple[int, str]] = []  # lines of the log that are told with an answer
+
+    def _tell_log(self) -> None:
+        """Where there is a journal: the clients' process tells what becomes of programs."""
+        logger.addHandler(Telling(self.told))
+        logger.setLevel(logging.INFO)
+        logger.propagate = False
 
     def open(
         self,
         sessions: int,
         limit: int,
         program: str,
+        run_name: str,
         script: Optional[str],
+        journal: Optional[str],
+        round_seconds: Optional[float],
         audits: int,
         coverage: Optional[Coverage],
+        has_sessions: bool,
     ) -> None:
-        behind = f".{audits}" if audits > 1 else ""
-        script = script and f"{script}{behind}"
-        self.auditor = OfPacked(sessions, limit, program, "", script)
-        self.auditor.coverage = coverage
+        if journal is not None:
+            self._tell_log()
+        its = (sessions, limit, program, run_name, script, RATHER_LOSE_THE_AUDIT)
+        more: Any = (journal, round_seconds)
+        self.auditor = OfPacked(*its, *more, audits=audits, coverage=coverage)
+        if has_sessions:
+            self.auditor.note_sessions()
+
+    def resume(
+        self, program: str, script: Optional[str], journal: str, round_seconds: Optional[float]
+    ) -> None:
+        """In place of a process that is gone. Its script stays as it is, beside the new one."""
+        self._tell_log()
+        script = script and f"{script}.resumed"
+        more = (program, script, RATHER_LOSE_THE_AUDIT, round_seconds)
+        self.auditor = OfPacked.resumed(journal, *more)
 
     def offer_all(self, fragments: Sequence[Fragment]) -> Any:
         """The sessions whose transactions there was no room for, how many reads were left out, and
@@ -262,12 +393,15 @@ class Served:
     def end(self) -> Optional[int]:
         return self.auditor.end() if self.auditor else None
 
-    def answer(self, name: str, arguments: Sequence[Any]) -> Tuple[bool, Any]:
+    def answer(self, name: str, arguments: Sequence[Any]) -> Tuple[bool, Any, Any]:
         try:
             deed = getattr(self if hasattr(self, name) else self.auditor, name)
-            return False, deed(*arguments)
+            is_failed, result = False, deed(*arguments)
         except Exception as error:
-            return True, error
+            is_failed, result = True, error
+        told = [*self.told]
+        self.told.clear()
+        return is_failed, result, told
 
 
 def serve(descriptor: int) -> None:

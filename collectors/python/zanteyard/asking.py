@@ -10,7 +10,7 @@ from __future__ import annotations
 
 import importlib
 import logging
-from typing import Any, Optional, Sequence, Tuple
+from typing import Any, Dict, Optional, Sequence, Tuple
 
 from .records import Name
 
@@ -24,19 +24,32 @@ logger = logging.getLogger("zanteyard")
 KINDS = ("postgres", "mariadb", "redis", "sqlite", "sql")
 
 
-def find_out(asks: Any, ticket: Any, seconds: float) -> Found:
-    """Raises nothing: what can't be asked is unknown."""
+def find_out(asks: Any, ticket: Any, seconds: float, is_dead: bool = True) -> Found:
+    """Raises nothing: what can't be asked is unknown. Where it isn't known that the client
+    `is_dead`, nothing is ended that it may be about."""
+    more: Dict[str, Any] = {}
+    if not is_dead:
+        ticket, more = harmlessly(asks, ticket)
     if asks is None or ticket is None:
         return UNKNOWN
-    kind, *more = asks
+    kind, *how = asks
     try:
         assert kind in KINDS
         module = importlib.import_module(f".{kind}_store", __package__)
-        found: Found = module.asked(*more, ticket=ticket, seconds=seconds)
+        found: Found = module.asked(*how, ticket=ticket, seconds=seconds, **more)
         return found
     except Exception as error:
         logger.warning("what became of a commit can't be found out: %s", error)
         return UNKNOWN
+
+
+def harmlessly(asks: Any, ticket: Any) -> Tuple[Any, Dict[str, Any]]:
+    """A ticket, None where there is none, and what else is said, by which what is still on its way
+    isn't ended, and another server isn't taken for the client's. Only PostgreSQL is asked so: who
+    asks another store has what isn't there yet abort."""
+    if asks is not None and asks[0] == "postgres":
+        return ticket, {"ends_it": False}
+    return None, {}
 
 
 def asks_of(store: Any) -> Any:

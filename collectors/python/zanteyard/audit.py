@@ -4,13 +4,15 @@ from __future__ import annotations
 
 import logging
 import time
-from dataclasses import dataclass
+from collections import Counter
+from dataclasses import dataclass, field
 from typing import Any, Callable, Dict, Iterable, List, Optional, Sequence, Tuple, Union
 
 from .apart import AuditorApart
 from .auditor import LONGEST, Auditor, NoCut
 from .backlog import Backlog
 from .coverage import Coverage
+from .errors import MissingError
 from .outcome import COLLECTOR, PENDING, RUNNING, SERIAL, VIOLATED, Outcome, kind_of
 from .records import Pending, Report
 from .shrinking import is_collectors_own
@@ -29,6 +31,11 @@ class Figures:
     lag: float = 0.0  # for how many seconds a transaction waited to be taken in, at most
     told_behind: float = 0.0  # the same since the round before the last
     told_at: float = 0.0  # when the last round was, by the monotonic clock
+    cut_at: float = 0.0  # the same of the last cut, or of the beginning
+    kinds: Dict[str, int] = field(default_factory=dict)  # how many rounds told each
+    # Of each session, for how many reads of its transactions the last round waited; kept where
+    # somebody asks for it.
+    awaited: Optional[Dict[int, int]] = None
 
 
 class Audit:
@@ -59,6 +66,7 @@ class Audit:
         self.left_out = 0  # reads whose source the audit isn't about
         self._pending: Tuple[Pending, ...] = ()
         self._is_collectors_own = False
+        self.missing: Optional[MissingError] = None  # what may have been done, and never comes
 
     @property
     def handed_in(self) -> int:
@@ -78,14 +86,14 @@ class Audit:
         audited = sum(self.report.counts) if self.report else 0
         kind, handed_in = RUNNING, self.handed_in
         if self.is_violated or has_ended:
-            kind = kind_of(self.report, failure, audited >= handed_in)
+            kind = kind_of(self.report, failure or self.missing, audited >= handed_in)
         if self._is_collectors_own:
             kind = COLLECTOR
         return Outcome(
             kind,
             audited,
             max(audited, handed_in),
-            failure,
+            failure or self.missing,
             self._pending,
             self.report,
             self.name,
@@ -119,9 +127,15 @@ class Audit:
             self._offer_all(fragments(offers))
             self._behind = max(self._behind, time.monotonic() - found[0][0])
             for _, session, number, _ in found:
-                if number is None:  # behind all that it did
+                # Behind all that it did; what an earlier process has closed may be told again.
+                if number is None and not self._auditor.closed[session]:
                     self._auditor.close(session)
+                self._backlog.note_taken(session, number)
         return len(found)
+
+    def covers(self, session: int, number: int) -> bool:
+        """Whether this audit is about the transaction."""
+        return self._covered(session, number) is not None
 
     def _covered(self, session: int, number: int) -> Optional[int]:
         """The transaction's number in this audit; None where it isn't audited."""
@@ -163,6 +177,9 @@ class Audit:
         self.left_out = self._auditor.left_out
         figures = self._figures
         figures.rounds += 1
+        figures.kinds[report.kind] = figures.kinds.get(report.kind, 0) + 1
+        if figures.awaited is not None:
+            figures.awaited = self._awaited()
         cut = f"no cut: {no_cut}" if no_cut else self._cut(report)
         now = time.monotonic()
         rate = (self.taken_in - self._told_of) / max(now - figures.told_at, 0.001)
@@ -174,6 +191,12 @@ class Audit:
             f"{rate:.0f} a second, {figures.told_behind:.2f} s behind; "
             f"{self._auditor.remaining} remain; {cut}"
         )
+
+    def _awaited(self) -> Dict[int, int]:
+        if self.report is None or self.report.kind != PENDING:
+            return {}
+        reads = never_came(self._auditor.history, self._auditor.marks)
+        return dict(Counter(one.source[0] for one in reads))
 
     def _cut(self, report: Report) -> str:
         """In words."""
@@ -190,6 +213,7 @@ class Audit:
             is_none = str(error).endswith("NoCut")
             return "no cut: no fence is settled" if is_none else f"no cut: {error}"
         self._figures.cuts += 1
+        self._figures.cut_at = time.monotonic()
         return f"cut at {cut.fence[0]}.{cut.fence[1]}: {cut.gone} forgotten"
 
     # its end

@@ -2,23 +2,20 @@
 
 from __future__ import annotations
 
-import functools
 import logging
 import os
 import threading
 import time
 import weakref
 from dataclasses import astuple
-from multiprocessing.connection import Client
 from typing import Any, Callable, Dict, List, Optional
 
 from .asking import asks_of
+from .client_doors import ANSWERING, door_to
 from .errors import ProgramEndedError
 from .group_calls import GroupCalls
 from .handover import Handover
 from .live import PAUSE
-from .messages import Messages
-from .notes import FORKED, Notes
 from .outcome import Policy
 from .place_requests import PlaceRequests
 from .records import Logged, Store
@@ -26,26 +23,23 @@ from .sessions import Place, Session
 from .sessions_here import PATIENCE, SessionsHere
 
 logger = logging.getLogger("zanteyard")
-ANSWERING = 5.0  # seconds for an answer of the auditor's process
 LEAVING = 30.0  # seconds for sessions to end their transactions
 
 
 class AuditClient(SessionsHere):
     """In place of a LiveAuditor, in a process of clients: theirs is behind the AuditServer at this
-    path. `leave` ends it, once its sessions do nothing more. What a process did last that is killed
-    is found in its notes (`notes.py`); where these don't tell, the audit ends with it. Raises
-    OSError where nobody is there, and ProgramEndedError where nobody answers. For threads."""
+    path; or, where the address is a redis:// or rediss:// URL, behind the StreamServer of the audit
+    of this name in that Redis. `leave` ends it, once its sessions do nothing more. What a process
+    did last that is killed is found in its notes (`notes.py`, `stream_door.py`). Raises OSError
+    where nobody is there, ProgramEndedError where nobody answers, and OtherVersionError where the
+    auditor's process is of a version that this one doesn't understand. For threads."""
 
-    def __init__(self, path: str) -> None:
-        connection: Any = Client(path, "AF_UNIX")
-        self._messages = Messages(connection)
-        if not self._messages.comes(ANSWERING):
-            told = f"the auditor's process hasn't answered for {ANSWERING:g} s"
-            raise ProgramEndedError(told)
-        welcome: Any = self._messages.receive()
-        _, run_name, self.is_named, self.token, most, policy, self._notes_path = welcome
+    def __init__(self, address: str, audit: str = "audit") -> None:
+        self._door = door_to(address, audit)
+        self._messages = self._door.messages
+        run_name, self.is_named, self.token, most, policy = self._door.welcome()
         super().__init__(run_name, Policy(*policy))
-        self._notes: Dict[Notes, int] = {}  # by which number the auditor's process knows them
+        self._notes: Dict[Any, int] = {}  # by which number the auditor's process knows them
         self._count, self._noting = 0, threading.Lock()
         _forked.add(self)
         self._handover = Handover(self._messages, most)
@@ -78,8 +72,9 @@ class AuditClient(SessionsHere):
     def session(self, store: Store, patience: float = PATIENCE) -> Session:
         """The session of a new client, which asks the store for so many seconds for an outcome that
         isn't known. Raises ValueError where none is left, and ProgramEndedError where nothing more
-        is audited."""
-        place = self._requests.ask("join", True, seconds=ANSWERING)
+        is audited, or nobody answers."""
+        seconds = ANSWERING + self.policy.wait  # in which a meeting may have all that are left
+        place = self._requests.asked("join", True, seconds=seconds)
         if place is not None:
             return self._add_session(place, store, patience)
         if self._is_over:
@@ -194,15 +189,13 @@ class AuditClient(SessionsHere):
         found = self._requests.ask("join", False, seconds=wait) or session.place
         return found or self._requests.ask("overflow", seconds=wait)
 
-    def _notes_of(self, store: Store) -> Optional[Notes]:
+    def _notes_of(self, store: Store) -> Any:
         """The auditor's process is told first where they are, and how the store is asked."""
         with self._noting:
             self._count += 1
             which = self._count
-        # Nobody waits for this: the files aren't there meanwhile, which tells the same.
-        tell = functools.partial(self._handover.put_behind, "unnoted")
         try:
-            notes = Notes(f"{self._notes_path}-{which}", self._handover.sent, tell)
+            notes = self._door.notes(which, self._handover)
         except OSError as error:
             logger.error("if this process is killed, the audit ends with it: %s", error)
             self._messages.tell("unnoted", seconds=ANSWERING)
@@ -214,7 +207,7 @@ class AuditClient(SessionsHere):
             notes.end()
         return notes
 
-    def _forget(self, notes: Notes) -> None:
+    def _forget(self, notes: Any) -> None:
         """Once all is handed over that it tells of, and its place is given back, the auditor's
         process removes the files."""
         which = self._notes.pop(notes, None)
@@ -265,8 +258,7 @@ class AuditClient(SessionsHere):
         if self._is_gone and self._calls.is_leaving:
             return  # it has left, or is such a child
         try:
-            flags = os.O_WRONLY | os.O_CREAT | os.O_CLOEXEC
-            os.close(os.open(f"{self._notes_path}{FORKED}", flags, 0o600))
+            self._door.note_fork()
         except OSError:
             for notes in list(self._notes):
                 notes.remove()  # which tells the same

@@ -20,8 +20,8 @@ import time
 from multiprocessing.connection import Client, Listener
 from typing import Any, List
 
-from .client_process import ClientProcess
 from .live import PAUSE, LiveAuditor
+from .socket_process import SocketProcess
 
 logger = logging.getLogger("zanteyard")
 CLOSING = 30.0  # seconds for all processes to leave
@@ -34,7 +34,7 @@ class AuditServer:
 
     def __init__(self, live: LiveAuditor, path: str) -> None:
         self.path, self._live = path, live
-        self._processes: List[ClientProcess] = []
+        self._processes: List[SocketProcess] = []
         self._is_closing, self._count = False, 0
         # The folder in which processes note what they do, whichever folders they run in.
         self.notes = os.path.abspath(f"{path}.notes")
@@ -93,7 +93,7 @@ class AuditServer:
                 connection.close()
                 return
             self._count += 1
-            process = ClientProcess(self._live, connection, f"{self.notes}/{self._count}")
+            process = SocketProcess(self._live, connection, f"{self.notes}/{self._count}")
             self._processes = [*(it for it in self._processes if it.thread.is_alive()), process]
             process.thread.start()
 

@@ -6,13 +6,19 @@ import json
 import logging
 import time
 from collections import Counter
-from typing import Any, Dict, List, Mapping, Optional, Sequence, Tuple, Type
+from dataclasses import asdict
+from typing import Any, Dict, List, Mapping, Optional, Sequence, Tuple, Type, Union
 
 from .coverage import Coverage
-from .errors import NoCutError, NoMemoryError, RefusedError
+from .errors import AuditLostError, JournalError, NoCutError, NoMemoryError, RefusedError
+from .errors import RoundTooLongError
+from .journal_entries import Head
+from .outcome import RATHER_LOSE_THE_AUDIT, Policy
 from .pipes import Ended, Late, Pipes
 from .programs import PROGRAM as PROGRAM
 from .records import Cut, Report, TransactionId
+from .restarting import Restarting
+from .resuming import Reopened, journaled, reopened
 from .taking import EFFORTS, SECONDS, Effort, Fragment, Full, Takes
 
 # The same errors under shorter names.
@@ -28,6 +34,7 @@ FLAG = "zanteyard flag "  # and a session's number: a key that this session alon
 PLAIN_FENCE = "zanteyard's fence"  # the key of fences, where what is left of one may be none
 OWN = (FENCE, MARK, FLAG, PLAIN_FENCE)  # what keys of the collector's own begin with
 ENDED = "cobra_audit has been ended"
+UNKNOWN = "the process that audited has ended, and what its sessions did last isn't known"
 logger = logging.getLogger("zanteyard")
 KINDS: Mapping[str, Type[Refused]] = {"Backlog": Full, "NoCut": NoCut, "NoMemory": NoMemory}
 
@@ -46,10 +53,35 @@ class Auditor(Takes):
     `program` is the file to start. `run_name` is beside each value that sessions write: each run
     needs one of its own, and has it where none is given. `script` names a file to which every line
     goes that the program was given, so that it can be given them again. `policy` says how long
-    sessions wait."""
+    sessions wait. `journal` names a file that isn't there yet (docs/JOURNAL.md): where the program
+    dies, or takes more than `round_seconds` for a round, if that is given, another one is brought
+    where it stood. Then all calls raise JournalError where the journal can't be written."""
 
     script: Any = None  # a raw file, whose `write` tells how much it took
-    program: Optional[Pipes] = None
+    program: Union[Pipes, Restarting, None] = None
+
+    @classmethod
+    def resumed(
+        cls,
+        journal: str,
+        program: str = PROGRAM,
+        script: Optional[str] = None,
+        policy: Policy = RATHER_LOSE_THE_AUDIT,
+        round_seconds: Optional[float] = None,
+    ) -> Auditor:
+        """Goes on with the audit of this journal, whose process is gone: `received`, `closed`,
+        `history` and `violation` tell where it stands. What clients did that isn't received is to
+        be offered again, from there on. Of an audit whose sessions were in that process it isn't
+        known what they did last: then `outcome` is violated or incomplete, and `last_round` tells
+        of what is received. Raises JournalError."""
+        found = reopened(journal)
+        its = found.kept.head
+        try:
+            more = (program, its.run_name, script, policy, found, round_seconds)
+            return cls(its.sessions, its.limit, *more)
+        except BaseException:
+            found.journal.close()
+            raise
 
     def _start(self, coverage: Optional[Coverage]) -> None:
         self.coverage, self.left_out = coverage, 0  # reads whose source the audit isn't about
@@ -57,6 +89,7 @@ class Auditor(Takes):
         self.names = [FENCE]  # of each key, by its name; and the other way
         self.history = [[] for _ in range(self.sessions)]  # what was taken in and isn't forgotten
         self.marks = [0] * self.sessions  # how many of each session are forgotten
+        self.closed = [False] * self.sessions  # which nothing more comes of
         # Of each key that a forgotten transaction wrote, the last that did.
         self.base: Dict[str, TransactionId] = {}
         self.can_cut = True  # until the program says that it doesn't know the command
@@ -65,11 +98,56 @@ class Auditor(Takes):
         self.script_failure: Optional[OSError] = None
         try:
             self._open_script()
-            self.program = Pipes(self.path)
-            self.ask(["open", self.sessions, self.limit])
+            if isinstance(self.journal, Reopened):
+                self._go_on_by(self.journal)
+            else:
+                self.program = self._started(self.journal)
+                self.ask(["open", self.sessions, self.limit])
         except BaseException:
             self._end_program()
             raise
+
+    def _started(self, journal: Union[str, Reopened, None]) -> Union[Pipes, Restarting]:
+        if journal is None:
+            return Pipes(self.path)
+        program = journaled(self.path, journal, self._head, self.names, self.round_seconds)
+        program.keeping.is_of_sessions |= self.has_sessions
+        return program
+
+    def _head(self) -> Head:
+        """For the journal."""
+        coverage = asdict(self.coverage) if self.coverage is not None else None
+        return Head(self.sessions, self.limit, self.run_name, self.audits, coverage)
+
+    def _go_on_by(self, found: Reopened) -> None:
+        """Where the program of this journal stood."""
+        self.journal = found.journal.path  # from the next audit on
+        kept, state = found.kept, found.state
+        self.audits, self.left_out = kept.head.audit, kept.head.left_out
+        self.coverage = found.coverage
+        self.names[:] = kept.names
+        self.numbers.update((name, number) for number, name in enumerate(kept.names))
+        self.history, self.base = state.history(self.names), state.base(self.names)
+        self.marks, self.closed = list(state.gone), list(state.closed)
+        for session, count in enumerate(self.received):
+            self._seen[session] = (count, count)
+        self.taken_in = sum(self.received)
+        if kept.head.is_of_sessions:
+            self.failure = AuditLostError(UNKNOWN)
+        self.program = self._started(found)
+        self._keep(kept.lines)
+        self.ask(["save", "marks"])  # when that is answered it is there
+
+    @property
+    def received(self) -> List[int]:
+        """How many transactions of each session were taken in, those that are forgotten too."""
+        return [gone + len(txns) for gone, txns in zip(self.marks, self.history)]
+
+    @property
+    def violation(self) -> Optional[Report]:
+        told = self.program.keeping.violations if isinstance(self.program, Restarting) else ()
+        its = [Report(*one.reply[1:]) for one in told if one.audit == self.audits]
+        return its[0] if its else None
 
     def _open_script(self) -> None:
         """Of a second audit the script is beside the first one's, with its number behind the
@@ -119,8 +197,12 @@ class Auditor(Takes):
         self._give(texts)
         try:
             assert self.program is not None
-            return [json.loads(answer) for answer in self.program.answers(len(texts), SECONDS)]
-        except Ended as error:
+            answers = self.program.answers(len(texts), SECONDS + 2 * (self.round_seconds or 0))
+            return [json.loads(answer) for answer in answers]
+        except RoundTooLongError:
+            self._be_in_step()  # another program goes on
+            raise
+        except (Ended, JournalError) as error:
             self._why_out = str(error)
             if isinstance(error, Late):
                 self._give_up()
@@ -144,6 +226,7 @@ class Auditor(Takes):
             return written(["close", session]), None
         number, logged = offered
         fragment = self._covered((session, number, [logged]))
+        self._note_left_out(fragment[3])
         return self._offer_of(fragment), fragment
 
     def _begin_take(self, asked: Tuple[str, Any]) -> None:
@@ -166,6 +249,8 @@ class Auditor(Takes):
             return Full(told)
         if kind == "offer" and refusal is None:
             self._keep_history(fragment)
+        if kind == "close" and refusal is None:
+            self.closed[json.loads(text)[1]] = True
         return refusal
 
     def _offer_of(self, fragment: Tuple[Any, ...]) -> str:
@@ -176,6 +261,8 @@ class Auditor(Takes):
         session, _, txns, left_out = fragment
         self.history[session] += txns
         self.left_out += left_out
+        if self.is_resumed:  # there are no sessions that count them
+            self.taken_in += len(txns)
 
     def _keep(self, lines: Sequence[bytes]) -> None:
         """In the script; a file that can't be written harms nobody but who wants to read it."""
@@ -194,6 +281,7 @@ class Auditor(Takes):
             moved = [self._covered(fragment) for fragment in fragments]
             texts = [self._offer_of(fragment) for fragment in moved]
             self._begin_to_ask()
+            self._note_left_out(sum(it[3] for it in moved))
             replies = self._replies_to(texts)
             for fragment, its, text, reply in zip(fragments, moved, texts, replies):
                 _, refusal = self._settled(text, reply)
@@ -207,6 +295,18 @@ class Auditor(Takes):
         if wrong is not None:
             raise wrong
         return refused
+
+    def _note_left_out(self, more: int) -> None:
+        """In the journal with the lines that leave out so many reads more, if these are taken."""
+        if isinstance(self.program, Restarting):
+            self.program.keeping.left_out = self.left_out + more
+
+    def note_sessions(self) -> None:
+        super().note_sessions()
+        with self.lock:
+            if isinstance(self.program, Restarting):
+                self.program.keeping.is_of_sessions = True
+                self.program.keeping.note_figures()
 
     def _covered(self, fragment: Fragment) -> Tuple[Any, ...]:
         """The fragment as the audit sees it, and how many reads were left out."""
@@ -244,6 +344,7 @@ class Auditor(Takes):
     def close(self, session: int) -> None:
         """Nothing more of this session comes; its number isn't used again."""
         self.ask(["close", session])
+        self.closed[session] = True
 
     def last_round(self, efforts: Sequence[Effort] = EFFORTS) -> Report:
         for self.effort in efforts:

@@ -34,6 +34,8 @@ class Backlog:
         self._unseen: Set[str] = set()
         self._waiting: queue.SimpleQueue[HandedIn] = queue.SimpleQueue()
         self._next_numbers: Dict[int, int] = {}
+        self._taken: Dict[int, int] = {}  # of each session the number behind the last so taken
+        self._closed: Set[int] = set()  # whose end was taken
         self._counts: Dict[int, int] = {}  # by session, of all audits
         self._dropping = threading.Lock()
 
@@ -70,9 +72,29 @@ class Backlog:
         """What waits, up to so many; nobody else may take any meanwhile."""
         return [self._waiting.get() for _ in range(min(len(self), most))]
 
+    def note_taken(self, session: int, number: Optional[int]) -> None:
+        """Nobody needs it any more: the auditor has it, or no audit wants it."""
+        if number is None:
+            self._closed.add(session)
+        else:
+            self._taken[session] = number + 1
+
+    def is_taken(self, session: int, number: Optional[int]) -> bool:
+        """Whether nobody needs it any more, nor what came before."""
+        if number is None:
+            return session in self._closed
+        return self._taken.get(session, 0) > number
+
+    def begin_behind(self, session: int, number: int, count: int) -> None:
+        """By what an earlier process has taken in: so many of this session, up to before this
+        number."""
+        self._next_numbers[session] = self._taken[session] = number
+        self._counts[session] = count
+
     def clear(self) -> None:
         while len(self):
-            self._waiting.get()
+            _, session, number, _ = self._waiting.get()
+            self.note_taken(session, number)
 
     def __len__(self) -> int:
         return self._waiting.qsize()

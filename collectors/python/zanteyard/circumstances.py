@@ -13,20 +13,30 @@ from typing import Any, Dict, Iterator, List, Sequence, Tuple
 from .records import History, Logged, Names
 
 PACKAGE = os.path.dirname(os.path.abspath(__file__)) + os.sep
-OURS = (PACKAGE, contextlib.__file__, threading.__file__)  # files that call nothing by themselves
+# Files, and folders, that call nothing by themselves.
+ours: Tuple[str, ...] = (PACKAGE, contextlib.__file__, threading.__file__)
 LETTERS = 60  # of a value, at most
-DEPTH = 12  # calls that are looked through, at most
+depth = 12  # calls that are looked through, at most
+
+
+def pass_over(folder: str, calls: int = 0) -> None:
+    """What stands in this folder calls nothing by itself, as a driver in which calls begin; and so
+    many calls more may come between."""
+    global ours, depth
+    if folder + os.sep not in ours:
+        ours, depth = (*ours, folder + os.sep), depth + calls
 
 
 def caller() -> str:
     """The file and line outside of this package from which this was called; empty where there is
     none near."""
     frame: Any = sys._getframe(1)
-    for _ in range(DEPTH):
+    for _ in range(depth):
         if frame is None:
             return ""
         name = frame.f_code.co_filename
-        if not name.startswith(OURS):
+        is_made = name == "<string>" and "__name__" not in frame.f_globals  # by a library
+        if not name.startswith(ours) and not is_made:
             return f"{name}:{frame.f_lineno}"
         frame = frame.f_back
     return ""

@@ -10,7 +10,7 @@ import sys
 import traceback
 from typing import Any, Callable, Iterator, List, Mapping, Optional, Sequence
 
-from . import check_report, demo, importing, postgres_audit
+from . import check_report, demo, importing, postgres_audit, serving
 from .auditor import Auditor
 from .errors import ImportRefusedError, ProgramEndedError, ScriptMistakeError, ZanteyardError
 from .import_times import time_line
@@ -105,6 +105,11 @@ def parser() -> argparse.ArgumentParser:
     check_report.add_arguments(checked)
     made = command("import", importing.run, "makes a script of a history of another tool's")
     importing.add_arguments(made)
+    served = command("serve", serving.run, "audits as a daemon, for clients that come and go")
+    served.epilog = serving.STATUS_WORDS
+    serving.add_arguments(served)
+    journal = command("journal", _journal, "tells what a journal says that a killed process left")
+    journal.add_argument("journal", metavar="JOURNAL", help="its file (docs/JOURNAL.md)")
     audit = command("audit", _audit, "audits clients of a store while they run")
     stores = audit.add_subparsers(metavar="STORE", required=True)
     for kind in KINDS:
@@ -216,6 +221,21 @@ def _audit(asked: Any) -> int:
     if asked.html:
         _write(ran.page(_origin()), asked.html)
     return STATUSES.get(ran.outcome.whole.kind, UNDECIDED)
+
+
+def _journal(asked: Any) -> int:
+    program = find_program()
+    with Auditor.resumed(asked.journal, program) as auditor:
+        count, sessions = sum(auditor.received), auditor.sessions
+        print(f"{auditor.run_name}: {count} transactions of {sessions} sessions were taken in")
+        report = auditor.last_round()
+        if report.kind == "violated":
+            its = (report.counts, EXPLAINED, report.certificate)
+            _tell(violation_story(auditor, program, *its))
+            return STATUSES["violated"]
+        outcome = auditor.outcome()
+        print(f"over these the last round is {report.kind}; {outcome}")
+        return STATUSES.get(outcome.kind, UNDECIDED)
 
 
 def _story(verdict: Verdict, run: ScriptRun, seconds: float) -> Story:

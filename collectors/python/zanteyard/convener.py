@@ -76,6 +76,11 @@ class Convener:
         """As if a meeting had just ended."""
         self._counted = self._backlog.counted
 
+    def go_on(self, remaining: int) -> None:
+        """Where another process has taken in so many that aren't forgotten. Were these not counted,
+        an auditor's process that is killed more often than meetings come would never have one."""
+        self._counted = self._backlog.counted - remaining
+
     def meet(self, patience: float, idle: float) -> Met:
         """Waits so many seconds for clients' transactions; who was idle for so many goes without a
         session."""

@@ -23,6 +23,15 @@ class ProgramLateError(ProgramEndedError):
     """The program hasn't answered in time."""
 
 
+class ProgramUnreachableError(ProgramEndedError):
+    """The process between this one and the program is gone, whatever became of the program."""
+
+
+class OtherVersionError(ZanteyardError):
+    """Clients and the auditor's process are of versions that don't understand one another. Nothing
+    has begun."""
+
+
 class RefusedError(ZanteyardError):
     """A line was refused: this is a mistake in how the log was made."""
 
@@ -69,8 +78,38 @@ class AuditLostError(ZanteyardError):
     """The audit ended, and why; the clients go on."""
 
 
+class AuditTakenError(AuditLostError):
+    """Another auditor has the audit of this name."""
+
+
+class MissingError(AuditLostError):
+    """The audit goes on, but for what a process of clients may have done that isn't heard of any
+    more; which sessions these are, and from which transactions on."""
+
+
 class ElsewhereError(ZanteyardError):
     """What failed in another process, in its words."""
+
+
+class RoundTooLongError(ZanteyardError):
+    """A round took longer than was asked for, and once more after the auditor was started again.
+    Nothing is said of what it was about, and all that was taken in is still there."""
+
+
+class JournalError(ZanteyardError):
+    """The journal can't be written or read, or doesn't fit: nothing of the audit is told by it."""
+
+
+class JournalInUseError(JournalError):
+    """Another auditor, of this process or of another one, has this journal."""
+
+
+class JournalDamagedError(JournalError):
+    """What the journal has isn't what was written there."""
+
+
+class JournalVersionError(JournalError):
+    """The file is no journal, or one of another version."""
 
 
 class ScriptMistakeError(ZanteyardError):

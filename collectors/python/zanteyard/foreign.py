@@ -10,7 +10,7 @@ from traceback import walk_tb
 from .circumstances import PACKAGE
 
 STANDARD = sysconfig.get_paths()["stdlib"] + os.sep
-DRIVERS = tuple(f"{os.sep}{name}{os.sep}" for name in ("psycopg2", "pglast"))
+DRIVERS = tuple(f"{os.sep}{name}{os.sep}" for name in ("psycopg2", "psycopg", "pglast"))
 
 
 def is_foreign(error: BaseException) -> bool:

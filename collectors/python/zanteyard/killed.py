@@ -15,7 +15,7 @@ import time
 from typing import Any, Dict, Iterable, List, Optional, Sequence, Tuple
 
 from .asking import find_out
-from .auditor import FENCE
+from .auditor import FENCE, FLAG
 from .backlog import Backlog, keys_written_unseen
 from .notes import Note, notes_of
 from .records import Logged, as_bytes, unpacked
@@ -23,6 +23,7 @@ from .sessions import Place
 
 SECONDS = 5.0  # in which the store is asked for one outcome
 NOTHING = Logged((), (), "aborted")
+Noted = Dict[int, List[Tuple[Note, Any]]]  # of each session, with how the store is asked
 logger = logging.getLogger("zanteyard")
 
 
@@ -31,19 +32,14 @@ class LostError(Exception):
 
 
 class Killed:
-    """`asks` has of each path how the store is asked; `come` gives of a session the number behind
-    the last that the process has handed over itself."""
+    """`notes` are what it noted of each session, each with how the store is asked. Where it isn't
+    known that the process `is_dead`, but only that it isn't heard of, nobody ends what the store is
+    still about, and what it may have begun behind its notes is left open."""
 
-    def __init__(self, asks: Dict[str, Any], run_name: str, backlog: Backlog) -> None:
-        """Raises LostError where the notes aren't there."""
-        self.run_name, self.backlog = run_name, backlog
-        self.notes: Dict[int, List[Tuple[Note, Any]]] = {}
-        for path, how in asks.items():
-            notes = notes_of(path)
-            if notes is None:
-                raise LostError("its notes aren't there")
-            for note in notes:
-                self.notes.setdefault(note.session, []).append((note, how))
+    def __init__(
+        self, notes: Noted, run_name: str, backlog: Backlog, is_dead: bool = True
+    ) -> None:
+        self.notes, self.run_name, self.backlog, self.is_dead = notes, run_name, backlog, is_dead
 
     def told(self, place: Place) -> Sequence[Tuple[int, Logged]]:
         """What the session did, which nobody has handed in: numbers, and what is to be logged. The
@@ -69,7 +65,11 @@ class Killed:
                 place.is_ended = True
                 if number < last:
                     raise LostError("its notes have more behind what can't be found out")
-                return found
+                return found if self.is_dead else without_end(found)
+        if not self.is_dead:
+            place.leave_open(last + 1)
+            place.is_ended = True
+            return without_end(found)
         # One more may have begun, of which nothing was sent to be committed.
         place.begun = last + 2
         return [*found, (last + 1, NOTHING)]
@@ -115,7 +115,7 @@ class Killed:
         logged = unpacked(note.packed)
         if not logged.writes and note.unclear is None:
             return NOTHING  # whether what it has read is to be checked isn't known
-        outcome, overwritten = find_out(how, note.ticket, SECONDS)
+        outcome, overwritten = find_out(how, note.ticket, SECONDS, self.is_dead)
         told = f"{note.session}.{note.number} of a killed process"
         logger.info("%s is %s by the store's word", told, outcome)
         if outcome == "aborted":
@@ -139,6 +139,28 @@ class Killed:
             if run == self.run_name:
                 return (session, number)
         return "init"
+
+
+def in_files(asks: Dict[str, Any]) -> Noted:
+    """What was noted in these files. Raises LostError where they aren't there."""
+    found: Noted = {}
+    for path, how in asks.items():
+        notes = notes_of(path)
+        if notes is None:
+            raise LostError("its notes aren't there")
+        for note in notes:
+            found.setdefault(note.session, []).append((note, how))
+    return found
+
+
+def without_end(found: List[Tuple[int, Logged]]) -> List[Tuple[int, Logged]]:
+    """Where the session is closed behind these: what did nothing, or flags that nobody reads any
+    more, would say no more by being there, and nothing would say where they stand."""
+    while found and all(key.startswith(FLAG) for key in found[-1][1].writes):
+        if found[-1][1].reads:
+            break
+        found.pop()
+    return found
 
 
 def writes_alone(logged: Logged) -> Logged:

@@ -23,9 +23,9 @@ from .backlog import Backlog, keys_written_unseen
 from .convener import Convener
 from .coverage import Coverage
 from .edges import coverage_from_now
-from .errors import AuditLostError
+from .errors import AuditLostError, MissingError
 from .forks import is_forked
-from .outcome import RATHER_LOSE_THE_AUDIT, Outcome, Policy
+from .outcome import INCOMPLETE, RATHER_LOSE_THE_AUDIT, Outcome, Policy
 from .pace import Pace
 from .places import Places
 from .records import Logged, Report, Store
@@ -37,6 +37,7 @@ PAUSE = 0.04  # seconds, in which more transactions come: a line each would cost
 LONGEST_PAUSE = 30.0  # seconds between two attempts to start an auditor that can't be started
 STOPPING = 120.0  # seconds for what was handed in to be audited, as it is stopped
 GIVING_UP = 1.0  # the same, where an exception ends it
+EARLIER = "an audit of this run had ended before, in a process that is gone"
 
 Lost = AuditLostError  # the same error under a shorter name
 
@@ -74,7 +75,9 @@ class LiveAuditor(SessionsHere):
     `patience` seconds for clients' transactions; `seconds` after the last round there is one where
     anything was done. A client that did nothing for `idle` seconds goes without a session, which
     others may have. At most `most` transactions may wait to be taken in before clients wait.
-    `policy` says what gives way.
+    `policy` says what gives way. `journal` and `round_seconds` are as an Auditor's, for one that
+    has none yet. Where all sessions are `elsewhere`, and what they do is kept there until it is
+    taken in, as behind a StreamServer, the auditor may be one that goes on by a journal.
 
     Each round is a line at level INFO of the log `zanteyard`; `tell` is called with it too, where
     it is given, in the auditor's thread. What fails is told by `outcome`, and never raised to who
@@ -94,7 +97,16 @@ class LiveAuditor(SessionsHere):
         most: int = 2048,
         tell: Optional[Callable[[str], object]] = None,
         policy: Policy = RATHER_LOSE_THE_AUDIT,
+        journal: Optional[str] = None,
+        round_seconds: Optional[float] = None,
+        elsewhere: bool = False,
     ) -> None:
+        if auditor.is_resumed and not elsewhere:
+            raise ValueError("a live audit doesn't go on by a journal: begin another run")
+        if journal is not None:
+            auditor.keep_journal(journal, round_seconds)
+        if not elsewhere:
+            auditor.note_sessions()
         super().__init__(run_name if run_name is not None else auditor.run_name, policy)
         self.auditor = auditor
         self.is_named = run_name is not None or auditor.is_named
@@ -106,8 +118,9 @@ class LiveAuditor(SessionsHere):
         self._backlog, self._places = Backlog(most), Places(auditor.sessions)
         # This process's clients, and each other process's.
         self._convener = Convener([self._group], self._places, self._backlog)
-        self._figures = Figures(told_at=time.monotonic())
-        self._audit = self._next_audit(Coverage.of_all(auditor.sessions))
+        now = time.monotonic()
+        self._figures = Figures(told_at=now, cut_at=now)
+        self._audit = self._resumed_audit() if auditor.is_resumed else self._first_audit()
         self._lost: Optional[Exception] = None  # why no more is audited, until another audit begins
         self._failure: Optional[Exception] = None  # the same, once nothing more is audited for good
         self._is_stopping = self._has_ended = False
@@ -121,6 +134,8 @@ class LiveAuditor(SessionsHere):
         isn't known. Raises ValueError where none is left."""
         if is_forked(self):  # threads that have its locks don't run here
             return Session(self, 0, store, self.run_name, patience)
+        if not self.auditor.has_sessions:
+            self.auditor.note_sessions()
         place = self._places.take(self.policy.wait)
         if place is None:
             raise ValueError(f"no session is left of {self.auditor.sessions}")
@@ -255,6 +270,8 @@ class LiveAuditor(SessionsHere):
         self._backlog.count(session, number, unseen)
         if not self._drops():
             self._backlog.put((came, session, number, what))
+        elif not self._is_stopping:
+            self._backlog.note_taken(session, number)
 
     def _drops(self) -> bool:
         """Whether no audit takes in what is handed in."""
@@ -377,6 +394,31 @@ class LiveAuditor(SessionsHere):
             if not self._has_failed_to_tell:
                 self._has_failed_to_tell = True
                 logger.error("rounds can't be told: %r", error)
+
+    def note_missing(self, error: MissingError) -> None:
+        """The audit goes on, and can't be serial any more."""
+        logger.error("%s", error)
+        self._audit.missing = self._audit.missing or error
+
+    def _first_audit(self) -> Audit:
+        return self._next_audit(Coverage.of_all(self.auditor.sessions))
+
+    def _resumed_audit(self) -> Audit:
+        """Where another process has taken in what the journal tells."""
+        auditor: Any = self.auditor
+        coverage = auditor.coverage or Coverage.of_all(auditor.sessions)
+        for session, count in enumerate(auditor.received):
+            self._backlog.begin_behind(session, (coverage.first[session] or 0) + count, count)
+            if auditor.closed[session]:
+                self._backlog.note_taken(session, None)
+        earlier = (Outcome(INCOMPLETE, failure=Lost(EARLIER)),) if auditor.audits > 1 else ()
+        its = (self._backlog, self._figures, self._tell, self.run_name, coverage, 0, earlier)
+        audit = Audit(auditor, *its)
+        audit.taken_in, audit.report = sum(auditor.received), auditor.violation
+        if auditor.failure is not None:  # it had sessions in the process that is gone
+            audit.missing = MissingError(str(auditor.failure))
+        self._convener.start_anew()
+        return audit
 
     # another audit
 

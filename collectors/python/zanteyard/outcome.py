@@ -4,6 +4,7 @@ from __future__ import annotations
 from dataclasses import dataclass, replace
 from typing import Any, Optional, Sequence, Tuple
 
+from .errors import MissingError
 from .records import Pending, Report
 
 SERIAL, PENDING, VIOLATED, UNDECIDED = "serial", "pending", "violated", "undecided"
@@ -32,7 +33,8 @@ class Outcome:
     """Only the kind "serial" says that everything that clients did is in one order.
 
     `kind`: "running" while more may come; "serial"; "pending" where all was audited, but reads name
-    transactions that never came; "violated", which stays true whatever is missing; "the collector's
+    transactions that never came, or sessions may have done more that never came, which `failure`
+    then tells; "violated", which stays true whatever is missing; "the collector's
     own violation", where its own transactions alone have no order; "undecided", where the search
     was given up; "incomplete", where something wasn't audited: `failure` says why.
 
@@ -113,4 +115,6 @@ def kind_of(report: Optional[Report], failure: Optional[Exception], is_whole: bo
     kind = KINDS.get(report.kind, report.kind) if report else INCOMPLETE
     if kind == VIOLATED:
         return kind
+    if isinstance(failure, MissingError) and is_whole and kind in (SERIAL, PENDING):
+        return PENDING
     return kind if is_whole and failure is None else INCOMPLETE

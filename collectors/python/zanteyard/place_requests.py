@@ -7,6 +7,7 @@ import threading
 import time
 from typing import Any, Optional, Sequence, Tuple
 
+from .errors import ProgramLateError
 from .messages import Messages
 from .sessions import Place
 
@@ -24,33 +25,55 @@ class PlaceRequests:
     def ask(self, kind: str, *more: Any, seconds: float) -> Optional[Place]:
         """A place by a message of this kind: "join" for one that is left, "overflow" for one that
         no audit is about. None where none is left, or nobody answers within so many seconds."""
-        if not self._asking.acquire(timeout=seconds):  # others wait for theirs
+        try:
+            return self.asked(kind, *more, seconds=seconds)
+        except ProgramLateError:
             return None
+
+    def asked(self, kind: str, *more: Any, seconds: float) -> Optional[Place]:
+        """The same. Raises ProgramLateError where nobody answers within so many seconds."""
+        late = ProgramLateError(f"the auditor's process hasn't answered for {seconds:g} s")
+        if not self._asking.acquire(timeout=seconds):  # others wait for theirs
+            raise late
         try:
             if self.has_ended:
                 return None
             self._asked += 1
             if not self._messages.tell(kind, self._asked, *more, seconds=seconds):
-                return None
-            return self._answer(time.monotonic() + seconds)
+                raise late
+            try:
+                return self._answer(time.monotonic() + seconds)
+            except queue.Empty:  # it is given back as it comes
+                raise late from None
         finally:
             self._asking.release()
 
     def take_answer(self, *answer: Any) -> None:
-        """The request's number, and a place or None."""
+        """The request's number, and a place or None. What nobody waits for is given back."""
         self._answers.put((answer[0], answer[1]))
+        if self._asking.acquire(blocking=False):
+            try:
+                self._give_back_late()
+            finally:
+                self._asking.release()
 
     def end(self) -> None:
         """Nothing more is answered."""
         self.has_ended = True
         self._answers.put(None)
 
+    def _give_back_late(self) -> None:
+        while not self.has_ended:
+            try:
+                answer = self._answers.get_nowait()
+            except queue.Empty:
+                return
+            if answer is not None and answer[1] is not None:
+                self._messages.tell("back", answer[1])
+
     def _answer(self, ends: float) -> Optional[Place]:
         while True:
-            try:
-                answer = self._answers.get(timeout=max(0.001, ends - time.monotonic()))
-            except queue.Empty:
-                return None  # it is given back once it is there
+            answer = self._answers.get(timeout=max(0.001, ends - time.monotonic()))
             if answer is None:
                 self._answers.put(None)  # for who asks next
                 return None

@@ -103,6 +103,24 @@ class Places:
         with self._changed:
             return [(it.number, it.begun, it.begun, it.unknown) for it in self._left]
 
+    # where another process of the auditor goes on
+
+    def nobodys_by_now(self) -> Tuple[List[Place], int]:
+        """Those that are left, and those that are lent and not told of to anybody yet, or answered
+        for; and the number of the next one that no audit is about."""
+        with self._changed:
+            lent = [place for place in self._lent.values() if not place.is_lent]
+            return [*self._left, *lent], self._next_unaudited
+
+    def go_on(
+        self, left: Iterable[Place], taken: Iterable[int], lent: Iterable[Place], unaudited: int
+    ) -> None:
+        """With these alone; before any client comes."""
+        with self._changed:
+            self._left, self._taken = deque(left), {*taken}
+            self._lent = {place.number: place for place in lent}
+            self._next_unaudited = unaudited
+
     # for who has the lock
 
     def _nobodys(self) -> Set[int]:

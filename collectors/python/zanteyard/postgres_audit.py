@@ -121,7 +121,7 @@ def audited_run(
     """The clients beside the auditor, and what became of the audit."""
     policy = RATHER_WAIT if asked.rather_wait else RATHER_LOSE_THE_AUDIT
     rounds, story = _Rounds(), None
-    with AuditorApart(asked.clients) as auditor:
+    with AuditorApart(asked.clients, journal=asked.audit_journal) as auditor:
         live = LiveAuditor(auditor, every=asked.every, policy=policy, tell=rounds.tell)
         rounds.live = live
         clients = _beside(asked, make_store, live)
@@ -176,6 +176,8 @@ def add_arguments(asked: argparse.ArgumentParser, kind: StoreKind = POSTGRES) ->
     told = "clients wait where the auditor can't keep up; else that audit ends, and another begins"
     asked.add_argument("--rather-wait", action="store_true", help=told)
     kind.add_arguments(asked)
+    told = "goes on by this file where the auditor is killed; one that isn't there yet"
+    asked.add_argument("--audit-journal", metavar="FILE", help=told)
     asked.add_argument("--html", metavar="FILE", help="writes a page to look at")
 
 

@@ -63,6 +63,7 @@ CHANGES = OVERWRITE[OVERWRITE.index("run = ") : OVERWRITE.index(" AS before")]
 MAKES = FIRST[: FIRST.index(TRANSACTION)].rstrip()
 RUNS_STILL = f"""SELECT state = 'idle', position(%s IN query) > 0, position(%s IN query) > 0
     FROM pg_stat_activity WHERE pid = %s AND {AGE} = %s"""
+WHOSE = f"SELECT {LIVES}"
 WHAT_BECAME = f"""SELECT pg_xact_status(%s::text::xid8), {LIVES}"""
 ITS_ROW = """SELECT value FROM {table} WHERE key = %s AND run = %s AND session = %s
     AND number = %s"""
@@ -339,15 +340,26 @@ def statements_of(table: str, key: str, run: str, session: int, number: int) -> 
 
 
 def asked(
-    dsn: Dict[str, str], around: Dict[str, str], table: str, *, ticket: Any, seconds: float
+    dsn: Dict[str, str],
+    around: Dict[str, str],
+    table: str,
+    *,
+    ticket: Any,
+    seconds: float,
+    ends_it: bool = True,
 ) -> FoundOut:
     """What became of the transaction of a store whose process is killed. What its server's process
-    is still about is waited for, for half of the time; then that process is ended."""
+    is still about is waited for, for half of the time; then, where it `ends_it`, that process is
+    ended. Else it may be asked from another machine, where its words may lead to another server:
+    that one knows nothing of it."""
     transaction_id, pid, since, life, key, run, session, number = ticket
     words = reached(dsn, around)
     if words is None:
         return UNKNOWN
     asks = Asks(extensions.make_dsn(**words), table, time.monotonic() + seconds)
+    asks.ends_it = ends_it
+    if not ends_it and (life is None or asks.row(WHOSE, ()) != (life,)):
+        return UNKNOWN
     its = (key, run, session, number)
     if transaction_id is None:
         statements = statements_of(table, *its)
@@ -371,6 +383,8 @@ def asked(
 class Asks:
     """Until then, by the monotonic clock; raises psycopg2's errors."""
 
+    ends_it = True  # what isn't over by half of the time
+
     def __init__(self, dsn: str, table: str, ends: float) -> None:
         self.dsn, self.table, self.ends = dsn, table, ends
 
@@ -385,7 +399,7 @@ class Asks:
     ) -> bool:
         """Whether there is time to ask again, in a while."""
         left = self.ends - time.monotonic()
-        if left < seconds / 2 and since is not None:
+        if left < seconds / 2 and since is not None and self.ends_it:
             is_alone = transaction_id is None
             self.row(END_IT, (pid, since, is_alone, *statements, transaction_id or "0"))
         time.sleep(min(0.02, max(0.0, left)))

@@ -11,7 +11,6 @@ from __future__ import annotations
 
 import json
 import logging
-import math
 import secrets
 import socket
 import time
@@ -19,10 +18,10 @@ from typing import Any, Dict, List, Optional, Sequence, Tuple
 
 import redis
 
-from .bounded import LateError, within
 from .asking import Found as FoundOut
 from .errors import StoreUnfitError
 from .records import Found, Name
+from .redis_wire import BROKEN, Command, connected, limit, replies
 from .sessions import Aborted, NameTaken, OutcomeUnknown
 
 # What is watched: each key, before it is read; or a key that is written, which is then compared
@@ -33,9 +32,7 @@ PREFIX = "zanteyard:"  # before each key
 RUN = "zanteyard run "  # before a run's name: the key that says whose it is
 LAST = "zanteyard last "  # before a store's token: the key that tells its outcomes
 PATIENCE = 5.0  # seconds for a connection, and for an outcome
-BROKEN = (redis.ConnectionError, redis.TimeoutError, OSError)
 MARK = "zanteyard "  # before each text: what another program writes hasn't it
-Command = Tuple[Any, ...]
 logger = logging.getLogger("zanteyard")
 
 
@@ -110,13 +107,7 @@ class RedisStore:
     def connected(self, seconds: float) -> Any:
         # What isn't UTF-8, as another program may have written, is a text too.
         more: Dict[str, Any] = {"decode_responses": True, "encoding_errors": "surrogateescape"}
-        pool = redis.ConnectionPool.from_url(self.url, **more)
-        connection = pool.make_connection()
-        try:
-            within(seconds, connection.connect, lambda _: connection.disconnect())
-        except LateError as error:
-            raise redis.TimeoutError(str(error)) from None
-        return connection
+        return connected(self.url, seconds, **more)
 
     def see_that_nothing_is_dropped(self, connection: Any) -> None:
         try:
@@ -383,35 +374,6 @@ class RedisStore:
         *_, owner = self.asked([("SET", its, token, "NX"), ("GET", its)])
         if owner != token:
             raise NameTaken(f"{self.prefix} knows the name {run_name}: an earlier run had it")
-
-
-def limit(connection: Any, ends: float = math.inf) -> None:
-    """No answer is waited for longer than until then, and than its URL says."""
-    sock = getattr(connection, "_sock", None)
-    if sock is None:
-        return
-    seconds = max(0.001, ends - time.monotonic())
-    usual = connection.socket_timeout
-    if usual is None or seconds < usual:
-        sock.settimeout(seconds if seconds < math.inf else None)
-    else:
-        sock.settimeout(usual)
-
-
-def replies(connection: Any, commands: Sequence[Command]) -> List[Any]:
-    """Of all, one behind the other. Raises the first error, once all have been answered."""
-    connection.send_packed_command(connection.pack_commands(commands), check_health=False)
-    found: List[Any] = []
-    failure: Optional[redis.ResponseError] = None
-    for _ in commands:
-        try:
-            found.append(connection.read_response())
-        except redis.ResponseError as error:
-            failure = failure or error
-            found.append(error)
-    if failure is not None:
-        raise failure
-    return found
 
 
 def asked(url: str, prefix: str, own: str, *, ticket: Any, seconds: float) -> FoundOut:

@@ -68,6 +68,41 @@ class RemoteGroup:
         with self._changed:
             return [place for call in self._calls.values() for place in call.lent]
 
+    # where another process of the auditor goes on
+
+    @property
+    def asked(self) -> int:
+        """How many calls there were."""
+        return self._asked
+
+    def open_calls(self) -> List[Tuple[int, str, List[Tuple[Any, ...]]]]:
+        """Those that aren't answered: number, name, and the places that are lent for them."""
+        with self._changed:
+            return [
+                (asked, call.name, [astuple(place) for place in call.lent])
+                for asked, call in self._calls.items()
+            ]
+
+    def given_back(self) -> List[Place]:
+        """Of its places, in answers that weren't looked at yet."""
+        with self._changed:
+            found = [it.answer[0] for it in self._unread if it.name == "gather" and it.answer]
+        return [Place(*place) for result in found if result for place in result[1]]
+
+    def go_on(
+        self,
+        asked: int,
+        places: Iterable[Place],
+        ended: Iterable[int],
+        calls: Iterable[Tuple[int, str, Sequence[Place]]],
+    ) -> None:
+        """With these places, and these calls that nobody waits for any more."""
+        self._asked = asked
+        for place in places:
+            self.add(place)
+        self.ended.update(ended)
+        self._calls.update((which, _Call(name, lent, None, True)) for which, name, lent in calls)
+
     def leave(self) -> None:
         """Nothing more is answered."""
         with self._changed:

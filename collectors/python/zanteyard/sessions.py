@@ -102,6 +102,13 @@ class Session:
         patience: float = 5.0,
         renew: Optional[Callable[[Session], Optional[Place]]] = None,
     ) -> None:
+        if getattr(auditor, "is_resumed", False) is True:
+            raise ValueError(
+                "what was on its way to the store as the run's process ended isn't known, "
+                "so that no session goes on by a journal: begin another run"
+            )
+        if hasattr(auditor, "note_sessions"):
+            auditor.note_sessions()
         self.auditor, self.store, self.patience, self.renew = auditor, store, patience, renew
         its_name = getattr(auditor, "run_name", "")
         self.run_name = run_name if run_name is not None else its_name

@@ -15,7 +15,7 @@ from .outcome import VIOLATED
 from .programs import PROGRAM
 from .records import History, Logged, Names, Report, Source, TransactionId
 
-TOLD = 240  # characters of a statement, at most
+TOLD, FROM = 300, 150  # characters of a statement, at most, and of its end, where its place stands
 SECONDS = 5.0  # to make a history smaller
 SIDE_BY_SIDE = max(1, min(4, os.cpu_count() or 1))  # auditors
 START = "everything before the cut"  # a key that the first transaction behind a cut writes
@@ -335,7 +335,8 @@ def statements_of(logged: Logged) -> Iterator[str]:
             did = ("wrote" if len(deed) == 1 else "read") + f" {deed[0]}"
             told.setdefault(" ".join(left[deed].split()), []).append(did)
     for statement, its in told.items():
-        short = statement if len(statement) <= TOLD else statement[:TOLD] + " .."
+        is_long = len(statement) > TOLD
+        short = f"{statement[: TOLD - FROM]} .. {statement[-FROM:]}" if is_long else statement
         yield f"{', '.join(its)}: {short}"
 
 

@@ -19,9 +19,6 @@ from __future__ import annotations
 import time
 from typing import Any, List, Optional, Sequence, Tuple
 
-import psycopg2
-from psycopg2 import errors, extensions
-
 from .errors import AbortedError, AuditLostError, StoreUnfitError
 from .foreign import is_foreign
 from .sessions import Transaction
@@ -38,14 +35,15 @@ LOG = "INSERT INTO {writes} VALUES "
 PUT_BACK = f"; SELECT {', '.join(KEPT.format(to=it, of=OWN[it]) for it in OWN)}"
 DONE = "; RELEASE SAVEPOINT zanteyard"
 UNDO = "ROLLBACK TO SAVEPOINT zanteyard; RELEASE SAVEPOINT zanteyard"
-ENTRY = "(%s, %s, %s, pg_catalog.pg_current_xact_id(), %s, %s, %s, %s)"
+ENTRY = "(%s, %s, %s, pg_catalog.pg_current_xact_id(), %s, %s, %s, %s, %s)"
 NUMBER = "SELECT pg_catalog.pg_current_xact_id_if_assigned()::pg_catalog.text"
 NONE = ""  # in place of the number of a transaction that has written nothing
-IDLE, ACTIVE = extensions.TRANSACTION_STATUS_IDLE, extensions.TRANSACTION_STATUS_INTRANS
+IDLE, ACTIVE = 0, 2  # what libpq calls a transaction's status, and each driver of it
+NO_TRANSACTION = "25P01"  # the server's code where there is none
 
 
 class Commit:
-    """Of one transaction of an AuditedConnection, for who has its turn."""
+    """Of one transaction of an audited connection, for who has its turn."""
 
     def __init__(self, connection: Any, transaction: Transaction) -> None:
         self.connection, self.transaction = connection, transaction
@@ -53,11 +51,11 @@ class Commit:
         self.store = connection.store
 
     def look_up(self) -> None:
-        """Raises AbortedError, and psycopg2's errors of the application's own connection; nothing
+        """Raises AbortedError, and the driver's errors of the application's own connection; nothing
         of it is committed then. Whatever else goes wrong makes it unclear."""
         status, notes = self.connection.info.transaction_status, self.notes
         if status not in (IDLE, ACTIVE):
-            extensions.connection.commit(self.connection)  # which the server makes a rollback
+            self.connection.send_commit()  # which the server makes a rollback
             raise AbortedError("a statement of it had failed")
         self.store.number = self._number_noted()
         # Until all is known: an interrupt may come in between, and a commit behind it.
@@ -75,8 +73,6 @@ class Commit:
             notes.doubt(f"it isn't known what came of a statement: {notes.pending}")
         try:
             writes = self._found()
-        except psycopg2.Error:
-            raise  # of the application's own connection
         except Exception as error:
             if is_foreign(error):
                 raise
@@ -129,22 +125,22 @@ class Commit:
         name, tables = self.transaction.name, self.connection.tables
         values: List[Any] = []
         for it in writes:
-            values += [*it.row.key, it.entry, it.is_absent, *name]
+            values += [*it.row.key, it.entry, it.is_absent, *name, it.version]
         text = LOG.format(writes=tables.writes.replace("%", "%%"))
         until = limits(self.connection.audit.wait)
         entries = text + ", ".join([ENTRY] * len(writes))
-        with extensions.cursor(self.connection) as cursor:
-            try:
-                cursor.execute(SAVE + until + entries + PUT_BACK + DONE, values)
-            except Exception as error:
-                if self.connection.closed or is_foreign(error):
-                    raise
-                if isinstance(error, errors.NoActiveSqlTransaction):  # by a forked child, unseen
-                    self.notes.doubt(ENDED)
-                    return
-                cursor.execute(UNDO)
-                self.notes.doubt(f"what it wrote couldn't be logged: {error}")
+        run = self.connection.run_plain
+        try:
+            run(SAVE + until + entries + PUT_BACK + DONE, values)
+        except Exception as error:
+            if self.connection.closed or is_foreign(error):
+                raise
+            if self.connection.code_of(error) == NO_TRANSACTION:  # by a forked child, unseen
+                self.notes.doubt(ENDED)
                 return
+            run(UNDO)
+            self.notes.doubt(f"what it wrote couldn't be logged: {error}")
+            return
         self.store.entry = (*writes[0].row.key, *name)
 
     def _number_noted(self) -> Optional[str]:
@@ -153,9 +149,7 @@ class Commit:
         return str(notes.transaction) if is_known else None
 
     def _ask_number(self) -> None:
-        with extensions.cursor(self.connection) as cursor:
-            cursor.execute(NUMBER)
-            (number,) = cursor.fetchone() or (None,)
+        ((number,),) = self.connection.run_plain(NUMBER) or ((None,),)
         self.store.number = NONE if number is None else str(number)
 
     def _renew(self, fit: Tuple[str, ...]) -> None:

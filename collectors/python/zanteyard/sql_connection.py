@@ -1,5 +1,5 @@
-"""An application's connection as an auditor's session: its statements, and the ends of its
-transactions."""
+"""An application's connection as an auditor's session, whatever its driver: its statements, and the
+ends of its transactions."""
 
 from __future__ import annotations
 
@@ -8,10 +8,9 @@ import os
 import queue
 import threading
 import weakref
-from typing import Any, Optional
+from typing import Any, Callable, Optional, Sequence, Tuple, Type
 
 import psycopg2
-from psycopg2 import extensions
 
 from .errors import AbortedError, AuditLostError, OutcomeUnknownError, StatementRefusedError
 from .errors import StoreUnfitError
@@ -20,7 +19,7 @@ from .forks import is_forked
 from .locks import give_back
 from .sessions import Session, Transaction
 from .sql_commit import Commit
-from .sql_cursor import STRICT, AuditedCursor
+from .sql_cursor import STRICT
 from .sql_notes import ENDED, Notes
 from .sql_shapes import Shapes
 from .sql_statements import Statement
@@ -29,16 +28,11 @@ from .sql_tables import Tables, look
 
 logger = logging.getLogger("zanteyard")
 REFUSE, RUN = "refuse", "run"
-TEXT = 25  # the type's number
-AS_TEXT: Any = (psycopg2.STRING, extensions.UNICODE)  # both give a str
 DEFAULT = "default_transaction_isolation"
-STRICT_LEVELS = (
-    extensions.ISOLATION_LEVEL_REPEATABLE_READ,
-    extensions.ISOLATION_LEVEL_SERIALIZABLE,
-)
-IDLE, ACTIVE = extensions.TRANSACTION_STATUS_IDLE, extensions.TRANSACTION_STATUS_INTRANS
+IDLE, ACTIVE = 0, 2  # what libpq calls a transaction's status, and each driver of it
 PAST = "statements were run past the audit"
 NO_AUTOCOMMIT = "statements outside of transactions aren't audited"
+ITS_LEVEL = "SHOW transaction_isolation"
 
 
 # The database that each auditor is about: rows of two would have the same names.
@@ -65,36 +59,94 @@ def leave_dropped() -> None:
         leave(*_dropped.get())
 
 
-class NotAuditedError(StatementRefusedError, psycopg2.NotSupportedError):
-    """A statement, or a call, that isn't audited; nothing was sent, and the transaction goes on."""
+class PlainCursor:
+    """What the application's connection is asked past its own cursors."""
+
+    def __init__(self, run: Callable[[str, Sequence[Any]], Sequence[Any]]) -> None:
+        self.run = run
+        self.rows: Sequence[Any] = ()
+
+    def execute(self, text: str, values: Sequence[Any] = ()) -> None:
+        self.rows = self.run(text, values)
+
+    def fetchone(self) -> Any:
+        return self.rows[0] if self.rows else None
+
+    def fetchall(self) -> Sequence[Any]:
+        return self.rows
 
 
-class AuditedConnection(extensions.connection):
-    """As psycopg2's, one session of the auditor. What it refuses raises NotAuditedError."""
+class Audits:
+    """In front of a driver's class of connections: with that it is one session of the auditor.
 
-    def __init__(self, dsn: str, is_async: int, audit: Any) -> None:
-        """`audit` is the factory."""
-        if is_async:
-            raise NotAuditedError("async", "asynchronous connections aren't audited")
-        super().__init__(dsn)
+    A driver's class says what its errors are (`error`), by what it refuses (`refusal`, which is one
+    of them, and is made with the statement and the reason), and has the calls that raise
+    NotImplementedError here."""
+
+    error: Type[Exception]
+    refusal: Type[StatementRefusedError]
+    audit: Any
+    info: Any
+    closed: Any
+    tables: Tables
+    store: SqlStore
+    session: Session
+    _ends: Any
+
+    # of a driver
+
+    def check_text(self) -> None:
+        """That the server reads statements as they are parsed here. Raises `refusal`."""
+        raise NotImplementedError
+
+    def has_strict_level(self) -> bool:
+        """Whether it begins transactions at one of the levels that are audited, by itself."""
+        raise NotImplementedError
+
+    def run_plain(self, text: str, values: Sequence[Any] = ()) -> Sequence[Any]:
+        """The rows that the last statement of this text gives, with each %s filled in; past the
+        audit. Raises the driver's errors."""
+        raise NotImplementedError
+
+    def code_of(self, error: BaseException) -> Optional[str]:
+        """The server's code of one of the driver's errors."""
+        raise NotImplementedError
+
+    def send_commit(self) -> None:
+        """The driver's own commit, as the session asks for it behind `look_up`."""
+        raise NotImplementedError
+
+    def send_rollback(self) -> None:
+        raise NotImplementedError
+
+    def close_plain(self) -> None:
+        raise NotImplementedError
+
+    # its begin
+
+    def begin_audit(self, audit: Any) -> None:
+        """Before anything is asked of the server."""
         self.audit, self.notes, self.shapes = audit, Notes(), Shapes()
-        self.transaction: Optional[Transaction] = None
+        self.its_transaction: Optional[Transaction] = None  # which is audited, and open
         self.has_lost = False
         self.has_session = True
         self.is_plain = False  # whether statements go to the server as they are
         self.folder = os.getcwd() + os.sep
         self.turn = threading.RLock()  # around a statement and what is noted of it
+
+    def join_audit(self, dsn: str) -> None:
+        """As the connection stands. What goes wrong closes it."""
         try:
-            self._check_text()
-            with extensions.cursor(self) as cursor:
-                self.tables: Tables = look(cursor, audit.tables)
-            super().rollback()
-            if _databases.setdefault(audit.auditor, self.tables.database) != self.tables.database:
+            self.check_text()
+            self.tables = look(PlainCursor(self.run_plain), self.audit.tables)
+            self.send_rollback()
+            its, auditor = self.tables.database, self.audit.auditor
+            if _databases.setdefault(auditor, its) != its:
                 raise StoreUnfitError("the auditor is about another database")
-            self.store = SqlStore(self, dsn, audit.patience, audit.wait)
+            self.store = SqlStore(self, dsn, self.audit.patience, self.audit.wait)
             self._join()
         except BaseException:
-            super().close()
+            self.close_plain()
             raise
 
     def _join(self) -> None:
@@ -125,66 +177,41 @@ class AuditedConnection(extensions.connection):
             session.close()
             raise
 
-    def _check_text(self) -> None:
-        """That the server reads statements as they are parsed here."""
-        if extensions.encodings.get(self.encoding) != "utf_8":
-            raise NotAuditedError("", f"the client's encoding is {self.encoding}, and not UTF8")
-        if self.get_parameter_status("standard_conforming_strings") != "on":
-            raise NotAuditedError("", "standard_conforming_strings isn't on")
-        its: Any = getattr(self, "string_types", None) or {}
-        if not any(its.get(TEXT, extensions.string_types.get(TEXT)) is each for each in AS_TEXT):
-            raise NotAuditedError("", "the application reads text by a type of its own")
-        waiting: Any = extensions.get_wait_callback
-        if waiting() is not None:
-            raise NotAuditedError("", "a wait callback is set")
-
     # statements
 
-    def cursor(self, *names: Any, **more: Any) -> Any:
-        factory = more.pop("cursor_factory", None)
-        if len(names) > 1:
-            factory, names = names[1], (names[0], *names[2:])
-        if names[:1] not in ((), (None,)) or any(more.values()):
-            raise NotAuditedError("cursor", "cursors with a name, or that are held, aren't audited")
-        its: Any = self.cursor_factory
-        factory = factory or its or AuditedCursor
-        if not (isinstance(factory, type) and issubclass(factory, AuditedCursor)):
-            raise NotAuditedError("cursor", f"a cursor of {factory} isn't audited")
-        return super().cursor(cursor_factory=factory)
-
-    def parse(self, text: str) -> Optional[Statement]:
-        """None where it is to be run unaudited."""
-        self._check_text()
+    def parse(self, text: str, kinds: Tuple[str, ...] = ()) -> Optional[Statement]:
+        """None where it is to be run unaudited. `kinds` as in `sql_statements.parsed`."""
+        self.check_text()
         try:
-            return self.shapes.parsed(text, self.tables)
+            return self.shapes.parsed(text, self.tables, kinds)
         except StatementRefusedError as error:
             is_run = self.audit.unaudited == RUN and error.may_run
             told = "run, and not audited" if is_run else "refused"
             logger.error("%s, since %s: %s", told, error.why, error.statement)
             if is_run:
                 return None
-            raise NotAuditedError(error.statement, error.why) from None
+            raise self.refusal(error.statement, error.why) from None
 
     def begin_audited(self, text: str) -> None:
         """Before the first statement of a transaction, which is this text. Where the audit can't,
         it goes on without, and the outcome says so."""
         status = self.info.transaction_status
-        if self.transaction is not None and status == IDLE and self.notes.has_any:
+        if self.its_transaction is not None and status == IDLE and self.notes.has_any:
             self.notes.doubt(ENDED)
-        if self.transaction is not None or self.has_lost:
+        if self.its_transaction is not None or self.has_lost:
             return
         self.notes, self.is_plain = Notes(), True
         if not self.has_session:
             self.has_lost = True
             self._lose(AuditLostError("no session was left for a connection"))
             return
-        why = self._level_refused(text) if status == IDLE else None
+        why = self.level_refused(text) if status == IDLE else None
         if why is not None:
             self.notes.doubt(why)
         if status == ACTIVE:
             self.notes.doubt(PAST)
         try:
-            self.transaction = self.session.begin()
+            self.its_transaction = self.session.begin()
         except Exception as error:
             if is_foreign(error):
                 raise
@@ -199,14 +226,12 @@ class AuditedConnection(extensions.connection):
                 raise
             self.notes.doubt(f"the log of writes can't be reached: {error}")
 
-    def _level_refused(self, text: str) -> Optional[str]:
+    def level_refused(self, text: str) -> Optional[str]:
         """Of the transaction that this text would begin. What is read at a level below repeatable
         read may be of several moments, and isn't audited. Says why, where that is to be run."""
-        if self.isolation_level in STRICT_LEVELS:
+        if self.has_strict_level():
             return None
-        with extensions.cursor(self) as cursor:  # the server's default, or a lower one
-            cursor.execute("SHOW transaction_isolation")
-            (level,) = cursor.fetchone() or ("",)
+        ((level,),) = self.run_plain(ITS_LEVEL) or (("",),)  # the server's default, or a lower one
         if level in STRICT:
             return None
         why = f"at {level} nothing is audited: set isolation_level, or the server's {DEFAULT}, to"
@@ -215,8 +240,8 @@ class AuditedConnection(extensions.connection):
         logger.error("%s, since %s: %s", "run" if is_run else "refused", why, text)
         if is_run:
             return why
-        super().rollback()  # of the SHOW
-        raise NotAuditedError(text, why)
+        self.send_rollback()  # of the SHOW
+        raise self.refusal(text, why)
 
     def _lose(self, error: Exception) -> None:
         self.session.fail(error)
@@ -225,14 +250,15 @@ class AuditedConnection(extensions.connection):
 
     # the end of a transaction
 
-    def commit(self) -> None:
+    def commit_audited(self) -> None:
+        """By `send_commit`."""
         with self.turn:
-            transaction, self.transaction = self.transaction, None
+            transaction, self.its_transaction = self.its_transaction, None
             if transaction is None or transaction.is_over:
                 if not self.has_lost and self.info.transaction_status == ACTIVE:
                     self._lose(AuditLostError(PAST))
                 self.has_lost = False
-                super().commit()
+                self.send_commit()
                 return
             try:
                 transaction.commit()
@@ -244,22 +270,18 @@ class AuditedConnection(extensions.connection):
                 raise error
 
     def look_up(self, transaction: Transaction) -> None:
-        """What `commit` comes to first, by the session's call."""
+        """What a commit comes to first, by the session's call."""
         Commit(self, transaction).look_up()
-
-    def send_commit(self) -> None:
-        """And then."""
-        super().commit()
 
     def roll_back(self) -> None:
         """As the session asks for it."""
         if not self.closed:
-            super().rollback()
+            self.send_rollback()
 
-    def _give_up(self, end: Any) -> None:
+    def give_up_audited(self, end: Callable[[], object]) -> None:
         """Ends the connection's transaction by this call, and logs it as aborted."""
         with self.turn:
-            transaction, self.transaction = self.transaction, None
+            transaction, self.its_transaction = self.its_transaction, None
             self.has_lost = False
             was_ended = self.info.transaction_status == IDLE and self.notes.has_any
             try:
@@ -272,61 +294,11 @@ class AuditedConnection(extensions.connection):
                     else:
                         transaction.give_up()
 
-    def rollback(self) -> None:
-        self._give_up(super().rollback)
-
-    def reset(self) -> None:
-        self._give_up(super().reset)
-
-    def close(self) -> None:
-        self._give_up(super().close)
+    def leave_audit(self) -> None:
+        """Of a connection that was closed."""
         with self.turn:
             if self.has_session and self._ends.detach() is not None:
                 leave(self.session, self.store)
 
-    def refusal(self, name: str) -> NotAuditedError:
-        return NotAuditedError(name, "this call isn't audited")
-
-    # settings
-
-    @property
-    def autocommit(self) -> bool:
-        return False
-
-    @autocommit.setter
-    def autocommit(self, value: bool) -> None:
-        if value:
-            raise NotAuditedError("autocommit", NO_AUTOCOMMIT)
-        its: Any = extensions.connection.autocommit
-        its.__set__(self, value)
-
-    def set_session(self, *values: Any, **more: Any) -> None:
-        if more.get("autocommit") or any(values[3:4]):
-            raise NotAuditedError("autocommit", NO_AUTOCOMMIT)
-        super().set_session(*values, **more)
-
-    def set_isolation_level(self, level: Any) -> None:
-        if level == extensions.ISOLATION_LEVEL_AUTOCOMMIT:
-            raise NotAuditedError("autocommit", NO_AUTOCOMMIT)
-        self.rollback()  # as the driver does
-        super().set_isolation_level(level)
-
-    def set_client_encoding(self, encoding: str) -> None:
-        if encoding.upper().replace("-", "").replace("_", "") not in ("UTF8", "UNICODE"):
-            raise NotAuditedError("set_client_encoding", f"{encoding} isn't UTF8")
-        self.rollback()  # as the driver does
-        super().set_client_encoding(encoding)
-
-
-def _refused(name: str) -> Any:
-    def refuse(self: AuditedConnection, *_: Any, **__: Any) -> Any:
-        raise self.refusal(name)
-
-    return refuse
-
-
-for _name in (
-    *("tpc_begin", "tpc_prepare", "tpc_commit", "tpc_rollback", "tpc_recover"),
-    "lobject",
-):
-    setattr(AuditedConnection, _name, _refused(_name))
+    def refused(self, name: str, why: str = "this call isn't audited") -> StatementRefusedError:
+        return self.refusal(name, why)

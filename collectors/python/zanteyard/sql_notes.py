@@ -2,8 +2,8 @@
 
 from __future__ import annotations
 
-from dataclasses import dataclass, field
-from typing import Callable, Dict, List, Mapping, NamedTuple, Optional, Sequence, Tuple
+from dataclasses import dataclass, field, replace
+from typing import Callable, Dict, List, Mapping, NamedTuple, Optional, Sequence, Set, Tuple
 
 from .records import Source
 from .sql_tables import Table
@@ -41,12 +41,14 @@ class Seen(NamedTuple):
 
 @dataclass
 class Changed:
-    """What is left of a row that was written. `was_there` before the transaction's first write."""
+    """What is left of a row that was written. `was_there` before the transaction's first write;
+    `version` is its xmin, where that may be another than the transaction's number."""
 
     row: Row
     was_there: bool
     is_there: bool
     statement: str
+    version: Optional[int] = None
 
     @property
     def is_write(self) -> bool:
@@ -67,12 +69,14 @@ class Write(NamedTuple):
     entry: int
     is_absent: bool
     statement: str
+    version: Optional[int]
 
 
 @dataclass
 class Notes:
     """`transaction` is the server's number, once anything was written, and `are_several` tells that
-    there were others; `unclear` says why what was done isn't known exactly, if that is so."""
+    there were others; `unclear` says why what was done isn't known exactly, if that is so. `own`
+    are the xmins of what it has written; of each savepoint there is what was changed before it."""
 
     transaction: Optional[int] = None
     are_several: bool = False
@@ -81,9 +85,14 @@ class Notes:
     pending: Optional[str] = None  # a statement that was sent, and of which nothing is noted yet
     seen: Dict[Tuple[RowKey, Optional[int]], Seen] = field(default_factory=dict)
     changed: Dict[RowKey, Changed] = field(default_factory=dict)
+    own: Set[int] = field(default_factory=set)
+    savepoints: List[Tuple[str, Dict[RowKey, Changed]]] = field(default_factory=list)
+    has_saved: bool = False
 
-    def wrote_in(self, transaction: int) -> None:
-        """The server's number of the transaction in which a statement has written."""
+    def wrote_in(self, transaction: int, version: Optional[int] = None) -> None:
+        """The server's number of the transaction in which a statement has written, and the xmin
+        of what it has left."""
+        self.own.add(transaction % 2**32 if version is None else version)
         if self.transaction not in (None, transaction):
             self.doubt(ENDED)
             self.are_several = True
@@ -116,8 +125,7 @@ class Notes:
         gives both."""
         own = self.changed.get(row.key)
         if own is not None:
-            is_own = self.transaction is not None and self.transaction % 2**32 == version
-            if is_own and own.is_there:
+            if version in self.own and own.is_there:
                 return
             if not is_among:
                 self.doubt(f"{row.name} isn't as this transaction has written it")
@@ -142,30 +150,77 @@ class Notes:
         else:
             self.seen.setdefault((seen.row.key, version), seen)
 
-    def inserted(self, row: Row, statement: str) -> None:
+    def inserted(self, row: Row, statement: str, version: Optional[int] = None) -> None:
         own = self.changed.get(row.key)
         if own is None:
-            self._change(Changed(row, False, True, statement))
+            self._change(Changed(row, False, True, statement, version))
         elif own.is_there:
             self.doubt(f"{row.name} was inserted where this transaction has it")
         else:
-            own.is_there, own.statement = True, statement
+            own.is_there, own.statement, own.version = True, statement, version
 
-    def wrote(self, row: Row, is_there: bool, statement: str) -> None:
+    def wrote(
+        self, row: Row, is_there: bool, statement: str, version: Optional[int] = None
+    ) -> None:
         """An update, or a delete, of a row that was there."""
         own = self.changed.get(row.key)
         if own is None:
-            self._change(Changed(row, True, is_there, statement))
+            self._change(Changed(row, True, is_there, statement, version))
         elif not own.is_there:
             self.doubt(f"{row.name} was there after this transaction had deleted it")
         else:
-            own.is_there, own.statement = is_there, statement
+            own.is_there, own.statement, own.version = is_there, statement, version
 
     def _change(self, changed: Changed) -> None:
         if len(self.changed) > MANY:
             self.doubt(TOO_MANY)
         else:
             self.changed[changed.row.key] = changed
+
+    # savepoints, by names: the last of a name counts
+
+    def save(self, name: str) -> None:
+        self.savepoints.append((name, self._copied(self.changed)))
+        self.has_saved = True
+
+    def _place(self, name: str) -> int:
+        """How many savepoints there are up to this one; 0 where there is none of that name."""
+        names = [each for each, _ in self.savepoints]
+        return len(names) - names[::-1].index(name) if name in names else 0
+
+    def since(self, name: str) -> Dict[RowKey, Changed]:
+        """What was changed behind it, and not before."""
+        place = self._place(name)
+        if not place:
+            return {}
+        before = self.savepoints[place - 1][1]
+        return {key: it for key, it in self.changed.items() if key not in before}
+
+    def go_back(self, name: str) -> None:
+        place = self._place(name)
+        if not place:
+            self.doubt(f"there is no savepoint {name} that is known")
+            return
+        del self.savepoints[place:]
+        self.changed = self._copied(self.savepoints[-1][1])
+
+    def release(self, name: str) -> None:
+        place = self._place(name)
+        if not place:
+            self.doubt(f"there is no savepoint {name} that is known")
+            return
+        del self.savepoints[place - 1 :]
+
+    def has_read(self, seen: Seen) -> None:
+        """What was found out already. Its key is no other's."""
+        if len(self.seen) > MANY:
+            self.doubt(TOO_MANY)
+        else:
+            self.seen[seen.row.key, -1 - len(self.seen)] = seen
+
+    @staticmethod
+    def _copied(changed: Dict[RowKey, Changed]) -> Dict[RowKey, Changed]:
+        return {key: replace(it) for key, it in changed.items()}
 
     # what is logged of it
 
@@ -230,6 +285,7 @@ class Notes:
                 histories[key].last_number + 1,
                 not it.is_there,
                 it.statement,
+                it.version,
             )
             for key, it in self.changed.items()
             if it.is_write

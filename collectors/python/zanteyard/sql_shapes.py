@@ -14,15 +14,17 @@ from dataclasses import replace
 from typing import Any, Dict, List, NamedTuple, Optional, Tuple
 
 from .errors import StatementRefusedError
-from .sql_statements import DELETE, INSERT, SELECT, UPDATE, Statement, parsed
+from .sql_statements import DELETE, INSERT, SELECT, UPDATE, Bound, Kinds, Statement, parsed
 from .sql_tables import Tables
 
-CONSTANT = re.compile(r"'((?:[^']|'')*)'|(?<![\w.])(0|[1-9][0-9]{0,8})(?![\w.])")
-# By these a text may end elsewhere than it seems to, or mean something else.
-ODD = re.compile(r'["\\$]|--|/\*')
-PREFIXED = re.compile(r"[\w&]'")  # as in E'..'
-MOST = 500  # shapes that are kept
+CONSTANT = re.compile(r"'((?:[^']|'')*)'|(?<![\w.$])(0|[1-9][0-9]{0,8})(?![\w.])")
+# By these a text may end elsewhere than it seems to, or mean something else. $1 is a parameter.
+ODD = re.compile(r'["\\]|--|/\*|\$(?![1-9][0-9]*(?![\w$]))')
+PREFIXED = re.compile(r"(?<!')[\w&]'|[^\W0]'")  # as in E'..'; '0' is a text's mark
+MOST = 500  # shapes that are kept,
+LETTERS = 500_000  # with so many letters in all
 KINDS = (SELECT, INSERT, UPDATE, DELETE)
+OTHERS = re.compile("(zanteyard[0-9]+z|(?<![0-9])7[0-9]{8}(?![0-9]))")  # in their place
 Pieces = Tuple[Any, ...]  # texts, and numbers of constants that stand between them
 
 
@@ -30,15 +32,19 @@ class Known(NamedTuple):
     statement: Statement
     front: Pieces
     rest: Pieces
-    parts: Optional[Tuple[Pieces, ...]]
+    keys: Tuple[Tuple[Any, ...], ...]  # of each part its Pieces, or what is Bound
 
     def of(self, constants: List[str]) -> Statement:
-        parts = self.parts
+        keys = [
+            tuple(it if isinstance(it, Bound) else joined(it, constants) for it in key)
+            for key in self.keys
+        ]
         return replace(
             self.statement,
             front=joined(self.front, constants),
             rest=joined(self.rest, constants),
-            parts=None if parts is None else tuple(joined(each, constants) for each in parts),
+            parts=keys[0] if keys else None,
+            others=tuple(keys[1:]),
         )
 
 
@@ -51,12 +57,14 @@ class Shapes:
 
     def __init__(self) -> None:
         self._tables: Optional[Tables] = None
-        self._known: Dict[str, Optional[Known]] = {}
+        self._known: Dict[Tuple[str, Kinds], Optional[Known]] = {}
+        self._letters = 0  # of the shapes that are known
 
-    def parsed(self, text: str, tables: Tables) -> Statement:
+    def parsed(self, text: str, tables: Tables, kinds: Kinds = ()) -> Statement:
         """As `sql_statements.parsed`."""
-        if self._tables is not tables or len(self._known) >= MOST:
-            self._tables, self._known = tables, {}
+        is_full = len(self._known) >= MOST or self._letters >= LETTERS
+        if self._tables is not tables or is_full:
+            self._tables, self._known, self._letters = tables, {}, 0
         constants: List[str] = []
 
         def take(found: "re.Match[str]") -> str:
@@ -66,21 +74,22 @@ class Shapes:
 
         shape = CONSTANT.sub(take, text)
         if not shape.isascii() or ODD.search(shape) or PREFIXED.search(shape):
-            return parsed(text, tables)
-        known = self._known.get(shape)
+            return parsed(text, tables, kinds)
+        known = self._known.get((shape, kinds))
         if known is not None:
             return known.of(constants)
-        statement = parsed(text, tables)
-        if shape not in self._known:
-            self._known[shape] = learnt(shape, tables, statement, constants)
+        statement = parsed(text, tables, kinds)
+        if (shape, kinds) not in self._known:
+            self._known[shape, kinds] = learnt(shape, tables, kinds, statement, constants)
+            self._letters += len(shape)
         return statement
 
 
 def learnt(
-    shape: str, tables: Tables, statement: Statement, constants: List[str]
+    shape: str, tables: Tables, kinds: Kinds, statement: Statement, constants: List[str]
 ) -> Optional[Known]:
     """None where it has to be parsed each time."""
-    if statement.kind not in KINDS:
+    if statement.kind not in KINDS or statement.is_fixed:
         return None
     others: List[str] = []
 
@@ -91,19 +100,18 @@ def learnt(
         return f"'{others[-1]}'" if is_text else others[-1]
 
     try:
-        its = parsed(CONSTANT.sub(put, shape), tables)
+        its = parsed(CONSTANT.sub(put, shape), tables, kinds)
     except StatementRefusedError:
         return None
     if len(others) != len(constants):
         return None
     which = {other: at for at, other in enumerate(others)}
-    split = re.compile("(" + "|".join(map(re.escape, others)) + ")") if others else None
 
     def pieces(text: str) -> Pieces:
-        if split is None:
-            return (text,)
-        return tuple(which.get(each, each) for each in split.split(text))
+        return tuple(which.get(each, each) for each in OTHERS.split(text))
 
-    parts = None if its.parts is None else tuple(pieces(each) for each in its.parts)
-    known = Known(its, pieces(its.front), pieces(its.rest), parts)
+    keys = tuple(
+        tuple(it if isinstance(it, Bound) else pieces(it) for it in key) for key in its.keys
+    )
+    known = Known(its, pieces(its.front), pieces(its.rest), keys)
     return known if known.of(constants) == statement else None

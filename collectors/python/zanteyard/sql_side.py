@@ -26,17 +26,17 @@ LIMITS = "SET LOCAL lock_timeout = {locks}; SET LOCAL statement_timeout = {all};
 # Seconds. What waits for a table's lock may wait for the application, which waits for this.
 LOCKED = 0.25
 ENTRIES = """SELECT 'entry', k.at::text, w.entry::text, w.transaction::text, w.is_absent::int::text,
-    w.run, w.session::text, w.number::text
+    w.run, w.session::text, w.number::text, w.version::text
     FROM unnest(%s::oid[], %s::text[]) WITH ORDINALITY AS k(relation, key, at), LATERAL (
         SELECT * FROM {writes} AS e WHERE e.relation = k.relation AND e.key = k.key
         ORDER BY e.entry DESC LIMIT {most}) AS w"""
 OWN_ENTRY = """SELECT EXISTS (SELECT FROM {writes}
     WHERE relation = %s AND key = %s AND run = %s)"""
 VERSION = """ UNION ALL SELECT 'version', %s::text,
-    (SELECT t.xmin::text FROM {table} AS t WHERE {where}), NULL, NULL, NULL, NULL, NULL"""
-CATALOG = f""" UNION ALL SELECT 'fit', NULL, f.its, NULL, NULL, NULL, NULL, NULL
+    (SELECT t.xmin::text FROM {table} AS t WHERE {where}), NULL, NULL, NULL, NULL, NULL, NULL"""
+CATALOG = f""" UNION ALL SELECT 'fit', NULL, f.its, NULL, NULL, NULL, NULL, NULL, NULL
     FROM ({ALL}) AS f(its)"""
-OWN = """ UNION ALL SELECT 'own', key, value, NULL, NULL, run, session::text, number::text
+OWN = """ UNION ALL SELECT 'own', key, value, NULL, NULL, run, session::text, number::text, NULL
     FROM {table} WHERE key = ANY(%s)"""
 PREPARED = 64  # statements that a connection keeps at most
 TYPES = {"int": "int8", "text": "text", "uuid": "uuid"}
@@ -136,10 +136,11 @@ class Side:
         entries: Dict[RowKey, List[Entry]] = {key: [] for key in keys}
         versions: Dict[RowKey, Optional[int]] = {}
         fit, own = [], {}
-        for kind, at, first, second, is_absent, name, session, number in rows:
+        for kind, at, first, second, is_absent, name, session, number, version in rows:
             if kind == "entry":
                 its = (int(first), int(second), is_absent == "1", name)
-                entries[keys[int(at) - 1]].append(Entry(*its, int(session), int(number)))
+                more = (int(session), int(number), None if version is None else int(version))
+                entries[keys[int(at) - 1]].append(Entry(*its, *more))
             elif kind == "version":
                 oid, text = json.loads(at)
                 versions[oid, text] = None if first is None else int(first)

@@ -6,9 +6,8 @@ from __future__ import annotations
 import os
 import time
 import weakref
-from typing import Any, Dict, Optional, Sequence, Tuple
+from typing import Any, Dict, Optional, Sequence, Tuple, Type
 
-import psycopg2
 from psycopg2 import extensions
 
 from .asking import UNKNOWN
@@ -37,6 +36,7 @@ class SqlStore:
 
     def __init__(self, connection: Any, dsn: str, patience: float, wait: float) -> None:
         self._connection = weakref.ref(connection)  # which ends as its last user drops it
+        self.driver_error: Type[Exception] = connection.error
         self.beside = PostgresStore(dsn, "serializable", patience=patience)
         self.side = Side(self.beside, wait)
         self.dsn, self.is_alone, self.made_in = dsn, False, os.getpid()
@@ -92,7 +92,7 @@ class SqlStore:
     def look_up(self, transaction: Transaction) -> None:
         try:
             self.connection.look_up(transaction)
-        except psycopg2.Error as error:
+        except self.driver_error as error:
             self.error = error
             raise AbortedError(str(error).strip()) from error
 
@@ -102,7 +102,7 @@ class SqlStore:
             return
         try:
             self.connection.send_commit()
-        except psycopg2.Error as error:
+        except self.driver_error as error:
             self.error = error
             if self.has_answered(error):
                 raise AbortedError(str(error).strip()) from error
@@ -110,11 +110,12 @@ class SqlStore:
 
     def has_answered(self, error: BaseException) -> bool:
         """Whether the server has refused a commit by this."""
-        if self.is_alone or error is not self.error or not isinstance(error, psycopg2.Error):
+        if self.is_alone or error is not self.error or not isinstance(error, self.driver_error):
             return False
-        if error.pgcode is None or self.connection.closed:
+        code = self.connection.code_of(error)
+        if code is None or self.connection.closed:
             return False
-        return error.pgcode[:2] not in ("08", "57") and error.pgcode != "40003"
+        return code[:2] not in ("08", "57") and code != "40003"
 
     def rollback(self) -> None:
         if self.is_alone:
@@ -142,10 +143,8 @@ class SqlStore:
         """For another process of this machine, while no transaction is open."""
         connection = self.connection
         try:
-            with extensions.cursor(connection) as cursor:
-                cursor.execute(LIFE)
-                self.life = cursor.fetchone() or self.life
-        except psycopg2.Error:
+            self.life = next(iter(connection.run_plain(LIFE)), self.life)
+        except self.driver_error:
             pass  # then less is found out
         finally:
             connection.roll_back()

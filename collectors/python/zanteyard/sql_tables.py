@@ -15,25 +15,35 @@ from typing import Any, Dict, FrozenSet, List, Optional, Sequence, Tuple
 
 from .errors import StoreUnfitError
 
-# What computes from its arguments alone, the clock, chance or a sequence. Of pg_catalog.
+# What computes from its arguments alone, the clock, chance or a sequence, or tells where one is
+# connected. Of pg_catalog.
 FUNCTIONS = frozenset(
-    """abs age btrim ceil ceiling char_length clock_timestamp concat concat_ws date_part date_trunc
+    """abs age btrim ceil ceiling char_length clock_timestamp concat concat_ws current_database
+    current_schema date_part date_trunc
     extract floor format gen_random_uuid initcap jsonb_build_array jsonb_build_object jsonb_set left
     length lower lpad ltrim md5 mod nextval now overlay position power random
     regexp_replace repeat replace right round rpad rtrim sign split_part sqrt statement_timestamp
     strpos substr substring timezone to_char to_date to_jsonb to_number to_timestamp
-    transaction_timestamp translate trim trunc upper""".split()
+    transaction_timestamp translate trim trunc upper version""".split()
 )
 KINDS = {  # of the key's columns: how their values are compared and told
     **{"smallint": "int", "integer": "int", "bigint": "int", "uuid": "uuid"},
     **{"text": "text", "character varying": "text"},
 }
+INEXACT = ""  # in place of the type of a column with a collation by which different texts are equal
+# Of columns by whose values another table's key may be named: each is equal to one key at most. A
+# floating-point number is equal to several of bigint's, as those are rounded to compare them.
+NAMING = (*KINDS, "numeric", "character")
+ITS = "zanteyard_its"
 NAMES = "zanteyard_tables"
 WRITES = "zanteyard_writes"
+LATER = "version"  # a column that it hadn't at first
+HAS_LATER = """SELECT EXISTS (SELECT FROM pg_attribute
+    WHERE attrelid = %s::regclass AND attname = %s AND NOT attisdropped)"""
 MAKE = f"""CREATE TABLE IF NOT EXISTS {NAMES} (relation oid PRIMARY KEY, name text UNIQUE NOT NULL);
 CREATE TABLE IF NOT EXISTS {WRITES} (relation oid NOT NULL, key text NOT NULL,
     entry bigint NOT NULL, transaction xid8 NOT NULL, is_absent boolean NOT NULL,
-    run text NOT NULL, session int NOT NULL, number bigint NOT NULL);
+    run text NOT NULL, session int NOT NULL, number bigint NOT NULL, version bigint);
 CREATE INDEX IF NOT EXISTS {WRITES}_of_row ON {WRITES} (relation, key, entry)"""
 # One line of text for each table: the same text, the same meaning of every statement.
 FIT = """SELECT pg_catalog.json_build_object(
@@ -85,7 +95,7 @@ SHADOWS = f"""SELECT pg_catalog.json_build_object(
 ALL = f"{FIT} UNION ALL {SHADOWS}"
 FOUND = f"""SELECT given.name, c.oid::bigint, pg_table_is_visible(c.oid), z.name,
     COALESCE(has_table_privilege(c.oid, 'SELECT'), false)
-    FROM unnest(%s) AS given(name) LEFT JOIN pg_class c ON c.oid = to_regclass(given.name)
+    FROM unnest(%s::text[]) AS given(name) LEFT JOIN pg_class c ON c.oid = to_regclass(given.name)
     LEFT JOIN {{names}} z ON z.relation = c.oid ORDER BY given.name"""
 AROUND = """SELECT current_setting('server_version_num')::int, pg_is_in_recovery(),
     (current_schemas(true))[1],
@@ -108,6 +118,16 @@ class Table:
     is_visible: bool
     columns: Tuple[str, ...]
     key: Tuple[Tuple[str, str], ...]
+    types: Tuple[str, ...] = ()  # of the columns, or INEXACT
+
+    def kind_of(self, column: str) -> Optional[str]:
+        """Of a column whose values are told as a key's of this kind are; None of any other."""
+        return KINDS.get(dict(zip(self.columns, self.types)).get(column, ""))
+
+    def may_name(self, column: str) -> bool:
+        """Whether a value of this column's is equal to one key at most, as far as it is known."""
+        kind = dict(zip(self.columns, self.types)).get(column)
+        return kind is None or kind in NAMING
 
     def key_of(self, parts: Sequence[str]) -> str:
         """What the row with this key is called."""
@@ -126,8 +146,12 @@ class Table:
             return (text,)
         return tuple(text[1:-1].split(", ") if text.startswith("(") else json.loads(text))
 
-    def columns_of_key(self) -> str:
-        return ", ".join(f"{quoted(name)}::pg_catalog.text" for name, _ in self.key)
+    def columns_of_key(self, front: str = "") -> str:
+        """As texts, with a name by which an ORDER BY can't mean them; what stands in front of each
+        says of which table they are."""
+        return ", ".join(
+            f"{front}{quoted(name)}::pg_catalog.text AS {ITS}" for name, _ in self.key
+        )
 
     @property
     def itself(self) -> str:
@@ -178,6 +202,9 @@ def make(cursor: Any, names: Sequence[str]) -> None:
     """Makes the audit's own tables, where they aren't there, and gives each of these tables the
     name by which its rows are told. Raises StoreUnfitError where there is none of a name."""
     cursor.execute(MAKE)
+    cursor.execute(HAS_LATER, (WRITES, LATER))
+    if not cursor.fetchone()[0]:
+        cursor.execute(f"ALTER TABLE {WRITES} ADD COLUMN {LATER} bigint")
     cursor.execute(FOUND.format(names=NAMES), (list(names),))
     for given, oid, _, known, _ in cursor.fetchall():
         if oid is None:
@@ -214,6 +241,9 @@ def look(cursor: Any, names: Sequence[str]) -> Tables:
     cursor.execute(has, (writes, writes))
     if not cursor.fetchone()[0]:
         raise StoreUnfitError(f"{writes} may not be written by this user")
+    cursor.execute(HAS_LATER, (writes, LATER))
+    if not cursor.fetchone()[0]:
+        raise StoreUnfitError(f"{writes} is an older one: `prepare` brings it up to date")
     called = {oid: (name, is_visible) for _, oid, is_visible, name, _ in seen}
     cursor.execute(ALL, (sorted(called),))
     fit = tuple(sorted(row[0] for row in cursor.fetchall()))
@@ -235,10 +265,10 @@ def table_of(its: Dict[str, Any], called: Dict[int, Tuple[str, bool]]) -> Table:
     why = unfit(its)
     if why:
         raise StoreUnfitError(f"{name} can't be audited: {why}")
-    types = {column: kind for column, kind, _ in its["columns"]}
+    types = {column: kind if is_exact else INEXACT for column, kind, is_exact in its["columns"]}
     key = tuple((column, KINDS[types[column]]) for column in its["key"])
     more = (its["schema"], its["relation"], is_visible, tuple(types), key)
-    return Table(its["oid"], name, *more)
+    return Table(its["oid"], name, *more, tuple(types.values()))
 
 
 def unfit(its: Dict[str, Any]) -> str:

@@ -31,7 +31,8 @@ class CutError(UnclearError):
 
 
 class Entry(NamedTuple):
-    """What a transaction left of a row: `is_absent` where the row is gone."""
+    """What a transaction left of a row: `is_absent` where the row is gone. `version` is the xmin
+    that it left, where that may be a subtransaction's."""
 
     number: int
     transaction: int
@@ -39,6 +40,11 @@ class Entry(NamedTuple):
     run: str
     session: int
     of_session: int  # the transaction's number there
+    version: Optional[int] = None
+
+    @property
+    def xmin(self) -> int:
+        return self.transaction % 2**32 if self.version is None else self.version
 
     @property
     def source(self) -> Source:
@@ -92,7 +98,7 @@ class History:
         """Of a row whose xmin is this. Without a snapshot nobody else could write it meanwhile."""
         self._check()
         for entry in self.entries:
-            if entry.run == self.run and entry.transaction % 2**32 == version:
+            if entry.run == self.run and entry.xmin == version:
                 if entry.is_absent:
                     raise UnclearError("a row is there that its last writer has deleted")
                 return entry.source

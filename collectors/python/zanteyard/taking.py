@@ -9,15 +9,16 @@ import threading
 import time
 from collections import deque
 from contextlib import suppress
-from typing import Any, Deque, Dict, Iterator, List, Optional, Sequence, Tuple
+from typing import Any, Deque, Dict, Iterator, List, Optional, Sequence, Tuple, Union
 
 from .coverage import Coverage
 from .errors import FullError, RefusedError
 from .locks import give_back, take
-from .outcome import RATHER_LOSE_THE_AUDIT, Outcome, Policy, kind_of
+from .outcome import RATHER_LOSE_THE_AUDIT, VIOLATED, Outcome, Policy, kind_of
 from .pipes import Ended, Late
 from .programs import PROGRAM
 from .records import History, Logged, Pending, Report
+from .resuming import Reopened
 
 Full = FullError  # the same error under a shorter name
 
@@ -43,6 +44,7 @@ class Takes:
     in ends the audit, which `failure` and the log tell."""
 
     history: History  # of each session what was taken in and isn't forgotten
+    has_sessions = False  # which hand in to it
 
     def __init__(
         self,
@@ -52,8 +54,14 @@ class Takes:
         run_name: Optional[str] = None,
         script: Optional[str] = None,
         policy: Policy = RATHER_LOSE_THE_AUDIT,
+        journal: Union[str, Reopened, None] = None,
+        round_seconds: Optional[float] = None,
     ) -> None:
+        if round_seconds is not None and journal is None:
+            raise ValueError("round_seconds asks for a journal")
         self.sessions, self.limit, self.path, self.script_path = sessions, limit, program, script
+        self.journal, self.round_seconds = journal, round_seconds
+        self.is_resumed = isinstance(journal, Reopened)
         self.policy, self.is_named = policy, run_name is not None
         self.run_name: str = run_name if run_name is not None else fresh_name()
         self.made_in = os.getpid()
@@ -124,6 +132,38 @@ class Takes:
     def last_round(self, efforts: Sequence[Effort] = EFFORTS) -> Report:
         """As `round`, over what was taken in by now, whatever was lost."""
         raise NotImplementedError
+
+    def note_sessions(self) -> None:
+        """In the journal, if there is one: where this process ends, nobody knows what they did
+        last. Raises JournalError."""
+        self.has_sessions = True
+
+    def keep_journal(self, path: str, round_seconds: Optional[float] = None) -> None:
+        """From now on, as if it had been given at the start; nothing may have been offered yet.
+        Raises JournalError, and then the auditor is as ended."""
+        with self.lock:
+            self._check_end()
+            if self.journal is not None or self.is_in_use:
+                raise ValueError("a journal begins where an audit does, and once")
+            self._end_program()
+            self.journal, self.round_seconds = path, round_seconds
+            self.audits -= 1
+            self.is_ended = True
+            self._start(None)
+            self.is_ended = False
+
+    @property
+    def is_in_use(self) -> bool:
+        """Whether anything was handed in or offered."""
+        return self.audits > 1 or self.handed_in > 0 or any(self.received)
+
+    received: Any  # how many transactions of each session were taken in, forgotten ones too
+
+    @property
+    def violation(self) -> Optional[Report]:
+        """What the journal, if there is one, says of the first round that was violated: that stays
+        so, whatever is told later."""
+        return None
 
     # what users call
 
@@ -279,6 +319,8 @@ class Takes:
             report = self.last_round()
         except Exception as error:
             self._lose(error)
+        if report is None or report.kind != VIOLATED:
+            report = self.violation or report
         is_whole = self.taken_in >= self.handed_in
         pending = tuple(never_came(self.history)) if report and report.kind == "pending" else ()
         kind = kind_of(report, self.failure, is_whole)

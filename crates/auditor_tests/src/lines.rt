@@ -1,22 +1,16 @@
 // Lines of scripts.
-use log_text::{Command, read_line};
+use log_text::{Command, Wanted, read_line};
 use std::alloc::Global;
 use std::process::Abort;
 use std::test::Fail;
-use txn::{Refusal, Source, TxnId};
+use txn::{Fragment, Refusal, Source, TxnId};
 
-// What a command says, for comparison; an offer's transactions are looked at apart.
+// What a command says, for comparison; the transactions of an offer and of a join are counted.
 fn numbers_of(command: &Command) -> (&'static str, [u64; 3]) {
     match command {
         Command::Start { sessions, limit } => ("open", [*sessions, *limit, 0]),
-        Command::Offer(fragment) => (
-            "offer",
-            [
-                u64::from(fragment.session),
-                fragment.first,
-                fragment.txns.len() as u64,
-            ],
-        ),
+        Command::Offer(fragment) => ("offer", fragment_numbers(fragment)),
+        Command::Join(fragment) => ("join", fragment_numbers(fragment)),
         Command::Close(session) => ("close", [u64::from(*session), 0, 0]),
         Command::Begin => ("begin", [0, 0, 0]),
         Command::Finish {
@@ -32,6 +26,29 @@ fn numbers_of(command: &Command) -> (&'static str, [u64; 3]) {
         Command::Truncate => ("truncate", [0, 0, 0]),
         Command::Rebuild => ("rebuild", [0, 0, 0]),
         Command::Show => ("show", [0, 0, 0]),
+        Command::Resume { sessions, limit } => ("resume", [*sessions, *limit, 0]),
+        Command::Marks { marks, closed } => {
+            ("marks", [marks.len() as u64, closed.len() as u64, 0])
+        }
+        Command::Last(writers) => ("last", [writers.len() as u64, 0, 0]),
+        Command::Resumed => ("resumed", [0, 0, 0]),
+        Command::Save(wanted) => saved_numbers(*wanted),
+    }
+}
+
+fn fragment_numbers(fragment: &Fragment) -> [u64; 3] {
+    [
+        u64::from(fragment.session),
+        fragment.first,
+        fragment.txns.len() as u64,
+    ]
+}
+
+fn saved_numbers(wanted: Wanted) -> (&'static str, [u64; 3]) {
+    match wanted {
+        Wanted::Marks => ("save marks", [0, 0, 0]),
+        Wanted::Last { key } => ("save last", [key, 0, 0]),
+        Wanted::Remain { session, number } => ("save remain", [u64::from(session), number, 0]),
     }
 }
 
@@ -41,7 +58,7 @@ struct Row {
     numbers: [u64; 3],
 }
 
-static COMMANDS: [Row; 13] = [
+static COMMANDS: [Row; 22] = [
     Row {
         line: "[\"open\",0,18446744073709551615]",
         name: "open",
@@ -66,6 +83,16 @@ static COMMANDS: [Row; 13] = [
         line: "[\"offer\",255,281474976710656,[[[],[]],[[],[5,5]]]]",
         name: "offer",
         numbers: [255, 281474976710656, 2],
+    },
+    Row {
+        line: "[\"join\",255,[]]",
+        name: "join",
+        numbers: [255, 0, 0],
+    },
+    Row {
+        line: "[\"join\",0,281474976710656,[[[],[]],[[],[5,5]]]]",
+        name: "join",
+        numbers: [0, 281474976710656, 2],
     },
     Row {
         line: "[\"close\",255]",
@@ -107,6 +134,41 @@ static COMMANDS: [Row; 13] = [
         name: "show",
         numbers: [0, 0, 0],
     },
+    Row {
+        line: "[\"resume\",2,16]",
+        name: "resume",
+        numbers: [2, 16, 0],
+    },
+    Row {
+        line: "[\"marks\",[3,0,0],[true,false]]",
+        name: "marks",
+        numbers: [3, 2, 0],
+    },
+    Row {
+        line: "[\"last\",[[5,0,2]]]",
+        name: "last",
+        numbers: [1, 0, 0],
+    },
+    Row {
+        line: "[\"resumed\"]",
+        name: "resumed",
+        numbers: [0, 0, 0],
+    },
+    Row {
+        line: "[\"save\",\"marks\"]",
+        name: "save marks",
+        numbers: [0, 0, 0],
+    },
+    Row {
+        line: "[\"save\",\"last\",7]",
+        name: "save last",
+        numbers: [7, 0, 0],
+    },
+    Row {
+        line: "[\"save\",\"remain\",1,4]",
+        name: "save remain",
+        numbers: [1, 4, 0],
+    },
 ];
 
 // What is looked up behind a call is not carried through each turn of a loop's proof.
@@ -147,8 +209,8 @@ fn offered_transactions(rt: HostRuntime) -> Result<(), Fail> {
     Ok(())
 }
 
-// Texts that are no JSON, or no array of a known word and its parts; other parts; offers with other parts.
-static BAD_LINES: [&str; 52] = [
+// Texts that are no JSON, or no array of a known word and its parts; other parts; offers and joins with other parts.
+static BAD_LINES: [&str; 65] = [
     "",
     " ",
     "null",
@@ -201,6 +263,19 @@ static BAD_LINES: [&str; 52] = [
     "[\"offer\",0,0,[[[[5,\"init\",0]],[]]]]",
     "[\"offer\",0,0,[[[[5,256,0]],[]]]]",
     "[\"offer\",0,0,[[[[5,0,0,0]],[]]]]",
+    "[\"join\"]",
+    "[\"join\",[]]",
+    "[\"join\",256,[]]",
+    "[\"join\",0,0]",
+    "[\"join\",0,-1,[]]",
+    "[\"join\",0,[],0]",
+    "[\"join\",0,0,[],[]]",
+    "[\"join\",0,[[]]]",
+    "[\"join\",0,0,[[[],[\"5\"]]]]",
+    "[\"marks\",[0]]",
+    "[\"last\",[[5,0]]]",
+    "[\"save\"]",
+    "[\"save\",\"show\"]",
 ];
 
 fn bad_lines() -> &'static [&'static str] {

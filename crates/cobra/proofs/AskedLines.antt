@@ -1,5 +1,5 @@
 -- What is told to be next asks for the command that its bytes are.
-use Rattle.std.proofs.Common.{◌≡◌, ℕ, List, Option, refl, sym, ◌∙◌, ◌⊎◌, ⊎_elim, subst, arith, inl, inr}
+use Rattle.std.proofs.Common.{◌≡◌, ℕ, List, refl, sym, ◌∙◌, ◌⊎◌, ⊎_elim, subst, arith, inl, inr}
 use Rattle.std.specs.Global.{Vec}
 use Rattle.std.specs.Str.{IsUtf8}
 use Rattle.txn.specs.declared.refusals.Refusal.{Refusal}
@@ -9,11 +9,11 @@ use Rattle.log_text.specs.declared.replies.Reply.{Reply}
 use Rattle.log_text.specs.declared.replies.Reply.TheVariants as told
 use Rattle.log_text.specs.Commands.{IsCommand}
 use Rattle.log_text.specs.Replies.{line_of}
-use Rattle.round_state.specs.EngineState.{EngineState}
 use Rattle.byte_lines.specs.declared.lines.Next.{Next}
 use Rattle.byte_lines.specs.declared.lines.Next.TheVariants.{Line, TooLong}
-use Rattle.cobra.specs.Outputs.{Asks, IsTold, AnswersLineLegally, RepliesLegally}
-use Rattle.cobra.specs.Scripts.{AnswersLegally}
+use Rattle.cobra.specs.Outputs.{Asks, IsTold, AnswersNext, RepliesTo}
+use Rattle.cobra.specs.Scripts.{Answers}
+use Rattle.cobra.specs.declared.stages.Stage.{Stage}
 
 pub asks_told : (bytes : Vec ℕ) (command : Command) → IsCommand bytes.items command → (line : List ℕ) → IsTold line (Line bytes) → Asks line command
 asks_told bytes command is line said = record { short = said.1; is = subst (λ given. IsCommand given command) said.0 is }
@@ -27,15 +27,11 @@ pub long_asks_none : (line : List ℕ) → IsTold line TooLong → (command : Co
 long_asks_none line said command asks = omega (arith, said, asks.short)
 
 -- the reply to the command is the reply to the line
-pub answers_asked : (old new : Option EngineState) (next : Next) (command : Command) (answer : Reply) → ((line : List ℕ) → IsTold line next → Asks line command) → AnswersLegally old command answer new → AnswersLineLegally old next answer new
-answers_asked old new next command answer asks legal line said before holds =
-    let after = legal before holds in
-    (after.0, inl (command, asks line said, after.1), after.2)
+pub answers_asked : (old new : Stage) (next : Next) (command : Command) (answer : Reply) → ((line : List ℕ) → IsTold line next → Asks line command) → Answers old command answer new → AnswersNext old next answer new
+answers_asked old new next command answer asks answers line said = inl (command, asks line said, answers)
 
-pub answers_none : (old : Option EngineState) (next : Next) → ((line : List ℕ) → IsTold line next → (command : Command) → ¬ Asks line command) → AnswersLineLegally old next (told.No BadLine) old
-answers_none old next none line said before holds = (before, inr (none line said, (refl, refl)), holds)
+pub answers_none : (old : Stage) (next : Next) → ((line : List ℕ) → IsTold line next → (command : Command) → ¬ Asks line command) → AnswersNext old next (told.No BadLine) old
+answers_none old next none line said = inr (none line said, (refl, refl))
 
-pub replies_told : (old new : Option EngineState) (next : Next) (answer : Reply) (text : List ℕ) → AnswersLineLegally old next answer new → text ≡ line_of answer → RepliesLegally old next text new
-replies_told old new next answer text answers is line said before holds =
-    let after = answers line said before holds in
-    (after.0, record { answer = answer; answered = after.1; text_is = is }, after.2)
+pub replies_told : (old new : Stage) (next : Next) (answer : Reply) (text : List ℕ) → AnswersNext old next answer new → text ≡ line_of answer → RepliesTo old next text new
+replies_told old new next answer text answers is line said = record { answer = answer; answered = answers line said; text_is = is }

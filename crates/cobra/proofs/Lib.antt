@@ -1,5 +1,12 @@
 pub mod AskedLines
+pub mod Checkpoints
+pub mod GivenOut
+pub mod HandedWriters
 pub mod LineCounts
+pub mod OtherCommands
+pub mod Pages
 pub mod ReplyKinds
+pub mod Resumed
 pub mod ScriptRounds
 pub mod ServedLines
+pub mod ToldWriters

@@ -1,16 +1,15 @@
 -- Only a report that is serial or pending is told with an order.
-use Rattle.std.proofs.Common.{◌≡◌, ℕ, List, Option, Some, None, sym, subst, ⊎_elim}
+use Rattle.std.proofs.Common.{◌≡◌, ℕ, List, Bool, true, false, cond, nat_lt, length, Option, Some, None, sym, subst, ⊎_elim}
 use Rattle.std.specs.Prelude.{IsSomeAnd}
 use Rattle.order_check.specs.declared.remainder.Kind.{Kind}
 use Rattle.order_check.specs.declared.remainder.Kind.TheVariants as kinds
 use Rattle.order_check.specs.declared.remainder.Parts.{Parts}
 use Rattle.log_text.specs.declared.commands.Command.{Command}
-use Rattle.log_text.specs.declared.commands.Command.TheVariants.{Start, Offer, Close, Begin, Finish, Round, Truncate, Rebuild, Show}
+use Rattle.log_text.specs.declared.commands.Command.TheVariants.{Start, Offer, Join, Close, Begin, Finish, Round, Truncate, Rebuild, Show, Resume, Marks, Last, Resumed, Save}
 use Rattle.log_text.specs.declared.replies.Reply.{Reply}
 use Rattle.log_text.specs.declared.replies.Reply.TheVariants as told
 use Rattle.log_text.specs.Replies.{HasKindOfOrder}
 use Rattle.round_state.specs.EngineState.{EngineState}
-use Rattle.round_state.specs.Legal.{State, Legal}
 use Rattle.round_state.specs.Steps.{Shows, IsRightReport, IsHeldAfter}
 use Rattle.round_state.specs.declared.reports.Certificate.{Certificate}
 use Rattle.round_state.specs.declared.reports.Certificate.TheVariants.{Order, Refuted, Nothing}
@@ -20,7 +19,17 @@ use Rattle.round_state.specs.declared.steps.Step.TheVariants as step
 use Rattle.round_state.specs.declared.steps.StepReply.{StepReply}
 use Rattle.round_state.specs.declared.steps.StepReply.TheVariants as reply
 use Rattle.settle.specs.declared.cuts.Cut.{Cut}
-use Rattle.cobra.specs.Scripts.{IsBadLine, EndsRound, IsRound, AnswersOpen, AnswersFirst, Answers, IsUnderWay, AnswersLegally}
+use Rattle.log_text.specs.declared.commands.Wanted.{Wanted}
+use Rattle.log_text.specs.declared.commands.Wanted.TheVariants as wanted
+use Rattle.txn.specs.declared.refusals.Refusal.TheVariants.{BadSession}
+use Rattle.txn.specs.declared.transactions.TxnId.{TxnId}
+use Rattle.txn.specs.declared.transactions.Fragment.{Fragment}
+use Rattle.cobra.specs.Saving.{saved_told, fragment_told}
+use Rattle.log_text.specs.declared.saved.Saved.TheVariants as saved
+use Rattle.cobra.specs.declared.handing.Handing.{Handing}
+use Rattle.cobra.specs.declared.stages.Stage.{Stage}
+use Rattle.cobra.specs.declared.stages.Stage.TheVariants as stage
+use Rattle.cobra.specs.Scripts.{IsBadLine, Goes, EndsRound, IsRound, AnswersOpen, Opens, Resumes, AnswersFirst, BeginsAnew, HandsMarks, AnswersResuming, HandsWriters, HandsOffer, EndsHandOver, AnswersHanding, Answers}
 use Rattle.cobra.specs.StepReplies.{certified, report_of, reply_of}
 
 -- what a certificate shows is told by its own kind
@@ -36,12 +45,12 @@ reported_kind : (old : EngineState) (held : Option Cut) (asked : Option Parts) (
 reported_kind old held None budget depth report right = absurd right
 reported_kind old held (Some parts) budget depth report right = certified_kind report.round report.counts parts budget depth report.kind report.certificate right.0.shown
 
-step_kind : (old new : State) (asked : Step) (said : StepReply) → Legal old asked said new → HasKindOfOrder (reply_of said)
+step_kind : (old new : EngineState) (asked : Step) (said : StepReply) → Goes old asked said new → HasKindOfOrder (reply_of said)
 step_kind old new asked reply.Done legal = tt
 step_kind old new asked (reply.Refused refusal) legal = tt
 step_kind old new asked (reply.Cut cut) legal = tt
-step_kind old new (step.Finish budget depth workers) (reply.Report report) legal = reported_kind old.engine new.engine.held old.engine.asked budget depth report legal.engine.0
-step_kind old new asked (reply.Report report) legal = absurd legal.engine
+step_kind old new (step.Finish budget depth workers) (reply.Report report) legal = reported_kind old new.held old.asked budget depth report legal.right.0
+step_kind old new asked (reply.Report report) legal = absurd legal.right
 
 told_kind : (said : StepReply) (answer : Reply) → answer ≡ reply_of said → HasKindOfOrder (reply_of said) → HasKindOfOrder answer
 told_kind said answer is kind = subst HasKindOfOrder (sym is) kind
@@ -49,39 +58,92 @@ told_kind said answer is kind = subst HasKindOfOrder (sym is) kind
 bad_line_kind : {X : Type 0} (old new : X) (answer : Reply) → IsBadLine old answer new → HasKindOfOrder answer
 bad_line_kind old new answer bad = subst HasKindOfOrder (sym bad.0) tt
 
-ended_kind : (begun new : State) (budget depth workers : ℕ) (said : StepReply) → EndsRound begun budget depth workers said new → HasKindOfOrder (reply_of said)
+ended_kind : (begun new : EngineState) (budget depth workers : ℕ) (said : StepReply) → EndsRound begun budget depth workers said new → HasKindOfOrder (reply_of said)
 ended_kind begun new budget depth workers reply.Done ends = tt
 ended_kind begun new budget depth workers (reply.Refused refusal) ends = tt
 ended_kind begun new budget depth workers (reply.Cut cut) ends = tt
 ended_kind begun new budget depth workers (reply.Report report) ends = step_kind begun new (step.Finish budget depth workers) (reply.Report report) ends
 
-round_kind : (old new : State) (budget depth workers : ℕ) (said : StepReply) → IsRound old budget depth workers said new → HasKindOfOrder (reply_of said)
+round_kind : (old new : EngineState) (budget depth workers : ℕ) (said : StepReply) → IsRound old budget depth workers said new → HasKindOfOrder (reply_of said)
 round_kind old new budget depth workers said round =
     ⊎_elim (λ refused. step_kind old new step.Begin said refused.2) (λ begun. ended_kind begun.0 new budget depth workers said begun.2) round
 
-open_kind : (old new : State) (command : Command) (answer : Reply) → AnswersOpen old command answer new → HasKindOfOrder answer
+told_or_not : (test : Bool) (fragment : Fragment) → HasKindOfOrder (cond test (told.Saved (saved.Offer fragment)) (told.No BadSession))
+told_or_not true fragment = tt
+told_or_not false fragment = tt
+
+pub saved_kind : (parts : Parts) (wanted : Wanted) → HasKindOfOrder (saved_told parts wanted)
+saved_kind parts wanted.Marks = tt
+saved_kind parts (wanted.Last key) = tt
+saved_kind parts (wanted.Remain s n) = told_or_not (nat_lt s (length parts.remain)) (fragment_told parts s n)
+
+open_kind : (old new : EngineState) (command : Command) (answer : Reply) → AnswersOpen old command answer new → HasKindOfOrder answer
 open_kind old new (Offer fragment) answer is = told_kind is.0 answer is.2 (step_kind old new (step.Offer fragment) is.0 is.1)
+open_kind old new (Join fragment) answer is = told_kind is.0 answer is.2 (step_kind old new (step.Join fragment) is.0 is.1)
 open_kind old new Begin answer is = told_kind is.0 answer is.2 (step_kind old new step.Begin is.0 is.1)
 open_kind old new (Finish budget depth workers) answer is = told_kind is.0 answer is.2 (step_kind old new (step.Finish budget depth workers) is.0 is.1)
 open_kind old new (Round budget depth workers) answer is = told_kind is.0 answer is.2 (round_kind old new budget depth workers is.0 is.1)
 open_kind old new Truncate answer is = told_kind is.0 answer is.2 (step_kind old new step.Truncate is.0 is.1)
 open_kind old new Rebuild answer is = told_kind is.0 answer is.2 (step_kind old new step.Rebuild is.0 is.1)
 open_kind old new Show answer is = subst HasKindOfOrder (sym is.0) tt
-open_kind old new (Start sessions limit) answer is = bad_line_kind old new answer is
 open_kind old new (Close session) answer is = told_kind is.0 answer is.2 (step_kind old new (step.Close session) is.0 is.1)
+open_kind old new (Save wanted) answer is = subst HasKindOfOrder (sym is.0) (saved_kind old.parts wanted)
+open_kind old new (Start sessions limit) answer is = bad_line_kind old new answer is
+open_kind old new (Resume sessions limit) answer is = bad_line_kind old new answer is
+open_kind old new (Marks marks closed) answer is = bad_line_kind old new answer is
+open_kind old new (Last last) answer is = bad_line_kind old new answer is
+open_kind old new Resumed answer is = bad_line_kind old new answer is
 
-first_kind : (command : Command) (answer : Reply) (new : Option State) → AnswersFirst command answer new → HasKindOfOrder answer
-first_kind (Start sessions limit) told.Done new is = tt
-first_kind (Start sessions limit) (told.No refusal) new is = tt
-first_kind (Start sessions limit) answer new is = absurd is
-first_kind command answer new is = bad_line_kind None new answer is
+opens_kind : (sessions limit : ℕ) (answer : Reply) (begun : Option Stage) → Opens sessions limit answer begun → HasKindOfOrder answer
+opens_kind sessions limit told.Done begun is = tt
+opens_kind sessions limit (told.No refusal) begun is = tt
+opens_kind sessions limit answer begun is = absurd is
 
-answer_kind : (old : Option State) (command : Command) (answer : Reply) (new : Option State) → Answers old command answer new → HasKindOfOrder answer
-answer_kind None command answer new is = first_kind command answer new is
-answer_kind (Some old) command answer (Some new) is = open_kind old new command answer is
-answer_kind (Some old) command answer None is = absurd is
+resumes_kind : (sessions limit : ℕ) (answer : Reply) (begun : Option Stage) → Resumes sessions limit answer begun → HasKindOfOrder answer
+resumes_kind sessions limit told.Done begun is = tt
+resumes_kind sessions limit (told.No refusal) begun is = tt
+resumes_kind sessions limit answer begun is = absurd is
 
-pub answered_kind : (old new : Option EngineState) (command : Command) (answer : Reply) → AnswersLegally old command answer new → IsUnderWay old → HasKindOfOrder answer
-answered_kind old new command answer legal under =
-    let after = legal under.0 under.1 in
-    answer_kind under.0 command answer after.0 after.1
+first_kind : (command : Command) (answer : Reply) (begun : Option Stage) → AnswersFirst command answer begun → HasKindOfOrder answer
+first_kind (Start sessions limit) answer begun is = opens_kind sessions limit answer begun is
+first_kind (Resume sessions limit) answer begun is = resumes_kind sessions limit answer begun is
+first_kind command answer begun is = subst HasKindOfOrder (sym is.0) tt
+
+anew_kind : (old : Stage) (command : Command) (answer : Reply) (new : Stage) → BeginsAnew old command answer new → HasKindOfOrder answer
+anew_kind old command answer new is = first_kind command answer is.0 is.1
+
+marks_kind : (sessions limit : ℕ) (marks : List ℕ) (closed : List Bool) (answer : Reply) (new : Stage) → HandsMarks sessions limit marks closed answer new → HasKindOfOrder answer
+marks_kind sessions limit marks closed told.Done new is = tt
+marks_kind sessions limit marks closed (told.No refusal) new is = tt
+marks_kind sessions limit marks closed answer new is = absurd is
+
+resuming_kind : (sessions limit : ℕ) (command : Command) (answer : Reply) (new : Stage) → AnswersResuming sessions limit command answer new → HasKindOfOrder answer
+resuming_kind sessions limit (Marks marks closed) answer new is = marks_kind sessions limit marks closed answer new is
+resuming_kind sessions limit command answer new is = anew_kind (stage.Resuming sessions limit) command answer new is
+
+writers_kind : (handed : Handing) (more : List (ℕ × TxnId)) (answer : Reply) (new : Stage) → HandsWriters handed more answer new → HasKindOfOrder answer
+writers_kind handed more told.Done new is = tt
+writers_kind handed more (told.No refusal) new is = tt
+writers_kind handed more answer new is = absurd is
+
+offer_kind : (handed : Handing) (fragment : Fragment) (answer : Reply) (new : Stage) → HandsOffer handed fragment answer new → HasKindOfOrder answer
+offer_kind handed fragment told.Done new is = tt
+offer_kind handed fragment (told.No refusal) new is = tt
+offer_kind handed fragment answer new is = absurd is
+
+end_kind : (handed : Handing) (answer : Reply) (new : Stage) → EndsHandOver handed answer new → HasKindOfOrder answer
+end_kind handed told.Done new is = tt
+end_kind handed (told.No refusal) new is = tt
+end_kind handed answer new is = absurd is
+
+handing_kind : (handed : Handing) (command : Command) (answer : Reply) (new : Stage) → AnswersHanding handed command answer new → HasKindOfOrder answer
+handing_kind handed (Last more) answer new is = writers_kind handed more answer new is
+handing_kind handed (Offer fragment) answer new is = offer_kind handed fragment answer new is
+handing_kind handed Resumed answer new is = end_kind handed answer new is
+handing_kind handed command answer new is = anew_kind (stage.Handing handed) command answer new is
+
+pub answer_kind : (old : Stage) (command : Command) (answer : Reply) (new : Stage) → Answers old command answer new → HasKindOfOrder answer
+answer_kind stage.Nothing command answer new is = anew_kind stage.Nothing command answer new is
+answer_kind (stage.Resuming sessions limit) command answer new is = resuming_kind sessions limit command answer new is
+answer_kind (stage.Handing handed) command answer new is = handing_kind handed command answer new is
+answer_kind (stage.Open old) command answer new is = open_kind old is.0 command answer is.1

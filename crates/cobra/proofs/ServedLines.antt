@@ -5,8 +5,6 @@ use Rattle.std.specs.List.{concat}
 use Rattle.std.specs.Io.KnownBytes.{Appends, Consumes}
 use Rattle.std.proofs.KnownBytes.{Appends-trans}
 use Rattle.std.proofs.lemmas.List.{take_at, length_push}
-use Rattle.round_state.specs.EngineState.{EngineState}
-use Rattle.round_state.specs.Legal.{State}
 use Rattle.byte_lines.specs.declared.lines.TheConstants.{LONGEST_LINE}
 use Rattle.byte_lines.specs.declared.failures.Failure.{Failure}
 use Rattle.byte_lines.specs.declared.failures.Failure.TheVariants.{Device, NoMemory}
@@ -14,8 +12,9 @@ use Rattle.byte_lines.specs.declared.lines.Next.{Next}
 use Rattle.byte_lines.specs.declared.lines.Next.TheVariants.{Line, TooLong, End}
 use Rattle.byte_lines.specs.LineReaders.{LineState, lines_ahead, IsNextOf, ReadsLine, EndsAtLf, EndsAtEnd, StopsInLine}
 use Rattle.byte_lines.specs.Lines.{lines, lf_count}
-use Rattle.cobra.specs.Outputs.{Replies, RepliesAll, IsOutputOf, IsOutput, lines_read, AnswersFront, StopsForMemory, StopsReading, StopsWriting, IsTold, RepliesLegally}
-use Rattle.cobra.specs.Scripts.{HoldsScript, IsUnderWay}
+use Rattle.cobra.specs.Outputs.{Replies, RepliesAll, IsOutputOf, IsOutput, lines_read, AnswersFront, StopsForMemory, StopsReading, StopsWriting, IsTold, RepliesTo}
+use Rattle.cobra.specs.declared.stages.Stage.{Stage}
+use Rattle.cobra.specs.declared.stages.Stage.TheVariants.{Nothing}
 use Rattle.cobra.proofs.LineCounts.{lf_count-append, lf_count-le-lines, no_lines, lf_count-line, lf_count-last, lf_count-stopped}
 
 -- what is said of bytes where they are told
@@ -39,8 +38,8 @@ is_memory NoMemory not = refl
 
 -- one more line is answered
 
-answers_more : (old mid new : Option State) (asked texts : List (List ℕ)) (line text : List ℕ) → RepliesAll old asked texts mid → Replies mid line text new → RepliesAll old (asked ++ line ∷ []) (texts ++ text ∷ []) new
-answers_more old mid new [] [] line text all one = (new, subst (λ (state : Option State). Replies state line text new) all one, refl)
+answers_more : (old mid new : Stage) (asked texts : List (List ℕ)) (line text : List ℕ) → RepliesAll old asked texts mid → Replies mid line text new → RepliesAll old (asked ++ line ∷ []) (texts ++ text ∷ []) new
+answers_more old mid new [] [] line text all one = (new, subst (λ (state : Stage). Replies state line text new) all one, refl)
 answers_more old mid new (a ∷ asked) (t ∷ texts) line text all one = (all.0, all.1, answers_more all.0 mid new asked texts line text all.2 one)
 answers_more old mid new [] (t ∷ texts) line text all one = absurd all
 answers_more old mid new (a ∷ asked) [] line text all one = absurd all
@@ -49,17 +48,17 @@ concat-push : (texts : List (List ℕ)) (text : List ℕ) → concat (texts ++ t
 concat-push [] text = append-nil text
 concat-push (t ∷ texts) text = ap (λ bytes. t ++ bytes) (concat-push texts text) ∙ sym (append_assoc t (concat texts) text)
 
-output_more : (asked : List (List ℕ)) (output line text : List ℕ) (mid new : Option State) → IsOutputOf asked output mid → Replies mid line text new → IsOutputOf (asked ++ line ∷ []) (output ++ text) new
+output_more : (asked : List (List ℕ)) (output line text : List ℕ) (mid new : Stage) → IsOutputOf asked output mid → Replies mid line text new → IsOutputOf (asked ++ line ∷ []) (output ++ text) new
 output_more asked output line text mid new before one = (
   before.0 ++ text ∷ [],
-  answers_more None mid new asked before.0 line text before.1 one,
+  answers_more Nothing mid new asked before.0 line text before.1 one,
   ap (λ bytes. bytes ++ text) before.2 ∙ sym (concat-push before.0 text),
 )
 
 -- While the input is served: what is left of it, what was read, the lines that were asked and answered, and those that
 -- were taken and aren't answered yet. A line is taken before more is read, so the lines whose end was read are those and
 -- the ones that are ahead.
-pub record IsServing (input : List ℕ) (reader : LineState) (left : Option (List ℕ)) (output : List ℕ) (engine : Option EngineState) (taken : List (List ℕ)) : Type 0 where
+pub record IsServing (input : List ℕ) (reader : LineState) (left : Option (List ℕ)) (output : List ℕ) (stage : Stage) (taken : List (List ℕ)) : Type 0 where
   pub rest : List ℕ
   pub left_is : left ≡ Some rest
   pub read : List ℕ
@@ -68,15 +67,10 @@ pub record IsServing (input : List ℕ) (reader : LineState) (left : Option (Lis
   pub split : lines input ≡ asked ++ (taken ++ lines (reader.ahead ++ rest))
   pub no_more : lf_count read ≤ length asked + length taken + lf_count reader.ahead
   pub no_fewer : length asked + length taken + lf_count reader.ahead ≤ lines_read read rest
-  pub state : Option State
-  pub answers : IsOutputOf asked output state
-  pub holds : HoldsScript engine state
+  pub answers : IsOutputOf asked output stage
 
-pub under_way_first : (engine : Option EngineState) → engine ≡ None → IsUnderWay engine
-under_way_first engine first = (None, subst (λ (e : Option EngineState). HoldsScript e None) (sym first) tt)
-
-pub serving_first : (input : List ℕ) (reader : LineState) (left : Option (List ℕ)) (engine : Option EngineState) → left ≡ Some input → reader.ahead ≡ [] → engine ≡ None → IsServing input reader left [] engine []
-serving_first input reader left engine told none first = record {
+pub serving_first : (input : List ℕ) (reader : LineState) (left : Option (List ℕ)) (stage : Stage) → left ≡ Some input → reader.ahead ≡ [] → stage ≡ Nothing → IsServing input reader left [] stage []
+serving_first input reader left stage told none first = record {
   rest = input;
   left_is = told;
   read = [];
@@ -85,9 +79,7 @@ serving_first input reader left engine told none first = record {
   split = ap (λ bytes. lines (bytes ++ input)) (sym none);
   no_more = omega arith;
   no_fewer = rw none (omega arith);
-  state = None;
-  answers = ([], refl, refl);
-  holds = subst (λ (e : Option EngineState). HoldsScript e None) (sym first) tt;
+  answers = ([], first, refl);
 }
 
 -- what was read before some bytes that are left was read to the ends of its lines, and no further
@@ -112,9 +104,9 @@ taken_line limit all after TooLong is h some =
 taken_line limit all after End is h some = absurd (some refl)
 
 -- a line is read
-pub serving_read : (input : List ℕ) (old new : LineState) (a b : Option (List ℕ)) (output : List ℕ) (engine : Option EngineState) (more : List ℕ) (next : Next) → IsServing input old a output engine [] → Consumes a b more → ReadsLine old new (old.ahead ++ more) b next → old.limit ≡ LONGEST_LINE → IsNextOf old.limit (lines_ahead old a) next (lines_ahead new b) → next ≢ End → (line : List ℕ) × IsTold line next × IsServing input new b output engine (line ∷ [])
-serving_read input old new a None output engine more next s gone line limit is some = absurd (subst (λ (o : Option (List ℕ)). Consumes o None more) s.left_is gone)
-serving_read input old new a (Some rest) output engine more next s gone line limit is some =
+pub serving_read : (input : List ℕ) (old new : LineState) (a b : Option (List ℕ)) (output : List ℕ) (stage : Stage) (more : List ℕ) (next : Next) → IsServing input old a output stage [] → Consumes a b more → ReadsLine old new (old.ahead ++ more) b next → old.limit ≡ LONGEST_LINE → IsNextOf old.limit (lines_ahead old a) next (lines_ahead new b) → next ≢ End → (line : List ℕ) × IsTold line next × IsServing input new b output stage (line ∷ [])
+serving_read input old new a None output stage more next s gone line limit is some = absurd (subst (λ (o : Option (List ℕ)). Consumes o None more) s.left_is gone)
+serving_read input old new a (Some rest) output stage more next s gone line limit is some =
     let left : s.rest ≡ more ++ rest = subst (λ (o : Option (List ℕ)). Consumes o (Some rest) more) s.left_is gone in
     let found = taken_line old.limit (lines (old.ahead ++ s.rest)) (lines (new.ahead ++ rest)) next limit (subst (λ (o : Option (List ℕ)). IsNextOf old.limit (lines_ahead old o) next (Some (lines (new.ahead ++ rest)))) s.left_is is) some in
     let all : input ≡ (s.read ++ more) ++ rest = s.input_is ∙ (ap (λ bytes. s.read ++ bytes) left ∙ sym (append_assoc s.read more rest)) in
@@ -136,16 +128,13 @@ serving_read input old new a (Some rest) output engine more next s gone line lim
         split = split;
         no_more = omega (arith, lf_count-append s.read more, s.no_more, counts.0);
         no_fewer = count_read input s.read more rest (length s.asked + lf_count old.ahead) (length s.asked + 1 + lf_count new.ahead) all had many (λ some_left. omega (arith, counts.1 some_left));
-        state = s.state;
         answers = s.answers;
-        holds = s.holds;
       },
     )
 
 -- the line is answered
-pub serving_answered : (input : List ℕ) (reader : LineState) (left : Option (List ℕ)) (output : List ℕ) (engine new : Option EngineState) (line text : List ℕ) (next : Next) → IsServing input reader left output engine (line ∷ []) → IsTold line next → RepliesLegally engine next text new → IsServing input reader left (output ++ text) new []
-serving_answered input reader left output engine new line text next s told legal =
-    let after = legal line told s.state s.holds in
+pub serving_answered : (input : List ℕ) (reader : LineState) (left : Option (List ℕ)) (output : List ℕ) (stage new : Stage) (line text : List ℕ) (next : Next) → IsServing input reader left output stage (line ∷ []) → IsTold line next → RepliesTo stage next text new → IsServing input reader left (output ++ text) new []
+serving_answered input reader left output stage new line text next s told legal =
     let long = length_push s.asked line in
     record {
       rest = s.rest;
@@ -156,40 +145,38 @@ serving_answered input reader left output engine new line text next s told legal
       split = s.split ∙ sym (append_assoc s.asked (line ∷ []) (lines (reader.ahead ++ s.rest)));
       no_more = omega (arith, s.no_more, long);
       no_fewer = omega (arith, s.no_fewer, long);
-      state = after.0;
-      answers = output_more s.asked output line text s.state after.0 s.answers after.1;
-      holds = after.2;
+      answers = output_more s.asked output line text stage new s.answers (legal line told);
     }
 
 -- a line is read and answered
-pub serving_on : (input : List ℕ) (old new : LineState) (a b first then_held now : Option (List ℕ)) (output : List ℕ) (engine after : Option EngineState) (more : List ℕ) (next : Next) (text : List ℕ) → IsServing input old a output engine [] → Consumes a b more → ReadsLine old new (old.ahead ++ more) b next → old.limit ≡ LONGEST_LINE → IsNextOf old.limit (lines_ahead old a) next (lines_ahead new b) → next ≢ End → RepliesLegally engine next text after → Appends first then_held output → Appends then_held now text → (all : List ℕ) × Appends first now all × IsServing input new b all after []
-serving_on input old new a b first then_held now output engine after more next text s gone line limit is some legal before one =
-    let taken = serving_read input old new a b output engine more next s gone line limit is some in
-    (output ++ text, Appends-trans first then_held now output text before one, serving_answered input new b output engine after taken.0 text next taken.2 taken.1 legal)
+pub serving_on : (input : List ℕ) (old new : LineState) (a b first then_held now : Option (List ℕ)) (output : List ℕ) (stage after : Stage) (more : List ℕ) (next : Next) (text : List ℕ) → IsServing input old a output stage [] → Consumes a b more → ReadsLine old new (old.ahead ++ more) b next → old.limit ≡ LONGEST_LINE → IsNextOf old.limit (lines_ahead old a) next (lines_ahead new b) → next ≢ End → RepliesTo stage next text after → Appends first then_held output → Appends then_held now text → (all : List ℕ) × Appends first now all × IsServing input new b all after []
+serving_on input old new a b first then_held now output stage after more next text s gone line limit is some legal before one =
+    let taken = serving_read input old new a b output stage more next s gone line limit is some in
+    (output ++ text, Appends-trans first then_held now output text before one, serving_answered input new b output stage after taken.0 text next taken.2 taken.1 legal)
 
 -- what was answered so far answers a front of the lines
-pub answered_front : (input output : List ℕ) (asked rest : List (List ℕ)) (state : Option State) → lines input ≡ asked ++ rest → IsOutputOf asked output state → IsOutputOf (take (length asked) (lines input)) output state
+pub answered_front : (input output : List ℕ) (asked rest : List (List ℕ)) (state : Stage) → lines input ≡ asked ++ rest → IsOutputOf asked output state → IsOutputOf (take (length asked) (lines input)) output state
 answered_front input output asked rest state split answers =
     subst (λ ls. IsOutputOf ls output state) (sym (ap (take (length asked)) split ∙ take_at asked rest (length asked) refl)) answers
 
 -- it stops where a line was read
-abbrev pub stops_at_line : (input : List ℕ) (reader : LineState) (left : Option (List ℕ)) (output : List ℕ) (engine : Option EngineState) (taken : List (List ℕ)) → (s : IsServing input reader left output engine taken) → AnswersFront input left output (length s.asked) s.state
-stops_at_line input reader left output engine taken s = record {
+abbrev pub stops_at_line : (input : List ℕ) (reader : LineState) (left : Option (List ℕ)) (output : List ℕ) (stage : Stage) (taken : List (List ℕ)) → (s : IsServing input reader left output stage taken) → AnswersFront input left output (length s.asked) stage
+stops_at_line input reader left output stage taken s = record {
   read = s.read;
   rest = s.rest;
   left_is = s.left_is;
   input_is = s.input_is;
   were_read = omega (arith, s.no_fewer);
-  answers = answered_front input output s.asked (taken ++ lines (reader.ahead ++ s.rest)) s.state s.split s.answers;
+  answers = answered_front input output s.asked (taken ++ lines (reader.ahead ++ s.rest)) stage s.split s.answers;
 }
 
-pub stops_for_memory_at_line : (input : List ℕ) (reader : LineState) (left : Option (List ℕ)) (output : List ℕ) (engine : Option EngineState) (taken : List (List ℕ)) → IsServing input reader left output engine taken → StopsForMemory input left output
-stops_for_memory_at_line input reader left output engine taken s = (length s.asked, s.state, stops_at_line input reader left output engine taken s)
+pub stops_for_memory_at_line : (input : List ℕ) (reader : LineState) (left : Option (List ℕ)) (output : List ℕ) (stage : Stage) (taken : List (List ℕ)) → IsServing input reader left output stage taken → StopsForMemory input left output
+stops_for_memory_at_line input reader left output stage taken s = (length s.asked, stage, stops_at_line input reader left output stage taken s)
 
 -- it stops within the next line
-stops_within : (input : List ℕ) (reader : LineState) (a b : Option (List ℕ)) (output : List ℕ) (engine : Option EngineState) (more : List ℕ) → (s : IsServing input reader a output engine []) → Consumes a b more → (front : AnswersFront input b output (length s.asked) s.state) × (front.read ≡ s.read ++ more)
-stops_within input reader a None output engine more s gone = absurd (subst (λ (o : Option (List ℕ)). Consumes o None more) s.left_is gone)
-stops_within input reader a (Some rest) output engine more s gone =
+stops_within : (input : List ℕ) (reader : LineState) (a b : Option (List ℕ)) (output : List ℕ) (stage : Stage) (more : List ℕ) → (s : IsServing input reader a output stage []) → Consumes a b more → (front : AnswersFront input b output (length s.asked) stage) × (front.read ≡ s.read ++ more)
+stops_within input reader a None output stage more s gone = absurd (subst (λ (o : Option (List ℕ)). Consumes o None more) s.left_is gone)
+stops_within input reader a (Some rest) output stage more s gone =
     let left : s.rest ≡ more ++ rest = subst (λ (o : Option (List ℕ)). Consumes o (Some rest) more) s.left_is gone in
     let all : input ≡ (s.read ++ more) ++ rest = s.input_is ∙ (ap (λ bytes. s.read ++ bytes) left ∙ sym (append_assoc s.read more rest)) in
     let had : length s.asked ≤ lines_read s.read (more ++ rest) = subst (λ bytes. length s.asked ≤ lines_read s.read bytes) left (omega (arith, s.no_fewer)) in
@@ -200,25 +187,25 @@ stops_within input reader a (Some rest) output engine more s gone =
         left_is = refl;
         input_is = all;
         were_read = count_read input s.read more rest (length s.asked) (length s.asked) all had many (λ some_left. omega arith);
-        answers = answered_front input output s.asked (lines (reader.ahead ++ s.rest)) s.state s.split s.answers;
+        answers = answered_front input output s.asked (lines (reader.ahead ++ s.rest)) stage s.split s.answers;
       },
       refl,
     )
 
-pub stops_for_memory : (input : List ℕ) (reader : LineState) (a b : Option (List ℕ)) (output : List ℕ) (engine : Option EngineState) (more : List ℕ) → IsServing input reader a output engine [] → Consumes a b more → StopsForMemory input b output
-stops_for_memory input reader a b output engine more s gone = (length s.asked, s.state, (stops_within input reader a b output engine more s gone).0)
+pub stops_for_memory : (input : List ℕ) (reader : LineState) (a b : Option (List ℕ)) (output : List ℕ) (stage : Stage) (more : List ℕ) → IsServing input reader a output stage [] → Consumes a b more → StopsForMemory input b output
+stops_for_memory input reader a b output stage more s gone = (length s.asked, stage, (stops_within input reader a b output stage more s gone).0)
 
-pub stops_reading : (input : List ℕ) (old new : LineState) (a b : Option (List ℕ)) (output : List ℕ) (engine : Option EngineState) (more : List ℕ) → IsServing input old a output engine [] → Consumes a b more → StopsInLine old new (old.ahead ++ more) → new.ahead ≡ [] → StopsReading input b output
-stops_reading input old new a b output engine more s gone stops none =
-    let within = stops_within input old a b output engine more s gone in
+pub stops_reading : (input : List ℕ) (old new : LineState) (a b : Option (List ℕ)) (output : List ℕ) (stage : Stage) (more : List ℕ) → IsServing input old a output stage [] → Consumes a b more → StopsInLine old new (old.ahead ++ more) → new.ahead ≡ [] → StopsReading input b output
+stops_reading input old new a b output stage more s gone stops none =
+    let within = stops_within input old a b output stage more s gone in
     let none_left = lf_count-stopped old new more stops none in
-    (length s.asked, s.state, within.0, subst (λ bytes. lf_count bytes ≤ length s.asked) (sym within.1) (omega (arith, lf_count-append s.read more, s.no_more, none_left)))
+    (length s.asked, stage, within.0, subst (λ bytes. lf_count bytes ≤ length s.asked) (sym within.1) (omega (arith, lf_count-append s.read more, s.no_more, none_left)))
 
 -- where no line could be asked for yet
 pub stops_first : (input : List ℕ) (left : Option (List ℕ)) → left ≡ Some input → StopsForMemory input left []
 stops_first input left told = (
   0,
-  None,
+  Nothing,
   record {
     read = [];
     rest = input;
@@ -233,20 +220,19 @@ slice_get-middle : (xs ys : List (List ℕ)) (y : List ℕ) → slice_get (xs ++
 slice_get-middle [] ys y = refl
 slice_get-middle (x ∷ xs) ys y = slice_get-middle xs ys y
 
-pub stops_writing : (input : List ℕ) (reader : LineState) (left : Option (List ℕ)) (output : List ℕ) (engine new : Option EngineState) (line text : List ℕ) (next : Next) (n : ℕ) → IsServing input reader left output engine (line ∷ []) → IsTold line next → RepliesLegally engine next text new → n < length text → StopsWriting input left (output ++ take n text)
-stops_writing input reader left output engine new line text next n s told legal short =
-    let after = legal line told s.state s.holds in
+pub stops_writing : (input : List ℕ) (reader : LineState) (left : Option (List ℕ)) (output : List ℕ) (stage new : Stage) (line text : List ℕ) (next : Next) (n : ℕ) → IsServing input reader left output stage (line ∷ []) → IsTold line next → RepliesTo stage next text new → n < length text → StopsWriting input left (output ++ take n text)
+stops_writing input reader left output stage new line text next n s told legal short =
     record {
       count = length s.asked;
-      state = s.state;
+      state = stage;
       whole = output;
-      front = stops_at_line input reader left output engine (line ∷ []) s;
+      front = stops_at_line input reader left output stage (line ∷ []) s;
       line = line;
       line_is = ap (λ (ls : List (List ℕ)). slice_get ls (length s.asked)) s.split ∙ slice_get-middle s.asked (lines (reader.ahead ++ s.rest)) line;
       line_read = omega (arith, s.no_fewer);
       text = text;
-      after = after.0;
-      reply = after.1;
+      after = new;
+      reply = legal line told;
       written = n;
       part = short;
       output_is = refl;
@@ -257,12 +243,12 @@ no_end [] ys e = e
 no_end (x ∷ xs) ys e = cc
 
 -- all lines are answered
-pub ends_whole : (input : List ℕ) (old new : LineState) (a b : Option (List ℕ)) (output : List ℕ) (engine : Option EngineState) (more : List ℕ) → IsServing input old a output engine [] → Consumes a b more → IsNextOf old.limit (lines_ahead old a) End (lines_ahead new b) → (b ≡ Some []) × IsOutput input output
-ends_whole input old new a None output engine more s gone is = absurd (subst (λ (o : Option (List ℕ)). Consumes o None more) s.left_is gone)
-ends_whole input old new a (Some rest) output engine more s gone is =
+pub ends_whole : (input : List ℕ) (old new : LineState) (a b : Option (List ℕ)) (output : List ℕ) (stage : Stage) (more : List ℕ) → IsServing input old a output stage [] → Consumes a b more → IsNextOf old.limit (lines_ahead old a) End (lines_ahead new b) → (b ≡ Some []) × IsOutput input output
+ends_whole input old new a None output stage more s gone is = absurd (subst (λ (o : Option (List ℕ)). Consumes o None more) s.left_is gone)
+ends_whole input old new a (Some rest) output stage more s gone is =
     let none = subst (λ (o : Option (List ℕ)). IsNextOf old.limit (lines_ahead old o) End (Some (lines (new.ahead ++ rest)))) s.left_is is in
     let used : lines (new.ahead ++ rest) ≡ [] = cc in
     let all : lines input ≡ s.asked = s.split ∙ (ap (λ ls. s.asked ++ ls) none.1 ∙ append-nil s.asked) in (
       ap Some (no_end new.ahead rest (no_lines (new.ahead ++ rest) used)),
-      (s.state, subst (λ ls. IsOutputOf ls output s.state) (sym all) s.answers),
+      (stage, subst (λ ls. IsOutputOf ls output stage) (sym all) s.answers),
     )

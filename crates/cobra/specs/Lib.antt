@@ -1,4 +1,7 @@
+pub mod Checkpoints
+pub mod HandOver
 pub mod Outputs
 pub mod Programs
+pub mod Saving
 pub mod Scripts
 pub mod StepReplies

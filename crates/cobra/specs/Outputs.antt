@@ -1,16 +1,16 @@
 -- The output of a script: a line for each of its lines.
-use Rattle.std.specs.Prelude.{◌≡◌, ℕ, ◌<◌, ◌≤◌, ◌⊎◌, List, [], ◌∷◌, ◌++◌, length, take, slice_get, Option, Some, None}
+use Rattle.std.specs.Prelude.{◌≡◌, ℕ, ◌<◌, ◌≤◌, ◌⊎◌, List, [], ◌∷◌, ◌++◌, length, take, slice_get, Option, Some}
 use Rattle.std.specs.List.{concat}
 use Rattle.log_text.specs.declared.commands.Command.{Command}
 use Rattle.log_text.specs.declared.replies.Reply.{Reply}
 use Rattle.log_text.specs.Commands.{IsCommand}
 use Rattle.log_text.specs.Replies.{line_of}
-use Rattle.round_state.specs.EngineState.{EngineState}
-use Rattle.round_state.specs.Legal.{State}
 use Rattle.byte_lines.specs.declared.lines.Next.{Next}
 use Rattle.byte_lines.specs.declared.lines.Next.TheVariants.{Line, TooLong, End}
 use Rattle.byte_lines.specs.Lines.{lines, lf_count}
-use Rattle.cobra.specs.Scripts.{IsBadLine, Answers, HoldsScript}
+use Rattle.cobra.specs.Scripts.{IsBadLine, Answers}
+use Rattle.cobra.specs.declared.stages.Stage.{Stage}
+use Rattle.cobra.specs.declared.stages.Stage.TheVariants.{Nothing}
 
 -- the line is the command, and isn't too long for one
 pub record Asks (line : List ℕ) (command : Command) : Type 0 where
@@ -18,31 +18,31 @@ pub record Asks (line : List ℕ) (command : Command) : Type 0 where
   pub is : IsCommand line command
 
 -- The reply to a line is the one to its command, and BadLine where it is none.
-abbrev pub IsAnswered : Option State → List ℕ → Reply → Option State → Type 0
+abbrev pub IsAnswered : Stage → List ℕ → Reply → Stage → Type 0
 IsAnswered old line answer new =
     ((command : Command) × Asks line command × Answers old command answer new)
     ⊎ (((command : Command) → ¬ Asks line command) × IsBadLine old answer new)
 
 -- the text of the reply to a line, and what the line leads to
-pub record Replies (old : Option State) (line text : List ℕ) (new : Option State) : Type 0 where
+pub record Replies (old : Stage) (line text : List ℕ) (new : Stage) : Type 0 where
   pub answer : Reply
   pub answered : IsAnswered old line answer new
   pub text_is : text ≡ line_of answer
 
 -- line after line
-abbrev pub RepliesAll : Option State → List (List ℕ) → List (List ℕ) → Option State → Type 0
+abbrev pub RepliesAll : Stage → List (List ℕ) → List (List ℕ) → Stage → Type 0
 RepliesAll old [] [] new = new ≡ old
-RepliesAll old (line ∷ rest) (text ∷ texts) new = (between : Option State) × Replies old line text between × RepliesAll between rest texts new
+RepliesAll old (line ∷ rest) (text ∷ texts) new = (between : Stage) × Replies old line text between × RepliesAll between rest texts new
 RepliesAll old [] (text ∷ texts) new = ⊥
 RepliesAll old (line ∷ rest) [] new = ⊥
 
 -- the joined texts of replies to these lines, from the first of a script on
-abbrev pub IsOutputOf : List (List ℕ) → List ℕ → Option State → Type 0
-IsOutputOf asked output end = (texts : List (List ℕ)) × RepliesAll None asked texts end × (output ≡ concat texts)
+abbrev pub IsOutputOf : List (List ℕ) → List ℕ → Stage → Type 0
+IsOutputOf asked output end = (texts : List (List ℕ)) × RepliesAll Nothing asked texts end × (output ≡ concat texts)
 
 -- the joined texts of replies to all lines of the input
 abbrev pub IsOutput : List ℕ → List ℕ → Type 0
-IsOutput input output = (end : Option State) × IsOutputOf (lines input) output end
+IsOutput input output = (end : Stage) × IsOutputOf (lines input) output end
 
 -- how many lines were read to their end, which is an LF (10) or the end of input
 abbrev pub lines_read : List ℕ → List ℕ → ℕ
@@ -50,7 +50,7 @@ lines_read read [] = length (lines read)
 lines_read read left = lf_count read
 
 -- The input was read so far, and the output answers so many of its lines, each of which was read to its end.
-pub record AnswersFront (input : List ℕ) (left : Option (List ℕ)) (output : List ℕ) (count : ℕ) (state : Option State) : Type 0 where
+pub record AnswersFront (input : List ℕ) (left : Option (List ℕ)) (output : List ℕ) (count : ℕ) (state : Stage) : Type 0 where
   pub read : List ℕ
   pub rest : List ℕ
   pub left_is : left ≡ Some rest
@@ -60,24 +60,24 @@ pub record AnswersFront (input : List ℕ) (left : Option (List ℕ)) (output : 
 
 -- where memory was wanting: the output is whole replies
 abbrev pub StopsForMemory : List ℕ → Option (List ℕ) → List ℕ → Type 0
-StopsForMemory input left output = (count : ℕ) × (state : Option State) × AnswersFront input left output count state
+StopsForMemory input left output = (count : ℕ) × (state : Stage) × AnswersFront input left output count state
 
 -- where a read failed: besides, each line whose LF was read is answered
 abbrev pub StopsReading : List ℕ → Option (List ℕ) → List ℕ → Type 0
-StopsReading input left output = (count : ℕ) × (state : Option State) × (front : AnswersFront input left output count state) × (lf_count front.read ≤ count)
+StopsReading input left output = (count : ℕ) × (state : Stage) × (front : AnswersFront input left output count state) × (lf_count front.read ≤ count)
 
 -- Where a write failed: the output is whole replies, and a proper front of the reply to the next line, which was read to
 -- its end as well.
 pub record StopsWriting (input : List ℕ) (left : Option (List ℕ)) (output : List ℕ) : Type 0 where
   pub count : ℕ
-  pub state : Option State
+  pub state : Stage
   pub whole : List ℕ
   pub front : AnswersFront input left whole count state
   pub line : List ℕ
   pub line_is : slice_get (lines input) count ≡ Some line
   pub line_read : count < lines_read front.read front.rest
   pub text : List ℕ
-  pub after : Option State
+  pub after : Stage
   pub reply : Replies state line text after
   pub written : ℕ
   pub part : written < length text
@@ -89,10 +89,10 @@ IsTold line (Line bytes) = (bytes.items ≡ line) × (length line ≤ 8388608)
 IsTold line TooLong = 8388608 < length line
 IsTold line End = ⊥
 
--- the reply to what was read, and what it leads to, whatever histories the engine stood for
-abbrev pub AnswersLineLegally : Option EngineState → Next → Reply → Option EngineState → Type 0
-AnswersLineLegally old next answer new = (line : List ℕ) → IsTold line next → (before : Option State) → HoldsScript old before → (after : Option State) × IsAnswered before line answer after × HoldsScript new after
+-- the reply to what was read, and what it leads to
+abbrev pub AnswersNext : Stage → Next → Reply → Stage → Type 0
+AnswersNext old next answer new = (line : List ℕ) → IsTold line next → IsAnswered old line answer new
 
 -- the same of the reply's text
-abbrev pub RepliesLegally : Option EngineState → Next → List ℕ → Option EngineState → Type 0
-RepliesLegally old next text new = (line : List ℕ) → IsTold line next → (before : Option State) → HoldsScript old before → (after : Option State) × Replies before line text after × HoldsScript new after
+abbrev pub RepliesTo : Stage → Next → List ℕ → Stage → Type 0
+RepliesTo old next text new = (line : List ℕ) → IsTold line next → Replies old line text new

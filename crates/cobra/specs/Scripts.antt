@@ -1,42 +1,59 @@
 -- What the commands of a script are answered, and what they lead to.
-use Rattle.std.specs.Prelude.{◌≡◌, ℕ, ◌⊎◌, ⊤, length, Option, Some, None, IsSome, sum_by}
+use Rattle.std.specs.Prelude.{◌≡◌, ℕ, ◌⊎◌, Bool, List, length, sum_by, Option, Some, None}
 use Rattle.std.specs.FinMap as map
+use Rattle.txn.specs.declared.transactions.TxnId.{TxnId}
+use Rattle.txn.specs.declared.transactions.Fragment.{Fragment}
 use Rattle.txn.specs.declared.refusals.Refusal.{Refusal}
 use Rattle.txn.specs.declared.refusals.Refusal.TheVariants.{BadLine, NoMemory}
+use Rattle.txn.specs.History.{History}
+use Rattle.order_check.specs.declared.remainder.Parts.{Parts}
 use Rattle.order_check.specs.Based.{received_counts}
+use Rattle.order_check.specs.StandsFor.{StandsFor}
 use Rattle.log_text.specs.declared.commands.Command.{Command}
-use Rattle.log_text.specs.declared.commands.Command.TheVariants.{Start, Offer, Close, Begin, Finish, Round, Truncate, Rebuild, Show}
+use Rattle.log_text.specs.declared.commands.Command.TheVariants.{Start, Offer, Join, Close, Begin, Finish, Round, Truncate, Rebuild, Show, Resume, Marks, Last, Resumed, Save}
 use Rattle.log_text.specs.declared.replies.Reply.{Reply}
 use Rattle.log_text.specs.declared.replies.Reply.TheVariants as told
-use Rattle.round_state.specs.EngineState.{EngineState}
-use Rattle.round_state.specs.Legal.{State, Legal}
-use Rattle.round_state.specs.Opening.{IsSessions, IsLimit, IsOpenRefusal, fresh_state}
-use Rattle.round_state.specs.Runs.{Holds}
+use Rattle.round_state.specs.EngineState.{EngineState, engine_over}
+use Rattle.round_state.specs.Opening.{IsSessions, IsLimit, IsOpenRefusal, fresh, fresh_state}
+use Rattle.round_state.specs.Legal.{State}
+use Rattle.round_state.specs.Runs.{Holds, StepsLegally}
+use Rattle.round_state.specs.Steps.{StepsTo}
 use Rattle.round_state.specs.declared.steps.Step.{Step}
 use Rattle.round_state.specs.declared.steps.Step.TheVariants as step
 use Rattle.round_state.specs.declared.steps.StepReply.{StepReply}
 use Rattle.round_state.specs.declared.steps.StepReply.TheVariants as reply
+use Rattle.cobra.specs.HandOver.{AreOfSessions, AreGoodParts, IsHandRefusal, IsMarksRefusal, IsNextOffer, IsResumedRefusal, handed_first, handed_offer, handed_parts, handed_writers}
+use Rattle.cobra.specs.Saving.{saved_told}
 use Rattle.cobra.specs.StepReplies.{reply_of}
+use Rattle.cobra.specs.declared.handing.Handing.{Handing}
+use Rattle.cobra.specs.declared.stages.Stage.{Stage}
+use Rattle.cobra.specs.declared.stages.Stage.TheVariants as stage
 
 -- A command that may not stand where it does is answered BadLine, and changes nothing.
 abbrev pub IsBadLine : {X : Type 0} → X → Reply → X → Type 0
 IsBadLine old answer new = (answer ≡ told.No BadLine) × (new ≡ old)
 
+-- The reply to a step is right by the engine alone, and legal for each whole history that the engine stood for: a report on it is
+-- true, and the engine after it stands for what the history has become.
+pub record Goes (old : EngineState) (asked : Step) (said : StepReply) (new : EngineState) : Type 0 where
+  pub right : StepsTo old asked said new
+  pub legal : StepsLegally old asked said new
+
 -- a step of the engine, told
-abbrev pub IsStep : State → Step → Reply → State → Type 0
-IsStep old asked answer new = (said : StepReply) × Legal old asked said new × (answer ≡ reply_of said)
+abbrev pub IsStep : EngineState → Step → Reply → EngineState → Type 0
+IsStep old asked answer new = (said : StepReply) × Goes old asked said new × (answer ≡ reply_of said)
 
 -- A round that was begun is finished. Where memory is wanting for that, it is abandoned.
-abbrev pub EndsRound : State → ℕ → ℕ → ℕ → StepReply → State → Type 0
-EndsRound begun budget depth workers (reply.Report report) new = Legal begun (step.Finish budget depth workers) (reply.Report report) new
-EndsRound begun budget depth workers (reply.Refused NoMemory) new = (kept : State) × Legal begun (step.Finish budget depth workers) (reply.Refused NoMemory) kept × Legal kept step.Abandon reply.Done new
+abbrev pub EndsRound : EngineState → ℕ → ℕ → ℕ → StepReply → EngineState → Type 0
+EndsRound begun budget depth workers (reply.Report report) new = Goes begun (step.Finish budget depth workers) (reply.Report report) new
+EndsRound begun budget depth workers (reply.Refused NoMemory) new = (kept : EngineState) × Goes begun (step.Finish budget depth workers) (reply.Refused NoMemory) kept × Goes kept step.Abandon reply.Done new
 EndsRound begun budget depth workers said new = ⊥
 
 -- A round is begun and ended. Where the begin is refused, that is the reply.
-abbrev pub IsRound : State → ℕ → ℕ → ℕ → StepReply → State → Type 0
+abbrev pub IsRound : EngineState → ℕ → ℕ → ℕ → StepReply → EngineState → Type 0
 IsRound old budget depth workers said new =
-    ((refusal : Refusal) × (said ≡ reply.Refused refusal) × Legal old step.Begin said new)
-    ⊎ ((begun : State) × Legal old step.Begin reply.Done begun × EndsRound begun budget depth workers said new)
+    ((refusal : Refusal) × (said ≡ reply.Refused refusal) × Goes old step.Begin said new)
+    ⊎ ((begun : EngineState) × Goes old step.Begin reply.Done begun × EndsRound begun budget depth workers said new)
 
 -- what is told of an engine: of each session how many are gone, how many were received and whether it is closed, the last
 -- gone writer of each key, keys rising, and how many transactions remain
@@ -44,52 +61,94 @@ abbrev pub state_told : EngineState → Reply
 state_told engine = told.Show engine.parts.base.marks (received_counts engine.parts) engine.parts.closed (map.entries engine.parts.base.last) (sum_by length engine.parts.remain)
 
 -- the reply to a command, where an engine is open
-abbrev pub AnswersOpen : State → Command → Reply → State → Type 0
+abbrev pub AnswersOpen : EngineState → Command → Reply → EngineState → Type 0
 AnswersOpen old (Offer fragment) answer new = IsStep old (step.Offer fragment) answer new
+AnswersOpen old (Join fragment) answer new = IsStep old (step.Join fragment) answer new
 AnswersOpen old (Close session) answer new = IsStep old (step.Close session) answer new
 AnswersOpen old Begin answer new = IsStep old step.Begin answer new
 AnswersOpen old (Finish budget depth workers) answer new = IsStep old (step.Finish budget depth workers) answer new
 AnswersOpen old (Round budget depth workers) answer new = (said : StepReply) × IsRound old budget depth workers said new × (answer ≡ reply_of said)
 AnswersOpen old Truncate answer new = IsStep old step.Truncate answer new
 AnswersOpen old Rebuild answer new = IsStep old step.Rebuild answer new
-AnswersOpen old Show answer new = (answer ≡ state_told old.engine) × (new ≡ old)
-AnswersOpen old (Start sessions limit) answer new = IsBadLine old answer new
+AnswersOpen old Show answer new = (answer ≡ state_told old) × (new ≡ old)
+AnswersOpen old (Save wanted) answer new = (answer ≡ saved_told old.parts wanted) × (new ≡ old)
+AnswersOpen old command answer new = IsBadLine old answer new
 
--- the reply to a command, where none is open yet
-abbrev pub AnswersFirst : Command → Reply → Option State → Type 0
-AnswersFirst (Start sessions limit) told.Done new = IsSessions sessions × IsLimit limit × (new ≡ Some (fresh_state sessions limit))
-AnswersFirst (Start sessions limit) (told.No refusal) new = IsOpenRefusal sessions limit refusal × (new ≡ None)
-AnswersFirst (Start sessions limit) answer new = ⊥
-AnswersFirst command answer new = IsBadLine None answer new
+-- An engine is opened: it is a fresh one, which stands for the history in which nothing was received. Where it isn't, no stage begins.
+abbrev pub Opens : ℕ → ℕ → Reply → Option Stage → Type 0
+Opens sessions limit told.Done begun = IsSessions sessions × IsLimit limit × (begun ≡ Some (stage.Open (fresh sessions limit))) × Holds (fresh sessions limit) (fresh_state sessions limit)
+Opens sessions limit (told.No refusal) begun = IsOpenRefusal sessions limit refusal × (begun ≡ None)
+Opens sessions limit answer begun = ⊥
 
--- The reply to a command and what it leads to; a script has a state once its engine is open.
-abbrev pub Answers : Option State → Command → Reply → Option State → Type 0
-Answers None command answer new = AnswersFirst command answer new
-Answers (Some old) command answer (Some new) = AnswersOpen old command answer new
-Answers (Some old) command answer None = ⊥
+-- A hand-over begins, where an engine may be opened.
+abbrev pub Resumes : ℕ → ℕ → Reply → Option Stage → Type 0
+Resumes sessions limit told.Done begun = IsSessions sessions × IsLimit limit × (begun ≡ Some (stage.Resuming sessions limit))
+Resumes sessions limit (told.No refusal) begun = IsOpenRefusal sessions limit refusal × (begun ≡ None)
+Resumes sessions limit answer begun = ⊥
 
--- the engine of a script, once there is one, is that of its state, and stands for the histories of the state
-abbrev pub HoldsScript : Option EngineState → Option State → Type 0
-HoldsScript None None = ⊤
-HoldsScript (Some engine) (Some state) = Holds engine state
-HoldsScript engine state = ⊥
+-- the reply to a command with which a script begins, and the stage that begins, where one does
+abbrev pub AnswersFirst : Command → Reply → Option Stage → Type 0
+AnswersFirst (Start sessions limit) answer begun = Opens sessions limit answer begun
+AnswersFirst (Resume sessions limit) answer begun = Resumes sessions limit answer begun
+AnswersFirst command answer begun = (answer ≡ told.No BadLine) × (begun ≡ None)
 
--- it stands for some histories
-abbrev pub IsUnderWay : Option EngineState → Type 0
-IsUnderWay engine = (state : Option State) × HoldsScript engine state
+-- the stage that has begun, and where none has, the old one
+abbrev pub stage_after : Stage → Option Stage → Stage
+stage_after old None = old
+stage_after old (Some begun) = begun
 
--- Whatever histories the engine stood for, the round is right, and the engine after it stands for what they have become.
-abbrev pub RoundsLegally : EngineState → ℕ → ℕ → ℕ → StepReply → EngineState → Type 0
-RoundsLegally old budget depth workers said new = (before : State) → Holds old before → (after : State) × IsRound before budget depth workers said after × Holds new after
+-- A script may begin anew for as long as no engine is open: what was handed over until then is dropped, where an engine is opened or
+-- another hand-over begins. Else nothing changes.
+abbrev pub BeginsAnew : Stage → Command → Reply → Stage → Type 0
+BeginsAnew old command answer new = (begun : Option Stage) × AnswersFirst command answer begun × (new ≡ stage_after old begun)
 
--- the same of the end of an open round
-abbrev pub EndsLegally : EngineState → ℕ → ℕ → ℕ → StepReply → EngineState → Type 0
-EndsLegally old budget depth workers said new = (before : State) → Holds old before → IsSome before.engine.asked → (after : State) × EndsRound before budget depth workers said after × Holds new after
+-- marks and flags are handed over
+abbrev pub HandsMarks : ℕ → ℕ → List ℕ → List Bool → Reply → Stage → Type 0
+HandsMarks sessions limit marks closed told.Done new = AreOfSessions sessions marks closed × (new ≡ stage.Handing (handed_first limit marks closed))
+HandsMarks sessions limit marks closed (told.No refusal) new = IsMarksRefusal sessions marks closed refusal × (new ≡ stage.Resuming sessions limit)
+HandsMarks sessions limit marks closed answer new = ⊥
 
--- the same of a command to an open engine
-abbrev pub AnswersOpenLegally : EngineState → Command → Reply → EngineState → Type 0
-AnswersOpenLegally old command answer new = (before : State) → Holds old before → (after : State) × AnswersOpen before command answer after × Holds new after
+-- the reply to a command, where a hand-over has begun: marks come first
+abbrev pub AnswersResuming : ℕ → ℕ → Command → Reply → Stage → Type 0
+AnswersResuming sessions limit (Marks marks closed) answer new = HandsMarks sessions limit marks closed answer new
+AnswersResuming sessions limit command answer new = BeginsAnew (stage.Resuming sessions limit) command answer new
 
--- the same of a command of a script
-abbrev pub AnswersLegally : Option EngineState → Command → Reply → Option EngineState → Type 0
-AnswersLegally old command answer new = (before : Option State) → HoldsScript old before → (after : Option State) × Answers before command answer after × HoldsScript new after
+-- last writers are handed over; memory may be wanting
+abbrev pub HandsWriters : Handing → List (ℕ × TxnId) → Reply → Stage → Type 0
+HandsWriters handed more told.Done new = new ≡ stage.Handing (handed_writers handed more)
+HandsWriters handed more (told.No NoMemory) new = new ≡ stage.Handing handed
+HandsWriters handed more answer new = ⊥
+
+-- something of what remains is handed over
+abbrev pub HandsOffer : Handing → Fragment → Reply → Stage → Type 0
+HandsOffer handed fragment told.Done new = IsNextOffer handed fragment × (new ≡ stage.Handing (handed_offer handed fragment))
+HandsOffer handed fragment (told.No refusal) new = IsHandRefusal handed fragment refusal × (new ≡ stage.Handing handed)
+HandsOffer handed fragment answer new = ⊥
+
+-- the state of an engine that has these parts and nothing else, where this is the whole history
+abbrev pub state_over : Parts → History → State
+state_over parts whole = record { engine = engine_over parts; whole = whole; asked = whole }
+
+-- The engine stands for each whole history that the parts stand for.
+abbrev pub HoldsAll : Parts → Type 0
+HoldsAll parts = (whole : History) → StandsFor parts whole → Holds (engine_over parts) (state_over parts whole)
+
+-- The hand-over ends: the parts that were handed over are good, and the engine has these and nothing else.
+abbrev pub EndsHandOver : Handing → Reply → Stage → Type 0
+EndsHandOver handed told.Done new = AreGoodParts handed × (new ≡ stage.Open (engine_over (handed_parts handed))) × HoldsAll (handed_parts handed)
+EndsHandOver handed (told.No refusal) new = IsResumedRefusal handed refusal × (new ≡ stage.Handing handed)
+EndsHandOver handed answer new = ⊥
+
+-- the reply to a command, while parts are handed over
+abbrev pub AnswersHanding : Handing → Command → Reply → Stage → Type 0
+AnswersHanding handed (Last more) answer new = HandsWriters handed more answer new
+AnswersHanding handed (Offer fragment) answer new = HandsOffer handed fragment answer new
+AnswersHanding handed Resumed answer new = EndsHandOver handed answer new
+AnswersHanding handed command answer new = BeginsAnew (stage.Handing handed) command answer new
+
+-- The reply to a command, and what it leads to. Once an engine is open, one stays open.
+abbrev pub Answers : Stage → Command → Reply → Stage → Type 0
+Answers stage.Nothing command answer new = BeginsAnew stage.Nothing command answer new
+Answers (stage.Resuming sessions limit) command answer new = AnswersResuming sessions limit command answer new
+Answers (stage.Handing handed) command answer new = AnswersHanding handed command answer new
+Answers (stage.Open old) command answer new = (engine : EngineState) × AnswersOpen old command answer engine × (new ≡ stage.Open engine)

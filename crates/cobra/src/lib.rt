@@ -1,19 +1,24 @@
 //! The commands of the auditor, over devices that give and take bytes.
 #![tactic(auto)]
 
+mod handing;
 mod open_engine;
 mod programs;
 mod replies;
+mod saving;
 mod scripts;
 mod serving;
 mod showing;
+mod stages;
 
 pub use byte_lines::{
     ByteSink, ByteSource, DeviceFault, Failure, LONGEST_LINE, LineReader, MemorySink, MemorySource,
     Next, Pace, ReaderSource, StandardInput, StandardOutput, WriterSink, write_all,
 };
+pub use handing::Handing;
 pub use programs::{Asked, Exit, asked_of, exit_of};
 pub use replies::{cut_of, reply_of, report_of};
+pub use saving::{given_out_is_taken, saved_told};
 pub use scripts::command_in;
 pub use serving::serve;
 pub use showing::state_told;

@@ -1,25 +1,29 @@
-ghost use Rattle.std.specs.Prelude.{◌≡◌, ℕ, List, None, IfOk, IfSome, IfNone};
+ghost use Rattle.std.specs.Prelude.{◌≡◌, ℕ, List, IfOk, IfSome, IfNone, IsSome};
 ghost use Rattle.log_text.specs.Commands.{HasLimits};
 ghost use Rattle.log_text.specs.Replies.{HasKindOfOrder};
 ghost use Rattle.order_check.specs.Effort.{IsEffort};
-ghost use Rattle.cobra.specs.Outputs.{Asks, IsTold, AnswersLineLegally, RepliesLegally};
-ghost use Rattle.cobra.specs.Scripts.{IsUnderWay, EndsLegally, RoundsLegally, AnswersOpenLegally, AnswersLegally};
+ghost use Rattle.cobra.specs.Outputs.{Asks, IsTold, AnswersNext, RepliesTo};
+ghost use Rattle.cobra.specs.Scripts.{EndsRound, IsRound, AnswersOpen, Opens, Resumes, AnswersFirst, BeginsAnew, AnswersResuming, AnswersHanding, HandsMarks, HandsWriters, HandsOffer, EndsHandOver, Answers};
+ghost use Rattle.cobra.specs.declared.stages.Stage.{Stage};
 
+use crate::handing::Handing;
 use crate::open_engine::OpenEngine;
 use crate::replies::reply_of;
+use crate::saving::saved_told;
 use crate::showing::state_told;
+use crate::stages::Stage;
 use byte_lines::Next;
 use log_text::{Command, Reply, read_line, write_reply};
 use polygraph::Solver;
-use round_state::{Step, StepReply};
+use round_state::{Step, StepReply, is_limit, is_sessions};
 use std::alloc::{AllocError, Global};
-use txn::{NoMemory, Refusal};
+use std::mem;
+use txn::{Fragment, NoMemory, Refusal, Sequence, TxnId};
 
 /// A script under way.
 #[derive(Drop)]
 pub(crate) struct Script {
-    /// There is one once a line has opened it.
-    engine: Option<OpenEngine>,
+    stage: Stage,
 }
 
 /// Finishes the open round, or abandons it where memory is wanting.
@@ -33,7 +37,7 @@ fn end_round<S: Solver>(
 ) -> StepReply
     requires ready { S.ready }
     requires effort { IsEffort budget depth workers }
-    ensures { EndsLegally engine.old budget depth workers result engine.new }
+    ensures { IsSome engine.old.asked → EndsRound engine.old budget depth workers result engine.new }
 {
     let finish = Step::Finish {
         budget,
@@ -59,7 +63,7 @@ fn make_round<S: Solver>(
 ) -> StepReply
     requires ready { S.ready }
     requires effort { IsEffort budget depth workers }
-    ensures { RoundsLegally engine.old budget depth workers result engine.new }
+    ensures { IsRound engine.old budget depth workers result engine.new }
 {
     match engine.step(alloc, Step::Begin, solver) {
         StepReply::Done => end_round(engine, alloc, budget, depth, workers, solver),
@@ -75,11 +79,15 @@ fn answer_open<S: Solver>(
 ) -> Result<Reply, NoMemory>
     requires ready { S.ready }
     requires limits { HasLimits command }
-    ensures { IfOk result (λ answer. AnswersOpenLegally engine.old command answer engine.new) }
+    ensures { IfOk result (λ answer. AnswersOpen engine.old command answer engine.new) }
 {
     match command {
         Command::Offer(fragment) => {
             let said = engine.step(alloc, Step::Offer(fragment), solver);
+            reply_of(alloc, said)
+        }
+        Command::Join(fragment) => {
+            let said = engine.step(alloc, Step::Join(fragment), solver);
             reply_of(alloc, said)
         }
         Command::Close(session) => {
@@ -120,7 +128,165 @@ fn answer_open<S: Solver>(
             reply_of(alloc, said)
         }
         Command::Show => state_told(alloc, engine.engine()),
-        Command::Start { .. } => Ok(Reply::No(Refusal::BadLine)),
+        Command::Save(wanted) => saved_told(alloc, engine.engine(), wanted),
+        Command::Start { .. }
+        | Command::Resume { .. }
+        | Command::Marks { .. }
+        | Command::Last(_)
+        | Command::Resumed => Ok(Reply::No(Refusal::BadLine)),
+    }
+}
+
+fn open(alloc: Global, sessions: u64, limit: u64) -> (Reply, Option<Stage>)
+    ensures { Opens sessions limit result.0 result.1 }
+{
+    match OpenEngine::open(alloc, sessions, limit) {
+        Ok(engine) => (Reply::Done, Some(Stage::Open(engine))),
+        Err(refusal) => (Reply::No(refusal), None),
+    }
+}
+
+fn begin_hand_over(sessions: u64, limit: u64) -> (Reply, Option<Stage>)
+    ensures { Resumes sessions limit result.0 result.1 }
+{
+    if !is_sessions(sessions) {
+        return (Reply::No(Refusal::BadSession), None);
+    }
+    if !is_limit(limit) {
+        return (Reply::No(Refusal::TooLong), None);
+    }
+    (Reply::Done, Some(Stage::Resuming { sessions, limit }))
+}
+
+/// The reply where no engine is open, and the stage that begins, where one does.
+fn answer_first(alloc: Global, command: Command) -> (Reply, Option<Stage>)
+    ensures { AnswersFirst command result.0 result.1 }
+{
+    match command {
+        Command::Start { sessions, limit } => open(alloc, sessions, limit),
+        Command::Resume { sessions, limit } => begin_hand_over(sessions, limit),
+        _ => (Reply::No(Refusal::BadLine), None),
+    }
+}
+
+/// The reply where nothing has begun, and the stage after it. This and the two below differ in the stage that stays where none begins,
+/// so that no stage which may have an engine is let go here.
+fn begin(alloc: Global, command: Command) -> (Reply, Stage)
+    ensures { BeginsAnew Stage.Nothing command result.0 result.1 }
+{
+    let (reply, begun) = answer_first(alloc, command);
+    match begun {
+        Some(stage) => (reply, stage),
+        None => (reply, Stage::Nothing),
+    }
+}
+
+fn leave_resuming(alloc: Global, sessions: u64, limit: u64, command: Command) -> (Reply, Stage)
+    ensures { BeginsAnew (Stage.Resuming sessions limit) command result.0 result.1 }
+{
+    let (reply, begun) = answer_first(alloc, command);
+    match begun {
+        Some(stage) => (reply, stage),
+        None => (reply, Stage::Resuming { sessions, limit }),
+    }
+}
+
+fn leave_handing(alloc: Global, handed: Handing, command: Command) -> (Reply, Stage)
+    ensures { BeginsAnew (Stage.Handing handed) command result.0 result.1 }
+{
+    let (reply, begun) = answer_first(alloc, command);
+    match begun {
+        Some(stage) => (reply, stage),
+        None => (reply, Stage::Handing(handed)),
+    }
+}
+
+fn hand_marks(
+    alloc: Global,
+    sessions: u64,
+    limit: u64,
+    marks: Sequence<u64>,
+    closed: Sequence<bool>,
+) -> (Reply, Stage)
+    ensures { HandsMarks sessions limit marks closed result.0 result.1 }
+{
+    match Handing::new(alloc, sessions, limit, marks, closed) {
+        Ok(handed) => (Reply::Done, Stage::Handing(handed)),
+        Err(refusal) => (Reply::No(refusal), Stage::Resuming { sessions, limit }),
+    }
+}
+
+fn answer_resuming(alloc: Global, sessions: u64, limit: u64, command: Command) -> (Reply, Stage)
+    ensures { AnswersResuming sessions limit command result.0 result.1 }
+{
+    match command {
+        Command::Marks { marks, closed } => hand_marks(alloc, sessions, limit, marks, closed),
+        _ => leave_resuming(alloc, sessions, limit, command),
+    }
+}
+
+fn hand_writers(handed: Handing, more: Sequence<(u64, TxnId)>) -> (Reply, Stage)
+    ensures { HandsWriters handed more result.0 result.1 }
+{
+    let mut handed = handed;
+    match handed.take_writers(more) {
+        Ok(()) => (Reply::Done, Stage::Handing(handed)),
+        Err(_) => (Reply::No(Refusal::NoMemory), Stage::Handing(handed)),
+    }
+}
+
+fn hand_offer(handed: Handing, fragment: Fragment) -> (Reply, Stage)
+    ensures { HandsOffer handed fragment result.0 result.1 }
+{
+    let mut handed = handed;
+    match handed.take_offer(fragment) {
+        Ok(()) => (Reply::Done, Stage::Handing(handed)),
+        Err(refusal) => (Reply::No(refusal), Stage::Handing(handed)),
+    }
+}
+
+fn end_hand_over(alloc: Global, handed: Handing) -> (Reply, Stage)
+    ensures { EndsHandOver handed result.0 result.1 }
+{
+    match handed.resume(alloc) {
+        Ok(engine) => (Reply::Done, Stage::Open(engine)),
+        Err((handed, refusal)) => (Reply::No(refusal), Stage::Handing(handed)),
+    }
+}
+
+fn answer_handing(alloc: Global, handed: Handing, command: Command) -> (Reply, Stage)
+    ensures { AnswersHanding handed command result.0 result.1 }
+{
+    match command {
+        Command::Last(more) => hand_writers(handed, more),
+        Command::Offer(fragment) => hand_offer(handed, fragment),
+        Command::Resumed => end_hand_over(alloc, handed),
+        _ => leave_handing(alloc, handed, command),
+    }
+}
+
+/// The reply to a command, and how far the script is then.
+fn answered<S: Solver>(
+    alloc: Global,
+    stage: Stage,
+    command: Command,
+    solver: &S,
+) -> Result<(Reply, Stage), NoMemory>
+    requires ready { S.ready }
+    requires limits { HasLimits command }
+    ensures { IfOk result (λ answered. Answers stage command answered.0 answered.1) }
+{
+    match stage {
+        Stage::Nothing => Ok(begin(alloc, command)),
+        Stage::Resuming { sessions, limit } => {
+            Ok(answer_resuming(alloc, sessions, limit, command))
+        }
+        Stage::Handing(handed) => Ok(answer_handing(alloc, handed, command)),
+        Stage::Open(engine) => {
+            let mut engine = engine;
+            let reply = answer_open(&mut engine, alloc, command, solver)?;
+            Ok((reply, Stage::Open(engine)))
+        }
     }
 }
 
@@ -145,21 +311,10 @@ pub fn command_in(alloc: Global, next: &Next) -> Result<Option<Command>, NoMemor
 
 impl Script {
     pub(crate) fn new() -> Script
-        ensures { result.engine ≡ None }
+        ensures { result.stage ≡ Stage.Nothing }
     {
-        Script { engine: None }
-    }
-
-    fn open(&mut self, alloc: Global, sessions: u64, limit: u64) -> Reply
-        requires { self.old.engine ≡ None }
-        ensures { AnswersLegally self.old.engine (Command.Start sessions limit) result self.new.engine }
-    {
-        match OpenEngine::open(alloc, sessions, limit) {
-            Ok(engine) => {
-                self.engine = Some(engine);
-                Reply::Done
-            }
-            Err(refusal) => Reply::No(refusal),
+        Script {
+            stage: Stage::Nothing,
         }
     }
 
@@ -171,15 +326,12 @@ impl Script {
     ) -> Result<Reply, NoMemory>
         requires ready { S.ready }
         requires limits { HasLimits command }
-        ensures { IfOk result (λ answer. AnswersLegally self.old.engine command answer self.new.engine) }
+        ensures { IfOk result (λ answer. Answers self.old.stage command answer self.new.stage) }
     {
-        if let Some(engine) = &mut self.engine {
-            return answer_open(engine, alloc, command, solver);
-        }
-        match command {
-            Command::Start { sessions, limit } => Ok(self.open(alloc, sessions, limit)),
-            _ => Ok(Reply::No(Refusal::BadLine)),
-        }
+        let stage = mem::replace(&mut self.stage, Stage::Nothing);
+        let (reply, stage) = answered(alloc, stage, command, solver)?;
+        self.stage = stage;
+        Ok(reply)
     }
 
     fn answer_next<S: Solver>(
@@ -189,9 +341,7 @@ impl Script {
         solver: &S,
     ) -> Result<Reply, NoMemory>
         requires ready { S.ready }
-        requires under_way { IsUnderWay self.old.engine }
-        ensures answers { IfOk result (λ answer. AnswersLineLegally self.old.engine next.now answer self.new.engine) }
-        ensures under_way { IfOk result (λ answer. IsUnderWay self.new.engine) }
+        ensures answers { IfOk result (λ answer. AnswersNext self.old.stage next.now answer self.new.stage) }
         ensures kind { IfOk result HasKindOfOrder }
     {
         match command_in(alloc, next)? {
@@ -208,9 +358,7 @@ impl Script {
         solver: &S,
     ) -> Result<Vec<u8>, NoMemory>
         requires ready { S.ready }
-        requires under_way { IsUnderWay self.old.engine }
-        ensures replies { IfOk result (λ text. RepliesLegally self.old.engine next.now text.items self.new.engine) }
-        ensures under_way { IfOk result (λ text. IsUnderWay self.new.engine) }
+        ensures { IfOk result (λ text. RepliesTo self.old.stage next.now text.items self.new.stage) }
     {
         let answer = self.answer_next(alloc, next, solver)?;
         write_reply(alloc, &answer)

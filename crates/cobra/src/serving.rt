@@ -1,7 +1,7 @@
-ghost use Rattle.std.specs.Prelude.{◌≡◌, ℕ, ◌+◌, ◌<◌, ◌⊎◌, List, [], length, take, Some, None, IfSome, OnOk, IsErrOf};
+ghost use Rattle.std.specs.Prelude.{◌≡◌, ℕ, ◌+◌, ◌<◌, ◌⊎◌, List, [], length, take, Some, IfSome, OnOk, IsErrOf};
 ghost use Rattle.std.specs.Io.KnownBytes.{Appends, Keeps};
-ghost use Rattle.cobra.specs.Outputs.{IsOutput, StopsForMemory, StopsReading, StopsWriting, RepliesLegally};
-ghost use Rattle.cobra.specs.Scripts.{IsUnderWay};
+ghost use Rattle.cobra.specs.Outputs.{IsOutput, StopsForMemory, StopsReading, StopsWriting, RepliesTo};
+ghost use Rattle.cobra.specs.declared.stages.Stage.{Stage};
 
 use crate::scripts::Script;
 use byte_lines::{ByteSink, ByteSource, Failure, LONGEST_LINE, LineReader, Next, write_all};
@@ -17,13 +17,11 @@ fn reply_to<W: ByteSink, S: Solver>(
     solver: &S,
 ) -> Result<(), Failure>
     requires ready { S.ready }
-    requires under_way { IsUnderWay script.old.engine }
-    ensures under_way { OnOk result (IsUnderWay script.new.engine) }
-    ensures written { OnOk result ((text : List ℕ) × RepliesLegally script.old.engine next.now text script.new.engine × Appends (W.contents sink.old) (W.contents sink.new) text) }
+    ensures written { OnOk result ((text : List ℕ) × RepliesTo script.old.stage next.now text script.new.stage × Appends (W.contents sink.old) (W.contents sink.new) text) }
     ensures ok { OnOk result (W.faults sink.new ≡ W.faults sink.old) }
 
     // A proper front of the reply is written.
-    ensures front { IsErrOf result Failure.Device → ((text : List ℕ) × (n : ℕ) × RepliesLegally script.old.engine next.now text script.new.engine × (n < length text) × Appends (W.contents sink.old) (W.contents sink.new) (take n text)) }
+    ensures front { IsErrOf result Failure.Device → ((text : List ℕ) × (n : ℕ) × RepliesTo script.old.stage next.now text script.new.stage × (n < length text) × Appends (W.contents sink.old) (W.contents sink.new) (take n text)) }
     ensures failed { IsErrOf result Failure.Device → W.faults sink.new ≡ W.faults sink.old + 1 }
 
     ensures unwritten { IsErrOf result Failure.NoMemory → Keeps (W.contents sink.old) (W.contents sink.new) }
@@ -34,7 +32,7 @@ fn reply_to<W: ByteSink, S: Solver>(
     Ok(())
 }
 
-/// Reads on with a reader that has taken nothing yet, for a script that isn't open yet, to the end of input, and writes the reply to each
+/// Reads on with a reader that has taken nothing yet, for a script that has not begun, to the end of input, and writes the reply to each
 /// line before it reads on. It owns neither, so that nothing is let go where it returns: that keeps its proof short.
 fn serve_lines<R: ByteSource, W: ByteSink, S: Solver>(
     alloc: Global,
@@ -48,7 +46,7 @@ fn serve_lines<R: ByteSource, W: ByteSink, S: Solver>(
     requires limit { reader.old.limit ≡ LONGEST_LINE }
     requires ahead { reader.old.ahead ≡ [] }
     requires under_way { reader.old.under_way ≡ Some [] }
-    requires unopened { script.old.engine ≡ None }
+    requires unbegun { script.old.stage ≡ Stage.Nothing }
 
     // All of the input is read, and an output of it is written.
     ensures at_end { OnOk result (IfSome (R.remaining source.old) (λ input. R.remaining source.new ≡ Some [])) }

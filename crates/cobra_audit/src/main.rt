@@ -37,7 +37,8 @@ The replies:
   ["report",1,"serial",[1],[[0,0]]]
 
 Other lines end a session (close), begin a round and finish it later (begin, finish), forget what is
-settled (truncate), have all made anew of what is kept (rebuild), and tell the state (show).
+settled (truncate), have all made anew of what is kept (rebuild), tell the state (show), give out what
+is kept (save), and begin with what another run gave out (resume).
 
 The exit status is 0 at the end of the script, whatever was reported; 1 where a device failed or
 memory was wanting, which standard error then tells; 2 for other arguments.

@@ -13,6 +13,7 @@ pub mod Saturation
 pub mod SoFar
 pub mod Stacks
 pub mod Tables
+pub mod SharedTables
 pub mod Touching
 pub mod Undecided
 pub mod WriterPlaces
@@ -23,3 +24,4 @@ pub mod FreshArcs
 pub mod KeptTables
 pub mod LeftByCut
 pub mod CountedChoices
+pub mod KeptLists

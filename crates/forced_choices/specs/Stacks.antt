@@ -1,5 +1,5 @@
 -- For private clauses: what a branch keeps at all times.
-use Rattle.std.specs.Prelude.{◌≡◌, ⊤, ℕ, Some, List, [], ◌∷◌}
+use Rattle.std.specs.Prelude.{◌≡◌, ℕ, Some, List, [], ◌∷◌}
 use Rattle.txn.specs.declared.choices.Choice.{Choice}
 use Rattle.txn.specs.declared.choices.Side.{Side}
 use Rattle.txn.specs.declared.choices.ForceStep.{ForceStep}
@@ -43,19 +43,19 @@ abbrev pub passed_onto : List ℕ → List Top → List ℕ
 passed_onto counts [] = counts
 passed_onto counts (top ∷ tops) = passed_onto (top.passed ∷ counts) tops
 
--- the last of these counts
-abbrev pub last_passed : List ℕ → ℕ
-last_passed [] = 0
-last_passed (count ∷ counts) = count
+-- the last of these counts; where there is none, that of the relation below
+abbrev pub last_passed : ℕ → List ℕ → ℕ
+last_passed front [] = front
+last_passed front (count ∷ counts) = count
 
 -- where the graph goes back to its last mark the first so many reads have no undecided choice, and likewise below
-abbrev pub HavePassed : Parts → Table → List ℕ → GraphState → Type 0
-HavePassed parts columns [] graph = ⊤
-HavePassed parts columns (count ∷ counts) graph = (before : GraphState) × (last_mark graph ≡ Some before) × ArePassed parts before.arcs columns count × HavePassed parts columns counts before
+abbrev pub HavePassed : Parts → Table → ℕ → List ℕ → GraphState → Type 0
+HavePassed parts columns front [] graph = ArePassed parts graph.arcs columns front
+HavePassed parts columns front (count ∷ counts) graph = (before : GraphState) × (last_mark graph ≡ Some before) × ArePassed parts before.arcs columns count × HavePassed parts columns front counts before
 
 -- what remains has its columns; the graph has the relation of each level, on top of those below; and so have the counts
-pub record IsBranch (parts : Parts) (log : List ForceStep) (columns : Table) (graph : GraphState) (tops : List Top) : Type 0 where
+pub record IsBranch (parts : Parts) (log : List ForceStep) (columns : Table) (front : ℕ) (graph : GraphState) (tops : List Top) : Type 0 where
   pub good : IsGood parts
   pub table : IsTable parts graph.nodes columns
   pub stacked : AreStacked parts log (levels_onto [] tops) graph
-  pub passed : HavePassed parts columns (passed_onto [] tops) graph
+  pub passed : HavePassed parts columns front (passed_onto [] tops) graph

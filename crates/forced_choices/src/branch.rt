@@ -20,7 +20,8 @@ use crate::open::first_open_from;
 use crate::rules::Rule;
 use crate::saturated::Saturated;
 use crate::saturation::{Due, saturate};
-use crate::table::{Table, table_of};
+use crate::sharing::SharedTable;
+use crate::table::Table;
 use crate::touched::{note, untouched};
 use known_graph::Graph;
 use order_check::Parts;
@@ -40,11 +41,11 @@ struct Top {
 
 /// The known relation where sides of choices are assumed, one after another. All are on one graph, which has a mark for each
 /// side, so that coming back takes no memory, and time of what the side changed.
-#[derive(Drop, Debug)]
+#[derive(Debug)]
 pub struct Branch {
     pub(crate) parts: Parts,
     log: Sequence<ForceStep>,
-    table: Table,
+    table: SharedTable,
     graph: Graph,
     tops: Vec<Top>,
 }
@@ -54,6 +55,7 @@ impl Model for Branch {
     ghost use Rattle.std.specs.Coded.{codes};
     ghost use Rattle.order_check.specs.Codes.{coded_last};
     ghost use Rattle.forced_choices.specs.BranchState.{BranchState};
+    ghost use Rattle.forced_choices.specs.SharedTables.{table_in};
     ghost use Rattle.forced_choices.specs.Stacks.{IsBranch, levels_onto};
 
     ghost Value = { BranchState };
@@ -62,7 +64,20 @@ impl Model for Branch {
 
     ghost view = { λ b. record { parts = b.parts; log = b.log; levels = levels_onto [] b.tops.items } };
 
-    ghost invariant = { λ b. IsBranch b.parts b.log b.table b.graph b.tops.items };
+    ghost invariant = { λ b. IsBranch b.parts b.log (table_in b.table) b.table.passed b.graph b.tops.items };
+}
+
+// Written out, so that whoever lets a branch go calls this: a derived one would be written into each of its proofs, field by field.
+impl Drop for Branch {
+    fn drop(self) {
+        let Branch {
+            parts: _,
+            log: _,
+            table: _,
+            graph: _,
+            tops: _,
+        } = self;
+    }
 }
 
 /// Puts one more side into the relation, and gives the steps that it forces.
@@ -122,13 +137,13 @@ fn take_side(
 }
 
 /// How many reads at the front are known to have no open choice: those that had none before the last side was assumed, which
-/// leaves no more open.
-fn passed_by(tops: &[Top]) -> usize
-    ensures { result ≡ last_passed (passed_onto [] tops.now) }
+/// leaves no more open; where none is assumed, so many as had none from the start.
+fn passed_by(front: usize, tops: &[Top]) -> usize
+    ensures { result ≡ last_passed front (passed_onto [] tops.now) }
 {
     match tops.last() {
         Some(top) => top.passed,
-        None => 0,
+        None => front,
     }
 }
 
@@ -152,8 +167,7 @@ impl Branch {
     pub fn of(alloc: Global, known: &Saturated) -> Result<Branch, NoMemory>
         ensures { IfOk result (λ branch. branch ≡ record { parts = known.now.parts; log = known.now.log; levels = [] }) }
     {
-        let (parts, graph, log) = known.copies()?;
-        let table = table_of(alloc, &parts, &graph)?;
+        let (parts, graph, log, table) = known.copies(alloc)?;
         Ok(Branch {
             parts,
             log,
@@ -186,7 +200,8 @@ impl Branch {
             (¬ HasCycle self.now.parts (assumed self.now.levels))
             (λ arcs. HasCycle self.now.parts (assumed self.now.levels) × IsCycle self.now.parts (all_taken self.now.log self.now.levels) arcs)) }
     {
-        let Some(id) = on_cycle(&self.graph, &self.table) else {
+        let table = self.table.get();
+        let Some(id) = on_cycle(&self.graph, table) else {
             return Ok(None);
         };
         let found = self.graph.path(alloc, id, id)?;
@@ -199,8 +214,9 @@ impl Branch {
             ((choice : Choice) → ¬ IsOpen self.now.parts (assumed self.now.levels) choice)
             (IsFirstOpen self.now.parts (assumed self.now.levels))) }
     {
-        let passed = passed_by(&self.tops);
-        let first = first_open_from(alloc, &self.parts, &self.table, &self.graph, passed)?;
+        let passed = passed_by(self.table.passed, &self.tops);
+        let table = self.table.get();
+        let first = first_open_from(alloc, &self.parts, table, &self.graph, passed)?;
         Ok(first.choice)
     }
 
@@ -212,14 +228,15 @@ impl Branch {
         ensures new { OnOk result (AreNew self.new.parts (taken_with self.old choice side) (last_steps self.new.log self.new.levels)) }
         ensures err { OnErr result (self.new ≡ self.old) }
     {
-        let passed = passed_by(&self.tops);
-        let first = first_open_from(alloc, &self.parts, &self.table, &self.graph, passed)?;
+        let passed = passed_by(self.table.passed, &self.tops);
+        let table = self.table.get();
+        let first = first_open_from(alloc, &self.parts, table, &self.graph, passed)?;
         self.graph.mark()?;
         let rule = Rule { choice, side };
         match take_side(
             alloc,
             &self.parts,
-            &self.table,
+            table,
             &mut self.graph,
             &mut self.tops,
             rule,

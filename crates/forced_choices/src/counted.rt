@@ -1,15 +1,18 @@
 // How many choices a graph leaves undecided, and the first of them: the others are counted, and not listed.
-ghost use Rattle.std.specs.Prelude.{◌≡◌, ◌+◌, ◌<◌, ◌++◌, ℕ, All, List, IfOk, OnOk, length};
+ghost use Rattle.std.specs.Prelude.{◌≡◌, ◌+◌, ◌<◌, ◌++◌, ℕ, All, List, IfOk, IfSome, OnOk, length};
 ghost use Rattle.txn.specs.declared.transactions.TxnId.{TxnId};
 ghost use Rattle.txn.specs.declared.transactions.Source.TheVariants.{By};
 ghost use Rattle.txn.specs.declared.choices.Choice.{Choice};
+ghost use Rattle.order_check.specs.declared.remainder.Parts.{Parts};
 ghost use Rattle.order_check.specs.Known.{ReadsKey, WritesKey};
 ghost use Rattle.known_graph.specs.Bits.{HasBit};
 ghost use Rattle.known_graph.specs.Reach.{Reaches};
 ghost use Rattle.known_graph.specs.Sizes.{HasSize};
+ghost use Rattle.forced_choices.specs.CountedChoices.{AreFirstOpen};
+ghost use Rattle.forced_choices.specs.KeptLists.{IsListed};
 ghost use Rattle.forced_choices.specs.Listing.{all_ids, choices_of};
 ghost use Rattle.forced_choices.specs.Masks.{AreTold, choices_in};
-ghost use Rattle.forced_choices.specs.Tables.{IsPlaced, IsTable};
+ghost use Rattle.forced_choices.specs.Tables.{ArePassed, IsPlaced, IsTable};
 ghost use Rattle.forced_choices.specs.Undecided.{AreCounted, AreFound, IsFrontOf};
 ghost use Rattle.forced_choices.specs.WriterPlaces.{those_at};
 
@@ -27,6 +30,37 @@ use txn::{Choice, NoMemory, Sequence, TxnId};
 pub struct OpenChoices {
     pub first: Sequence<Choice>,
     pub count: usize,
+}
+
+/// The open choices of a relation as they were listed for one who asked for so many of them.
+#[derive(Drop, Debug)]
+pub struct Listed {
+    pub most: usize,
+    pub choices: OpenChoices,
+}
+
+/// A whole copy.
+fn copy_of_open(choices: &OpenChoices) -> Result<OpenChoices, NoMemory>
+    ensures { IfOk result (λ copy. copy ≡ choices.now) }
+{
+    let first = choices.first.clone()?;
+    Ok(OpenChoices {
+        first,
+        count: choices.count,
+    })
+}
+
+/// The open choices, where they were listed for one who asked for so many.
+pub fn listed_for(listed: &Option<Listed>, most: usize) -> Result<Option<OpenChoices>, NoMemory>
+    ensures { IfOk result (λ found. (parts : Parts) → IfSome listed.now (IsListed parts) → IfSome found (AreFirstOpen parts most)) }
+{
+    match listed {
+        Some(listed) if listed.most == most => {
+            let copy = copy_of_open(&listed.choices)?;
+            Ok(Some(copy))
+        }
+        _ => Ok(None),
+    }
 }
 
 /// How many columns the row has, or no memory: no row is so long that they aren't counted.
@@ -113,22 +147,34 @@ fn count_open_of_read(
 }
 
 /// How many choices the graph leaves undecided, and the first of them, in order of reader, key, writer, other writer: so many and more,
-/// or all.
+/// or all. The first so many reads have none.
 pub fn count_open_in(
     alloc: Global,
     parts: &Parts,
     table: &Table,
     graph: &Graph,
     most: usize,
+    passed: usize,
 ) -> Result<(Vec<Choice>, usize), NoMemory>
     requires table { IsTable parts.now graph.now.nodes table.now }
+    requires passed { ArePassed parts.now graph.now.arcs table.now passed }
     requires after { (reader writer : TxnId) (key : ℕ) → ReadsKey parts.now reader key (By writer) → WritesKey parts.now writer key → Reaches graph.now.arcs writer reader }
     ensures { IfOk result (λ counted. AreCounted graph.now.arcs (choices_of parts.now (all_ids parts.now) (all_ids parts.now)) most counted.0.items counted.1) }
 {
     let mut first = Vec::new(alloc);
     let mut count = 0;
-    for placed in table.reads.as_slice() {
-        count = count_open_of_read(alloc, &mut first, count, most, parts, table, graph, *placed)?;
+    let reads = table.reads.as_slice();
+    for place in passed..reads.len() {
+        count = count_open_of_read(
+            alloc,
+            &mut first,
+            count,
+            most,
+            parts,
+            table,
+            graph,
+            reads[place],
+        )?;
     }
     Ok((first, count))
 }

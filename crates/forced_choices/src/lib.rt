@@ -21,6 +21,7 @@ mod reads;
 mod rules;
 mod saturated;
 mod saturation;
+mod sharing;
 mod since;
 mod sources;
 mod table;

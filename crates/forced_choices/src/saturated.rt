@@ -1,4 +1,4 @@
-ghost use Rattle.std.specs.Prelude.{◌≡◌, ◌↔◌, ◌<◌, [], length, Contains, IfOk, OnOk, OnErr, IsTrue, true};
+ghost use Rattle.std.specs.Prelude.{◌≡◌, ◌↔◌, ◌<◌, [], length, Contains, IfOk, IfSome, OnOk, OnErr, IsTrue, true};
 ghost use Rattle.std.specs.List.{AllPairs};
 ghost use Rattle.txn.specs.declared.transactions.TxnId.{TxnId};
 ghost use Rattle.txn.specs.Transactions.{id_below};
@@ -14,14 +14,16 @@ ghost use Rattle.order_check.specs.StandsFor.{parts_with, parts_closed};
 ghost use Rattle.forced_choices.specs.CountedChoices.{AreFirstOpen};
 ghost use Rattle.forced_choices.specs.SaturatedState.{AreNewBehind, LogsOnAfterCut, fragment_of};
 ghost use Rattle.forced_choices.specs.SoFar.{IsRelation};
+ghost use Rattle.forced_choices.specs.Tables.{ArePassed, IsTable};
+ghost use Rattle.forced_choices.specs.SharedTables.{IsTableIn, table_in};
 
 use crate::catching_up::catch_up;
-use crate::counted::{OpenChoices, count_open_in};
+use crate::counted::{Listed, OpenChoices, count_open_in, listed_for};
 use crate::cutting::{drop_gone, left_by_cut};
 use crate::kept::{KeptTable, kept_table_of};
 use crate::listing::remaining_ids_of;
 use crate::open::open_in;
-use crate::table::table_of;
+use crate::sharing::{SharedTable, kept_table, passed_in, shared_table};
 use crate::whole::saturation_of;
 use known_graph::Graph;
 use order_check::{Parts, cut_keeps_known, cut_leaves_the_rest, cut_moves_base};
@@ -31,13 +33,17 @@ use txn::{Choice, ForceStep, Fragment, NoMemory, Sequence, Txn, TxnId};
 
 /// The known relation of parts: what every order that explains them has to keep. Contracts see the parts, and the steps
 /// by which sides of choices were forced.
-#[derive(Drop, Debug)]
+#[derive(Debug)]
 pub struct Saturated {
     parts: Parts,
     graph: Graph,
     log: Sequence<ForceStep>,
     /// What additions look up; none where it isn't made yet.
     kept: Option<KeptTable>,
+    /// What listing and branches look up, in order of id; copies share it. None where it isn't made yet.
+    table: Option<SharedTable>,
+    /// The first open choices, and how many there are; none where they aren't listed yet.
+    listed: Option<Listed>,
 }
 
 impl Model for Saturated {
@@ -46,7 +52,9 @@ impl Model for Saturated {
     ghost use Rattle.forced_choices.specs.SaturatedState.{SaturatedState};
     ghost use Rattle.std.specs.Prelude.{IfSome};
     ghost use Rattle.forced_choices.specs.Kept.{IsKept};
+    ghost use Rattle.forced_choices.specs.KeptLists.{IsListed};
     ghost use Rattle.forced_choices.specs.KeptTables.{IsKeptTable};
+    ghost use Rattle.forced_choices.specs.SharedTables.{IsTableIn};
 
     ghost Value = { SaturatedState };
 
@@ -54,7 +62,7 @@ impl Model for Saturated {
 
     ghost view = { λ s. record { parts = s.parts; log = s.log } };
 
-    ghost invariant = { λ s. IsKept s.parts s.graph s.log × IfSome s.kept (IsKeptTable s.parts s.graph.nodes) };
+    ghost invariant = { λ s. IsKept s.parts s.graph s.log × IfSome s.kept (IsKeptTable s.parts s.graph.nodes) × IfSome s.table (IsTableIn s.parts s.graph) × IfSome s.listed (IsListed s.parts) };
 }
 
 /// A whole copy.
@@ -85,8 +93,14 @@ fn copy_of_log(log: &Sequence<ForceStep>) -> Result<Sequence<ForceStep>, NoMemor
     log.clone()
 }
 
-fn saturated_from(parts: Parts, graph: Graph, log: Sequence<ForceStep>) -> Saturated
-    requires { IsKept parts graph log }
+fn saturated_from(
+    parts: Parts,
+    graph: Graph,
+    log: Sequence<ForceStep>,
+    table: Option<SharedTable>,
+) -> Saturated
+    requires kept { IsKept parts graph log }
+    requires table { IfSome table (IsTableIn parts graph) }
     ensures parts { result.parts ≡ parts }
     ensures log { result.log ≡ log }
 {
@@ -95,6 +109,8 @@ fn saturated_from(parts: Parts, graph: Graph, log: Sequence<ForceStep>) -> Satur
         graph,
         log,
         kept: None,
+        table,
+        listed: None,
     }
 }
 
@@ -105,8 +121,9 @@ fn of_whole(alloc: Global, parts: Parts) -> Result<Saturated, NoMemory>
     ensures parts { IfOk result (λ saturated. saturated.parts ≡ parts) }
     ensures new { IfOk result (λ saturated. AreNew parts [] saturated.log) }
 {
-    let (graph, log) = saturation_of(alloc, &parts)?;
-    Ok(saturated_from(parts, graph, Sequence::new(log)))
+    let (graph, log, table) = saturation_of(alloc, &parts)?;
+    let log = Sequence::new(log);
+    Ok(saturated_from(parts, graph, log, Some(table)))
 }
 
 impl Saturated {
@@ -135,17 +152,44 @@ impl Saturated {
         &self.graph
     }
 
-    /// Whole copies of the parts, of the graph and of the log.
-    pub(crate) fn copies(&self) -> Result<(Parts, Graph, Sequence<ForceStep>), NoMemory>
+    /// Whole copies of the parts, of the graph and of the log, and the table of the parts.
+    pub(crate) fn copies(
+        &self,
+        alloc: Global,
+    ) -> Result<(Parts, Graph, Sequence<ForceStep>, SharedTable), NoMemory>
         ensures parts { IfOk result (λ copies. copies.0 ≡ self.now.parts) }
         ensures good { IfOk result (λ copies. IsGood copies.0) }
         ensures relation { IfOk result (λ copies. IsRelation self.now.parts [] [] copies.1 self.now.log) }
         ensures log { IfOk result (λ copies. copies.2 ≡ self.now.log) }
+        ensures table { IfOk result (λ copies. IsTable self.now.parts copies.1.nodes (table_in copies.3)) }
+        ensures passed { IfOk result (λ copies. ArePassed self.now.parts copies.1.arcs (table_in copies.3) copies.3.passed) }
     {
         let parts = copy_of_parts(&self.parts)?;
         let graph = copy_of_graph(&self.graph)?;
         let log = copy_of_log(&self.log)?;
-        Ok((parts, graph, log))
+        let table = shared_table(alloc, &self.table, &self.parts, &self.graph)?;
+        Ok((parts, graph, log, table))
+    }
+
+    /// Makes the table that listing and branches look up, where it isn't made yet, and looks for its first read with an open choice.
+    fn keep_table(&mut self, alloc: Global) -> Result<(), NoMemory>
+        ensures { self.new ≡ self.old }
+    {
+        let table = shared_table(alloc, &self.table, &self.parts, &self.graph)?;
+        let passed = passed_in(alloc, table, &self.parts, &self.graph)?;
+        self.table = Some(passed);
+        Ok(())
+    }
+
+    /// Lists the first so many of the open choices, so that who asks for as many gets them at once until a change, and branches of this
+    /// relation and of its copies needn't look up anew what all of them look up. Contracts see no difference.
+    pub fn keep_open(&mut self, alloc: Global, most: usize) -> Result<(), NoMemory>
+        ensures { self.new ≡ self.old }
+    {
+        self.keep_table(alloc)?;
+        let choices = self.first_open(alloc, most)?;
+        self.listed = Some(Listed { most, choices });
+        Ok(())
     }
 
     /// What remains, in order of id.
@@ -170,22 +214,44 @@ impl Saturated {
     pub fn open_choices(&self, alloc: Global) -> Result<Sequence<Choice>, NoMemory>
         ensures { IfOk result (AreOpenChoices self.now.parts []) }
     {
-        let table = table_of(alloc, &self.parts, &self.graph)?;
-        let found = open_in(alloc, &self.parts, &table, &self.graph)?;
+        let table = shared_table(alloc, &self.table, &self.parts, &self.graph)?;
+        let found = open_in(alloc, &self.parts, table.get(), &self.graph)?;
         Ok(Sequence::new(found))
+    }
+
+    /// Looks for the first so many of the open choices, and counts all.
+    fn list_open(&self, alloc: Global, most: usize) -> Result<OpenChoices, NoMemory>
+        ensures { IfOk result (AreFirstOpen self.now.parts most) }
+    {
+        let table = shared_table(alloc, &self.table, &self.parts, &self.graph)?;
+        let passed = table.passed;
+        let (mut first, count) = count_open_in(
+            alloc,
+            &self.parts,
+            table.get(),
+            &self.graph,
+            most,
+            passed,
+        )?;
+        first.truncate(most);
+        Ok(OpenChoices {
+            first: Sequence::new(first),
+            count,
+        })
     }
 
     /// The first so many of the open choices, and how many there are. It takes memory of those, and not of all.
     pub fn first_open(&self, alloc: Global, most: usize) -> Result<OpenChoices, NoMemory>
         ensures { IfOk result (AreFirstOpen self.now.parts most) }
     {
-        let table = table_of(alloc, &self.parts, &self.graph)?;
-        let (mut first, count) = count_open_in(alloc, &self.parts, &table, &self.graph, most)?;
-        first.truncate(most);
-        Ok(OpenChoices {
-            first: Sequence::new(first),
-            count,
-        })
+        let listed = listed_for(&self.listed, most)?;
+        match listed {
+            Some(choices) => Ok(choices),
+            None => {
+                let choices = self.list_open(alloc, most)?;
+                Ok(choices)
+            }
+        }
     }
 
     /// The sides that were forced, one after another, each with the cycle that the other side would close.
@@ -231,6 +297,8 @@ impl Saturated {
         let txns = copy_of_txns(&fragment.txns)?;
         let place = usize::from(fragment.session);
         let before = self.parts.remaining_of(fragment.session).len();
+        self.table = None;
+        self.listed = None;
         self.parts.remain.append_at(place, txns)?;
         match catch_up(
             alloc,
@@ -272,6 +340,8 @@ impl Saturated {
         self.log = Sequence::new(left.log);
         self.parts = copy;
         self.kept = None;
+        self.table = None;
+        self.listed = None;
         Ok(())
     }
 
@@ -295,6 +365,8 @@ impl Saturated {
     {
         self.parts.closed.set(usize::from(session), true);
         self.kept = None;
+        self.table = None;
+        self.listed = None;
     }
 
     /// The parts, without what is known of them.
@@ -306,8 +378,24 @@ impl Saturated {
             graph: _,
             log: _,
             kept: _,
+            table: _,
+            listed: _,
         } = self;
         parts
+    }
+}
+
+// Written out, so that whoever lets a relation go calls this: a derived one would be written into each of its proofs, field by field.
+impl Drop for Saturated {
+    fn drop(self) {
+        let Saturated {
+            parts: _,
+            graph: _,
+            log: _,
+            kept: _,
+            table: _,
+            listed: _,
+        } = self;
     }
 }
 
@@ -320,6 +408,7 @@ impl Clone for Saturated {
         let parts = copy_of_parts(&self.parts)?;
         let graph = copy_of_graph(&self.graph)?;
         let log = copy_of_log(&self.log)?;
-        Ok(saturated_from(parts, graph, log))
+        let table = kept_table(&self.table)?;
+        Ok(saturated_from(parts, graph, log, table))
     }
 }

@@ -5,10 +5,12 @@ ghost use Rattle.known_graph.specs.Graphs.{HasNode};
 ghost use Rattle.order_check.specs.Good.{IsGood};
 ghost use Rattle.forced_choices.specs.Listing.{all_ids, plain_arcs};
 ghost use Rattle.forced_choices.specs.Saturation.{IsSaturationOf};
+ghost use Rattle.forced_choices.specs.SharedTables.{IsTableIn};
 
 use crate::building::{add_arcs, graph_of_nodes};
 use crate::listing::{arcs_among, remaining_ids_of};
 use crate::saturation::{Due, saturate};
+use crate::sharing::SharedTable;
 use crate::table::table_of;
 use crate::touched::untouched;
 use known_graph::Graph;
@@ -30,10 +32,14 @@ fn plain_graph(alloc: Global, parts: &Parts, ids: &[TxnId]) -> Result<Graph, NoM
     Ok(graph)
 }
 
-/// The graph of the known relation, and the steps that were forced.
-pub fn saturation_of(alloc: Global, parts: &Parts) -> Result<(Graph, Vec<ForceStep>), NoMemory>
+/// The graph of the known relation, the steps that were forced, and the table that was made for it.
+pub fn saturation_of(
+    alloc: Global,
+    parts: &Parts,
+) -> Result<(Graph, Vec<ForceStep>, SharedTable), NoMemory>
     requires { IsGood parts.now }
-    ensures { IfOk result (λ made. IsSaturationOf parts.now made.0 made.1.items) }
+    ensures made { IfOk result (λ made. IsSaturationOf parts.now made.0 made.1.items) }
+    ensures table { IfOk result (λ made. IsTableIn parts.now made.0 made.2) }
 {
     let ids = remaining_ids_of(alloc, parts)?;
     let mut graph = plain_graph(alloc, parts, ids.as_slice())?;
@@ -44,5 +50,6 @@ pub fn saturation_of(alloc: Global, parts: &Parts) -> Result<(Graph, Vec<ForceSt
         since: untouched(alloc),
     };
     saturate(alloc, parts, &table, &mut graph, &mut log, all)?;
-    Ok((graph, log))
+    let shared = SharedTable::new(alloc, table)?;
+    Ok((graph, log, shared))
 }

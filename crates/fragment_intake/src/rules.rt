@@ -3,10 +3,11 @@ use crossbeam_queue::protocol::{Join, Lesson, Outcome, Protocol, Split};
 use std::collections::LinkedList;
 use txn::Fragment;
 
-/// What a collector hands in: a fragment, that a session is closed, or that nothing more comes.
+/// What a collector hands in: a fragment, one that a session joins or comes back with, that a session is closed, or that nothing more comes.
 #[derive(Drop, Debug)]
 pub enum Item {
     Fragment(Fragment),
+    Join(Fragment),
     Close(u8),
     End,
 }

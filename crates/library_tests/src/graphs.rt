@@ -5,11 +5,11 @@ ghost use Rattle.txn.specs.declared.choices.Arc.TheVariants.{Taken};
 ghost use Rattle.txn.specs.Arcs.{end_of};
 ghost use Rattle.known_graph.specs.Graphs.{HasNode};
 
-use crate::closure::Relation;
 use known_graph::{Addition, Graph};
 use std::alloc::Global;
 use std::process::Abort;
 use std::test::Fail;
+use test_histories::Relation;
 use txn::{Arc, NoMemory, TxnId};
 
 const SMALL: usize = 12;

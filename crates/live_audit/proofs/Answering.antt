@@ -6,13 +6,11 @@ use Rattle.std.specs.Option.{option_to_list}
 use Rattle.txn.specs.declared.refusals.Refusal.{Refusal}
 use Rattle.txn.specs.declared.refusals.Refusal.TheVariants as refusals
 use Rattle.order_check.specs.declared.remainder.Parts.{Parts}
-use Rattle.settle.specs.declared.cuts.Cut as cuts
 use Rattle.report_queue.specs.declared.entries.Entry.{Entry}
 use Rattle.report_queue.specs.declared.entries.Entry.TheVariants.{Report, Cut, Skipped}
 use Rattle.round_state.specs.EngineState.{EngineState}
-use Rattle.round_state.specs.Legal.{State, TellsOf}
-use Rattle.round_state.specs.Runs.{Holds, StepsLegally}
-use Rattle.round_state.specs.Steps.{IsSolvedRefusal, IsRightReport, StepsTo}
+use Rattle.round_state.specs.Runs.{StepsLegally}
+use Rattle.round_state.specs.Steps.{IsSolvedRefusal, IsRightReport}
 use Rattle.round_state.specs.declared.reports.Report as reports
 use Rattle.round_state.specs.declared.steps.Step.TheVariants as step
 use Rattle.round_state.specs.declared.steps.StepReply.TheVariants as reply

@@ -1,10 +1,9 @@
 -- What a whole run of the auditor comes to.
-use Rattle.std.proofs.Common.{◌≡◌, ℕ, List, [], ◌∷◌, ◌++◌, length, refl, sym, ◌∙◌, ap, subst, append-nil, append_assoc}
-use Rattle.std.specs.Prelude.{Result, Ok, Err, All, MatchResult, map, Bool}
+use Rattle.std.proofs.Common.{◌≡◌, ℕ, List, [], ◌∷◌, ◌++◌, length, sym, ◌∙◌, ap, subst, append-nil, append_assoc}
+use Rattle.std.specs.Prelude.{Result, Ok, Err, All, MatchResult, map}
 use Rattle.std.proofs.lemmas.List.Elements.{All-append, All-cons, All-nil}
 use Rattle.txn.specs.History.{History}
 use Rattle.txn.specs.declared.refusals.Refusal.{Refusal}
-use Rattle.order_check.specs.StandsFor.{history_then}
 use Rattle.fragment_intake.specs.declared.rules.Parcel.{Parcel}
 use Rattle.report_queue.specs.declared.entries.Entry.{Entry}
 use Rattle.report_queue.specs.declared.entries.Entry.TheVariants.{Report, Skipped, End}
@@ -13,7 +12,7 @@ use Rattle.round_state.specs.Opening.{no_history, fresh_state}
 use Rattle.round_state.specs.Runs.{Holds}
 use Rattle.live_audit.specs.CoreState.{Search, CoreState}
 use Rattle.live_audit.specs.Live.{Live, Moves}
-use Rattle.live_audit.specs.Truth.{outcomes, fragments_of, accepted_history, IsTrueEntry}
+use Rattle.live_audit.specs.Truth.{outcomes, history_with_all, accepted_history, IsTrueEntry}
 use Rattle.live_audit.specs.Running.{HasMoved, IsRound, IsLastCount, IsLastSkipped, reports_in}
 use Rattle.live_audit.proofs.Fronts.{front_of_itself}
 use Rattle.live_audit.proofs.Joining.{moves_join}
@@ -44,8 +43,8 @@ live_of sessions limit search first last taken front sent same holds moved end =
 outcomes_end : (front : List Entry) → outcomes (front ++ End ∷ []) ≡ outcomes front
 outcomes_end front = outcomes_more front (End ∷ []) ∙ append-nil (outcomes front)
 
-history_end : (sessions : ℕ) (taken : List Parcel) (front sent : List Entry) → sent ≡ front ++ End ∷ [] → history_then (no_history sessions) (fragments_of taken (outcomes front)) ≡ accepted_history sessions taken sent
-history_end sessions taken front sent end = ap (λ (told : List Bool). history_then (no_history sessions) (fragments_of taken told)) (sym (ap outcomes end ∙ outcomes_end front))
+history_end : (sessions : ℕ) (taken : List Parcel) (front sent : List Entry) → sent ≡ front ++ End ∷ [] → history_with_all (no_history sessions) taken (outcomes front) ≡ accepted_history sessions taken sent
+history_end sessions taken front sent end = ap (history_with_all (no_history sessions) taken) (sym (ap outcomes end ∙ outcomes_end front))
 
 pub true_of : (sessions limit : ℕ) (search : Search) (taken : List Parcel) (sent : List Entry) → Live sessions limit search taken sent → All (IsTrueEntry (accepted_history sessions taken sent)) sent
 true_of sessions limit search taken sent live =

@@ -1,11 +1,10 @@
 -- Moves one after another.
-use Rattle.std.proofs.Common.{◌≡◌, List, [], ◌∷◌, ◌++◌, sym, subst, append_assoc, append-nil}
+use Rattle.std.proofs.Common.{List, [], ◌∷◌, ◌++◌, sym, subst, append_assoc, append-nil}
 use Rattle.fragment_intake.specs.declared.rules.Parcel.{Parcel}
 use Rattle.report_queue.specs.declared.entries.Entry.{Entry}
 use Rattle.report_queue.specs.declared.entries.Entry.TheVariants.{Report, Cut, Skipped}
 use Rattle.round_state.specs.EngineState.{EngineState}
 use Rattle.round_state.specs.Legal.{State}
-use Rattle.round_state.specs.Runs.{Holds}
 use Rattle.live_audit.specs.CoreState.{Search}
 use Rattle.live_audit.specs.Live.{Moves, MovesOn, accepted, refused, start, ended, done, turned_down, begun, not_begun, cut, reported, abandoned}
 

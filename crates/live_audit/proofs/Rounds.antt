@@ -1,6 +1,6 @@
 -- What a round comes to.
-use Rattle.std.proofs.Common.{◌≡◌, ℕ, ◌+◌, ◌<◌, ◌≤◌, ◌^◌, ◌⊎◌, List, [], ◌∷◌, ◌++◌, Option, Some, None, refl, sym, ◌∙◌, ap, subst, inl, inr, length, append-nil, append_assoc, arith}
-use Rattle.std.specs.Prelude.{Result, Ok, Err, All, IsSome, IsSomeAnd, map}
+use Rattle.std.proofs.Common.{◌≡◌, ℕ, ◌+◌, ◌≤◌, ◌⊎◌, List, [], ◌∷◌, ◌++◌, Option, Some, None, refl, sym, ◌∙◌, ap, subst, inl, inr, length, append-nil, append_assoc, arith}
+use Rattle.std.specs.Prelude.{Result, All, IsSomeAnd, map}
 use Rattle.std.specs.Option.{option_to_list}
 use Rattle.std.proofs.lemmas.List.Elements.{All-append, All-weaker, All-nil, All-cons}
 use Rattle.txn.specs.declared.refusals.Refusal.{Refusal}
@@ -136,13 +136,6 @@ between_after old new outcome more sent sent_now published published_now told fo
         rounds = subst (λ (l : List (ℕ × Kind)). All (λ (t : ℕ × Kind). t.0 ≤ new.engine.rounds) l) (sym published_is) (rounds_after old new outcome published told has.rounds);
       };
     }
-
--- an engine with as many rounds, over the same that was sent
-pub has_published : (old new : CoreState) (sent sent_now : List Entry) (published published_now : List (ℕ × Kind)) → new.engine.rounds ≡ old.engine.rounds → sent_now ≡ sent → published_now ≡ published → HasPublished old sent published → HasPublished new sent_now published_now
-has_published old new sent sent_now published published_now rounds sent_is published_is has = record {
-  published_are = published_is ∙ has.published_are ∙ ap reports_in (sym sent_is);
-  rounds = subst (λ (l : List (ℕ × Kind)). All (λ (t : ℕ × Kind). t.0 ≤ new.engine.rounds) l) (sym published_is) (subst (λ (n : ℕ). All (λ (t : ℕ × Kind). t.0 ≤ n) published) (sym rounds) has.rounds);
-}
 
 pub round_is : (old new : CoreState) (outcome : Entry) (more : Option Entry) (sent sent_now : List Entry) (said : Result (Unit {0}) Refusal) → IsRoundTold old outcome more new → IsFollowUp outcome more → IsSaid outcome said → sent_now ≡ sent ++ (outcome ∷ option_to_list more) → IsRound old sent said new sent_now
 round_is old new (Report report) more sent sent_now said told follows is sent_is =

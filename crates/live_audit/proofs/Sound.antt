@@ -1,26 +1,21 @@
 -- What was sent is true of what was accepted.
-use Rattle.std.proofs.Common.{◌≡◌, ℕ, ◌+◌, List, [], ◌∷◌, ◌++◌, length, refl, sym, ◌∙◌, ap, subst, append_assoc, append-nil, length-append, arith}
+use Rattle.std.proofs.Common.{◌≡◌, List, [], ◌∷◌, ◌++◌, length, refl, sym, ◌∙◌, ap, subst, append-nil, length-append, arith}
 use Rattle.std.specs.Prelude.{All, Bool, true, false}
 use Rattle.std.proofs.lemmas.List.Elements.{All-append, All-cons, All-nil}
-use Rattle.txn.specs.declared.transactions.Fragment.{Fragment}
+use Rattle.txn.specs.declared.refusals.Refusal.{Refusal}
 use Rattle.txn.specs.History.{History}
-use Rattle.order_check.specs.StandsFor.{with_fragment, history_then}
 use Rattle.fragment_intake.specs.declared.rules.Item.{Item}
 use Rattle.fragment_intake.specs.declared.rules.Item.TheVariants as item
 use Rattle.fragment_intake.specs.declared.rules.Parcel.{Parcel}
-use Rattle.settle.specs.declared.cuts.Cut as cuts
 use Rattle.report_queue.specs.declared.entries.Entry.{Entry}
 use Rattle.report_queue.specs.declared.entries.Entry.TheVariants.{Accepted, Refused, Report, Cut, Skipped, End}
-use Rattle.round_state.specs.Legal.{State, Legal, TellsOf}
-use Rattle.round_state.specs.declared.reports.Report as reports
+use Rattle.round_state.specs.Legal.{State, Legal}
 use Rattle.round_state.specs.declared.steps.Step.{Step}
-use Rattle.round_state.specs.declared.steps.Step.TheVariants as step
-use Rattle.round_state.specs.declared.steps.StepReply.{StepReply}
 use Rattle.round_state.specs.declared.steps.StepReply.TheVariants as reply
 use Rattle.live_audit.specs.CoreState.{Search}
 use Rattle.live_audit.specs.Live.{Asks, Moves, accepted, refused, start, ended, done, turned_down, begun, not_begun, cut, reported, abandoned}
-use Rattle.live_audit.specs.Truth.{outcomes, fragment_in, fragments_of, IsTrueEntry}
-use Rattle.live_audit.proofs.Fronts.{IsFrontOf, front_of_itself, front_with, true_with, told_true, history_then_more}
+use Rattle.live_audit.specs.Truth.{outcomes, history_with, history_with_all, IsTrueEntry}
+use Rattle.live_audit.proofs.Fronts.{IsFrontOf, front_of_itself, front_with, true_with, told_true}
 
 one_entry : (history : History) (entry : Entry) → IsTrueEntry history entry → All (IsTrueEntry history) (entry ∷ [])
 one_entry history entry told = All-cons (IsTrueEntry history) entry [] told (All-nil (IsTrueEntry history))
@@ -34,27 +29,26 @@ outcomes_more (Cut gone ∷ sent) more = outcomes_more sent more
 outcomes_more (Skipped refusal ∷ sent) more = outcomes_more sent more
 outcomes_more (End ∷ sent) more = outcomes_more sent more
 
-accepted_more : (taken : List Parcel) (told : List Bool) (parcel : Parcel) → length taken ≡ length told → fragments_of (taken ++ parcel ∷ []) (told ++ true ∷ []) ≡ fragments_of taken told ++ fragment_in parcel.item
-accepted_more [] [] parcel same = append-nil (fragment_in parcel.item)
-accepted_more (one ∷ taken) (true ∷ told) parcel same =
-    ap (λ (l : List Fragment). fragment_in one.item ++ l) (accepted_more taken told parcel (omega arith)) ∙ sym (append_assoc (fragment_in one.item) (fragments_of taken told) (fragment_in parcel.item))
-accepted_more (one ∷ taken) (false ∷ told) parcel same = accepted_more taken told parcel (omega arith)
-accepted_more [] (one ∷ told) parcel same = absurd (omega arith)
-accepted_more (one ∷ taken) [] parcel same = absurd (omega arith)
+accepted_more : (history : History) (taken : List Parcel) (told : List Bool) (parcel : Parcel) → length taken ≡ length told → history_with_all history (taken ++ parcel ∷ []) (told ++ true ∷ []) ≡ history_with (history_with_all history taken told) parcel.item
+accepted_more history [] [] parcel same = refl
+accepted_more history (one ∷ taken) (true ∷ told) parcel same = accepted_more (history_with history one.item) taken told parcel (omega arith)
+accepted_more history (one ∷ taken) (false ∷ told) parcel same = accepted_more history taken told parcel (omega arith)
+accepted_more history [] (one ∷ told) parcel same = absurd (omega arith)
+accepted_more history (one ∷ taken) [] parcel same = absurd (omega arith)
 
-refused_more : (taken : List Parcel) (told : List Bool) (parcel : Parcel) → length taken ≡ length told → fragments_of (taken ++ parcel ∷ []) (told ++ false ∷ []) ≡ fragments_of taken told
-refused_more [] [] parcel same = refl
-refused_more (one ∷ taken) (true ∷ told) parcel same = ap (λ (l : List Fragment). fragment_in one.item ++ l) (refused_more taken told parcel (omega arith))
-refused_more (one ∷ taken) (false ∷ told) parcel same = refused_more taken told parcel (omega arith)
-refused_more [] (one ∷ told) parcel same = absurd (omega arith)
-refused_more (one ∷ taken) [] parcel same = absurd (omega arith)
+refused_more : (history : History) (taken : List Parcel) (told : List Bool) (parcel : Parcel) → length taken ≡ length told → history_with_all history (taken ++ parcel ∷ []) (told ++ false ∷ []) ≡ history_with_all history taken told
+refused_more history [] [] parcel same = refl
+refused_more history (one ∷ taken) (true ∷ told) parcel same = refused_more (history_with history one.item) taken told parcel (omega arith)
+refused_more history (one ∷ taken) (false ∷ told) parcel same = refused_more history taken told parcel (omega arith)
+refused_more history [] (one ∷ told) parcel same = absurd (omega arith)
+refused_more history (one ∷ taken) [] parcel same = absurd (omega arith)
 
 -- what the moves keep
 pub record IsSound (first : History) (taken : List Parcel) (sent : List Entry) (at : State) : Type 0 where
   pub front : IsFrontOf at.asked at.whole
   pub reports : All (IsTrueEntry at.whole) sent
   pub each_told : length taken ≡ length (outcomes sent)
-  pub whole : at.whole ≡ history_then first (fragments_of taken (outcomes sent))
+  pub whole : at.whole ≡ history_with_all first taken (outcomes sent)
 
 -- nothing is taken and nothing told of a parcel, and the whole history stays
 sound_beside : (first : History) (taken : List Parcel) (sent more : List Entry) (at new : State) → IsSound first taken sent at → outcomes more ≡ [] → new.whole ≡ at.whole → IsFrontOf new.asked new.whole → All (IsTrueEntry new.whole) more → IsSound first taken (sent ++ more) new
@@ -64,7 +58,7 @@ sound_beside first taken sent more at new sound quiet same front told =
       front = front;
       reports = All-append (IsTrueEntry new.whole) sent more (subst (λ (history : History). All (IsTrueEntry history) sent) (sym same) sound.reports) told;
       each_told = sound.each_told ∙ ap length (sym outs);
-      whole = same ∙ sound.whole ∙ ap (λ (l : List Bool). history_then first (fragments_of taken l)) (sym outs);
+      whole = same ∙ sound.whole ∙ ap (history_with_all first taken) (sym outs);
     }
 
 -- as many are told of when one more is taken
@@ -73,14 +67,16 @@ told_one taken sent parcel entry outcome is same =
     let more = ap (length {A = Bool}) (outcomes_more sent (entry ∷ []) ∙ ap (λ (l : List Bool). outcomes sent ++ l) is) in
     omega (arith, length-append taken (parcel ∷ []), length-append (outcomes sent) (outcome ∷ []), more, same)
 
--- a parcel that changes nothing is accepted
-sound_accepted : (first : History) (taken : List Parcel) (sent : List Entry) (parcel : Parcel) (at new : State) → IsSound first taken sent at → fragment_in parcel.item ≡ [] → new.whole ≡ at.whole → new.asked ≡ at.asked → IsSound first (taken ++ parcel ∷ []) (sent ++ accepted parcel ∷ []) new
-sound_accepted first taken sent parcel at new sound none same asked_same =
+-- a parcel is accepted
+sound_accepted : (first : History) (taken : List Parcel) (sent : List Entry) (parcel : Parcel) (at new : State) → IsSound first taken sent at → new.whole ≡ history_with at.whole parcel.item → new.asked ≡ at.asked → IsSound first (taken ++ parcel ∷ []) (sent ++ accepted parcel ∷ []) new
+sound_accepted first taken sent parcel at new sound grown asked_same =
     record {
-      front = subst (λ (front : History). IsFrontOf front new.whole) (sym asked_same) (subst (λ (whole : History). IsFrontOf at.asked whole) (sym same) sound.front);
-      reports = All-append (IsTrueEntry new.whole) sent (accepted parcel ∷ []) (subst (λ (history : History). All (IsTrueEntry history) sent) (sym same) sound.reports) (one_entry new.whole _ tt);
+      front = subst (λ (front : History). IsFrontOf front new.whole) (sym asked_same) (subst (λ (whole : History). IsFrontOf at.asked whole) (sym grown) (front_with at.asked at.whole parcel.item sound.front));
+      reports = All-append (IsTrueEntry new.whole) sent (accepted parcel ∷ []) (subst (λ (history : History). All (IsTrueEntry history) sent) (sym grown) (true_with at.whole parcel.item sent sound.reports)) (one_entry new.whole _ tt);
       each_told = told_one taken sent parcel (accepted parcel) true refl sound.each_told;
-      whole = same ∙ sound.whole ∙ ap (history_then first) (sym (ap (fragments_of (taken ++ parcel ∷ [])) (outcomes_more sent (accepted parcel ∷ [])) ∙ accepted_more taken (outcomes sent) parcel sound.each_told ∙ ap (λ (l : List Fragment). fragments_of taken (outcomes sent) ++ l) none ∙ append-nil (fragments_of taken (outcomes sent))));
+      whole =
+          grown ∙ ap (λ (history : History). history_with history parcel.item) sound.whole ∙ sym (accepted_more first taken (outcomes sent) parcel sound.each_told)
+          ∙ ap (history_with_all first (taken ++ parcel ∷ [])) (sym (outcomes_more sent (accepted parcel ∷ [])));
     }
 
 -- a parcel is refused
@@ -90,39 +86,23 @@ sound_refused first taken sent parcel entry at new sound is told same asked_same
       front = subst (λ (front : History). IsFrontOf front new.whole) (sym asked_same) (subst (λ (whole : History). IsFrontOf at.asked whole) (sym same) sound.front);
       reports = All-append (IsTrueEntry new.whole) sent (entry ∷ []) (subst (λ (history : History). All (IsTrueEntry history) sent) (sym same) sound.reports) (one_entry new.whole entry told);
       each_told = told_one taken sent parcel entry false is sound.each_told;
-      whole = same ∙ sound.whole ∙ ap (history_then first) (sym (ap (fragments_of (taken ++ parcel ∷ [])) (outcomes_more sent (entry ∷ []) ∙ ap (λ (l : List Bool). outcomes sent ++ l) is) ∙ refused_more taken (outcomes sent) parcel sound.each_told));
-    }
-
--- a fragment is accepted
-sound_offered : (first : History) (taken : List Parcel) (sent : List Entry) (parcel : Parcel) (fragment : Fragment) (at new : State) → IsSound first taken sent at → fragment_in parcel.item ≡ fragment ∷ [] → new.whole ≡ with_fragment at.whole fragment → new.asked ≡ at.asked → IsSound first (taken ++ parcel ∷ []) (sent ++ accepted parcel ∷ []) new
-sound_offered first taken sent parcel fragment at new sound is grown asked_same =
-    record {
-      front = subst (λ (front : History). IsFrontOf front new.whole) (sym asked_same) (subst (λ (whole : History). IsFrontOf at.asked whole) (sym grown) (front_with at.asked at.whole fragment sound.front));
-      reports = All-append (IsTrueEntry new.whole) sent (accepted parcel ∷ []) (subst (λ (history : History). All (IsTrueEntry history) sent) (sym grown) (true_with at.whole fragment sent sound.reports)) (one_entry new.whole _ tt);
-      each_told = told_one taken sent parcel (accepted parcel) true refl sound.each_told;
       whole =
-          grown ∙ ap (λ (history : History). with_fragment history fragment) sound.whole ∙ sym (history_then_more first (fragments_of taken (outcomes sent)) fragment)
-          ∙ ap (history_then first) (sym (ap (fragments_of (taken ++ parcel ∷ [])) (outcomes_more sent (accepted parcel ∷ [])) ∙ accepted_more taken (outcomes sent) parcel sound.each_told ∙ ap (λ (l : List Fragment). fragments_of taken (outcomes sent) ++ l) is));
+          same ∙ sound.whole ∙ sym (refused_more first taken (outcomes sent) parcel sound.each_told)
+          ∙ ap (history_with_all first (taken ++ parcel ∷ [])) (sym (outcomes_more sent (entry ∷ []) ∙ ap (λ (l : List Bool). outcomes sent ++ l) is));
     }
 
 -- what the step of an item does
-sound_done : (first : History) (taken : List Parcel) (sent : List Entry) (parcel : Parcel) (its : Item) (asked : Step) (at new : State) → parcel.item ≡ its → Asks its asked → IsSound first taken sent at → Legal at asked reply.Done new → IsSound first (taken ++ parcel ∷ []) (sent ++ accepted parcel ∷ []) new
-sound_done first taken sent parcel item.End asked at new is asks sound legal = absurd asks
-sound_done first taken sent parcel (item.Fragment fragment) asked at new is asks sound legal =
-    let step_is = subst (λ (s : Step). Legal at s reply.Done new) asks legal in
-    sound_offered first taken sent parcel fragment at new sound (ap fragment_in is) step_is.whole step_is.asked
-sound_done first taken sent parcel (item.Close session) asked at new is asks sound legal =
-    let step_is = subst (λ (s : Step). Legal at s reply.Done new) asks legal in
-    sound_accepted first taken sent parcel at new sound (ap fragment_in is) step_is.whole step_is.asked
+grown_by : (its : Item) (asked : Step) (at new : State) → Asks its asked → Legal at asked reply.Done new → (new.whole ≡ history_with at.whole its) × (new.asked ≡ at.asked)
+grown_by item.End asked at new asks legal = absurd asks
+grown_by (item.Fragment fragment) asked at new asks legal = let offers = subst (λ (s : Step). Legal at s reply.Done new) asks legal in (offers.whole, offers.asked)
+grown_by (item.Join fragment) asked at new asks legal = let joins = subst (λ (s : Step). Legal at s reply.Done new) asks legal in (joins.whole, joins.asked)
+grown_by (item.Close session) asked at new asks legal = let closes = subst (λ (s : Step). Legal at s reply.Done new) asks legal in (closes.whole, closes.asked)
 
-sound_turned_down : (first : History) (taken : List Parcel) (sent : List Entry) (parcel : Parcel) (its : Item) (asked : Step) (refusal : Rattle.txn.specs.declared.refusals.Refusal.Refusal) (at new : State) → Asks its asked → IsSound first taken sent at → Legal at asked (reply.Refused refusal) new → IsSound first (taken ++ parcel ∷ []) (sent ++ refused parcel refusal ∷ []) new
-sound_turned_down first taken sent parcel item.End asked refusal at new asks sound legal = absurd asks
-sound_turned_down first taken sent parcel (item.Fragment fragment) asked refusal at new asks sound legal =
-    let step_is = subst (λ (s : Step). Legal at s (reply.Refused refusal) new) asks legal in
-    sound_refused first taken sent parcel (refused parcel refusal) at new sound refl tt step_is.whole step_is.asked
-sound_turned_down first taken sent parcel (item.Close session) asked refusal at new asks sound legal =
-    let step_is = subst (λ (s : Step). Legal at s (reply.Refused refusal) new) asks legal in
-    sound_refused first taken sent parcel (refused parcel refusal) at new sound refl tt step_is.whole step_is.asked
+refused_by : (its : Item) (asked : Step) (refusal : Refusal) (at new : State) → Asks its asked → Legal at asked (reply.Refused refusal) new → (new.whole ≡ at.whole) × (new.asked ≡ at.asked)
+refused_by item.End asked refusal at new asks legal = absurd asks
+refused_by (item.Fragment fragment) asked refusal at new asks legal = let offers = subst (λ (s : Step). Legal at s (reply.Refused refusal) new) asks legal in (offers.whole, offers.asked)
+refused_by (item.Join fragment) asked refusal at new asks legal = let joins = subst (λ (s : Step). Legal at s (reply.Refused refusal) new) asks legal in (joins.whole, joins.asked)
+refused_by (item.Close session) asked refusal at new asks legal = let closes = subst (λ (s : Step). Legal at s (reply.Refused refusal) new) asks legal in (closes.whole, closes.asked)
 
 -- neither history changes
 front_same : (at new : State) → new.whole ≡ at.whole → new.asked ≡ at.asked → IsFrontOf at.asked at.whole → IsFrontOf new.asked new.whole
@@ -131,11 +111,13 @@ front_same at new same asked_same front = subst (λ (front : History). IsFrontOf
 pub sound : (search : Search) (first : State) (taken : List Parcel) (sent : List Entry) (at : State) → IsFrontOf first.asked first.whole → Moves search first taken sent at → IsSound first.whole taken sent at
 sound search first _ _ _ begins start = record { front = begins; reports = All-nil (IsTrueEntry first.whole); each_told = refl; whole = refl }
 sound search first _ _ _ begins (ended taken sent at parcel moves end) =
-    sound_accepted first.whole taken sent parcel at at (sound search first taken sent at begins moves) (ap fragment_in end) refl refl
+    sound_accepted first.whole taken sent parcel at at (sound search first taken sent at begins moves) (sym (ap (history_with at.whole) end)) refl
 sound search first _ _ _ begins (done taken sent at new parcel asked moves asks legal) =
-    sound_done first.whole taken sent parcel parcel.item asked at new refl asks (sound search first taken sent at begins moves) legal
+    let grown = grown_by parcel.item asked at new asks legal in
+    sound_accepted first.whole taken sent parcel at new (sound search first taken sent at begins moves) grown.0 grown.1
 sound search first _ _ _ begins (turned_down taken sent at new parcel asked refusal moves asks legal) =
-    sound_turned_down first.whole taken sent parcel parcel.item asked refusal at new asks (sound search first taken sent at begins moves) legal
+    let same = refused_by parcel.item asked refusal at new asks legal in
+    sound_refused first.whole taken sent parcel (refused parcel refusal) at new (sound search first taken sent at begins moves) refl tt same.0 same.1
 sound search first _ _ _ begins (begun taken sent at new moves legal) =
     let before = sound search first taken sent at begins moves in
     subst (λ (l : List Entry). IsSound first.whole taken l new) (append-nil sent)

@@ -1,17 +1,15 @@
 -- Right calls of an engine are legal steps.
-use Rattle.std.proofs.Common.{◌≡◌, ◌<◌, ◌-◌, ◌^◌, ℕ, Option, Some, None, sym, ◌∙◌, ap, subst, refl}
-use Rattle.std.specs.Prelude.{Result, Ok, Err, IfOk, IfErr, OnOk, IsSomeAnd, IsSome}
+use Rattle.std.proofs.Common.{◌≡◌, ℕ, None, subst, refl}
+use Rattle.std.specs.Prelude.{Result, Ok, Err, IfErr, OnOk, IsSomeAnd, IsSome}
 use Rattle.txn.specs.declared.refusals.Refusal.{Refusal}
 use Rattle.txn.specs.declared.refusals.Refusal.TheVariants as refusals
 use Rattle.txn.specs.declared.transactions.Fragment.{Fragment}
 use Rattle.order_check.specs.declared.remainder.Parts.{Parts}
 use Rattle.order_check.specs.StandsFor.{IsOpenSession}
-use Rattle.polygraph.specs.ProblemState.{ProblemState}
-use Rattle.settle.specs.declared.cuts.Cut as cuts
 use Rattle.fragment_intake.specs.declared.rules.Item.TheVariants as item
 use Rattle.round_state.specs.EngineState.{EngineState}
 use Rattle.round_state.specs.Runs.{StepsLegally}
-use Rattle.round_state.specs.Steps.{IsAdmitted, IsOfferRefusal, IsCloseRefusal, IsTruncated, IsTruncateRefusal, StepsTo, IsAbandonRefusal, engine_offered, engine_closed, engine_abandoned}
+use Rattle.round_state.specs.Steps.{IsAdmitted, IsOfferRefusal, IsLetIn, IsJoinRefusal, IsCloseRefusal, StepsTo, IsAbandonRefusal, engine_offered, engine_joined, engine_closed, engine_abandoned}
 use Rattle.round_state.specs.declared.steps.Step.{Step}
 use Rattle.round_state.specs.declared.steps.Step.TheVariants as step
 use Rattle.round_state.specs.declared.steps.StepReply.{StepReply}
@@ -27,6 +25,10 @@ RightIsLegal old = (asked : Step) (said : StepReply) (new : EngineState) → Ste
 pub offered : (old new : EngineState) (fragment : Fragment) (said : Result (Unit {0}) Refusal) → RightIsLegal old → OnOk said (IsAdmitted old.parts fragment × (new ≡ engine_offered old fragment)) → IfErr said (λ refusal. IsOfferRefusal old.parts fragment refusal × (new ≡ old)) → TakesIn old (item.Fragment fragment) said new
 offered old new fragment (Ok done) legal ok err = (step.Offer fragment, refl, legal (step.Offer fragment) reply.Done new ok)
 offered old new fragment (Err refusal) legal ok err = (step.Offer fragment, refl, legal (step.Offer fragment) (reply.Refused refusal) new err)
+
+pub joined : (old new : EngineState) (fragment : Fragment) (said : Result (Unit {0}) Refusal) → RightIsLegal old → OnOk said ((old.asked ≡ None) × IsLetIn old.parts fragment × (new ≡ engine_joined old fragment)) → IfErr said (λ refusal. IsJoinRefusal old fragment refusal × (new ≡ old)) → TakesIn old (item.Join fragment) said new
+joined old new fragment (Ok done) legal ok err = (step.Join fragment, refl, legal (step.Join fragment) reply.Done new ok)
+joined old new fragment (Err refusal) legal ok err = (step.Join fragment, refl, legal (step.Join fragment) (reply.Refused refusal) new err)
 
 pub closed : (old new : EngineState) (session : ℕ) (said : Result (Unit {0}) Refusal) → RightIsLegal old → OnOk said (IsOpenSession old.parts session × (new ≡ engine_closed old session)) → IfErr said (λ refusal. IsCloseRefusal old.parts session refusal × (new ≡ old)) → TakesIn old (item.Close session) said new
 closed old new session (Ok done) legal ok err = (step.Close session, refl, legal (step.Close session) reply.Done new ok)

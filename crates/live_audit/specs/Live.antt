@@ -1,6 +1,5 @@
 -- What a live auditor may send for what it takes.
 use Rattle.std.specs.Prelude.{◌≡◌, ℕ, List, [], ◌∷◌, ◌++◌}
-use Rattle.txn.specs.declared.transactions.Fragment.{Fragment}
 use Rattle.txn.specs.declared.refusals.Refusal.{Refusal}
 use Rattle.txn.specs.declared.refusals.Refusal.TheVariants as refusals
 use Rattle.fragment_intake.specs.declared.rules.Item.{Item}
@@ -22,6 +21,7 @@ use Rattle.live_audit.specs.CoreState.{Search}
 -- the item asks for this step
 abbrev pub Asks : Item → Step → Type 0
 Asks (item.Fragment fragment) asked = asked ≡ step.Offer fragment
+Asks (item.Join fragment) asked = asked ≡ step.Join fragment
 Asks (item.Close session) asked = asked ≡ step.Close session
 Asks item.End asked = ⊥
 

@@ -2,7 +2,6 @@
 use Rattle.std.specs.Prelude.{◌≡◌, ℕ, ◌+◌, ◌<◌, ◌≤◌, ◌^◌, ◌⊎◌, ⊤, Bool, true, false, List, [], ◌∷◌, ◌++◌, length, map, slice_index_or, All, Contains, Option, Result}
 use Rattle.std.specs.Option.{option_to_list}
 use Rattle.std.specs.Prelude as prelude
-use Rattle.txn.specs.History.{History}
 use Rattle.txn.specs.declared.refusals.Refusal.{Refusal}
 use Rattle.txn.specs.declared.refusals.Refusal.TheVariants as refusals
 use Rattle.order_check.specs.declared.remainder.Kind.{Kind}
@@ -11,11 +10,10 @@ use Rattle.fragment_intake.specs.declared.rules.Parcel.{Parcel}
 use Rattle.report_queue.specs.declared.entries.Entry.{Entry}
 use Rattle.report_queue.specs.declared.entries.Entry.TheVariants.{Report, Skipped, End}
 use Rattle.report_queue.specs.Reports.{IsBefore}
-use Rattle.round_state.specs.EngineState.{EngineState}
 use Rattle.round_state.specs.Legal.{State}
 use Rattle.round_state.specs.Runs.{Holds}
 use Rattle.round_state.specs.declared.reports.Report as reports
-use Rattle.live_audit.specs.CoreState.{Search, CoreState}
+use Rattle.live_audit.specs.CoreState.{CoreState}
 use Rattle.live_audit.specs.Live.{Moves, MovesOn}
 
 -- the round and the kind of each report, in order

@@ -1,15 +1,13 @@
 -- What single calls of the auditor tell, beside the moves that they make.
-use Rattle.std.specs.Prelude.{◌≡◌, ℕ, ◌+◌, ◌<◌, ◌^◌, ⊤, List, [], ◌∷◌, length, map, Option, Some, None, Result}
-use Rattle.txn.specs.declared.refusals.Refusal.{Refusal}
+use Rattle.std.specs.Prelude.{◌≡◌, ◌+◌, ◌<◌, ◌^◌, ⊤, Option, Some, None}
 use Rattle.txn.specs.declared.refusals.Refusal.TheVariants as refusals
 use Rattle.fragment_intake.specs.declared.rules.Parcel.{Parcel}
 use Rattle.report_queue.specs.declared.entries.Entry.{Entry}
-use Rattle.report_queue.specs.declared.entries.Entry.TheVariants.{Accepted, Refused, Report, Cut, Skipped, End}
+use Rattle.report_queue.specs.declared.entries.Entry.TheVariants.{Accepted, Refused, Report, Cut, Skipped}
 use Rattle.round_state.specs.EngineState.{EngineState}
 use Rattle.round_state.specs.Legal.{State, TellsOf}
 use Rattle.round_state.specs.Runs.{Holds}
 use Rattle.round_state.specs.Steps.{IsBeginRefusal}
-use Rattle.round_state.specs.declared.reports.Report as reports
 use Rattle.live_audit.specs.Live.{accepted, refused}
 
 -- the entry tells of this parcel

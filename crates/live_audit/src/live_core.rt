@@ -55,7 +55,7 @@ impl Core {
         }
     }
 
-    /// Takes a parcel in: its fragment is offered, or its session closed. The entry tells whether that was done. A refused fragment isn't kept.
+    /// Takes a parcel in: its fragment is offered or joined with, or its session closed. The entry tells whether that was done. A refused fragment isn't kept.
     pub fn took(&mut self, parcel: Parcel) -> Entry
         ensures moves { MovesOn self.old.search self.old.engine (parcel ∷ []) (result ∷ []) self.new.engine }
         ensures told { IsTold parcel result }

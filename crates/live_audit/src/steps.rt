@@ -12,7 +12,7 @@ use round_state::{Engine, Report, Step, StepReply};
 use std::alloc::Global;
 use txn::Refusal;
 
-/// Offers the item's fragment, or closes its session.
+/// Offers the item's fragment, lets its session join, or closes it.
 pub(crate) fn take_in(alloc: Global, engine: &mut Engine, item: Item) -> Result<(), Refusal>
     ensures taken { TakesIn engine.old item result engine.new }
     ensures round { (engine.new.asked ≡ engine.old.asked) × (engine.new.rounds ≡ engine.old.rounds) }
@@ -20,6 +20,7 @@ pub(crate) fn take_in(alloc: Global, engine: &mut Engine, item: Item) -> Result<
     engine.right_is_legal();
     match item {
         Item::Fragment(fragment) => engine.offer(alloc, fragment),
+        Item::Join(fragment) => engine.join(alloc, fragment),
         Item::Close(session) => engine.close(session),
         Item::End => Ok(()),
     }

@@ -12,7 +12,6 @@ use Rattle.live_lines.specs.declared.telling.Notes as declared
 use Rattle.live_lines.specs.Notes.{items_in}
 use Rattle.live_lines.specs.Texts.{bad_text, answer_text, own_text}
 use Rattle.live_lines.specs.Tells.{Tells, start, bad_line, answered, alone, IsAnswerTo, IsAlone, waiting_note, HasTold, TellsOn, Advances}
-use Rattle.report_queue.specs.declared.entries.Entry.TheVariants.{Accepted, Refused}
 
 pub items_in-append : (a b : List Note) → items_in (a ++ b) ≡ items_in a ++ items_in b
 items_in-append [] b = refl

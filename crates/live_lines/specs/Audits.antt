@@ -1,5 +1,5 @@
 -- What the auditor of a run did.
-use Rattle.std.specs.Prelude.{◌≡◌, ◌⊎◌, ℕ, List, [], length, map, All}
+use Rattle.std.specs.Prelude.{◌≡◌, ◌⊎◌, List, [], length, map, All}
 use Rattle.txn.specs.declared.refusals.Refusal.{Refusal}
 use Rattle.fragment_intake.specs.declared.rules.Parcel.{Parcel}
 use Rattle.report_queue.specs.declared.entries.Entry.{Entry}

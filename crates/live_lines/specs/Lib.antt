@@ -1,6 +1,7 @@
 pub mod Audits
 pub mod Ends
 pub mod Failures
+pub mod Inputs
 pub mod Notes
 pub mod Runs
 pub mod Stations

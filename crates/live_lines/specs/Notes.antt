@@ -1,5 +1,5 @@
 -- What the reader tells the writer of the items that it hands in.
-use Rattle.std.specs.Prelude.{◌≡◌, List, [], ◌∷◌, map}
+use Rattle.std.specs.Prelude.{List, [], ◌∷◌, map}
 use Rattle.fragment_intake.specs.declared.rules.Item.{Item}
 use Rattle.fragment_intake.specs.declared.rules.Item.TheVariants as item
 use Rattle.fragment_intake.specs.declared.rules.Parcel.{Parcel}
@@ -11,6 +11,7 @@ use Rattle.live_lines.specs.declared.notes.Note.TheVariants as note
 -- a fragment's session and first number, a close's session, or that nothing more comes
 abbrev pub about_of : Item → About
 about_of (item.Fragment fragment) = about.Offer fragment.session fragment.first
+about_of (item.Join fragment) = about.Offer fragment.session fragment.first
 about_of (item.Close session) = about.Close session
 about_of item.End = about.End
 

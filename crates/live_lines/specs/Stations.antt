@@ -8,7 +8,7 @@ use Rattle.live_lines.specs.declared.runs.Opened.{Opened}
 use Rattle.live_lines.specs.declared.stations.Queues.{Queues}
 use Rattle.live_lines.specs.declared.stations.Station.{Station}
 use Rattle.live_lines.specs.Audits.{IsFreshSide}
-use Rattle.live_lines.specs.Threads.{AreFresh}
+use Rattle.live_lines.specs.Threads.{AreFresh, IsAtLine}
 
 -- each reader hears its sender, and nothing was sent yet
 pub record AreFreshQueues (queues : Queues) : Type 0 where
@@ -27,9 +27,10 @@ pub record IsFreshStation (station : Station) : Type 0 where
   pub sent : station.notes.sent ≡ []
   pub received : (station.reader.received ≡ []) × (station.coming.received ≡ [])
 
--- the engine is a fresh one, and the station, too
+-- the engine is a fresh one, and the station, too, and the reader is at a line
 pub record IsOpened (opened : Opened) : Type 0 where
   pub effort : IsEffort opened.opening.effort.budget opened.opening.effort.depth opened.opening.effort.workers
   pub none_open : opened.engine.asked ≡ None
   pub holds : Holds opened.engine (fresh_state opened.opening.sessions opened.opening.limit)
   pub station : IsFreshStation opened.station
+  pub lines : IsAtLine opened.lines

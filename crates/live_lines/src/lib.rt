@@ -16,5 +16,5 @@ mod writing;
 
 pub use failures::{LiveExit, LiveFailure, exit_of};
 pub use notes::{About, Note};
-pub use openings::{Opening, read_opening};
+pub use openings::Opening;
 pub use runs::run_live;

@@ -12,7 +12,7 @@ use txn::NoMemory;
 /// What an item is about, in short.
 #[derive(Clone, Copy, Debug, PartialEq, Eq)]
 pub enum About {
-    /// A fragment of this session, from this number on.
+    /// A fragment of this session, from this number on, offered or joined with.
     Offer { session: u8, first: u64 },
     /// The close of this session.
     Close(u8),
@@ -33,7 +33,7 @@ pub(crate) fn about_of(item: &Item) -> About
     ensures { result ≡ about_of item.now }
 {
     match item {
-        Item::Fragment(fragment) => About::Offer {
+        Item::Fragment(fragment) | Item::Join(fragment) => About::Offer {
             session: fragment.session,
             first: fragment.first,
         },

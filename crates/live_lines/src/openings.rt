@@ -1,7 +1,9 @@
-ghost use Rattle.std.specs.Prelude.{◌≡◌, ◌≤◌, IfOk, IfErr, IfSome};
+ghost use Rattle.std.specs.Prelude.{◌≡◌, ◌≤◌, [], Some, IfOk, OnOk, IfSome};
 ghost use Rattle.serde_json.specs.View.{view, items_view};
 ghost use Rattle.order_check.specs.Effort.{IsEffort};
+ghost use Rattle.byte_lines.specs.LineReaders.{lines_ahead};
 ghost use Rattle.log_text.specs.Numbers.{number_within};
+ghost use Rattle.live_lines.specs.Inputs.{effort_in, numbers_in, opening_named, opening_in, opening_of, IsOpening, Begins};
 
 use crate::failures::LiveFailure;
 use byte_lines::{ByteSource, LineReader, Next};
@@ -36,32 +38,66 @@ fn number_within(least: u64, most: u64, value: &Value) -> Option<u64>
     }
 }
 
-fn opening_in(items: &[Value]) -> Option<Opening>
-    ensures effort { IfSome result (λ opening. IsEffort opening.effort.budget opening.effort.depth opening.effort.workers) }
+#[tactic(auto, using(crate::proofs::Arity::three_items_none))]
+fn effort_in(parts: &[Value]) -> Option<Effort>
+    ensures form { result ≡ effort_in (items_view parts.now) }
+    ensures effort { IfSome result (λ effort. IsEffort effort.budget effort.depth effort.workers) }
 {
-    match items {
-        [name, sessions, limit, budget, depth, workers] if name.as_str() == Some("open") => {
-            Some(Opening {
-                sessions: sessions.as_u64()?,
-                limit: limit.as_u64()?,
-                effort: Effort {
-                    budget: number_within(1, MOST_BUDGET, budget)?,
-                    depth: number_within(0, MOST_DEPTH, depth)?,
-                    workers: number_within(1, MOST_WORKERS, workers)?,
-                },
-            })
-        }
+    match parts {
+        [budget, depth, workers] => Some(Effort {
+            budget: number_within(1, MOST_BUDGET, budget)?,
+            depth: number_within(0, MOST_DEPTH, depth)?,
+            workers: number_within(1, MOST_WORKERS, workers)?,
+        }),
         _ => None,
     }
 }
 
+#[tactic(auto, using(crate::proofs::Arity::numbers_none))]
+fn numbers_in(parts: &[Value]) -> Option<Opening>
+    ensures form { result ≡ numbers_in (items_view parts.now) }
+    ensures effort { IfSome result (λ opening. IsEffort opening.effort.budget opening.effort.depth opening.effort.workers) }
+{
+    let [sessions, limit, effort @ ..] = parts else {
+        return None;
+    };
+    Some(Opening {
+        sessions: sessions.as_u64()?,
+        limit: limit.as_u64()?,
+        effort: effort_in(effort)?,
+    })
+}
+
+fn opening_named(name: &str, parts: &[Value]) -> Option<Opening>
+    ensures form { result ≡ opening_named name.now (items_view parts.now) }
+    ensures effort { IfSome result (λ opening. IsEffort opening.effort.budget opening.effort.depth opening.effort.workers) }
+{
+    if name == "open" {
+        numbers_in(parts)
+    } else {
+        None
+    }
+}
+
+fn opening_in(items: &[Value]) -> Option<Opening>
+    ensures form { result ≡ opening_in (items_view items.now) }
+    ensures effort { IfSome result (λ opening. IsEffort opening.effort.budget opening.effort.depth opening.effort.workers) }
+{
+    let [name, parts @ ..] = items else {
+        return None;
+    };
+    opening_named(name.as_str()?, parts)
+}
+
 fn opening_of(value: &Value) -> Option<Opening>
+    ensures form { result ≡ opening_of (view value.now) }
     ensures effort { IfSome result (λ opening. IsEffort opening.effort.budget opening.effort.depth opening.effort.workers) }
 {
     opening_in(value.as_array()?.as_slice())
 }
 
 fn opening_on(alloc: Global, line: &[u8]) -> Result<Opening, LiveFailure>
+    ensures opening { IfOk result (IsOpening line.now) }
     ensures effort { IfOk result (λ opening. IsEffort opening.effort.budget opening.effort.depth opening.effort.workers) }
 {
     let Ok(text) = str::from_utf8(line) else {
@@ -79,11 +115,14 @@ fn opening_on(alloc: Global, line: &[u8]) -> Result<Opening, LiveFailure>
 }
 
 /// Reads the first line.
-pub fn read_opening<S: ByteSource>(
+pub(crate) fn read_opening<S: ByteSource>(
     alloc: Global,
     lines: &mut LineReader,
     source: &mut S,
 ) -> Result<Opening, LiveFailure>
+    requires under_way { lines.old.under_way ≡ Some [] }
+    ensures begins { IfOk result (λ opening. Begins (lines_ahead lines.old (S.remaining source.old)) opening (lines_ahead lines.new (S.remaining source.new))) }
+    ensures at_line { OnOk result ((lines.new.limit ≡ lines.old.limit) × (lines.new.under_way ≡ Some [])) }
     ensures effort { IfOk result (λ opening. IsEffort opening.effort.budget opening.effort.depth opening.effort.workers) }
 {
     match lines.next_line(source)? {

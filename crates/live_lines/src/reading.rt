@@ -1,36 +1,49 @@
-ghost use Rattle.std.specs.Prelude.{◌≡◌, ◌+◌, ◌<◌, ◌≤◌, ◌^◌, ◌++◌, ◌∷◌, [], length};
-ghost use Rattle.fragment_intake.specs.Collectors.{parcel};
-ghost use Rattle.live_lines.specs.Notes.{items_in, about_each};
-ghost use Rattle.live_lines.specs.Threads.{IsSamePass, AreFresh, HasRead};
+ghost use Rattle.std.specs.Prelude.{◌≡◌, ℕ, ◌+◌, ◌<◌, ◌≤◌, ◌^◌, ◌++◌, ◌∷◌, [], List, length, IfOk, IfSome, IfNone, OnOk, MatchOption};
+ghost use Rattle.byte_lines.specs.LineReaders.{lines_ahead};
+ghost use Rattle.cobra.specs.Outputs.{IsTold};
+ghost use Rattle.fragment_intake.specs.Collectors.{parcel, AreCollectorsOf};
+ghost use Rattle.fragment_intake.specs.declared.rules.Item.{Item};
+ghost use Rattle.live_lines.specs.Inputs.{AsksFor, Says, AreHandedIn, AreAllHandedIn, HaveOnlyEnds};
+ghost use Rattle.live_lines.specs.Notes.{items_in, about_each, about_of};
+ghost use Rattle.live_lines.specs.Threads.{IsSamePass, IsAtLine, AreFresh, HandsOn, HasRead};
 
 use crate::failures::LiveFailure;
 use crate::halls::Hall;
 use crate::notes::{Note, NoteSender, about_of, send_note};
 use byte_lines::{ByteSource, LineReader, Next};
+use cobra::command_in;
 use fragment_intake::{CollectorPass, CollectorPasses, Item};
 use live_audit::Patience;
-use log_text::{Command, read_line};
-use std::alloc::{AllocError, Global};
+use log_text::Command;
+use std::alloc::Global;
 use std::snapshot::Snapshot;
 use std::sync::Wait;
 use std::thread::Promise;
-use txn::{NoMemory, Refusal};
+use txn::NoMemory;
 
 /// No line has a number as high as this one.
 const NO_LINE: u64 = 1 << 47;
 
+/// The item that the command asks for, if it does.
+fn item_of(command: Command) -> Option<Item>
+    ensures { MatchOption result ((item : Item) → ¬ AsksFor command item) (AsksFor command) }
+{
+    match command {
+        Command::Offer(fragment) => Some(Item::Fragment(fragment)),
+        Command::Join(fragment) => Some(Item::Join(fragment)),
+        Command::Close(session) => Some(Item::Close(session)),
+        _ => None,
+    }
+}
+
 /// The item that was read, where it was one.
-fn item_in(alloc: Global, next: &Next) -> Result<Option<Item>, NoMemory> {
-    let line = match next {
-        Next::Line(line) => line,
-        Next::TooLong | Next::End => return Ok(None),
-    };
-    match read_line(alloc, line) {
-        Ok(Command::Offer(fragment)) => Ok(Some(Item::Fragment(fragment))),
-        Ok(Command::Close(session)) => Ok(Some(Item::Close(session))),
-        Ok(_) => Ok(None),
-        Err(Refusal::NoMemory) => Err(AllocError),
-        Err(_) => Ok(None),
+fn item_in(alloc: Global, next: &Next) -> Result<Option<Item>, NoMemory>
+    ensures some { IfOk result (λ found. IfSome found (λ item. (line : List ℕ) → IsTold line next.now → Says line item)) }
+    ensures none { IfOk result (λ found. IfNone found ((line : List ℕ) → IsTold line next.now → (item : Item) → ¬ Says line item)) }
+{
+    match command_in(alloc, next)? {
+        Some(command) => Ok(item_of(command)),
+        None => Ok(None),
     }
 }
 
@@ -66,6 +79,8 @@ fn hand_in<R: Wait>(
     requires few { length pass.old.2 < 2 ^ 48 }
     requires noted { items_in notes.old.sent ≡ about_each pass.old.2 }
     ensures same { IsSamePass pass.old pass.new × (notes.new.ring ≡ notes.old.ring) }
+    ensures submitted { pass.new.2 ≡ pass.old.2 ++ parcel pass.old.1 (length pass.old.2) item ∷ [] }
+    ensures sent { notes.new.sent ≡ notes.old.sent ++ Note.Item (about_of item) ∷ [] }
     ensures more { length pass.new.2 ≡ length pass.old.2 + 1 }
     ensures noted { items_in notes.new.sent ≡ about_each pass.new.2 }
 {
@@ -77,6 +92,7 @@ fn hand_in<R: Wait>(
 #[tactic(auto, using(crate::proofs::NotedItems::line_noted))]
 fn refuse<R: Wait>(rt: &R, notes: &mut NoteSender, number: u64)
     ensures ring { notes.new.ring ≡ notes.old.ring }
+    ensures sent { notes.new.sent ≡ notes.old.sent ++ Note.BadLine number ∷ [] }
     ensures noted { items_in notes.new.sent ≡ items_in notes.old.sent }
 {
     send_note(rt, notes, Note::BadLine(number));
@@ -93,20 +109,27 @@ fn hand_in_line<R: Wait>(
     notes: &mut NoteSender,
 ) -> Result<(), NoMemory>
     requires desk { pass.old.0 ≡ hall.now.desk.0 }
+    requires collector { pass.old.1 ≡ 0 }
     requires few { length pass.old.2 < 2 ^ 48 }
     requires noted { items_in notes.old.sent ≡ about_each pass.old.2 }
     ensures same { IsSamePass pass.old pass.new × (notes.new.ring ≡ notes.old.ring) }
     ensures more { length pass.new.2 ≤ length pass.old.2 + 1 }
     ensures noted { items_in notes.new.sent ≡ about_each pass.new.2 }
+    ensures handed_in { OnOk result (HandsOn next.now number pass.old.2 notes.old.sent pass.new.2 notes.new.sent) }
 {
     match item_in(alloc, next)? {
-        Some(item) => hand_in(rt, hall, pass, notes, item),
-        None => refuse(rt, notes, number),
+        Some(item) => {
+            hand_in(rt, hall, pass, notes, item);
+            Ok(())
+        }
+        None => {
+            refuse(rt, notes, number);
+            Ok(())
+        }
     }
-    Ok(())
 }
 
-/// Hands in what each line says, to the end of input.
+/// Hands in what each line says, to the end of input. Where it is told to stop before that, its end and the writer's don't agree.
 fn hand_in_all<R: Wait, S: ByteSource>(
     rt: &R,
     alloc: Global,
@@ -117,14 +140,17 @@ fn hand_in_all<R: Wait, S: ByteSource>(
     notes: &mut NoteSender,
 ) -> Result<(), LiveFailure>
     requires desk { pass.old.0 ≡ hall.now.desk.0 }
+    requires collector { pass.old.1 ≡ 0 }
     requires fresh { (pass.old.2 ≡ []) × (notes.old.sent ≡ []) }
+    requires lines { IsAtLine lines.old }
     ensures same { IsSamePass pass.old pass.new × (notes.new.ring ≡ notes.old.ring) }
     ensures few { length pass.new.2 < 2 ^ 48 }
     ensures noted { items_in notes.new.sent ≡ about_each pass.new.2 }
+    ensures handed_in { OnOk result (IfSome (lines_ahead lines.old (S.remaining source.old)) (λ all. AreHandedIn all pass.new.2 notes.new.sent)) }
 {
     for number in 2..NO_LINE {
         if hall.is_stopped() {
-            return Ok(());
+            return Err(LiveFailure::Disagreement);
         }
         let next = lines.next_line(source)?;
         if let Next::End = next {
@@ -145,15 +171,18 @@ pub(crate) struct Read {
 
 /// That this reader comes back.
 #[derive(Drop)]
-pub(crate) struct ReadingOf {
+pub(crate) struct ReadingOf<S: Drop> {
+    pub lines: Snapshot<LineReader>,
+    pub source: Snapshot<S>,
     pub passes: Snapshot<CollectorPasses>,
     pub notes: Snapshot<NoteSender>,
 }
 
-impl Promise<Read> for ReadingOf {
+impl<S: ByteSource + Drop> Promise<Read> for ReadingOf<S> {
+    ghost use Rattle.byte_lines.specs.LineReaders.{lines_ahead};
     ghost use Rattle.live_lines.specs.Threads.{HasRead};
 
-    ghost kept_by = { λ promise read. HasRead promise.passes.value promise.notes.value read };
+    ghost kept_by = { λ promise read. HasRead (lines_ahead promise.lines.value (S.remaining promise.source.value)) promise.passes.value promise.notes.value read };
 }
 
 /// Ends the three collectors that have nothing to hand in.
@@ -165,8 +194,10 @@ fn end_others<R: Wait>(
     fourth: &mut CollectorPass,
 )
     requires desk { (second.old.0 ≡ hall.now.desk.0) × (third.old.0 ≡ hall.now.desk.0) × (fourth.old.0 ≡ hall.now.desk.0) }
+    requires collectors { (second.old.1 ≡ 1) × (third.old.1 ≡ 2) × (fourth.old.1 ≡ 3) }
     requires fresh { (second.old.2 ≡ []) × (third.old.2 ≡ []) × (fourth.old.2 ≡ []) }
     ensures same { IsSamePass second.old second.new × IsSamePass third.old third.new × IsSamePass fourth.old fourth.new }
+    ensures ends { HaveOnlyEnds second.new.2 third.new.2 fourth.new.2 }
 {
     submit(rt, hall, second, Item::End);
     submit(rt, hall, third, Item::End);
@@ -184,9 +215,12 @@ fn hand_in_to_end<R: Wait, S: ByteSource>(
     notes: &mut NoteSender,
 ) -> Result<(), LiveFailure>
     requires desk { pass.old.0 ≡ hall.now.desk.0 }
+    requires collector { pass.old.1 ≡ 0 }
     requires fresh { (pass.old.2 ≡ []) × (notes.old.sent ≡ []) }
+    requires lines { IsAtLine lines.old }
     ensures same { IsSamePass pass.old pass.new × (notes.new.ring ≡ notes.old.ring) }
     ensures noted { items_in notes.new.sent ≡ about_each pass.new.2 }
+    ensures handed_in { OnOk result (IfSome (lines_ahead lines.old (S.remaining source.old)) (λ all. AreAllHandedIn all pass.new.2 notes.new.sent)) }
 {
     let end = hand_in_all(rt, alloc, hall, lines, source, pass, notes);
     hand_in(rt, hall, pass, notes, Item::End);
@@ -194,6 +228,34 @@ fn hand_in_to_end<R: Wait, S: ByteSource>(
 }
 
 /// The reader's whole work, once it is called. The first collector hands in what the lines say; the other three end at once.
+fn read_once_called<R: Wait, S: ByteSource>(
+    rt: &R,
+    alloc: Global,
+    hall: &Hall,
+    lines: &mut LineReader,
+    source: &mut S,
+    first: &mut CollectorPass,
+    second: &mut CollectorPass,
+    third: &mut CollectorPass,
+    fourth: &mut CollectorPass,
+    notes: &mut NoteSender,
+) -> Result<(), LiveFailure>
+    requires desk { AreCollectorsOf hall.now.desk (first.old, second.old, third.old, fourth.old) }
+    requires fresh { (first.old.2 ≡ []) × (second.old.2 ≡ []) × (third.old.2 ≡ []) × (fourth.old.2 ≡ []) × (notes.old.sent ≡ []) }
+    requires lines { IsAtLine lines.old }
+    ensures same { IsSamePass first.old first.new × IsSamePass second.old second.new × IsSamePass third.old third.new × IsSamePass fourth.old fourth.new × (notes.new.ring ≡ notes.old.ring) }
+    ensures noted { items_in notes.new.sent ≡ about_each first.new.2 }
+    ensures handed_in { OnOk result (IfSome (lines_ahead lines.old (S.remaining source.old)) (λ all. AreAllHandedIn all first.new.2 notes.new.sent)) }
+    ensures others { OnOk result (HaveOnlyEnds second.new.2 third.new.2 fourth.new.2) }
+{
+    if !hall.is_called(rt) {
+        return Err(LiveFailure::NoMemory);
+    }
+    end_others(rt, hall, second, third, fourth);
+    hand_in_to_end(rt, alloc, hall, lines, source, first, notes)
+}
+
+/// The same, with all that the reader comes back with.
 pub(crate) fn read_all<R: Wait, S: ByteSource + Drop>(
     rt: &R,
     alloc: Global,
@@ -203,28 +265,27 @@ pub(crate) fn read_all<R: Wait, S: ByteSource + Drop>(
     passes: CollectorPasses,
     notes: NoteSender,
 ) -> Read
-    requires desk { (passes.0.0 ≡ hall.now.desk.0) × (passes.1.0 ≡ hall.now.desk.0) × (passes.2.0 ≡ hall.now.desk.0) × (passes.3.0 ≡ hall.now.desk.0) }
+    requires desk { AreCollectorsOf hall.now.desk passes }
     requires fresh { AreFresh passes × (notes.sent ≡ []) }
-    ensures { HasRead passes notes result }
+    requires lines { IsAtLine lines }
+    ensures { HasRead (lines_ahead lines (S.remaining source)) passes notes result }
 {
     let mut lines = lines;
     let mut source = source;
     let mut notes = notes;
     let (mut first, mut second, mut third, mut fourth) = passes;
-    let end = if hall.is_called(rt) {
-        end_others(rt, hall, &mut second, &mut third, &mut fourth);
-        hand_in_to_end(
-            rt,
-            alloc,
-            hall,
-            &mut lines,
-            &mut source,
-            &mut first,
-            &mut notes,
-        )
-    } else {
-        Err(LiveFailure::NoMemory)
-    };
+    let end = read_once_called(
+        rt,
+        alloc,
+        hall,
+        &mut lines,
+        &mut source,
+        &mut first,
+        &mut second,
+        &mut third,
+        &mut fourth,
+        &mut notes,
+    );
     Read {
         passes: (first, second, third, fourth),
         notes,

@@ -1,13 +1,16 @@
-ghost use Rattle.std.specs.Prelude.{◌≡◌, ℕ, List, None, [], IfOk, OnOk, OnErr, IsTrue};
+ghost use Rattle.std.specs.Prelude.{◌≡◌, ℕ, ◌<◌, List, Option, None, [], slice_index, IfOk, OnOk, OnErr, IsTrue};
 ghost use Rattle.std.specs.Io.KnownBytes.{Appends};
+ghost use Rattle.std.specs.Option.{option_map};
 ghost use Rattle.order_check.specs.Effort.{IsEffort};
 ghost use Rattle.round_state.specs.Opening.{fresh_state};
 ghost use Rattle.round_state.specs.Runs.{Holds};
+ghost use Rattle.byte_lines.specs.Lines.{lines};
+ghost use Rattle.byte_lines.specs.LineReaders.{lines_ahead};
 ghost use Rattle.fragment_intake.specs.Collectors.{AreCollectorsOf};
-ghost use Rattle.fragment_intake.specs.Delivers.{of};
-ghost use Rattle.live_lines.specs.Runs.{IsRunOf};
+ghost use Rattle.live_lines.specs.Inputs.{Begins};
+ghost use Rattle.live_lines.specs.Runs.{IsAuditOf, IsRunOf};
 ghost use Rattle.live_lines.specs.Stations.{IsOpened};
-ghost use Rattle.live_lines.specs.Threads.{IsOfHall, HasDone};
+ghost use Rattle.live_lines.specs.Threads.{IsAtLine, IsOfHall, HasDone, AreTaken};
 ghost use Rattle.live_lines.specs.declared.openings.Opening.{Opening};
 
 use crate::failures::LiveFailure;
@@ -53,14 +56,21 @@ fn has_heard_all(sender: ReportSender, reader: &mut ReportReader) -> bool
     }
 }
 
-/// Whether all that the first collector submitted was taken.
+/// Whether nothing of any collector is left.
+fn is_none_left(left: [u64; 4]) -> bool
+    ensures { IsTrue result → (p : ℕ) → p < 4 → slice_index left p ≡ 0 }
+{
+    left[0] == 0 && left[1] == 0 && left[2] == 0 && left[3] == 0
+}
+
+/// Whether all that the collectors submitted was taken.
 fn has_taken_all<R: Wait>(rt: &R, desk: Desk, passes: CollectorPasses, pass: AuditorPass) -> bool
     requires collectors { AreCollectorsOf desk passes }
     requires auditor { pass.0 ≡ desk.0 }
-    ensures { IsTrue result → of 0 pass.1 ≡ passes.0.2 }
+    ensures { IsTrue result → AreTaken pass.1 passes }
 {
     let tally = desk.tally(rt, passes, pass);
-    tally.left[0] == 0
+    is_none_left(tally.left)
 }
 
 /// Whether all that was handed in was taken, told and heard of.
@@ -79,7 +89,7 @@ fn is_whole<R: Wait>(
     requires notes { coming.old.ring ≡ notes.ring }
     ensures same { (reader.new.received ≡ reader.old.received) × (coming.new.received ≡ coming.old.received) }
     ensures heard { IsTrue result → (reader.new.received ≡ side.sender.sent) × (coming.new.received ≡ notes.sent) }
-    ensures taken { IsTrue result → of 0 side.pass.1 ≡ passes.0.2 }
+    ensures taken { IsTrue result → AreTaken side.pass.1 passes }
 {
     let AuditorSide {
         pass,
@@ -99,7 +109,7 @@ fn end_of(
     read: Result<(), LiveFailure>,
     is_whole: bool,
 ) -> Result<(), LiveFailure>
-    ensures { OnOk result (OnErr written ⊥ × IsTrue is_whole) }
+    ensures { OnOk result (OnErr written ⊥ × OnErr read ⊥ × IsTrue is_whole) }
 {
     match (written, read) {
         (Ok(()), Ok(())) => {
@@ -121,7 +131,7 @@ fn sink_of<R: Wait, W: ByteSink + Drop>(
     returned: Returned<W>,
 ) -> Result<W, LiveFailure>
     requires { IsOfHall hall returned }
-    ensures { (opening : Opening) (sink : W) → HasDone opening W.contents sink returned → IfOk result (λ out. (text : List ℕ) × Appends (W.contents sink) (W.contents out) text × IsRunOf opening text) }
+    ensures { (rest : Option (List (List ℕ))) (opening : Opening) (sink : W) → HasDone rest opening W.contents sink returned → IfOk result (λ out. (text : List ℕ) × Appends (W.contents sink) (W.contents out) text × IsAuditOf rest opening text) }
 {
     let Returned {
         read,
@@ -155,6 +165,8 @@ fn open_lines<S: ByteSource>(
     alloc: Global,
     source: &mut S,
 ) -> Result<(LineReader, Opening), LiveFailure>
+    ensures begins { IfOk result (λ r. Begins (option_map lines (S.remaining source.old)) r.1 (lines_ahead r.0 (S.remaining source.new))) }
+    ensures at_line { IfOk result (λ r. IsAtLine r.0) }
     ensures effort { IfOk result (λ r. IsEffort r.1.effort.budget r.1.effort.depth r.1.effort.workers) }
 {
     let mut lines = LineReader::new(alloc, LONGEST_LINE)?;
@@ -164,7 +176,8 @@ fn open_lines<S: ByteSource>(
 
 /// Opens what the first line asks for.
 fn open_run<S: ByteSource>(alloc: Global, source: &mut S) -> Result<Opened, LiveFailure>
-    ensures { IfOk result IsOpened }
+    ensures opened { IfOk result IsOpened }
+    ensures begins { IfOk result (λ opened. Begins (option_map lines (S.remaining source.old)) opened.opening (lines_ahead opened.lines (S.remaining source.new))) }
 {
     let (lines, opening) = open_lines(alloc, source)?;
     let engine = open_engine(alloc, opening)?;
@@ -186,7 +199,7 @@ fn run_opened<
 >(rt: &R, alloc: Global, solver: &V, opened: Opened, source: S, sink: W) -> Result<W, LiveFailure>
     requires ready { V.ready }
     requires opened { IsOpened opened }
-    ensures { IfOk result (λ out. (text : List ℕ) × Appends (W.contents sink) (W.contents out) text × IsRunOf opened.opening text) }
+    ensures { IfOk result (λ out. (text : List ℕ) × Appends (W.contents sink) (W.contents out) text × IsAuditOf (lines_ahead opened.lines (S.remaining source)) opened.opening text) }
 {
     let Opened {
         opening,
@@ -220,7 +233,7 @@ pub fn run_live<
     W: ByteSink + Send + Drop,
 >(rt: &R, alloc: Global, solver: &V, source: S, sink: W) -> Result<W, LiveFailure>
     requires { V.ready }
-    ensures { IfOk result (λ out. (opening : Opening) × (text : List ℕ) × Appends (W.contents sink) (W.contents out) text × IsRunOf opening text) }
+    ensures { IfOk result (λ out. (opening : Opening) × (text : List ℕ) × Appends (W.contents sink) (W.contents out) text × IsRunOf (S.remaining source) opening text) }
 {
     let mut source = source;
     match open_run(alloc, &mut source) {

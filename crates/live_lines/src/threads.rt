@@ -3,7 +3,9 @@ ghost use Rattle.order_check.specs.Effort.{IsEffort};
 ghost use Rattle.round_state.specs.Opening.{fresh_state};
 ghost use Rattle.round_state.specs.Runs.{Holds};
 ghost use Rattle.live_lines.specs.Audits.{IsFreshSide};
-ghost use Rattle.live_lines.specs.Threads.{AreOfDesk, AreFresh, HasRead, HasWritten, HasReturned};
+ghost use Rattle.byte_lines.specs.LineReaders.{lines_ahead};
+ghost use Rattle.fragment_intake.specs.Collectors.{AreCollectorsOf};
+ghost use Rattle.live_lines.specs.Threads.{IsAtLine, AreFresh, HasRead, HasWritten, HasReturned};
 
 use crate::auditing::audit;
 use crate::halls::Hall;
@@ -32,7 +34,7 @@ pub(crate) struct Returned<W: Drop> {
     pub side: AuditorSide,
 }
 
-type Reading = PromisedHandle<Read, ReadingOf>;
+type Reading<S> = PromisedHandle<Read, ReadingOf<S>>;
 
 type Writing<W> = PromisedHandle<Written<W>, WritingOf<W>>;
 
@@ -46,20 +48,23 @@ fn start_reader<'s, E, R: Threads + Wait + Sync, S: ByteSource + Send + Drop + '
     source: S,
     passes: CollectorPasses,
     notes: NoteSender,
-) -> Result<Reading, NoMemory>
-    requires desk { AreOfDesk hall.now passes }
+) -> Result<Reading<S>, NoMemory>
+    requires desk { AreCollectorsOf hall.now.desk passes }
     requires fresh { AreFresh passes × (notes.sent ≡ []) }
-    ensures { IfOk result (λ thread. (thread.promise.passes.value ≡ passes) × (thread.promise.notes.value ≡ notes)) }
+    requires lines { IsAtLine lines }
+    ensures { IfOk result (λ thread. (thread.promise.lines.value ≡ lines) × (thread.promise.source.value ≡ source) × (thread.promise.passes.value ≡ passes) × (thread.promise.notes.value ≡ notes)) }
 {
     let promise = ReadingOf {
+        lines: Snapshot::of(&lines),
+        source: Snapshot::of(&source),
         passes: Snapshot::of(&passes),
         notes: Snapshot::of(&notes),
     };
     let thread = scope.spawn_with(
         promise,
         move || -> Read
-            requires { AreOfDesk hall.now passes × AreFresh passes × (notes.sent ≡ []) }
-            ensures { HasRead passes notes result }
+            requires { AreCollectorsOf hall.now.desk passes × AreFresh passes × (notes.sent ≡ []) × IsAtLine lines }
+            ensures { HasRead (lines_ahead lines (S.remaining source)) passes notes result }
         { read_all(rt, alloc, hall, lines, source, passes, notes) },
     )?;
     Ok(thread)
@@ -120,16 +125,17 @@ pub(crate) fn run_threads<
     requires none_open { engine.asked ≡ None }
     requires holds { Holds engine (fresh_state opening.sessions opening.limit) }
     requires side { IsFreshSide hall.now side }
-    requires desk { AreOfDesk hall.now passes }
+    requires desk { AreCollectorsOf hall.now.desk passes }
     requires fresh { AreFresh passes × (notes.sent ≡ []) × (reader.received ≡ []) × (coming.received ≡ []) }
-    ensures { IfOk result (HasReturned opening W.contents sink passes notes reader coming side) }
+    requires lines { IsAtLine lines }
+    ensures { IfOk result (HasReturned (lines_ahead lines (S.remaining source)) opening W.contents sink passes notes reader coming side) }
 {
     thread::scope(
         thread::scope_env(),
         rt,
         move |scope| -> Result<Returned<W>, NoMemory>
-            requires { V.ready × IsEffort opening.effort.budget opening.effort.depth opening.effort.workers × (engine.asked ≡ None) × Holds engine (fresh_state opening.sessions opening.limit) × IsFreshSide hall.now side × AreOfDesk hall.now passes × AreFresh passes × (notes.sent ≡ []) × (reader.received ≡ []) × (coming.received ≡ []) }
-            ensures { IfOk result (HasReturned opening W.contents sink passes notes reader coming side) }
+            requires { V.ready × IsEffort opening.effort.budget opening.effort.depth opening.effort.workers × (engine.asked ≡ None) × Holds engine (fresh_state opening.sessions opening.limit) × IsFreshSide hall.now side × AreCollectorsOf hall.now.desk passes × AreFresh passes × (notes.sent ≡ []) × (reader.received ≡ []) × (coming.received ≡ []) × IsAtLine lines }
+            ensures { IfOk result (HasReturned (lines_ahead lines (S.remaining source)) opening W.contents sink passes notes reader coming side) }
         {
             let reading = start_reader(scope, rt, alloc, hall, lines, source, passes, notes);
             let writing = start_writer(scope, rt, alloc, hall, reader, coming, sink);

@@ -4,7 +4,7 @@ use Rattle.serde_json.specs.Data.{Data}
 use Rattle.serde_json.specs.View.{items_view}
 use Rattle.serde_json.specs.declared.value.Value.{Value}
 use Rattle.log_text.specs.Items.{alone, one_item, two_items, three_items}
-use Rattle.log_text.specs.Commands.{source_in}
+use Rattle.log_text.specs.Commands.{source_in, join_from, join_in}
 
 pub alone_none : {X : Type 0} (given : X) (vs : List Value) → length vs ≢ 0 → None ≡ alone given (items_view vs)
 alone_none given [] h = absurd (omega (arith, h))
@@ -27,6 +27,13 @@ three_items_none make f g h (a ∷ []) other = refl
 three_items_none make f g h (a ∷ b ∷ []) other = refl
 three_items_none make f g h (a ∷ b ∷ c ∷ []) other = absurd (omega (arith, other))
 three_items_none make f g h (a ∷ b ∷ c ∷ d ∷ vs) other = refl
+
+-- a join that doesn't have two parts is of the longer form, or none
+pub join_longer : (vs : List Value) → length vs ≢ 2 → join_from (items_view vs) ≡ join_in (items_view vs)
+join_longer [] other = refl
+join_longer (a ∷ []) other = refl
+join_longer (a ∷ b ∷ []) other = absurd (omega (arith, other))
+join_longer (a ∷ b ∷ c ∷ vs) other = refl
 
 -- a source has one part or two
 pub source_none : (vs : List Value) → length vs ≢ 1 → length vs ≢ 2 → None ≡ source_in (items_view vs)

@@ -115,7 +115,7 @@ pub gone_written : HasText (string (codes "gone")) (word_text (codes "gone"))
 unfolding serde_json_on_literals
 gone_written = word_written _ refl
 
-flag_written : (b : Bool) → HasText (boolean b) (flag_text b)
+pub flag_written : (b : Bool) → HasText (boolean b) (flag_text b)
 flag_written true = record { no_float = refl; text_is = refl }
 flag_written false = record { no_float = refl; text_is = refl }
 

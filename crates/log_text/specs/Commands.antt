@@ -1,15 +1,17 @@
 -- Which lines of a script are commands: each is a JSON array, of a word and the command's parts.
-use Rattle.std.specs.Prelude.{◌≡◌, ℕ, ◌^◌, ⊤, List, Option, Some, None, IsUtf8, bytes_eq, codes, option_map, if◌then◌else◌}
-use Rattle.serde_json.specs.Data.{Data, string, Items, no_items, item}
+use Rattle.std.specs.Prelude.{◌≡◌, ℕ, ◌^◌, ⊤, Bool, List, Option, Some, None, IsUtf8, bytes_eq, codes, option_map, if◌then◌else◌}
+use Rattle.serde_json.specs.Data.{Data, boolean, string, Items, no_items, item}
 use Rattle.serde_json.specs.Read.{read}
 use Rattle.txn.specs.declared.transactions.Source.{Source}
 use Rattle.txn.specs.declared.transactions.Source.TheVariants.{Init, By}
 use Rattle.txn.specs.declared.transactions.Txn.{Txn}
+use Rattle.txn.specs.declared.transactions.TxnId.{TxnId}
 use Rattle.order_check.specs.Effort.{IsEffort}
 use Rattle.log_text.specs.declared.commands.Command.{Command}
 use Rattle.log_text.specs.declared.commands.Effort.{Effort}
-use Rattle.log_text.specs.declared.commands.Command.TheVariants.{Start, Offer, Close, Begin, Finish, Round, Truncate, Rebuild, Show}
-use Rattle.log_text.specs.Items.{array_of, list_of, with_both, alone, one_item, two_items, three_items}
+use Rattle.log_text.specs.declared.commands.Command.TheVariants.{Start, Offer, Join, Close, Begin, Finish, Round, Truncate, Rebuild, Show, Resume, Marks, Last, Resumed, Save}
+use Rattle.log_text.specs.declared.commands.Wanted.TheVariants as wanted
+use Rattle.log_text.specs.Items.{array_of, list_of, with_both, with_three, alone, one_item, two_items, three_items}
 use Rattle.log_text.specs.Numbers.{whole_number, number_within}
 
 -- the lines of a script name sessions up to 255
@@ -50,6 +52,19 @@ start_in = two_items Start whole_number whole_number
 abbrev pub offer_in : Items → Option Command
 offer_in = three_items (λ session first txns. Offer (record { session = session; first = first; txns = txns })) session_of whole_number (list_of txn_of)
 
+-- a join, where all of its parts are there
+abbrev pub join_at : Option ℕ → Option ℕ → Option (List Txn) → Option Command
+join_at = with_three (λ session first txns. Join (record { session = session; first = first; txns = txns }))
+
+-- ["join",session,first,[txn,..]]
+abbrev pub join_from : Items → Option Command
+join_from = three_items (λ session first txns. Join (record { session = session; first = first; txns = txns })) session_of whole_number (list_of txn_of)
+
+-- ["join",session,[txn,..]] begins with number 0; the longer form says where it begins
+abbrev pub join_in : Items → Option Command
+join_in (item session (item txns no_items)) = join_at (session_of session) (Some 0) (list_of txn_of txns)
+join_in parts = join_from parts
+
 -- ["close",session]
 abbrev pub close_in : Items → Option Command
 close_in = one_item Close session_of
@@ -66,11 +81,48 @@ finish_in parts = option_map (λ (effort : Effort). Finish effort.budget effort.
 abbrev pub round_in : Items → Option Command
 round_in parts = option_map (λ (effort : Effort). Round effort.budget effort.depth effort.workers) (effort_in parts)
 
--- the command of this name, with these parts; "begin", "truncate", "rebuild" and "show" have none
+-- ["resume",sessions,limit]
+abbrev pub resume_in : Items → Option Command
+resume_in = two_items Resume whole_number whole_number
+
+-- true or false
+abbrev pub flag_of : Data → Option Bool
+flag_of (boolean flag) = Some flag
+flag_of given = None
+
+-- ["marks",[mark,..],[closed,..]]
+abbrev pub marks_in : Items → Option Command
+marks_in = two_items Marks (list_of whole_number) (list_of flag_of)
+
+-- a key's last gone writer: [key,session,number]
+abbrev pub writer_in : Items → Option (ℕ × TxnId)
+writer_in = three_items (λ key session place. (key, record { session = session; number = place })) whole_number session_of whole_number
+
+abbrev pub writer_of : Data → Option (ℕ × TxnId)
+writer_of = array_of writer_in
+
+-- ["last",[[key,session,number],..]]
+abbrev pub last_in : Items → Option Command
+last_in = one_item Last (list_of writer_of)
+
+-- what is to be given out: ["save","marks"], ["save","last",key] or ["save","remain",session,number]
+abbrev pub save_named : List ℕ → Items → Option Command
+save_named name parts =
+    if bytes_eq name (codes "marks") then alone (Save wanted.Marks) parts
+    else (if bytes_eq name (codes "last") then one_item (λ key. Save (wanted.Last key)) whole_number parts
+    else (if bytes_eq name (codes "remain") then two_items (λ session place. Save (wanted.Remain session place)) session_of whole_number parts
+    else None))
+
+abbrev pub save_in : Items → Option Command
+save_in (item (string name) parts) = save_named name parts
+save_in items = None
+
+-- the command of this name, with these parts; "begin", "truncate", "rebuild", "show" and "resumed" have none
 abbrev pub command_named : List ℕ → Items → Option Command
 command_named name parts =
     if bytes_eq name (codes "open") then start_in parts
     else (if bytes_eq name (codes "offer") then offer_in parts
+    else (if bytes_eq name (codes "join") then join_in parts
     else (if bytes_eq name (codes "close") then close_in parts
     else (if bytes_eq name (codes "begin") then alone Begin parts
     else (if bytes_eq name (codes "finish") then finish_in parts
@@ -78,7 +130,12 @@ command_named name parts =
     else (if bytes_eq name (codes "truncate") then alone Truncate parts
     else (if bytes_eq name (codes "rebuild") then alone Rebuild parts
     else (if bytes_eq name (codes "show") then alone Show parts
-    else None))))))))
+    else (if bytes_eq name (codes "resume") then resume_in parts
+    else (if bytes_eq name (codes "marks") then marks_in parts
+    else (if bytes_eq name (codes "last") then last_in parts
+    else (if bytes_eq name (codes "resumed") then alone Resumed parts
+    else (if bytes_eq name (codes "save") then save_in parts
+    else None))))))))))))))
 
 -- the items are a command's name and its parts
 abbrev pub command_in : Items → Option Command

@@ -3,6 +3,7 @@ pub mod Items
 pub mod Lists
 pub mod Numbers
 pub mod Replies
+pub mod Saved
 pub mod Texts
 pub mod Trees
 pub mod Waiting

@@ -2,14 +2,16 @@ ghost use Rattle.std.specs.Prelude.{◌≡◌, ◌⊎◌, IfOk, IfErr, IfSome, I
 ghost use Rattle.serde_json.specs.View.{view, items_view};
 ghost use Rattle.order_check.specs.Effort.{IsEffort};
 ghost use Rattle.log_text.specs.declared.commands.Command.{Command};
-ghost use Rattle.log_text.specs.Items.{alone};
-ghost use Rattle.log_text.specs.Commands.{start_in, offer_in, close_in, effort_in, finish_in, round_in, command_named, command_in, command_of, IsCommand, HasLimits};
+ghost use Rattle.log_text.specs.Items.{alone, list_of, one_item, two_items};
+ghost use Rattle.log_text.specs.Numbers.{whole_number};
+ghost use Rattle.log_text.specs.Commands.{session_of, start_in, offer_in, join_at, join_from, join_in, txn_of, close_in, effort_in, finish_in, round_in, resume_in, marks_in, last_in, save_named, save_in, command_named, command_in, command_of, IsCommand, HasLimits};
 
 use crate::fragments::txns_of;
+use crate::handed::{flags_of, marks_of, writers_of};
 use crate::numbers::{number_within, session_of, whole_number};
 use serde_json::Value;
 use std::alloc::Global;
-use txn::{Fragment, NoMemory, Refusal};
+use txn::{Fragment, NoMemory, Refusal, Sequence, TxnId};
 
 const MOST_BUDGET: u64 = 1 << 32;
 
@@ -27,6 +29,8 @@ pub enum Command {
     },
     /// To take a fragment.
     Offer(Fragment),
+    /// To let a session join with a fragment, or come back with it.
+    Join(Fragment),
     /// To close a session.
     Close(u8),
     /// To begin a round.
@@ -49,6 +53,33 @@ pub enum Command {
     Rebuild,
     /// To tell the state.
     Show,
+    /// To begin with parts, which are handed over next.
+    Resume {
+        sessions: u64,
+        limit: u64,
+    },
+    /// Handed over: of each session how many transactions are gone, and whether it is closed.
+    Marks {
+        marks: Sequence<u64>,
+        closed: Sequence<bool>,
+    },
+    /// Handed over: last gone writers.
+    Last(Sequence<(u64, TxnId)>),
+    /// To end the hand-over.
+    Resumed,
+    /// To give parts out.
+    Save(Wanted),
+}
+
+/// Which parts are to be given out.
+#[derive(Clone, Copy, Debug)]
+pub enum Wanted {
+    /// How many transactions of each session are gone, and which sessions are closed.
+    Marks,
+    /// The last gone writers of the keys from this one on.
+    Last { key: u64 },
+    /// What remains of a session from this number on.
+    Remain { session: u8, number: u64 },
 }
 
 /// How much a search may cost.
@@ -164,6 +195,144 @@ fn offer_in(alloc: Global, parts: &[Value]) -> Result<Option<Command>, NoMemory>
     }
 }
 
+fn join_at(
+    alloc: Global,
+    session: Option<u8>,
+    first: Option<u64>,
+    txns: &Value,
+) -> Result<Option<Command>, NoMemory>
+    ensures form { IfOk result (λ command. command ≡ join_at session first (list_of txn_of (view txns.now))) }
+    ensures limits { IfOk result (λ command. IfSome command HasLimits) }
+{
+    let (Some(session), Some(first)) = (session, first) else {
+        return Ok(None);
+    };
+    match txns_of(alloc, txns)? {
+        Some(txns) => Ok(Some(Command::Join(Fragment {
+            session,
+            first,
+            txns,
+        }))),
+        None => Ok(None),
+    }
+}
+
+#[tactic(auto, using(crate::proofs::Arity::three_items_none))]
+fn join_from(alloc: Global, parts: &[Value]) -> Result<Option<Command>, NoMemory>
+    ensures form { IfOk result (λ command. command ≡ join_from (items_view parts.now)) }
+    ensures limits { IfOk result (λ command. IfSome command HasLimits) }
+{
+    let [session, first, txns] = parts else {
+        return Ok(None);
+    };
+    join_at(alloc, session_of(session), whole_number(first), txns)
+}
+
+#[tactic(auto, using(crate::proofs::Arity::join_longer))]
+fn join_in(alloc: Global, parts: &[Value]) -> Result<Option<Command>, NoMemory>
+    ensures form { IfOk result (λ command. command ≡ join_in (items_view parts.now)) }
+    ensures limits { IfOk result (λ command. IfSome command HasLimits) }
+{
+    match parts {
+        [session, txns] => join_at(alloc, session_of(session), Some(0), txns),
+        _ => join_from(alloc, parts),
+    }
+}
+
+#[tactic(auto, using(crate::proofs::Arity::two_items_none))]
+fn resume_in(parts: &[Value]) -> Option<Command>
+    ensures form { result ≡ resume_in (items_view parts.now) }
+    ensures limits { IfSome result HasLimits }
+{
+    match parts {
+        [sessions, limit] => Some(Command::Resume {
+            sessions: whole_number(sessions)?,
+            limit: whole_number(limit)?,
+        }),
+        _ => None,
+    }
+}
+
+#[tactic(auto, using(crate::proofs::Arity::two_items_none))]
+fn marks_in(alloc: Global, parts: &[Value]) -> Result<Option<Command>, NoMemory>
+    ensures form { IfOk result (λ command. command ≡ marks_in (items_view parts.now)) }
+    ensures limits { IfOk result (λ command. IfSome command HasLimits) }
+{
+    let [marks, closed] = parts else {
+        return Ok(None);
+    };
+    let Some(marks) = marks_of(alloc, marks)? else {
+        return Ok(None);
+    };
+    let Some(closed) = flags_of(alloc, closed)? else {
+        return Ok(None);
+    };
+    Ok(Some(Command::Marks { marks, closed }))
+}
+
+#[tactic(auto, using(crate::proofs::Arity::one_item_none))]
+fn last_in(alloc: Global, parts: &[Value]) -> Result<Option<Command>, NoMemory>
+    ensures form { IfOk result (λ command. command ≡ last_in (items_view parts.now)) }
+    ensures limits { IfOk result (λ command. IfSome command HasLimits) }
+{
+    let [writers] = parts else {
+        return Ok(None);
+    };
+    match writers_of(alloc, writers)? {
+        Some(writers) => Ok(Some(Command::Last(writers))),
+        None => Ok(None),
+    }
+}
+
+#[tactic(auto, using(crate::proofs::Arity::one_item_none))]
+fn last_wanted(parts: &[Value]) -> Option<Command>
+    ensures form { result ≡ one_item (λ key. Command.Save (Wanted.Last key)) whole_number (items_view parts.now) }
+    ensures limits { IfSome result HasLimits }
+{
+    match parts {
+        [key] => Some(Command::Save(Wanted::Last {
+            key: whole_number(key)?,
+        })),
+        _ => None,
+    }
+}
+
+#[tactic(auto, using(crate::proofs::Arity::two_items_none))]
+fn remain_wanted(parts: &[Value]) -> Option<Command>
+    ensures form { result ≡ two_items (λ session place. Command.Save (Wanted.Remain session place)) session_of whole_number (items_view parts.now) }
+    ensures limits { IfSome result HasLimits }
+{
+    match parts {
+        [session, number] => Some(Command::Save(Wanted::Remain {
+            session: session_of(session)?,
+            number: whole_number(number)?,
+        })),
+        _ => None,
+    }
+}
+
+fn save_named(name: &str, parts: &[Value]) -> Option<Command>
+    ensures form { result ≡ save_named name.now (items_view parts.now) }
+    ensures limits { IfSome result HasLimits }
+{
+    match name {
+        "marks" => alone(Command::Save(Wanted::Marks), parts),
+        "last" => last_wanted(parts),
+        "remain" => remain_wanted(parts),
+        _ => None,
+    }
+}
+
+fn save_in(items: &[Value]) -> Option<Command>
+    ensures form { result ≡ save_in (items_view items.now) }
+    ensures limits { IfSome result HasLimits }
+{
+    let [name, parts @ ..] = items else {
+        return None;
+    };
+    save_named(name.as_str()?, parts)
+}
+
 fn command_named(alloc: Global, name: &str, parts: &[Value]) -> Result<Option<Command>, NoMemory>
     ensures form { IfOk result (λ command. command ≡ command_named name.now (items_view parts.now)) }
     ensures limits { IfOk result (λ command. IfSome command HasLimits) }
@@ -171,6 +340,7 @@ fn command_named(alloc: Global, name: &str, parts: &[Value]) -> Result<Option<Co
     match name {
         "open" => Ok(start_in(parts)),
         "offer" => offer_in(alloc, parts),
+        "join" => join_in(alloc, parts),
         "close" => Ok(close_in(parts)),
         "begin" => Ok(alone(Command::Begin, parts)),
         "finish" => Ok(finish_in(parts)),
@@ -178,6 +348,11 @@ fn command_named(alloc: Global, name: &str, parts: &[Value]) -> Result<Option<Co
         "truncate" => Ok(alone(Command::Truncate, parts)),
         "rebuild" => Ok(alone(Command::Rebuild, parts)),
         "show" => Ok(alone(Command::Show, parts)),
+        "resume" => Ok(resume_in(parts)),
+        "marks" => marks_in(alloc, parts),
+        "last" => last_in(alloc, parts),
+        "resumed" => Ok(alone(Command::Resumed, parts)),
+        "save" => Ok(save_in(parts)),
         _ => Ok(None),
     }
 }

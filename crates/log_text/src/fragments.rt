@@ -64,7 +64,7 @@ fn reads_of(alloc: Global, value: &Value) -> Result<Option<Sequence<(u64, Source
     Ok(Some(Sequence::new(reads)))
 }
 
-fn keys_of(alloc: Global, value: &Value) -> Result<Option<Sequence<u64>>, NoMemory>
+pub(crate) fn keys_of(alloc: Global, value: &Value) -> Result<Option<Sequence<u64>>, NoMemory>
     ensures { IfOk result (λ keys. keys ≡ list_of whole_number (view value.now)) }
 {
     let Some(items) = value.as_array() else {

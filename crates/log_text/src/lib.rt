@@ -3,10 +3,13 @@
 
 mod commands;
 mod fragments;
+mod handed;
 mod lists;
 mod numbers;
 mod replies;
+mod saved;
 mod trees;
 
-pub use commands::{Command, read_line};
+pub use commands::{Command, Wanted, read_line};
 pub use replies::{Reply, write_reply};
+pub use saved::Saved;

@@ -1,10 +1,13 @@
 ghost use Rattle.std.specs.Prelude.{◌≡◌, IfOk, OnOk};
 ghost use Rattle.log_text.specs.Replies.{line_of, text_of, parts_of, report_parts, HasKindOfOrder, kind_name};
+ghost use Rattle.log_text.specs.Commands.{IsCommand};
+ghost use Rattle.log_text.specs.Saved.{NamesSessions, handed_by};
 ghost use Rattle.log_text.specs.Texts.{Gains, IsWrittenAs};
 
 use crate::lists::{
     push_each, push_flags, push_id, push_ids, push_numbers, push_word, push_writers,
 };
+use crate::saved::{Saved, push_saved, saved_bytes};
 use crate::trees::push_tree;
 use order_check::Kind;
 use refutation::Tree;
@@ -52,6 +55,8 @@ pub enum Reply {
         last: Sequence<(u64, TxnId)>,
         remaining: u64,
     },
+    /// What was to be given out of the parts.
+    Saved(Saved),
 }
 
 fn kind_name(kind: Kind) -> &'static str
@@ -182,6 +187,7 @@ fn push_parts(alloc: Global, items: &mut Vec<Value>, reply: &Reply) -> Result<()
             last,
             remaining,
         } => push_shown(alloc, items, marks, received, closed, last, *remaining),
+        Reply::Saved(saved) => push_saved(alloc, items, saved),
     }
 }
 
@@ -193,12 +199,25 @@ fn value_of(alloc: Global, reply: &Reply) -> Result<Value, NoMemory>
     Ok(Value::Array(items))
 }
 
-/// The reply's line: one JSON array with no space in it, and a line feed.
+/// The reply's text: one JSON array with no space in it. That of parts that are given out is a line of a hand-over.
+fn reply_bytes(alloc: Global, reply: &Reply) -> Result<Vec<u8>, NoMemory>
+    ensures text { IfOk result (λ bytes. bytes.items ≡ text_of reply.now) }
+    ensures reads_back { IfOk result (λ bytes. (saved : Saved) → reply.now ≡ Reply.Saved saved → NamesSessions saved → IsCommand bytes.items (handed_by saved)) }
+{
+    match reply {
+        Reply::Saved(saved) => saved_bytes(alloc, saved),
+        _ => Ok(value_of(alloc, reply)?.to_vec(alloc)?),
+    }
+}
+
+/// The reply's line: its text and a line feed. The text of parts that are given out is a line of a hand-over, and hands the same parts
+/// over.
 pub fn write_reply(alloc: Global, reply: &Reply) -> Result<Vec<u8>, NoMemory>
     requires { HasKindOfOrder reply.now }
-    ensures { IfOk result (λ bytes. bytes.items ≡ line_of reply.now) }
+    ensures line { IfOk result (λ bytes. bytes.items ≡ line_of reply.now) }
+    ensures reads_back { IfOk result (λ bytes. (saved : Saved) → reply.now ≡ Reply.Saved saved → NamesSessions saved → IsCommand (text_of reply.now) (handed_by saved)) }
 {
-    let mut bytes = value_of(alloc, reply)?.to_vec(alloc)?;
+    let mut bytes = reply_bytes(alloc, reply)?;
     bytes.push(b'\n')?;
     Ok(bytes)
 }

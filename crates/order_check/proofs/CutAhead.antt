@@ -1,5 +1,5 @@
 -- What stands ahead of a settled fence, in an order of parts that have grown behind a front, is what a cut takes out.
-use Rattle.std.proofs.Common.{◌≡◌, ℕ, ◌+◌, ◌⊎◌, List, [], ◌∷◌, ◌++◌, length, Some, None, Option, refl, sym, subst, ◌∙◌, inl, inr, arith, suc, zero, ap, IsSome, nat_cmp, append_assoc}
+use Rattle.std.proofs.Common.{◌≡◌, ◌≢◌, ℕ, ◌+◌, ◌<◌, ◌⊎◌, List, [], ◌∷◌, ◌++◌, length, Some, None, Option, refl, sym, subst, ◌∙◌, inl, inr, arith, suc, zero, ap, IsSome, nat_cmp, append_assoc}
 use Rattle.std.specs.Prelude.{Contains}
 use Rattle.std.specs.List.{slice_get}
 use Rattle.std.specs.FinMap.{FinMap, get}
@@ -12,11 +12,11 @@ use Rattle.order_check.specs.Based.{remaining_at, Remains, HasGoneBase}
 use Rattle.order_check.specs.Explains.{Explains}
 use Rattle.order_check.specs.Known.{WritesKey}
 use Rattle.order_check.specs.Precedes.{Precedes}
-use Rattle.order_check.specs.Settled.{IsSettled, IsCutAt, IsCutOf, IsLastIn, InFront}
-use Rattle.order_check.specs.Cuts.{IsFront}
+use Rattle.order_check.specs.Settled.{IsSettled, IsBefore, IsCutAt, IsCutOf, IsLastIn, InFront}
+use Rattle.order_check.specs.Cuts.{IsFront, GoesOn, IsSettledBehind}
 use Rattle.order_check.proofs.CutCounts.{cut_looks, fronts_remain, at_contains}
 use Rattle.order_check.proofs.CutReads.{LastOf, silent, written, Gone, contains_left}
-use Rattle.order_check.proofs.Fenced.{at_place, known_whole, remains_whole, still_remains, writes_whole}
+use Rattle.order_check.proofs.Fenced.{at_place, in_front_or_behind, known_whole, remains_whole, still_remains, writes_whole}
 use Rattle.order_check.proofs.KeepingLaws.{kept_never_twice, kept_one_place}
 use Rattle.order_check.proofs.OrderLaws.{stands, precedes_left}
 use Rattle.order_check.proofs.Places.{IsAt, place_left, place_right, place_in}
@@ -29,6 +29,21 @@ same_in_whole front whole is id r = by_found (remaining_at front id) refl r
     by_found : (o : Option Txn) → remaining_at front id ≡ o → IsSome o → remaining_at whole id ≡ remaining_at front id
     by_found None e some = absurd (false≢true some)
     by_found (Some txn) e some = still_remains front whole is id txn e ∙ sym e
+
+-- what stays is known to come after the fence
+pub rest_behind : (front whole : Parts) (fence : TxnId) (gone : List TxnId) (last : FinMap nat_cmp TxnId) → IsFront front whole → IsSettledBehind front whole fence → IsCutAt front fence gone last → (id : TxnId) → Remains whole id → (¬ Contains gone id) → IsBefore whole fence id
+rest_behind front whole fence gone last is settled cut id remains out = by_place (in_front_or_behind front whole is id remains)
+  where
+    not_fence : id ≢ fence
+    not_fence same = out ((cut.front id).1 (inl same))
+
+    by_order : IsBefore front id fence ⊎ IsBefore front fence id → IsBefore whole fence id
+    by_order (inl before) = absurd (out ((cut.front id).1 (inr before)))
+    by_order (inr behind) = known_whole front whole is fence id behind
+
+    by_place : Remains front id ⊎ (GoesOn front whole id.session × ((other : TxnId) → other.session ≡ id.session → Remains front other → other.number < id.number)) → IsBefore whole fence id
+    by_place (inl there) = by_order (settled.settled.ordered id there not_fence)
+    by_place (inr (goes, below)) = settled.behind id remains (λ here. let less = below id refl here in omega arith)
 
 -- the last gone writer of each key that what goes writes
 pub last_of_key : (front whole : Parts) (fence : TxnId) (gone : List TxnId) (last : FinMap nat_cmp TxnId) (is_open : ℕ → Type 0) → IsFront front whole → IsSettled front is_open fence → IsCutAt front fence gone last → (key : ℕ) → LastOf front whole gone last key

@@ -10,9 +10,9 @@ use Rattle.txn.specs.declared.transactions.Txn.{Txn}
 use Rattle.txn.specs.History.{in_session, ids_from}
 use Rattle.order_check.specs.declared.remainder.Parts.{Parts}
 use Rattle.order_check.specs.Based.{mark_of, remaining_of, remaining_ids, received_count}
-use Rattle.order_check.specs.Cuts.{IsFront, GoesOn}
+use Rattle.order_check.specs.Cuts.{IsFront, IsSettledBehind}
 use Rattle.order_check.specs.Cutting.{CanBeApplied}
-use Rattle.order_check.specs.Settled.{IsSettled, IsCutAt, count_in}
+use Rattle.order_check.specs.Settled.{IsSettled, IsCutAt, NoSession, count_in}
 use Rattle.order_check.proofs.CutCounts.{AreFrom, are_from, gone_without_gap, fronts_remain, at_contains}
 use Rattle.order_check.proofs.Fenced.{remains_whole, mark_same}
 use Rattle.order_check.proofs.Places.{filtered_at}
@@ -57,13 +57,13 @@ first_ids s first (id ∷ ids) (txn ∷ txns) from few =
     let rest : ids ≡ take (length ids) (ids_from s (first + 1) txns) = first_ids s (first + 1) ids txns (λ k x at. let place = from (suc k) x at in (place.0, omega (arith, place.1))) (omega arith) in
     λ i. same i ∷ rest i
 
-pub cuts_fit : (front whole : Parts) (fence : TxnId) (gone : List TxnId) (last : FinMap nat_cmp TxnId) → IsFront front whole → IsSettled front (GoesOn front whole) fence → IsCutAt front fence gone last → CanBeApplied whole gone last
+pub cuts_fit : (front whole : Parts) (fence : TxnId) (gone : List TxnId) (last : FinMap nat_cmp TxnId) → IsFront front whole → IsSettledBehind front whole fence → IsCutAt front fence gone last → CanBeApplied whole gone last
 cuts_fit front whole fence gone last is settled cut = record {
   front = λ s.
       let of = filter (in_session s) gone in
       let counted : count_in gone s ≡ length of = sym (length-filter (in_session s) gone) in
-      let from : AreFrom s (mark_of whole s) of = subst (λ m. AreFrom s m of) (mark_same front whole is s) (are_from s (mark_of front s) of (gone_without_gap front fence gone last (GoesOn front whole) s settled cut)) in
-      let few = few_gone front whole fence gone last (GoesOn front whole) is settled cut s in
+      let from : AreFrom s (mark_of whole s) of = subst (λ m. AreFrom s m of) (mark_same front whole is s) (are_from s (mark_of front s) of (gone_without_gap front fence gone last NoSession s settled.settled cut)) in
+      let few = few_gone front whole fence gone last NoSession is settled.settled cut s in
       first_ids s (mark_of whole s) of (remaining_of whole s) from few ∙ ap (λ n. take n (remaining_ids whole s)) (sym counted);
   writers = λ key writer is_last. (cut.front writer).1 (((cut.last_of key writer).0 is_last).front);
 }

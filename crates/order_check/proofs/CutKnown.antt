@@ -10,24 +10,23 @@ use Rattle.txn.specs.declared.choices.Choice.{Choice}
 use Rattle.txn.specs.Transactions.{same_id}
 use Rattle.txn.specs.History.{session_of, writes_key}
 use Rattle.order_check.specs.declared.remainder.Parts.{Parts}
-use Rattle.order_check.specs.Based.{IsGone, mark_of, remaining_at, remaining_of, Remains, last_gone}
+use Rattle.order_check.specs.Based.{IsGone, mark_of, remaining_at, Remains, last_gone}
 use Rattle.order_check.specs.Known.{Known, IsChoice, ReadsKey, WritesKey, IsBaseSource, by_session, by_read, by_base, by_taken, through, forces_after, forces_before}
 use Rattle.order_check.specs.CutLaws.{LeadsNotBack, IsFromGone}
-use Rattle.order_check.specs.Cuts.{IsFront, GoesOn, IsCutBehind, IsContentCutOff}
-use Rattle.order_check.specs.Settled.{IsSettled, IsCutAt, IsCutOf, IsBefore, InFront, count_in, or_else}
-use Rattle.order_check.proofs.CutAhead.{last_of_key}
+use Rattle.order_check.specs.Cuts.{IsFront, IsSettledBehind, IsCutBehind, IsContentCutOff}
+use Rattle.order_check.specs.Settled.{IsCutAt, IsCutOf, InFront, NoSession, count_in, or_else}
+use Rattle.order_check.proofs.CutAhead.{last_of_key, rest_behind}
 use Rattle.order_check.proofs.CutCounts.{cut_looks, fronts_remain, known_remain}
 use Rattle.order_check.proofs.CutReads.{CutLooks, LastOf, silent, written}
 use Rattle.order_check.proofs.EachRemaining.{same_id_is, same_id_itself}
-use Rattle.order_check.proofs.Fenced.{in_front_or_behind, known_whole, remains_whole}
+use Rattle.order_check.proofs.Fenced.{known_whole, remains_whole}
 use Rattle.order_check.proofs.OrderLaws.{reader_remains, writer_remains}
 use Rattle.order_check.proofs.Received.{gone_past}
-use Rattle.order_check.proofs.Remaining.{session_past}
 
 -- a cut of a front of the parts
 record Cut (front whole new : Parts) (fence : TxnId) (gone : List TxnId) (last : FinMap nat_cmp TxnId) : Type 0 where
   is : IsFront front whole
-  settled : IsSettled front (GoesOn front whole) fence
+  settled : IsSettledBehind front whole fence
   cut : IsCutAt front fence gone last
   leaves : IsCutOf whole new gone last
 
@@ -59,16 +58,14 @@ closed_as new old = record new { closed = old.closed; limit = old.limit }
 cut_of_content : (old new : Parts) (gone : List TxnId) (c : IsContentCutOff old gone new) → Cut c.cut_off.front old (closed_as new old) c.cut_off.behind.fence gone c.cut_off.last
 cut_of_content old new gone c = record {
   is = record {
-    base = behind.is_front.base ∙ c.same_before.base;
-    sessions = behind.is_front.sessions ∙ ap length c.same_before.remain;
+    last = behind.is_front.last ∙ ap (λ base. base.last) c.same_before.base;
+    marks = λ s. behind.is_front.marks s ∙ ap (λ base. slice_index base.marks s) c.same_before.base;
+    sessions = omega (arith, behind.is_front.sessions, ap length c.same_before.remain);
     remain = λ s. let later = behind.is_front.remain s in (later.0, sym (ap (λ remain. session_of remain s) c.same_before.remain) ∙ later.1);
   };
   settled = record {
-    remains = behind.settled.remains;
-    ordered = behind.settled.ordered;
-    past = λ s within goes. behind.settled.past s within (subst (λ remain. length (remaining_of front s) < length (session_of remain s)) (sym c.same_before.remain) goes);
-    nothing_pending = behind.settled.nothing_pending;
-    last_writers = behind.settled.last_writers;
+    settled = behind.settled.settled;
+    behind = λ id remains out. subst (λ (parts : Parts). Known parts [] fence id) same (known_content c.before old.closed old.limit fence id (behind.settled.behind id (subst (λ (parts : Parts). Remains parts id) (sym same) remains) out));
   };
   cut = behind.cut;
   leaves = record {
@@ -88,8 +85,14 @@ cut_of_content old new gone c = record {
     behind : IsCutBehind c.cut_off.front c.before gone c.cut_off.last c.after
     behind = c.cut_off.behind
 
+    fence : TxnId
+    fence = c.cut_off.behind.fence
+
+    same : record c.before { closed = old.closed; limit = old.limit } ≡ old
+    same = λ i. record { base = c.same_before.base i; remain = c.same_before.remain i; closed = old.closed; limit = old.limit }
+
 looks_of : (front whole new : Parts) (fence : TxnId) (gone : List TxnId) (last : FinMap nat_cmp TxnId) → Cut front whole new fence gone last → CutLooks whole new gone
-looks_of front whole new fence gone last c = cut_looks front whole new fence gone last (GoesOn front whole) c.is c.settled c.cut c.leaves
+looks_of front whole new fence gone last c = cut_looks front whole new fence gone last NoSession c.is c.settled.settled c.cut c.leaves
 
 -- what remained goes or stays
 goes_or_stays : (whole new : Parts) (gone : List TxnId) (id : TxnId) → CutLooks whole new gone → Remains whole id → Contains gone id ⊎ (¬ Contains gone id)
@@ -127,32 +130,8 @@ writes_old whole new gone id key looks writes =
 goes_first : (front whole new : Parts) (fence : TxnId) (gone : List TxnId) (last : FinMap nat_cmp TxnId) (id other : TxnId) → Cut front whole new fence gone last → Contains gone id → Remains whole other → (¬ Contains gone other) → Known whole [] id other
 goes_first front whole new fence gone last id other c has remains out = by_front ((c.cut.front id).0 has)
   where
-    not_fence : other ≢ fence
-    not_fence same = out ((c.cut.front other).1 (inl same))
-
-    by_order : IsBefore front other fence ⊎ IsBefore front fence other → Known whole [] fence other
-    by_order (inl before) = absurd (out ((c.cut.front other).1 (inr before)))
-    by_order (inr behind) = known_whole front whole c.is fence other behind
-
-    session_there : GoesOn front whole other.session → other.session < length front.remain
-    session_there goes = by_bound (cases_lt other.session (length front.remain))
-      where
-        by_bound : (other.session < length front.remain) ⊎ (length front.remain ≤ other.session) → other.session < length front.remain
-        by_bound (inl within) = within
-        by_bound (inr past) = let none = session_past whole.remain other.session (omega (arith, c.is.sessions)) in let len = ap length none in absurd (omega (arith, goes, len))
-
-    past_it : (id : TxnId) → (id ≡ fence) ⊎ IsBefore front fence id → Known whole [] id other → Known whole [] fence other
-    past_it id (inl same) known = subst (λ x. Known whole [] x other) same known
-    past_it id (inr before) known = through (known_whole front whole c.is fence id before) known
-
     behind : Known whole [] fence other
-    behind = by_place (in_front_or_behind front whole c.is other remains)
-      where
-        by_place : Remains front other ⊎ (GoesOn front whole other.session × ((id : TxnId) → id.session ≡ other.session → Remains front id → id.number < other.number)) → Known whole [] fence other
-        by_place (inl there) = by_order (c.settled.ordered other there not_fence)
-        by_place (inr (goes, below)) =
-            let (one, same, there, is_past) = c.settled.past other.session (session_there goes) goes in
-            past_it one is_past (by_session (remains_whole front whole c.is one there) remains same (below one same there))
+    behind = rest_behind front whole fence gone last c.is c.settled c.cut other remains out
 
     by_front : InFront front fence id → Known whole [] id other
     by_front (inl same) = subst (λ x. Known whole [] x other) (sym same) behind
@@ -160,7 +139,7 @@ goes_first front whole new fence gone last id other c has remains out = by_front
 
 -- the base keeps a read's source, or takes it over from what goes
 base_kept : (front whole new : Parts) (fence : TxnId) (gone : List TxnId) (last : FinMap nat_cmp TxnId) (reader : TxnId) (key : ℕ) (source : Source) → Cut front whole new fence gone last → LeadsNotBack whole gone → (¬ Contains gone reader) → ReadsKey whole reader key source → IsBaseSource whole key source → IsBaseSource new key source
-base_kept front whole new fence gone last reader key source c back out reads base = by_key (last_of_key front whole fence gone last (GoesOn front whole) c.is c.settled c.cut key)
+base_kept front whole new fence gone last reader key source c back out reads base = by_key (last_of_key front whole fence gone last NoSession c.is c.settled.settled c.cut key)
   where
     by_source : (source : Source) → last_gone new key ≡ last_gone whole key → IsBaseSource whole key source → IsBaseSource new key source
     by_source Init same h = same ∙ h
@@ -171,7 +150,7 @@ base_kept front whole new fence gone last reader key source c back out reads bas
     by_key (written writer is has writes before) = absurd (back reader writer out has (by_base key (source, reads, base) writes (λ same. out (subst (λ x. Contains gone x) same has))))
 
 base_moved : (front whole new : Parts) (fence : TxnId) (gone : List TxnId) (last : FinMap nat_cmp TxnId) (reader writer : TxnId) (key : ℕ) → Cut front whole new fence gone last → LeadsNotBack whole gone → (¬ Contains gone reader) → ReadsKey whole reader key (By writer) → Contains gone writer → WritesKey whole writer key → last_gone new key ≡ Some writer
-base_moved front whole new fence gone last reader writer key c back out reads has writes = by_key (last_of_key front whole fence gone last (GoesOn front whole) c.is c.settled c.cut key)
+base_moved front whole new fence gone last reader writer key c back out reads has writes = by_key (last_of_key front whole fence gone last NoSession c.is c.settled.settled c.cut key)
   where
     by_key : LastOf front whole gone last key → last_gone new key ≡ Some writer
     by_key (silent none quiet) = absurd (quiet writer has writes)
@@ -187,7 +166,7 @@ base_moved front whole new fence gone last reader writer key c back out reads ha
 
 -- and it has no others
 base_old : (front whole new : Parts) (fence : TxnId) (gone : List TxnId) (last : FinMap nat_cmp TxnId) (key : ℕ) (source : Source) → Cut front whole new fence gone last → IsBaseSource new key source → IsBaseSource whole key source ⊎ IsFromGone whole gone key source
-base_old front whole new fence gone last key source c base = by_key (last_of_key front whole fence gone last (GoesOn front whole) c.is c.settled c.cut key)
+base_old front whole new fence gone last key source c base = by_key (last_of_key front whole fence gone last NoSession c.is c.settled.settled c.cut key)
   where
     by_same : (source : Source) → last_gone new key ≡ last_gone whole key → IsBaseSource new key source → IsBaseSource whole key source
     by_same Init same h = sym same ∙ h
@@ -290,7 +269,7 @@ leaves_rest old new gone c id =
     let front = c.cut_off.front in
     let fence = c.cut_off.behind.fence in
     let looks = looks_of front old (closed_as new old) fence gone c.cut_off.last cut in (
-      λ has. remains_whole front old cut.is id (fronts_remain front fence id cut.settled.remains ((cut.cut.front id).0 has)),
+      λ has. remains_whole front old cut.is id (fronts_remain front fence id cut.settled.settled.remains ((cut.cut.front id).0 has)),
       (λ here. looks.new_remains id here, λ was. stays old (closed_as new old) gone id looks was.0 was.1),
       λ here. let was = looks.new_remains id here in looks.same id was.0 was.1,
     )

@@ -124,7 +124,7 @@ met_grown front whole ids key source is remain received met = by_source source r
     none_of some remain quiet k d within = ap (λ o. writes_key o key) (same_in_whole front whole is (get_or some k d) (remain (get_or some k d) (place_has some k d within))) ∙ quiet k d within
 
     last_same : last_gone front key ≡ last_gone whole key
-    last_same = ap (λ base. get base.last key) is.base
+    last_same = ap (λ last. get last key) is.last
 
     by_source : (source : Source) → ((writer : TxnId) → source ≡ By writer → IsReceived front writer) → Meets front ids key source → Meets whole ids key source
     by_source Init received met = (sym last_same ∙ met.0, none met.1)

@@ -16,20 +16,20 @@ use Rattle.order_check.specs.Based.{mark_of, remaining_of, remaining_ids, remain
 use Rattle.order_check.specs.Explains.{Explains}
 use Rattle.order_check.specs.Known.{Known, IsChoice, ReadsKey, WritesKey, IsBaseSource, by_session, by_read, by_base, by_taken, through, forces_after, forces_before}
 use Rattle.order_check.specs.Precedes.{Precedes}
-use Rattle.order_check.specs.Settled.{IsSettled, IsBefore, IsPast, InFront}
+use Rattle.order_check.specs.Settled.{IsBefore, InFront}
 use Rattle.order_check.specs.CutLaws.{SplitsAt}
-use Rattle.order_check.specs.Cuts.{IsFront, GoesOn}
+use Rattle.order_check.specs.Cuts.{IsFront, GoesOn, IsSettledBehind}
 use Rattle.order_check.proofs.KeepingLaws.{kept_never_twice, one_way}
-use Rattle.order_check.proofs.OrderLaws.{stands, session_precedes, precedes_through, in_own_session}
+use Rattle.order_check.proofs.OrderLaws.{stands, in_own_session}
 use Rattle.order_check.proofs.Places.{IsAt, at_filter, place_left, place_right, split_at}
 use Rattle.order_check.proofs.Received.{look_up, within_some}
-use Rattle.order_check.proofs.Remaining.{remaining_place, session_past}
+use Rattle.order_check.proofs.Remaining.{remaining_place}
 use Rattle.order_check.proofs.SessionIds.{id_at_place}
 use Rattle.order_check.proofs.TakenLaws.{keeps_taken}
 
 -- the marks of a front are those of the whole
 pub mark_same : (front whole : Parts) → IsFront front whole → (s : ℕ) → mark_of front s ≡ mark_of whole s
-mark_same front whole is s = ap (λ base. Rattle.std.specs.Prelude.slice_index base.marks s) is.base
+mark_same front whole is s = is.marks s
 
 -- what remains of the front remains of the whole
 pub still_remains : (front whole : Parts) → IsFront front whole → (id : TxnId) (txn : Txn) → remaining_at front id ≡ Some txn → remaining_at whole id ≡ Some txn
@@ -58,9 +58,13 @@ reads_whole front whole is id key source h = at_whole front whole is id (λ o. I
 pub writes_whole : (front whole : Parts) → IsFront front whole → (id : TxnId) (key : ℕ) → WritesKey front id key → WritesKey whole id key
 writes_whole front whole is id key h = at_whole front whole is id (λ o. writes_key o key ≡ true) (λ _ none. false≢true none) h
 
+-- a fence of the front is one of the whole
+pub fence_whole : (front whole : Parts) → IsFront front whole → (id : TxnId) → IsSomeAnd (remaining_at front id) IsFence → IsSomeAnd (remaining_at whole id) IsFence
+fence_whole front whole is id h = at_whole front whole is id (λ o. IsSomeAnd o IsFence) (λ _ none. none) h
+
 base_whole : (front whole : Parts) → IsFront front whole → (key : ℕ) (source : Source) → IsBaseSource front key source → IsBaseSource whole key source
-base_whole front whole is key Init h = sym (ap (λ base. Rattle.std.specs.FinMap.get base.last key) is.base) ∙ h
-base_whole front whole is key (By writer) h = sym (ap (λ base. Rattle.std.specs.FinMap.get base.last key) is.base) ∙ h
+base_whole front whole is key Init h = sym (ap (λ last. Rattle.std.specs.FinMap.get last key) is.last) ∙ h
+base_whole front whole is key (By writer) h = sym (ap (λ last. Rattle.std.specs.FinMap.get last key) is.last) ∙ h
 
 choice_whole : (front whole : Parts) → IsFront front whole → (choice : Choice) → IsChoice front choice → IsChoice whole choice
 choice_whole front whole is choice h = record {
@@ -130,25 +134,21 @@ order_remains parts order id h at = by_place (subst (λ ids. IsAt ids id) (h.ses
         subst (λ o. IsSome o) (sym (look_up parts id (omega (arith, place.2)))) (within_some (remaining_of parts id.session) (id.number - mark_of parts id.session) (omega (arith, place.0, place.2)))
 
 -- an order that explains the whole is split by the fence
-pub fence_splits : (front whole : Parts) (fence : TxnId) (order : List TxnId) → HasGoneBase whole → IsFront front whole → IsSettled front (GoesOn front whole) fence → Explains whole order → SplitsAt front fence order
+pub fence_splits : (front whole : Parts) (fence : TxnId) (order : List TxnId) → HasGoneBase whole → IsFront front whole → IsSettledBehind front whole fence → Explains whole order → SplitsAt front fence order
 fence_splits front whole fence order gone is settled h = by_place (stands whole order fence h fence_remains)
   where
     fence_remains : Remains whole fence
-    fence_remains = remains_whole front whole is fence (by_found (remaining_at front fence) settled.remains)
+    fence_remains = remains_whole front whole is fence (by_found (remaining_at front fence) settled.settled.remains)
       where
         by_found : (found : Option Txn) → IsSomeAnd found IsFence → IsSome found
         by_found None some = absurd some
         by_found (Some txn) some = refl
 
-    known : (a b : TxnId) → Known front [] a b → Precedes order a b
-    known a b k = keeps_taken whole [] order gone h (λ x y (k, within, at). absurd (omega arith)) a b (known_whole front whole is a b k)
+    known_of_whole : (a b : TxnId) → Known whole [] a b → Precedes order a b
+    known_of_whole a b k = keeps_taken whole [] order gone h (λ x y (k, within, at). absurd (omega arith)) a b k
 
-    session_there : (id : TxnId) → GoesOn front whole id.session → id.session < length front.remain
-    session_there id goes = by_bound (cases_lt id.session (length front.remain))
-      where
-        by_bound : (id.session < length front.remain) ⊎ (length front.remain ≤ id.session) → id.session < length front.remain
-        by_bound (inl within) = within
-        by_bound (inr past) = let none = session_past whole.remain id.session (omega (arith, is.sessions)) in let len = ap length none in absurd (omega (arith, goes, len))
+    known : (a b : TxnId) → Known front [] a b → Precedes order a b
+    known a b k = known_of_whole a b (known_whole front whole is a b k)
 
     by_place : IsAt order fence → SplitsAt front fence order
     by_place (i, at) = by_split (split_at order i fence at)
@@ -171,24 +171,17 @@ fence_splits front whole fence order gone is settled h = by_place (stands whole 
             in_after id has (inl same) = kept_never_twice whole order fence h.sessions (subst (λ x. Precedes order fence x) same (stands_after id has))
             in_after id has (inr before_fence) = one_way whole order fence id h.sessions (stands_after id has) (known id fence before_fence)
 
-            past_fence : (id other : TxnId) → (other ≡ fence) ⊎ IsBefore front fence other → Precedes order other id → Precedes order fence id
-            past_fence id other (inl same) p = subst (λ x. Precedes order x id) same p
-            past_fence id other (inr later) p = precedes_through whole order fence other id h (known fence other later) p
-
             -- what stands in front of the fence doesn't stand behind it
             not_after : (id : TxnId) → Contains before id → ¬ Precedes order fence id
             not_after id has p = one_way whole order fence id h.sessions p (stands_before id has)
 
             by_kind : (id : TxnId) → Contains before id → Remains whole id → Remains front id ⊎ (GoesOn front whole id.session × ((other : TxnId) → other.session ≡ id.session → Remains front other → other.number < id.number)) → InFront front fence id
-            by_kind id has remains (inl here) = by_side (settled.ordered id here (λ same. kept_never_twice whole order fence h.sessions (subst (λ x. Precedes order x fence) same (stands_before id has))))
+            by_kind id has remains (inl here) = by_side (settled.settled.ordered id here (λ same. kept_never_twice whole order fence h.sessions (subst (λ x. Precedes order x fence) same (stands_before id has))))
               where
                 by_side : IsBefore front id fence ⊎ IsBefore front fence id → InFront front fence id
                 by_side (inl b) = inr b
                 by_side (inr a) = absurd (not_after id has (known fence id a))
-            by_kind id has remains (inr (goes, below)) = by_past (settled.past id.session (session_there id goes) goes)
-              where
-                by_past : IsPast front fence id.session → InFront front fence id
-                by_past (other, session, there, later) = absurd (not_after id has (past_fence id other later (session_precedes whole order other id h (remains_whole front whole is other there) remains session (below other session there))))
+            by_kind id has remains (inr (goes, below)) = absurd (not_after id has (known_of_whole fence id (settled.behind id remains (λ here. let less = below id refl here in omega arith))))
 
             in_before : (id : TxnId) → Contains before id → InFront front fence id
             in_before id has =

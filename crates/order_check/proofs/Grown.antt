@@ -10,7 +10,8 @@ use Rattle.txn.specs.declared.transactions.Txn.{Txn}
 use Rattle.txn.specs.declared.transactions.Fragment.{Fragment}
 use Rattle.txn.specs.History.{History, Received, session_of, txn_at, in_session, ids_from, writes_key, NoneWrites}
 use Rattle.order_check.specs.Whole.{MeetsWhole, ExplainsWhole, HasOrderWhole}
-use Rattle.order_check.specs.StandsFor.{with_fragment, history_then}
+use Rattle.order_check.specs.StandsFor.{Arrival, More, Joins, Returns, with_fragment, with_session, history_after, history_then}
+use Rattle.order_check.proofs.Joined.{session_here, session_old}
 use Rattle.order_check.proofs.Places.{place_left}
 use Rattle.order_check.proofs.Received.{some_within}
 
@@ -114,12 +115,24 @@ fragment_grows history fragment s = by_case (cases_eq s fragment.session) (cases
     by_case (inl here) (inr past) = ([], ap (λ h. session_of h s) (set_past history fragment.session longer past) ∙ sym (append-nil (session_of history s)))
     by_case (inr apart) within = ([], get_or-set_other history fragment.session s longer [] apart ∙ sym (append-nil (session_of history s)))
 
--- what explains a history with more fragments leaves an order that explains the history
-order_before : (more : List Fragment) (history : History) → HasOrderWhole (history_then history more) → HasOrderWhole history
-order_before [] history has = has
-order_before (fragment ∷ more) history has =
-    let (order, explains) = order_before more (with_fragment history fragment) has in
-    (filter (had history) order, explains_before history (with_fragment history fragment) order (fragment_grows history fragment) explains)
+session_grows : (history : History) (fragment : Fragment) → Grows history (with_session history fragment)
+session_grows history fragment s = by_case (cases_eq s (length history))
+  where
+    by_case : (s ≡ length history) ⊎ (¬ (s ≡ length history)) → (more : List Txn) × (session_of (with_session history fragment) s ≡ session_of history s ++ more)
+    by_case (inl here) = (fragment.txns, session_here history fragment s here)
+    by_case (inr apart) = ([], session_old history fragment s apart ∙ sym (append-nil (session_of history s)))
 
-pub violated_stays : (history : History) (more : List Fragment) → ¬ HasOrderWhole history → ¬ HasOrderWhole (history_then history more)
+arrival_grows : (history : History) (arrival : Arrival) → Grows history (history_after history arrival)
+arrival_grows history (More fragment) = fragment_grows history fragment
+arrival_grows history (Joins fragment) = session_grows history fragment
+arrival_grows history (Returns fragment) = fragment_grows history fragment
+
+-- what explains a history with more leaves an order that explains the history
+order_before : (more : List Arrival) (history : History) → HasOrderWhole (history_then history more) → HasOrderWhole history
+order_before [] history has = has
+order_before (arrival ∷ more) history has =
+    let (order, explains) = order_before more (history_after history arrival) has in
+    (filter (had history) order, explains_before history (history_after history arrival) order (arrival_grows history arrival) explains)
+
+pub violated_stays : (history : History) (more : List Arrival) → ¬ HasOrderWhole history → ¬ HasOrderWhole (history_then history more)
 violated_stays history more none has = none (order_before more history has)

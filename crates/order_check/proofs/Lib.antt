@@ -9,9 +9,11 @@ pub mod CutReads
 pub mod CutStands
 pub mod EachRemaining
 pub mod Extensions
+pub mod Extending
 pub mod Fenced
 pub mod Fresh
 pub mod Grown
+pub mod Joined
 pub mod KeepingLaws
 pub mod KeptFronts
 pub mod KnownLaws

@@ -12,9 +12,9 @@ use Rattle.order_check.specs.declared.remainder.Parts.{Parts}
 use Rattle.order_check.specs.Based.{mark_of, remaining_of, received_count, Remains, IsGone, IsReceived, last_gone, HasPending, HasGoneBase}
 use Rattle.order_check.specs.Explains.{Explains}
 use Rattle.order_check.specs.Known.{ReadsKey}
-use Rattle.order_check.specs.Settled.{IsSettled, IsCutAt, IsCutOf}
+use Rattle.order_check.specs.Settled.{IsSettled, IsCutAt, IsCutOf, NoSession}
 use Rattle.order_check.specs.CutLaws.{SplitsAt}
-use Rattle.order_check.specs.Cuts.{IsFront, GoesOn, IsCutBehind}
+use Rattle.order_check.specs.Cuts.{IsFront, IsSettledBehind, IsCutBehind}
 use Rattle.order_check.specs.Verdict.{HasOrder}
 use Rattle.order_check.proofs.CutCounts.{cut_looks, fronts_remain}
 use Rattle.order_check.proofs.CutFits.{few_gone}
@@ -27,20 +27,14 @@ use Rattle.order_check.proofs.Received.{gone_past}
 use Rattle.order_check.proofs.CutAhead.{same_in_whole, gone_ahead}
 use Rattle.order_check.proofs.CutOrders.{rest_explains, whole_explains}
 
--- no session of a front goes on past it
-settled_itself : (front : Parts) (is_open : ℕ → Type 0) (fence : TxnId) → IsSettled front is_open fence → IsSettled front (GoesOn front front) fence
-settled_itself front is_open fence settled = record {
-  remains = settled.remains;
-  ordered = settled.ordered;
-  past = λ s within goes. absurd (omega arith);
-  nothing_pending = settled.nothing_pending;
-  last_writers = settled.last_writers;
-}
+-- nothing remains behind a front of itself
+settled_itself : (front : Parts) (fence : TxnId) → IsSettled front NoSession fence → IsSettledBehind front front fence
+settled_itself front fence settled = record { settled = settled; behind = λ id remains out. absurd (out remains) }
 
 -- the base of a front is that of the whole
 base_of_front : (front whole : Parts) → IsFront front whole → HasGoneBase whole → HasGoneBase front
 base_of_front front whole is base key writer e =
-    let same : last_gone whole key ≡ Some writer = sym (ap (λ b. get b.last key) is.base) ∙ e in
+    let same : last_gone whole key ≡ Some writer = sym (ap (λ last. get last key) is.last) ∙ e in
     let gone = base key writer same in
     let mark = mark_same front whole is writer.session in
     omega arith
@@ -108,14 +102,14 @@ pending_new front whole new fence gone last is_open is settled cut leaves = (the
     back (reader, writer, key, reads, missing) = let waits = (waits_same front whole new fence gone last is_open is settled cut leaves reader writer key).1 (reads, missing) in (reader, writer, key, waits.0, waits.1)
 
 pub received_left : (front whole new : Parts) (gone : List TxnId) (last : FinMap nat_cmp TxnId) → IsCutBehind front whole gone last new → (s : ℕ) → received_count new s ≡ received_count whole s
-received_left front whole new gone last behind = received_same front whole new behind.fence gone last (GoesOn front whole) behind.is_front behind.settled behind.cut behind.leaves
+received_left front whole new gone last behind = received_same front whole new behind.fence gone last NoSession behind.is_front behind.settled.settled behind.cut behind.leaves
 
 pub waiting_left : (front whole new : Parts) (gone : List TxnId) (last : FinMap nat_cmp TxnId) → IsCutBehind front whole gone last new → (reader writer : TxnId) (key : ℕ) → (ReadsKey whole reader key (By writer) × (¬ IsReceived whole writer)) ↔ (ReadsKey new reader key (By writer) × (¬ IsReceived new writer))
-waiting_left front whole new gone last behind = waits_same front whole new behind.fence gone last (GoesOn front whole) behind.is_front behind.settled behind.cut behind.leaves
+waiting_left front whole new gone last behind = waits_same front whole new behind.fence gone last NoSession behind.is_front behind.settled.settled behind.cut behind.leaves
 
 -- the split law
 pub split_law : (front whole new : Parts) (gone : List TxnId) (last : FinMap nat_cmp TxnId) → HasGoneBase whole → HasOrder front → IsCutBehind front whole gone last new → (HasOrder whole ↔ HasOrder new) × (HasPending whole ↔ HasPending new)
-split_law front whole new gone last base (order0, h0) behind = ((there, back), pending_new front whole new fence gone last (GoesOn front whole) is settled cut leaves)
+split_law front whole new gone last base (order0, h0) behind = ((there, back), pending_new front whole new fence gone last NoSession is settled.settled cut leaves)
   where
     fence : TxnId
     fence = behind.fence
@@ -123,7 +117,7 @@ split_law front whole new gone last base (order0, h0) behind = ((there, back), p
     is : IsFront front whole
     is = behind.is_front
 
-    settled : IsSettled front (GoesOn front whole) fence
+    settled : IsSettledBehind front whole fence
     settled = behind.settled
 
     cut : IsCutAt front fence gone last
@@ -138,20 +132,20 @@ split_law front whole new gone last base (order0, h0) behind = ((there, back), p
         by_split : SplitsAt front fence order → HasOrder new
         by_split (before, after, e, in_before, in_after) =
             let h' = subst (λ ids. Explains whole ids) e h in
-            let g = gone_ahead front whole new whole fence gone last (GoesOn front whole) before after base base is is settled cut leaves h' in_before in_after in
+            let g = gone_ahead front whole new whole fence gone last NoSession before after base base is is settled.settled cut leaves h' in_before in_after in
             let seam : before ++ fence ∷ after ≡ (before ++ fence ∷ []) ++ after = sym (append_assoc before (fence ∷ []) after) in
             let later : AreBehind whole gone after = λ id has. (order_remains whole (before ++ fence ∷ after) id h' (in_tail before after id (at_place after id has)), λ gone_too. in_after id has ((cut.front id).0 gone_too)) in
-            (after, rest_explains front whole new fence gone (before ++ fence ∷ []) after last (GoesOn front whole) is settled cut leaves g later (subst (λ ids. Explains whole ids) seam h'))
+            (after, rest_explains front whole new fence gone (before ++ fence ∷ []) after last NoSession is settled.settled cut leaves g later (subst (λ ids. Explains whole ids) seam h'))
           where
             in_tail : (xs ys : List TxnId) (id : TxnId) → IsAt ys id → IsAt (xs ++ fence ∷ ys) id
             in_tail xs ys id (k, at) = (length xs + suc k, place_right xs (fence ∷ ys) (suc k) id at)
 
     back : HasOrder new → HasOrder whole
-    back (rest, n) = by_split (fence_splits front front fence order0 (base_of_front front whole is base) (front_itself front) (settled_itself front (GoesOn front whole) fence settled) h0)
+    back (rest, n) = by_split (fence_splits front front fence order0 (base_of_front front whole is base) (front_itself front) (settled_itself front fence settled.settled) h0)
       where
         by_split : SplitsAt front fence order0 → HasOrder whole
         by_split (before, after, e, in_before, in_after) =
             let h' = subst (λ ids. Explains front ids) e h0 in
-            let g = gone_ahead front whole new front fence gone last (GoesOn front whole) before after base (base_of_front front whole is base) is (front_itself front) settled cut leaves h' in_before in_after in
+            let g = gone_ahead front whole new front fence gone last NoSession before after base (base_of_front front whole is base) is (front_itself front) settled.settled cut leaves h' in_before in_after in
             let seam : before ++ fence ∷ after ≡ (before ++ fence ∷ []) ++ after = sym (append_assoc before (fence ∷ []) after) in
-            ((before ++ fence ∷ []) ++ rest, whole_explains front whole new fence gone (before ++ fence ∷ []) after rest last (GoesOn front whole) is settled cut leaves g (subst (λ ids. Explains front ids) seam h') n)
+            ((before ++ fence ∷ []) ++ rest, whole_explains front whole new fence gone (before ++ fence ∷ []) after rest last NoSession is settled.settled cut leaves g (subst (λ ids. Explains front ids) seam h') n)

@@ -1,5 +1,5 @@
 -- Parts of which nothing is gone, and the whole history that they have.
-use Rattle.std.proofs.Common.{◌≡◌, ℕ, ◌<◌, ◌++◌, ◌↔◌, List, [], ◌∷◌, length, None, IsSome, ltb, slice_get, refl, sym, subst, ap, ◌∙◌, arith, nat_cmp, length-set, length-append, get_or-set_same, get_or-set_other, ◌+◌, ⊎_elim}
+use Rattle.std.proofs.Common.{◌≡◌, ℕ, ◌<◌, ◌⊎◌, inl, inr, ◌++◌, ◌↔◌, List, [], ◌∷◌, length, None, IsSome, ltb, slice_get, refl, sym, subst, ap, ◌∙◌, arith, nat_cmp, length-set, length-append, get_or-set_same, get_or-set_other, ◌+◌, ⊎_elim}
 use Rattle.std.proofs.Math.Nat.{sub-zero}
 use Rattle.std.proofs.lemmas.Bool.{cond-false, le-ltb, cases_eq}
 use Rattle.std.proofs.lemmas.List.Elements.{All-weaker}
@@ -12,13 +12,14 @@ use Rattle.txn.specs.History.{History, Received, Reads, session_of, txn_at, ids_
 use Rattle.order_check.specs.declared.remainder.Parts.{Parts}
 use Rattle.order_check.specs.declared.remainder.Kind.{Kind}
 use Rattle.order_check.specs.declared.remainder.Kind.TheVariants.{Serial, Pending, Violated, Spent}
-use Rattle.order_check.specs.Based.{mark_of, remaining_of, remaining_at, last_gone, IsReceived, HasPending}
+use Rattle.order_check.specs.Based.{mark_of, received_count, remaining_of, remaining_at, last_gone, IsReceived, HasPending}
 use Rattle.order_check.specs.NoBase.{HasNoBase}
 use Rattle.order_check.specs.Explains.{Explains, Meets}
 use Rattle.order_check.specs.Verdict.{HasOrder, IsVerdict}
 use Rattle.order_check.specs.Whole.{MeetsWhole, ExplainsWhole, HasOrderWhole, HasPendingWhole, IsVerdictWhole}
 use Rattle.order_check.proofs.Received.{some_within, within_some}
-use Rattle.order_check.specs.StandsFor.{StandsFor, parts_with, parts_then, history_then, IsNextFragment, with_fragment}
+use Rattle.order_check.specs.StandsFor.{Arrival, More, Joins, Returns, StandsFor, parts_after, parts_joined, parts_returned, parts_with, parts_then, history_after, history_then, IsJoiningFragment, IsNextFragment, IsReturningFragment, with_fragment, with_session}
+use Rattle.order_check.proofs.Joined.{length_more, marks_more, session_here, session_old}
 
 -- what remains is what the whole history has
 at_same : (parts : Parts) → HasNoBase parts → (id : TxnId) → remaining_at parts id ≡ txn_at parts.remain id
@@ -87,13 +88,22 @@ verdict_whole parts Serial bare =
     (λ h. (order.1 h.0, λ some. h.1 (pending.0 some)), λ h. (order.0 h.0, λ some. h.1 (pending.1 some)))
 verdict_whole parts Spent bare = (λ h. h, λ h. h)
 
--- a fragment takes nothing away
-bare_with : (parts : Parts) (fragment : Fragment) → HasNoBase parts → HasNoBase (parts_with parts fragment)
-bare_with parts fragment bare = record { marks = bare.marks; last = bare.last }
+-- what comes takes nothing away
+bare_after : (parts : Parts) (arrival : Arrival) → HasNoBase parts → HasNoBase (parts_after parts arrival)
+bare_after parts (More fragment) bare = record { marks = bare.marks; last = bare.last }
+bare_after parts (Joins fragment) bare = record { marks = λ s. marks_more parts.base.marks s ∙ bare.marks s; last = bare.last }
+bare_after parts (Returns fragment) bare = record { marks = bare.marks; last = bare.last }
 
-future_whole : (parts : Parts) → HasNoBase parts → (more : List Fragment) (kind : Kind) → IsVerdictWhole (history_then parts.remain more) kind ↔ IsVerdict (parts_then parts more) kind
+remain_after : (parts : Parts) (arrival : Arrival) → history_after parts.remain arrival ≡ (parts_after parts arrival).remain
+remain_after parts (More fragment) = refl
+remain_after parts (Joins fragment) = refl
+remain_after parts (Returns fragment) = refl
+
+future_whole : (parts : Parts) → HasNoBase parts → (more : List Arrival) (kind : Kind) → IsVerdictWhole (history_then parts.remain more) kind ↔ IsVerdict (parts_then parts more) kind
 future_whole parts bare [] kind = verdict_whole parts kind bare
-future_whole parts bare (fragment ∷ more) kind = future_whole (parts_with parts fragment) (bare_with parts fragment bare) more kind
+future_whole parts bare (arrival ∷ more) kind =
+    let rest = future_whole (parts_after parts arrival) (bare_after parts arrival bare) more kind in
+    subst (λ (history : History). IsVerdictWhole (history_then history more) kind ↔ IsVerdict (parts_then (parts_after parts arrival) more) kind) (sym (remain_after parts arrival)) rest
 
 pub stands_bare : (parts : Parts) → HasNoBase parts → StandsFor parts parts.remain
 stands_bare parts bare = record {
@@ -124,5 +134,34 @@ pub stands_with : (parts : Parts) (history : History) (fragment : Fragment) → 
 stands_with parts history fragment stands next = record {
   sessions = length-set history fragment.session _ ∙ stands.sessions ∙ sym (length-set parts.remain fragment.session _);
   received = λ s. with_received (mark_of parts s) parts.remain history fragment s next.session.0 stands.sessions (stands.received s);
-  future = λ more come kind. stands.future (fragment ∷ more) (next, come) kind;
+  future = λ more come kind. stands.future (More fragment ∷ more) (next, come) kind;
 }
+
+pub stands_returned : (parts : Parts) (history : History) (fragment : Fragment) → StandsFor parts history → IsReturningFragment parts fragment → StandsFor (parts_returned parts fragment) (with_fragment history fragment)
+stands_returned parts history fragment stands returns = record {
+  sessions = length-set history fragment.session _ ∙ stands.sessions ∙ sym (length-set parts.remain fragment.session _);
+  received = λ s. with_received (mark_of parts s) parts.remain history fragment s returns.session stands.sessions (stands.received s);
+  future = λ more come kind. stands.future (Returns fragment ∷ more) (returns, come) kind;
+}
+
+pub stands_joined : (parts : Parts) (history : History) (fragment : Fragment) → StandsFor parts history → IsJoiningFragment parts fragment → StandsFor (parts_joined parts fragment) (with_session history fragment)
+stands_joined parts history fragment stands joins = record {
+  sessions = length_more history fragment.txns ∙ ap (λ n. n + 1) stands.sessions ∙ sym (length_more parts.remain fragment.txns);
+  received = λ s. by_case s (cases_eq s (length parts.remain));
+  future = λ more come kind. stands.future (Joins fragment ∷ more) (joins, come) kind;
+}
+  where
+    new : Parts
+    new = parts_joined parts fragment
+
+    by_case : (s : ℕ) → (s ≡ length parts.remain) ⊎ (¬ (s ≡ length parts.remain)) → received_count new s ≡ length (session_of (with_session history fragment) s)
+    by_case s (inl here) =
+        let mark : mark_of new s ≡ mark_of parts s = marks_more parts.base.marks s in
+        let mine : length (remaining_of new s) ≡ length (remaining_of parts s) + length fragment.txns = ap length (session_here parts.remain fragment s here) ∙ length-append (remaining_of parts s) fragment.txns in
+        let whole : length (session_of (with_session history fragment) s) ≡ length (session_of history s) + length fragment.txns = ap length (session_here history fragment s (here ∙ sym stands.sessions)) ∙ length-append (session_of history s) fragment.txns in
+        omega (arith, mark, mine, whole, stands.received s)
+    by_case s (inr apart) =
+        let mark : mark_of new s ≡ mark_of parts s = marks_more parts.base.marks s in
+        let mine : length (remaining_of new s) ≡ length (remaining_of parts s) = ap length (session_old parts.remain fragment s apart) in
+        let whole : length (session_of (with_session history fragment) s) ≡ length (session_of history s) = ap length (session_old history fragment s (λ same. apart (same ∙ stands.sessions))) in
+        omega (arith, mark, mine, whole, stands.received s)

@@ -8,12 +8,12 @@ use Rattle.txn.specs.declared.transactions.TxnId.{TxnId}
 use Rattle.txn.specs.History.{History}
 use Rattle.order_check.specs.declared.remainder.Parts.{Parts}
 use Rattle.order_check.specs.Based.{HasGoneBase, HasPending, IsReceived, Remains, received_count, remaining_at}
-use Rattle.order_check.specs.Cuts.{IsFront, GoesOn, MayGoOn, IsCutBehind, IsContentCutOff}
+use Rattle.order_check.specs.Cuts.{IsFront, IsSettledBehind, IsSettledFor, IsCutBehind, IsContentCutOff}
 use Rattle.order_check.specs.Cutting.{CanBeApplied}
 use Rattle.order_check.specs.Explains.{Explains}
 use Rattle.order_check.specs.Good.{IsGood}
 use Rattle.order_check.specs.Known.{Known, ReadsKey, WritesKey, IsBaseSource}
-use Rattle.order_check.specs.Settled.{IsSettled, IsCutAt, IsCutOf, InFront}
+use Rattle.order_check.specs.Settled.{IsCutAt, IsCutOf, InFront}
 use Rattle.order_check.specs.StandsFor.{StandsFor}
 use Rattle.order_check.specs.Verdict.{HasOrder}
 
@@ -21,24 +21,24 @@ use Rattle.order_check.specs.Verdict.{HasOrder}
 abbrev pub SplitsAt : Parts → TxnId → List TxnId → Type 0
 SplitsAt front fence order = (before after : List TxnId) × (order ≡ before ++ fence ∷ after) × ((id : TxnId) → Contains before id → InFront front fence id) × ((id : TxnId) → Contains after id → ¬ InFront front fence id)
 
--- Where a fence is settled in a front in which every session that goes on counts as open, every order that explains the
--- whole has what is in front of the fence in front, ending with the fence.
+-- Where a fence is settled in a front and all the rest of the whole comes after it, every order that explains the whole has what
+-- is in front of the fence in front, ending with the fence.
 abbrev pub FenceSplitsOrders : Type 0
-FenceSplitsOrders = (front whole : Parts) (fence : TxnId) (order : List TxnId) → HasGoneBase whole → IsFront front whole → IsSettled front (GoesOn front whole) fence → Explains whole order → SplitsAt front fence order
+FenceSplitsOrders = (front whole : Parts) (fence : TxnId) (order : List TxnId) → HasGoneBase whole → IsFront front whole → IsSettledBehind front whole fence → Explains whole order → SplitsAt front fence order
 
 -- The split law: where some order explains the front, the whole has an order exactly where what the cut leaves has one, and a
 -- pending read exactly where that has one.
 abbrev pub SplitLaw : Type 0
 SplitLaw = (front whole new : Parts) (gone : List TxnId) (last : FinMap nat_cmp TxnId) → HasGoneBase whole → HasOrder front → IsCutBehind front whole gone last new → (HasOrder whole ↔ HasOrder new) × (HasPending whole ↔ HasPending new)
 
--- A cut keeps what parts stand for: of a front that some order explains, at a fence that is settled there where every session
--- that is still open, or has gone on past the front, counts as open.
+-- A cut keeps what parts stand for: of a front that some order explains, at a fence that is settled there, and behind which all
+-- the rest stands and will stand. So it is where sessions join, or come back, after the cut.
 abbrev pub CutKeepsStandsFor : Type 0
-CutKeepsStandsFor = (front old new : Parts) (history : History) (fence : TxnId) (gone : List TxnId) (last : FinMap nat_cmp TxnId) → HasGoneBase old → StandsFor old history → HasOrder front → IsFront front old → IsSettled front (MayGoOn front old) fence → IsCutAt front fence gone last → IsCutOf old new gone last → StandsFor new history
+CutKeepsStandsFor = (front old new : Parts) (history : History) (fence : TxnId) (gone : List TxnId) (last : FinMap nat_cmp TxnId) → HasGoneBase old → StandsFor old history → HasOrder front → IsFront front old → IsSettledFor front old fence → IsCutAt front fence gone last → IsCutOf old new gone last → StandsFor new history
 
 -- What a cut of a front takes out is, session by session, the first of what remains of the whole: it can be applied to it.
 abbrev pub CutsOfFrontsFit : Type 0
-CutsOfFrontsFit = (front whole : Parts) (fence : TxnId) (gone : List TxnId) (last : FinMap nat_cmp TxnId) → IsFront front whole → IsSettled front (GoesOn front whole) fence → IsCutAt front fence gone last → CanBeApplied whole gone last
+CutsOfFrontsFit = (front whole : Parts) (fence : TxnId) (gone : List TxnId) (last : FinMap nat_cmp TxnId) → IsFront front whole → IsSettledBehind front whole fence → IsCutAt front fence gone last → CanBeApplied whole gone last
 
 -- A cut that can be applied leaves good parts good.
 abbrev pub CutKeepsGood : Type 0

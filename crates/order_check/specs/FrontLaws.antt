@@ -3,7 +3,7 @@ use Rattle.std.specs.Prelude.{ℕ}
 use Rattle.txn.specs.declared.transactions.Fragment.{Fragment}
 use Rattle.txn.specs.declared.transactions.TxnId.{TxnId}
 use Rattle.order_check.specs.declared.remainder.Parts.{Parts}
-use Rattle.order_check.specs.Cuts.{GoesOn, IsKeptFront, MayGoOn}
+use Rattle.order_check.specs.Cuts.{IsKeptFront, IsSettledFor}
 use Rattle.order_check.specs.Settled.{IsSettled}
 use Rattle.order_check.specs.StandsFor.{IsOpenSession, parts_closed, parts_with}
 
@@ -19,7 +19,7 @@ FragmentKeepsFront = (front parts : Parts) (fragment : Fragment) → IsKeptFront
 abbrev pub CloseKeepsFront : Type 0
 CloseKeepsFront = (front parts : Parts) (s : ℕ) → IsKeptFront front parts → IsKeptFront front (parts_closed parts s)
 
--- A fence that is settled in a front with the sessions that are open there is settled in it with those that may still
--- receive, or have received past it, and with the latter alone.
+-- A fence that is settled in a front with the sessions that are open there has all the rest behind it, and all that may still
+-- come.
 abbrev pub SettledStaysSettled : Type 0
-SettledStaysSettled = (front parts : Parts) (fence : TxnId) → IsKeptFront front parts → IsSettled front (IsOpenSession front) fence → IsSettled front (MayGoOn front parts) fence × IsSettled front (GoesOn front parts) fence
+SettledStaysSettled = (front parts : Parts) (fence : TxnId) → IsKeptFront front parts → IsSettled front (IsOpenSession front) fence → IsSettledFor front parts fence

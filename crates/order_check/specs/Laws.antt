@@ -10,7 +10,7 @@ use Rattle.order_check.specs.NoBase.{HasNoBase}
 use Rattle.order_check.specs.Explains.{Explains}
 use Rattle.order_check.specs.Verdict.{IsVerdict}
 use Rattle.order_check.specs.Whole.{ExplainsWhole, IsVerdictWhole}
-use Rattle.order_check.specs.StandsFor.{StandsFor, IsNextFragment, parts_with, parts_closed, with_fragment, history_then}
+use Rattle.order_check.specs.StandsFor.{Arrival, StandsFor, IsJoiningFragment, IsNextFragment, IsReturningFragment, parts_with, parts_closed, parts_joined, parts_returned, with_fragment, with_session, history_then}
 
 -- Where nothing is gone, an order explains the parts exactly where it explains the whole history that remains.
 abbrev pub SameOrdersAsWhole : Type 0
@@ -32,10 +32,18 @@ SameVerdictAsStoodFor = (parts : Parts) (history : History) (kind : Kind) → St
 abbrev pub OfferKeepsStandsFor : Type 0
 OfferKeepsStandsFor = (parts : Parts) (history : History) (fragment : Fragment) → StandsFor parts history → IsNextFragment parts fragment → StandsFor (parts_with parts fragment) (with_fragment history fragment)
 
+-- Parts that stand for a history stand, with a session that joins, for the history with that session.
+abbrev pub JoinKeepsStandsFor : Type 0
+JoinKeepsStandsFor = (parts : Parts) (history : History) (fragment : Fragment) → StandsFor parts history → IsJoiningFragment parts fragment → StandsFor (parts_joined parts fragment) (with_session history fragment)
+
+-- Parts that stand for a history stand, with a fragment with which a session comes back, for the history with that fragment.
+abbrev pub ReturnKeepsStandsFor : Type 0
+ReturnKeepsStandsFor = (parts : Parts) (history : History) (fragment : Fragment) → StandsFor parts history → IsReturningFragment parts fragment → StandsFor (parts_returned parts fragment) (with_fragment history fragment)
+
 -- Parts that stand for a history stand for it with a session closed: less may come.
 abbrev pub CloseKeepsStandsFor : Type 0
 CloseKeepsStandsFor = (parts : Parts) (history : History) (s : ℕ) → StandsFor parts history → StandsFor (parts_closed parts s) history
 
--- Violated is final: where no order explains a history, none explains it with more fragments.
+-- Violated is final: where no order explains a history, none explains it with more.
 abbrev pub ViolatedIsFinal : Type 0
-ViolatedIsFinal = (history : History) (more : List Fragment) → IsVerdictWhole history Violated → IsVerdictWhole (history_then history more) Violated
+ViolatedIsFinal = (history : History) (more : List Arrival) → IsVerdictWhole history Violated → IsVerdictWhole (history_then history more) Violated

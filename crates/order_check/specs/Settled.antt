@@ -40,6 +40,10 @@ pub record IsSettled (parts : Parts) (is_open : ℕ → Type 0) (fence : TxnId) 
   -- each key written in front of it has a last writer there
   pub last_writers : (id : TxnId) (key : ℕ) → InFront parts fence id → WritesKey parts id key → (writer : TxnId) × IsLastIn parts fence key writer
 
+-- no session is open
+abbrev pub NoSession : ℕ → Type 0
+NoSession s = ⊥
+
 -- the settled fence that comes after all other settled ones
 pub record IsLastSettled (parts : Parts) (is_open : ℕ → Type 0) (fence : TxnId) : Type 0 where
   pub settled : IsSettled parts is_open fence

@@ -16,7 +16,7 @@ pub fn close_keeps_front()
     ensures { CloseKeepsFront }
 {}
 
-/// A fence that is settled in a front is settled there with the sessions that go on alone, or with those that still may.
+/// A fence that is settled in a front has behind it all that has come since, and all that may still come.
 pub fn settled_stays_settled()
     ensures { SettledStaysSettled }
 {}

@@ -1,4 +1,4 @@
-ghost use Rattle.order_check.specs.Laws.{SameOrdersAsWhole, SameVerdictAsWhole, StandsForWhatRemains, SameVerdictAsStoodFor, OfferKeepsStandsFor, CloseKeepsStandsFor, ViolatedIsFinal};
+ghost use Rattle.order_check.specs.Laws.{SameOrdersAsWhole, SameVerdictAsWhole, StandsForWhatRemains, SameVerdictAsStoodFor, OfferKeepsStandsFor, JoinKeepsStandsFor, ReturnKeepsStandsFor, CloseKeepsStandsFor, ViolatedIsFinal};
 
 /// An order explains parts of which nothing is gone exactly where it explains the whole history that remains.
 pub fn orders_as_of_whole()
@@ -23,6 +23,16 @@ pub fn verdict_as_stood_for()
 /// The next fragment leaves parts standing for a history that has it too.
 pub fn offer_keeps_stands_for()
     ensures { OfferKeepsStandsFor }
+{}
+
+/// A session that joins leaves parts standing for a history that has it too.
+pub fn join_keeps_stands_for()
+    ensures { JoinKeepsStandsFor }
+{}
+
+/// A session that comes back leaves parts standing for a history that has its fragment too.
+pub fn return_keeps_stands_for()
+    ensures { ReturnKeepsStandsFor }
 {}
 
 /// A session's closing leaves parts standing for the same history.

@@ -43,13 +43,18 @@ impl Problem {
         Problem::about(alloc, known.clone()?)
     }
 
-    /// The same of a relation that is moved in.
+    /// The same of a relation that is moved in. It keeps what is listed here, for a problem of the same parts later.
     pub fn about(alloc: Global, known: Saturated) -> Result<Problem, NoMemory>
         ensures known { IfOk result (λ problem. problem.known ≡ known) }
         ensures choices { IfOk result IsProblem }
     {
-        let choices = known.first_open(alloc, MOST_SPLIT)?;
-        Ok(Problem { known, choices })
+        let mut listed = known;
+        listed.keep_open(alloc, MOST_SPLIT)?;
+        let choices = listed.first_open(alloc, MOST_SPLIT)?;
+        Ok(Problem {
+            known: listed,
+            choices,
+        })
     }
 
     pub fn parts(&self) -> &Parts

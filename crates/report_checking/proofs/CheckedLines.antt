@@ -14,10 +14,9 @@ use Rattle.round_state.specs.Legal.{State}
 use Rattle.round_state.specs.Opening.{IsSessions, IsLimit, fresh_state}
 use Rattle.round_state.specs.Runs.{Holds}
 use Rattle.cobra.specs.Outputs.{Asks, IsTold}
-use Rattle.cobra.specs.Scripts.{HoldsScript}
 use Rattle.report_checking.specs.Checking.{TakesMemory, Checks, start, right, unchecked, IsAllRight}
 use Rattle.report_checking.specs.Owing.{Owes}
-use Rattle.report_checking.specs.Reading.{LeadsScript, IsOwedBy, IsOfKind, IsRead, Finds, FindsFor, FindsNext, IsFoundBy, IsFoundOf, IsFine, IsChecking, LeadsOn, Advances}
+use Rattle.report_checking.specs.Reading.{HoldsScript, LeadsScript, IsOwedBy, IsOfKind, IsRead, Finds, FindsFor, FindsNext, IsFoundBy, IsFoundOf, IsFine, IsChecking, LeadsOn, Advances}
 use Rattle.report_checking.specs.declared.findings.Found.{Found}
 use Rattle.report_checking.specs.declared.findings.Found.TheVariants as found
 use Rattle.report_checking.specs.declared.findings.Fault.{Fault}

@@ -2,6 +2,7 @@
 use Rattle.std.proofs.Common.{◌≡◌, ◌≢◌, Some, None, refl, sym, subst, inl, inr}
 use Rattle.txn.specs.declared.refusals.Refusal.TheVariants.{BadLine, NoRound}
 use Rattle.log_text.specs.declared.commands.Command.{Command}
+use Rattle.log_text.specs.declared.commands.Wanted.{Wanted}
 use Rattle.log_text.specs.declared.replies.Reply.{Reply}
 use Rattle.log_text.specs.declared.replies.Reply.TheVariants as told
 use Rattle.log_text.specs.Replies.{HasKindOfOrder}
@@ -13,9 +14,11 @@ use Rattle.round_state.specs.declared.steps.Step.{Step}
 use Rattle.round_state.specs.declared.steps.Step.TheVariants as step
 use Rattle.round_state.specs.declared.steps.StepReply.{StepReply}
 use Rattle.round_state.specs.declared.steps.StepReply.TheVariants as reply
-use Rattle.cobra.specs.Scripts.{IsBadLine, IsStep, state_told}
+use Rattle.cobra.specs.Saving.{saved_told}
+use Rattle.cobra.specs.Scripts.{IsBadLine, state_told}
 use Rattle.cobra.specs.StepReplies.{reply_of, report_of}
-use Rattle.report_checking.specs.Owing.{IsOwedReport, OwesFinish, OwesRound, OwesOpen, Owes, IsPlain}
+use Rattle.cobra.proofs.ReplyKinds.{saved_kind}
+use Rattle.report_checking.specs.Owing.{IsOwedReport, IsStep, OwesFinish, OwesRound, OwesOpen, Owes, IsPlain}
 use Rattle.report_checking.specs.Reading.{Leads, LeadsScript, IsOwedBy}
 use Rattle.report_checking.specs.declared.findings.Owed.{Owed}
 use Rattle.report_checking.specs.declared.findings.Owed.TheVariants as owed
@@ -23,6 +26,7 @@ use Rattle.report_checking.specs.declared.findings.Owed.TheVariants as owed
 pub plain_limits : (asked : Step) → IsPlain asked → HasLimits asked
 plain_limits (step.Finish budget depth workers) is = absurd is
 plain_limits (step.Offer fragment) is = tt
+plain_limits (step.Join fragment) is = tt
 plain_limits (step.Close session) is = tt
 plain_limits step.Begin is = tt
 plain_limits step.Abandon is = tt
@@ -81,6 +85,11 @@ begin_refused old new (reply.Cut cut) right begin not answer is = absurd right
 pub show_owed : (old : EngineState) (answer : Reply) → answer ≡ state_told old → HasKindOfOrder answer × Leads old old (λ before after. (answer ≡ state_told before.engine) × (after ≡ before))
 show_owed old answer is =
     (subst HasKindOfOrder (sym is) tt, λ before holds. (before, (subst (λ (engine : EngineState). answer ≡ state_told engine) (sym holds.same) is, refl), holds))
+
+-- what is asked for of what it keeps is given out
+pub saved_owed : (old : EngineState) (wanted : Wanted) (answer : Reply) → answer ≡ saved_told old.parts wanted → HasKindOfOrder answer × Leads old old (λ before after. (answer ≡ saved_told before.engine.parts wanted) × (after ≡ before))
+saved_owed old wanted answer is =
+    (subst HasKindOfOrder (sym is) (saved_kind old.parts wanted), λ before holds. (before, (subst (λ (engine : EngineState). answer ≡ saved_told engine.parts wanted) (sym holds.same) is, refl), holds))
 
 -- a command that may not stand there
 pub out_of_place : (old : EngineState) → Leads old old (λ before after. IsBadLine before (told.No BadLine) after)

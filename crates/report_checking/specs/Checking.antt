@@ -2,7 +2,7 @@
 use Rattle.std.specs.Prelude.{◌≡◌, ℕ, ⊤, List, [], ◌∷◌, ◌++◌, Option, Some, None}
 use Rattle.txn.specs.declared.refusals.Refusal.TheVariants.{NoMemory}
 use Rattle.log_text.specs.declared.commands.Command.{Command}
-use Rattle.log_text.specs.declared.commands.Command.TheVariants.{Start, Close, Show}
+use Rattle.log_text.specs.declared.commands.Command.TheVariants.{Start, Close, Show, Resume, Marks, Last, Resumed, Save}
 use Rattle.log_text.specs.declared.replies.Reply.{Reply}
 use Rattle.log_text.specs.declared.replies.Reply.TheVariants as told
 use Rattle.log_text.specs.Replies.{text_of}
@@ -27,6 +27,11 @@ abbrev pub AsksOfMemory : Command → Type 0
 AsksOfMemory (Start sessions limit) = ⊥
 AsksOfMemory (Close session) = ⊥
 AsksOfMemory Show = ⊥
+AsksOfMemory (Save wanted) = ⊥
+AsksOfMemory (Resume sessions limit) = ⊥
+AsksOfMemory (Marks marks closed) = ⊥
+AsksOfMemory (Last last) = ⊥
+AsksOfMemory Resumed = ⊥
 AsksOfMemory command = ⊤
 
 abbrev pub TakesMemory : {X : Type 0} → Option X → Command → Type 0

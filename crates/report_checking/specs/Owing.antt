@@ -4,20 +4,23 @@ use Rattle.txn.specs.declared.refusals.Refusal.{Refusal}
 use Rattle.txn.specs.declared.refusals.Refusal.TheVariants.{NoRound}
 use Rattle.polygraph.specs.declared.solving.Answer.{Answer}
 use Rattle.log_text.specs.declared.commands.Command.{Command}
-use Rattle.log_text.specs.declared.commands.Command.TheVariants.{Start, Offer, Close, Begin, Finish, Round, Truncate, Rebuild, Show}
+use Rattle.log_text.specs.declared.commands.Command.TheVariants.{Start, Offer, Join, Close, Begin, Finish, Round, Truncate, Rebuild, Show, Resume, Save}
 use Rattle.log_text.specs.declared.replies.Reply.{Reply}
 use Rattle.log_text.specs.declared.replies.Reply.TheVariants as told
 use Rattle.round_state.specs.EngineState.{EngineState}
 use Rattle.round_state.specs.Legal.{State, Legal, TellsOf}
+use Rattle.round_state.specs.Opening.{IsSessions, IsLimit, IsOpenRefusal, fresh_state}
 use Rattle.round_state.specs.Solving.{IsReportOn}
 use Rattle.round_state.specs.Steps.{IsFinished, IsHeldAfter}
 use Rattle.round_state.specs.declared.reports.Report.{Report}
 use Rattle.round_state.specs.declared.steps.Step.{Step}
 use Rattle.round_state.specs.declared.steps.Step.TheVariants as step
+use Rattle.round_state.specs.declared.steps.StepReply.{StepReply}
 use Rattle.round_state.specs.declared.steps.StepReply.TheVariants as reply
 use Rattle.cobra.specs.Outputs.{Asks}
-use Rattle.cobra.specs.Scripts.{IsBadLine, IsStep, AnswersFirst, state_told}
-use Rattle.cobra.specs.StepReplies.{report_of}
+use Rattle.cobra.specs.Saving.{saved_told}
+use Rattle.cobra.specs.Scripts.{IsBadLine, state_told}
+use Rattle.cobra.specs.StepReplies.{reply_of, report_of}
 
 -- The open round's report, by the engine alone: some answer about its snapshot earns it. An order was seen to explain the snapshot, or a
 -- tree to refute it; or the report is spent, which claims nothing.
@@ -46,9 +49,14 @@ OwesRound old answer new =
     ((refusal : Refusal) × Legal old step.Begin (reply.Refused refusal) new × (answer ≡ told.No refusal))
     ⊎ ((begun : State) × Legal old step.Begin reply.Done begun × OwesFinish begun answer new)
 
+-- a step of the engine, told
+abbrev pub IsStep : State → Step → Reply → State → Type 0
+IsStep old asked answer new = (said : StepReply) × Legal old asked said new × (answer ≡ reply_of said)
+
 -- what is owed to a command, where an engine is open
 abbrev pub OwesOpen : State → Command → Reply → State → Type 0
 OwesOpen old (Offer fragment) answer new = IsStep old (step.Offer fragment) answer new
+OwesOpen old (Join fragment) answer new = IsStep old (step.Join fragment) answer new
 OwesOpen old (Close session) answer new = IsStep old (step.Close session) answer new
 OwesOpen old Begin answer new = IsStep old step.Begin answer new
 OwesOpen old (Finish budget depth workers) answer new = OwesFinish old answer new
@@ -56,11 +64,20 @@ OwesOpen old (Round budget depth workers) answer new = OwesRound old answer new
 OwesOpen old Truncate answer new = IsStep old step.Truncate answer new
 OwesOpen old Rebuild answer new = IsStep old step.Rebuild answer new
 OwesOpen old Show answer new = (answer ≡ state_told old.engine) × (new ≡ old)
-OwesOpen old (Start sessions limit) answer new = IsBadLine old answer new
+OwesOpen old (Save wanted) answer new = (answer ≡ saved_told old.engine.parts wanted) × (new ≡ old)
+OwesOpen old command answer new = IsBadLine old answer new
+
+-- What is owed to a command, where none is open yet. To one that begins a hand-over nothing is: what had gone before isn't shown.
+abbrev pub OwesFirst : Command → Reply → Option State → Type 0
+OwesFirst (Start sessions limit) told.Done new = IsSessions sessions × IsLimit limit × (new ≡ Some (fresh_state sessions limit))
+OwesFirst (Start sessions limit) (told.No refusal) new = IsOpenRefusal sessions limit refusal × (new ≡ None)
+OwesFirst (Start sessions limit) answer new = ⊥
+OwesFirst (Resume sessions limit) answer new = ⊥
+OwesFirst command answer new = IsBadLine None answer new
 
 -- what is owed to a command; a script has a state once its engine is open
 abbrev pub Owes : Option State → Command → Reply → Option State → Type 0
-Owes None command answer new = AnswersFirst command answer new
+Owes None command answer new = OwesFirst command answer new
 Owes (Some old) command answer (Some new) = OwesOpen old command answer new
 Owes (Some old) command answer None = ⊥
 

@@ -1,5 +1,5 @@
 -- For private clauses: what single calls of the checker come to, whatever histories its engine stood for.
-use Rattle.std.specs.Prelude.{◌≡◌, ◌≢◌, ℕ, ◌<◌, ⊤, List, ◌++◌, length, Option, Some}
+use Rattle.std.specs.Prelude.{◌≡◌, ◌≢◌, ℕ, ◌<◌, ⊤, List, ◌++◌, length, Option, Some, None}
 use Rattle.txn.specs.declared.refusals.Refusal.TheVariants.{NoMemory}
 use Rattle.log_text.specs.declared.commands.Command.{Command}
 use Rattle.log_text.specs.declared.replies.Reply.{Reply}
@@ -13,7 +13,6 @@ use Rattle.round_state.specs.EngineState.{EngineState}
 use Rattle.round_state.specs.Legal.{State}
 use Rattle.round_state.specs.Runs.{Holds}
 use Rattle.cobra.specs.Outputs.{IsTold}
-use Rattle.cobra.specs.Scripts.{HoldsScript}
 use Rattle.report_checking.specs.Checking.{IsRightReply, IsUnchecked, TakesMemory, Checks, IsAllRight}
 use Rattle.report_checking.specs.Owing.{Owes}
 use Rattle.report_checking.specs.declared.findings.Found.{Found}
@@ -28,6 +27,12 @@ use Rattle.report_checking.specs.declared.findings.Owed.TheVariants as owed
 -- whatever histories stood beside the old engine, some stand beside the new one, of which this is so
 abbrev pub Leads : EngineState → EngineState → (State → State → Type 0) → Type 0
 Leads old new P = (before : State) → Holds old before → (after : State) × P before after × Holds new after
+
+-- the engine of a script, once there is one, is that of its state, and stands for the histories of the state
+abbrev pub HoldsScript : Option EngineState → Option State → Type 0
+HoldsScript None None = ⊤
+HoldsScript (Some engine) (Some state) = Holds engine state
+HoldsScript engine state = ⊥
 
 -- the same of a script's engine, once there is one
 abbrev pub LeadsScript : Option EngineState → Option EngineState → (Option State → Option State → Type 0) → Type 0

@@ -9,13 +9,15 @@ pub(crate) enum What {
     Other,
 }
 
-/// What a report shows, and isn't so.
+/// What would have to be shown for a reply to be owed, and isn't.
 #[derive(Clone, Copy, Debug, PartialEq, Eq)]
 pub(crate) enum Unshown {
     /// The order doesn't explain what had been accepted.
     Order,
     /// The refutation doesn't refute what had been accepted.
     Refutation,
+    /// What had gone before: the script resumes what another run gave out.
+    Beginning,
 }
 
 /// Why a reply is wrong.
@@ -43,7 +45,7 @@ pub(crate) enum Found {
 #[derive(Drop, Debug)]
 pub(crate) enum Owed {
     Reply(Reply),
-    /// What the stored reply shows isn't so.
+    /// This isn't shown.
     Nothing(Unshown),
 }
 
@@ -62,6 +64,6 @@ pub(crate) fn what_of(answer: &Reply) -> What {
         Reply::Violated { .. } => What::Report(Kind::Violated),
         Reply::Spent { .. } => What::Report(Kind::Spent),
         Reply::Cut { .. } => What::Cut,
-        Reply::Done | Reply::No(_) | Reply::Show { .. } => What::Other,
+        Reply::Done | Reply::No(_) | Reply::Show { .. } | Reply::Saved(_) => What::Other,
     }
 }

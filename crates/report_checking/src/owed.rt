@@ -2,14 +2,13 @@ ghost use Rattle.std.specs.Prelude.{◌≡◌, IfOk};
 ghost use Rattle.log_text.specs.Commands.{HasLimits};
 ghost use Rattle.log_text.specs.Replies.{HasKindOfOrder};
 ghost use Rattle.round_state.specs.Runs.{Holds};
-ghost use Rattle.cobra.specs.Scripts.{IsStep};
-ghost use Rattle.report_checking.specs.Owing.{IsPlain, OwesFinish, OwesRound, OwesOpen};
+ghost use Rattle.report_checking.specs.Owing.{IsPlain, IsStep, OwesFinish, OwesRound, OwesOpen};
 ghost use Rattle.report_checking.specs.Reading.{Leads, IsOwedBy};
 
 use crate::certificates::answer_told;
 use crate::findings::{Owed, Unshown};
 use crate::replayed::Replayed;
-use cobra::{reply_of, report_of, state_told};
+use cobra::{reply_of, report_of, saved_told, state_told};
 use log_text::{Command, Reply};
 use polygraph::Answer;
 use round_state::{Step, StepReply};
@@ -67,6 +66,7 @@ pub(crate) fn owed_open(
 {
     match command {
         Command::Offer(fragment) => owed_step(engine, alloc, Step::Offer(fragment)),
+        Command::Join(fragment) => owed_step(engine, alloc, Step::Join(fragment)),
         Command::Close(session) => owed_step(engine, alloc, Step::Close(session)),
         Command::Begin => owed_step(engine, alloc, Step::Begin),
         Command::Finish { .. } => owed_finish(engine, alloc, stored),
@@ -74,6 +74,11 @@ pub(crate) fn owed_open(
         Command::Truncate => owed_step(engine, alloc, Step::Truncate),
         Command::Rebuild => owed_step(engine, alloc, Step::Rebuild),
         Command::Show => Ok(Owed::Reply(state_told(alloc, engine.engine())?)),
+        Command::Save(wanted) => Ok(Owed::Reply(saved_told(alloc, engine.engine(), wanted)?)),
         Command::Start { .. } => Ok(Owed::Reply(Reply::No(Refusal::BadLine))),
+        Command::Resume { .. } => Ok(Owed::Reply(Reply::No(Refusal::BadLine))),
+        Command::Marks { .. } => Ok(Owed::Reply(Reply::No(Refusal::BadLine))),
+        Command::Last(_) => Ok(Owed::Reply(Reply::No(Refusal::BadLine))),
+        Command::Resumed => Ok(Owed::Reply(Reply::No(Refusal::BadLine))),
     }
 }

@@ -6,7 +6,7 @@ ghost use Rattle.report_checking.specs.Checking.{TakesMemory};
 ghost use Rattle.report_checking.specs.Owing.{Owes};
 ghost use Rattle.report_checking.specs.Reading.{LeadsScript, IsOwedBy, IsOfKind, Finds, FindsFor, IsFoundBy, IsFoundOf};
 
-use crate::findings::{Fault, Found, Owed, what_of};
+use crate::findings::{Fault, Found, Owed, Unshown, what_of};
 use crate::owed::owed_open;
 use crate::replayed::Replayed;
 use byte_lines::Next;
@@ -45,7 +45,13 @@ impl Replay {
     {
         match command {
             Command::Start { .. } => self.engine.is_none(),
-            Command::Close(_) | Command::Show => false,
+            Command::Close(_)
+            | Command::Show
+            | Command::Save(_)
+            | Command::Resume { .. }
+            | Command::Marks { .. }
+            | Command::Last(_)
+            | Command::Resumed => false,
             _ => self.engine.is_some(),
         }
     }
@@ -75,6 +81,7 @@ impl Replay {
             Command::Start { sessions, limit } => {
                 Ok(Owed::Reply(self.open(alloc, sessions, limit)))
             }
+            Command::Resume { .. } => Ok(Owed::Nothing(Unshown::Beginning)),
             _ => Ok(Owed::Reply(Reply::No(Refusal::BadLine))),
         }
     }

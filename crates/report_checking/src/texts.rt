@@ -69,6 +69,8 @@ fn words_of_fault(fault: &Fault) -> &'static str {
         Fault::Unshown(Unshown::Order) => "wrong: its order doesn't explain what had been accepted",
         Fault::Unshown(Unshown::Refutation) =>
             "wrong: it refutes nothing of what had been accepted",
+        Fault::Unshown(Unshown::Beginning) =>
+            "wrong: its script resumes another, and what had gone before isn't shown",
         Fault::Missing => "wrong: the line has no reply",
         Fault::TooLong => "wrong: it is too long to be read",
     }

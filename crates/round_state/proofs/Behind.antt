@@ -19,7 +19,7 @@ use Rattle.order_check.specs.Cuts.{IsFront, GoesOn, MayGoOn, IsContentCutOff}
 use Rattle.order_check.specs.FrontLaws.{FrontOfItself, FragmentKeepsFront, CloseKeepsFront}
 use Rattle.order_check.specs.Good.{IsGood}
 use Rattle.order_check.specs.Settled.{IsCutOf}
-use Rattle.order_check.specs.StandsFor.{IsOpenSession, parts_with, parts_closed, with_fragment}
+use Rattle.order_check.specs.StandsFor.{IsOpenSession, parts_with, parts_closed}
 use Rattle.forced_choices.specs.SaturatedState.{SaturatedState}
 use Rattle.settle.specs.declared.cuts.Cut.{Cut}
 use Rattle.round_state.specs.Behind.{IsBehind, AreKnownBehind, IsCaughtBelow, IsClosedBelow, fragment_behind}
@@ -30,8 +30,8 @@ use Rattle.round_state.specs.Kept.{IsFitting}
 behind_itself : FrontOfItself → (front parts : Parts) → front ≡ parts → IsBehind front parts
 behind_itself law front parts e = subst (λ (p : Parts). IsBehind p parts) (sym e) (record { kept = law parts; limit = refl })
 
-pub known_with : FragmentKeepsFront → (parts : Parts) (asked : Option Parts) (kept : Option SaturatedState) (f : Fragment) (remain : List (List Txn)) → remain ≡ with_fragment parts.remain f → IsOpenSession parts f.session → AreKnownBehind parts asked kept → AreKnownBehind (record parts { remain = remain }) asked kept
-known_with law parts asked kept f remain e receives known = subst (λ (sessions : List (List Txn)). AreKnownBehind (record parts { remain = sessions }) asked kept) (sym e) (record {
+pub known_with : FragmentKeepsFront → (parts new : Parts) (asked : Option Parts) (kept : Option SaturatedState) (f : Fragment) → new ≡ parts_with parts f → IsOpenSession parts f.session → AreKnownBehind parts asked kept → AreKnownBehind new asked kept
+known_with law parts new asked kept f e receives known = subst (λ (p : Parts). AreKnownBehind p asked kept) (sym e) (record {
   round = IfSome_then asked known.round (λ snapshot behind. record { kept = law snapshot parts f behind.kept receives; limit = behind.limit });
   last = IfSome_then kept known.last (λ one behind. record { kept = law one.parts parts f behind.kept receives; limit = behind.limit });
 })
@@ -41,10 +41,6 @@ known_closed law parts asked kept s closed e known = subst (λ (flags : List Boo
   round = IfSome_then asked known.round (λ snapshot behind. record { kept = law snapshot parts s behind.kept; limit = behind.limit });
   last = IfSome_then kept known.last (λ one behind. record { kept = law one.parts parts s behind.kept; limit = behind.limit });
 })
-
--- another list of sessions in the parts
-pub known_along : (parts : Parts) (asked : Option Parts) (kept : Option SaturatedState) (remain : List (List Txn)) → remain ≡ parts.remain → AreKnownBehind parts asked kept → AreKnownBehind (record parts { remain = remain }) asked kept
-known_along parts asked kept remain e known = subst (λ (sessions : List (List Txn)). AreKnownBehind (record parts { remain = sessions }) asked kept) (sym e) known
 
 -- parts as they were
 pub known_parts : (old new : Parts) (asked : Option Parts) (kept : Option SaturatedState) → new ≡ old → AreKnownBehind old asked kept → AreKnownBehind new asked kept
@@ -56,6 +52,9 @@ known_none parts asked kept none round = record { round = round; last = subst (�
 
 no_round : (parts : Parts) (asked : Option Parts) → asked ≡ None → IfSome asked (λ snapshot. IsBehind snapshot parts)
 no_round parts asked none = subst (λ (a : Option Parts). IfSome a (λ snapshot. IsBehind snapshot parts)) (sym none) tt
+
+pub known_joined : (parts : Parts) (asked : Option Parts) (kept : Option SaturatedState) → asked ≡ None → kept ≡ None → AreKnownBehind parts asked kept
+known_joined parts asked kept open_none none = known_none parts asked kept none (no_round parts asked open_none)
 
 pub known_begun : FrontOfItself → (parts snapshot : Parts) (kept : Option SaturatedState) → snapshot ≡ parts → kept ≡ None → AreKnownBehind parts (Some snapshot) kept
 known_begun law parts snapshot kept e none = known_none parts (Some snapshot) kept none (behind_itself law snapshot parts e)
@@ -108,22 +107,24 @@ within_more txns front later n txn e h =
 pub good_front : (front parts : Parts) → IsBehind front parts → length front.closed ≡ length parts.closed → IsGood parts → IsGood front
 good_front front parts behind flags good =
     let is = behind.kept.is_front in
-    let marks : (s : ℕ) → mark_of front s ≡ mark_of parts s = λ s. ap (λ (base : Base). get_or base.marks s 0) is.base in
+    let base = behind.kept.base in
+    let sessions = behind.kept.sessions in
+    let marks : (s : ℕ) → mark_of front s ≡ mark_of parts s = is.marks in
     record {
-      some_sessions = omega (arith, is.sessions, good.some_sessions);
-      few_sessions = omega (arith, is.sessions, good.few_sessions);
-      marks = ap (λ (base : Base). length base.marks) is.base ∙ good.marks ∙ sym is.sessions;
-      closed = flags ∙ good.closed ∙ sym is.sessions;
+      some_sessions = omega (arith, sessions, good.some_sessions);
+      few_sessions = omega (arith, sessions, good.few_sessions);
+      marks = ap (λ (b : Base). length b.marks) base ∙ good.marks ∙ sym sessions;
+      closed = flags ∙ good.closed ∙ sym sessions;
       some_limit = omega (arith, behind.limit, good.some_limit);
       low_limit = omega (arith, behind.limit, good.low_limit);
-      room = omega (arith, front_sum front.remain parts.remain is.sessions is.remain, behind.limit, good.room);
+      room = omega (arith, front_sum front.remain parts.remain sessions is.remain, behind.limit, good.room);
       numbers = λ s. omega (arith, marks s, good.numbers s, ap (λ (txns : List Txn). length txns) (is.remain s).1, length-append (remaining_of front s) (is.remain s).0);
       well_formed = λ s n txn h.
           subst (λ (mark : ℕ). IsWellFormed (record { session = s; number = mark + n }) txn) (sym (marks s))
           (good.well_formed s n txn (within_more (remaining_of parts s) (remaining_of front s) (is.remain s).0 n txn (is.remain s).1 h));
       short = λ s n txn h. good.short s n txn (within_more (remaining_of parts s) (remaining_of front s) (is.remain s).0 n txn (is.remain s).1 h);
       base = λ key writer h.
-          let gone : writer.number < mark_of parts writer.session = good.base key writer (ap (λ (base : Base). map.get base.last key) (sym is.base) ∙ h) in
+          let gone : writer.number < mark_of parts writer.session = good.base key writer (ap (λ (b : Base). map.get b.last key) (sym base) ∙ h) in
           omega (arith, gone, marks writer.session);
     }
 
@@ -150,13 +151,16 @@ caught_none front parts s txns is none below = record {
 }
 
 pub caught_more : (front parts : Parts) (s : ℕ) → s < length parts.remain → IsCaughtBelow front parts s → IsCaughtBelow (parts_with front (fragment_behind front parts s)) parts (s + 1)
-caught_more front parts s within below = record { behind = record { kept = record { is_front = is_front; open_there = open_there }; limit = below.behind.limit }; flags = below.flags; caught = caught }
+caught_more front parts s within below = record { behind = record { kept = record { base = below.behind.kept.base; sessions = same_sessions; is_front = is_front; open_there = open_there }; limit = below.behind.limit }; flags = below.flags; caught = caught }
   where
     new : Parts
     new = parts_with front (fragment_behind front parts s)
 
     sessions : length front.remain ≡ length parts.remain
-    sessions = below.behind.kept.is_front.sessions
+    sessions = below.behind.kept.sessions
+
+    same_sessions : length new.remain ≡ length parts.remain
+    same_sessions = length-set front.remain s (session_of front.remain s ++ drop (length (remaining_of front s)) (remaining_of parts s)) ∙ sessions
 
     there : s < length front.remain
     there = omega (arith, within, sessions)
@@ -170,8 +174,9 @@ caught_more front parts s within below = record { behind = record { kept = recor
 
     is_front : IsFront new parts
     is_front = record {
-      base = below.behind.kept.is_front.base;
-      sessions = length-set front.remain s (session_of front.remain s ++ drop (length (remaining_of front s)) (remaining_of parts s)) ∙ sessions;
+      last = below.behind.kept.is_front.last;
+      marks = below.behind.kept.is_front.marks;
+      sessions = omega (arith, same_sessions);
       remain = λ t. elim (cases_eq t s) [
         | inl same ↦ ([], sym (here t same) ∙ sym (append-nil (remaining_of new t)))
         | inr apart ↦ let later = below.behind.kept.is_front.remain t in (later.0, later.1 ∙ ap (λ (txns : List Txn). txns ++ later.0) (sym (other t apart)))
@@ -220,27 +225,27 @@ some_false h = cc
 pub caught_start : (front parts : Parts) → IsGood front → IsGood parts → IsBehind front parts → IsCaughtBelow front parts 0
 caught_start front parts there good behind = record {
   behind = behind;
-  flags = there.closed ∙ behind.kept.is_front.sessions ∙ sym good.closed;
+  flags = there.closed ∙ behind.kept.sessions ∙ sym good.closed;
   caught = λ t low. absurd (omega (arith, low));
 }
 
 -- where all sessions are caught up, only flags are left
 pub closed_start : (front parts : Parts) (n : ℕ) → IsGood parts → length parts.remain ≤ n → IsCaughtBelow front parts n → IsClosedBelow front parts 0
 closed_start front parts n good all below = record {
-  same = λ i. record { base = is.base i; remain = remain i; closed = front.closed; limit = below.behind.limit i };
+  same = λ i. record { base = below.behind.kept.base i; remain = remain i; closed = front.closed; limit = below.behind.limit i };
   flags = below.flags;
   low = low;
   closed = λ t before. absurd (omega (arith, before));
 }
   where
-    is : IsFront front parts
-    is = below.behind.kept.is_front
+    sessions : length front.remain ≡ length parts.remain
+    sessions = below.behind.kept.sessions
 
     each : (t : ℕ) (d : List Txn) → t < length front.remain → get_or front.remain t d ≡ get_or parts.remain t d
-    each t d within = get_or_default front.remain t d [] within ∙ below.caught t (omega (arith, within, is.sessions, all)) ∙ get_or_default parts.remain t [] d (omega (arith, within, is.sessions))
+    each t d within = get_or_default front.remain t d [] within ∙ below.caught t (omega (arith, within, sessions, all)) ∙ get_or_default parts.remain t [] d (omega (arith, within, sessions))
 
     remain : front.remain ≡ parts.remain
-    remain = same_lists front.remain parts.remain is.sessions each
+    remain = same_lists front.remain parts.remain sessions each
 
     by_flag : (t : ℕ) (flag : Bool) → slice_get front.closed t ≡ Some true → slice_get parts.closed t ≡ Some flag → slice_get parts.closed t ≡ Some true
     by_flag t true there here = here

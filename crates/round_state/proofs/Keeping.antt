@@ -1,40 +1,35 @@
 -- What an engine keeps is kept by its calls.
-use Rattle.std.proofs.Common.{◌≡◌, ℕ, zero, suc, ◌-◌, ◌<◌, ◌≤◌, ◌∷◌, ◌++◌, take, Bool, true, false, cond, nat_lt, List, [], length, Option, Some, None, refl, sym, ap, ◌∙◌, subst, inl, inr, arith, get_or}
+use Rattle.std.proofs.Common.{◌≡◌, ℕ, ◌-◌, ◌<◌, ◌≤◌, Bool, true, false, cond, nat_lt, List, [], length, Option, Some, None, refl, sym, ap, ◌∙◌, subst, inl, inr, arith, get_or}
 use Rattle.std.specs.Prelude.{replicate, slice_get, slice_set, Contains, IsSomeAnd}
 use Rattle.std.specs.FinMap as map
 use Rattle.std.specs.Ordering.{nat_cmp}
 use Rattle.std.proofs.lemmas.Bool.{cases_lt}
 use Rattle.std.proofs.lemmas.List.{length-replicate, get_or-replicate, get_or_past}
-use Rattle.std.proofs.Math.Seq.{take-append_seam}
 use Rattle.std.proofs.lemmas.List.Folds.{sum_by-replicate}
 use Rattle.txn.specs.declared.transactions.TxnId.{TxnId}
 use Rattle.txn.specs.declared.transactions.Txn.{Txn}
 use Rattle.txn.specs.declared.transactions.Fragment.{Fragment}
 use Rattle.txn.specs.declared.transactions.Source.TheVariants.{By}
-use Rattle.txn.specs.History.{Reads, session_of}
+use Rattle.txn.specs.History.{Reads}
 use Rattle.session_marks.specs.declared.marks.SessionMark.{SessionMark}
-use Rattle.session_marks.specs.Marks.{mark_at, with_received, with_closed}
+use Rattle.session_marks.specs.Marks.{mark_at, with_closed}
 use Rattle.session_marks.specs.Marks.{fresh as fresh_mark}
-use Rattle.pending_reads.specs.declared.index.PendingRead.{PendingRead}
-use Rattle.pending_reads.specs.Waiting.{Index, WaitsAlso, WaitsAsBefore}
+use Rattle.pending_reads.specs.Waiting.{Index}
 use Rattle.order_check.specs.declared.remainder.Parts.{Parts}
 use Rattle.order_check.specs.Based.{mark_of, remaining_of, remaining_at}
 use Rattle.order_check.specs.Good.{IsGood}
 use Rattle.order_check.specs.FrontLaws.{FragmentKeepsFront, CloseKeepsFront}
-use Rattle.order_check.specs.StandsFor.{IsOpenSession, parts_with, parts_closed, with_fragment}
+use Rattle.order_check.specs.StandsFor.{IsOpenSession, parts_with, parts_closed}
 use Rattle.settle.specs.declared.cuts.Cut.{Cut}
 use Rattle.order_check.specs.Laws.{StandsForWhatRemains}
 use Rattle.order_check.specs.NoBase.{HasNoBase}
 use Rattle.round_state.specs.EngineState.{EngineState}
 use Rattle.round_state.specs.Runs.{Holds}
 use Rattle.round_state.specs.Kept.{IsKept, AreKeptFronts}
-use Rattle.round_state.specs.Steps.{IsAdmitted}
 use Rattle.round_state.specs.Opening.{IsSessions, IsLimit, empty_parts, fresh, fresh_state}
-use Rattle.round_state.specs.Awaiting.{awaited_from, HaveArrived}
-use Rattle.round_state.specs.Tracked.{AreMarksOf, IsIndexOf}
-use Rattle.round_state.proofs.Grown.{good_with, good_closed}
-use Rattle.round_state.proofs.Indexed.{index_with, index_as_before}
-use Rattle.round_state.proofs.Marked.{marks_with, marks_closed}
+use Rattle.round_state.specs.Tracked.{AreMarksOf, IsIndexOf, IsTracked}
+use Rattle.round_state.proofs.Grown.{good_closed}
+use Rattle.round_state.proofs.Marked.{marks_closed}
 
 pub no_parts : (parts : Parts) → None ≡ Some parts → ⊥
 no_parts parts h = cc
@@ -63,52 +58,35 @@ fronts_closed parts asked held s law fronts = record {
       record { front = one.front; kept = law one.front parts s one.kept; order = one.order; found = one.found };
 }
 
--- another list of sessions in the parts
-pub kept_along : (parts : Parts) (marks : List SessionMark) (waits : Index) (asked : Option Parts) (held : Option Cut) (rounds : ℕ) (remain : List (List Txn)) → remain ≡ parts.remain → IsKept parts marks waits asked held rounds → IsKept (record parts { remain = remain }) marks waits asked held rounds
-kept_along parts marks waits asked held rounds remain e kept = subst (λ (sessions : List (List Txn)). IsKept (record parts { remain = sessions }) marks waits asked held rounds) (sym e) kept
-
--- an index in which the same reads wait
-pub kept_index : (parts : Parts) (marks : List SessionMark) (old new : Index) (asked : Option Parts) (held : Option Cut) (rounds : ℕ) → WaitsAsBefore old new → IsKept parts marks old asked held rounds → IsKept parts marks new asked held rounds
-kept_index parts marks old new asked held rounds same kept = record {
-  good = kept.good;
-  marks_fit = kept.marks_fit;
-  waits_fit = index_as_before parts old new kept.waits_fit same;
-  fronts = kept.fronts;
+-- After a call that keeps its fronts, and what is kept beside its parts.
+pub kept_by : (parts new : Parts) (marks new_marks : List SessionMark) (waits new_waits : Index) (asked : Option Parts) (held new_held : Option Cut) (rounds : ℕ) → IsTracked new_marks new_waits new → AreKeptFronts new asked new_held → IsKept parts marks waits asked held rounds → IsKept new new_marks new_waits asked new_held rounds
+kept_by parts new marks new_marks waits new_waits asked held new_held rounds tracked fronts kept = record {
+  good = tracked.good;
+  marks_fit = tracked.marks_fit;
+  waits_fit = tracked.waits_fit;
+  fronts = fronts;
   numbers = kept.numbers;
   number = kept.number;
 }
 
--- a fragment that was admitted, with the marks and the index that follow from it
-pub kept_with : FragmentKeepsFront → (parts : Parts) (marks : List SessionMark) (old mid new : Index) (asked : Option Parts) (held : Option Cut) (rounds : ℕ) (f : Fragment) (remain : List (List Txn)) → remain ≡ with_fragment parts.remain f → IsKept parts marks old asked held rounds → IsAdmitted parts f → WaitsAlso old mid (awaited_from marks f.session f.first f.txns) → HaveArrived mid new f.session f.first (length f.txns) → IsKept (record parts { remain = remain }) (with_received marks f.session (length f.txns)) new asked held rounds
-kept_with law parts marks old mid new asked held rounds f remain e kept fits also come =
-    kept_along (parts_with parts f) (with_received marks f.session (length f.txns)) new asked held rounds remain e (record {
-      good = good_with parts f kept.good fits;
-      marks_fit = marks_with marks parts f kept.marks_fit fits.next.session.0;
-      waits_fit = index_with marks parts old mid new f kept.marks_fit kept.waits_fit fits also come;
-      fronts = fronts_with parts asked held f law fits.next.session kept.fronts;
-      numbers = kept.numbers;
-      number = kept.number;
-    })
+-- what an engine keeps beside its parts tells of them
+pub tracked_of : (parts : Parts) (marks : List SessionMark) (waits : Index) (asked : Option Parts) (held : Option Cut) (rounds : ℕ) → IsKept parts marks waits asked held rounds → IsTracked marks waits parts
+tracked_of parts marks waits asked held rounds kept = record { good = kept.good; marks_fit = kept.marks_fit; waits_fit = kept.waits_fit }
 
--- the same, as an offer gives it
-pub kept_offered : FragmentKeepsFront → (parts : Parts) (marks new_marks : List SessionMark) (old mid new : Index) (asked : Option Parts) (held : Option Cut) (rounds count : ℕ) (f : Fragment) (remain : List (List Txn)) (awaited : List PendingRead) → remain ≡ with_fragment parts.remain f → new_marks ≡ with_received marks f.session count → count ≡ length f.txns → awaited ≡ awaited_from marks f.session f.first f.txns → IsKept parts marks old asked held rounds → IsAdmitted parts f → WaitsAlso old mid awaited → HaveArrived mid new f.session f.first count → IsKept (record parts { remain = remain }) new_marks new asked held rounds
-kept_offered law parts marks new_marks old mid new asked held rounds count f remain awaited e m n a kept fits also come =
-    let come : HaveArrived mid new f.session f.first (length f.txns) = subst (λ k. HaveArrived mid new f.session f.first k) n come in
-    let told : new_marks ≡ with_received marks f.session (length f.txns) = m ∙ ap (with_received marks f.session) n in
-    subst (λ (ms : List SessionMark). IsKept (record parts { remain = remain }) ms new asked held rounds) (sym told)
-    (kept_with law parts marks old mid new asked held rounds f remain e kept fits (subst (λ reads. WaitsAlso old mid reads) a also) come)
+-- parts as they were
+pub kept_refused : (parts new : Parts) (marks new_marks : List SessionMark) (waits new_waits : Index) (asked : Option Parts) (held : Option Cut) (rounds : ℕ) → new ≡ parts → IsTracked new_marks new_waits new → IsKept parts marks waits asked held rounds → IsKept new new_marks new_waits asked held rounds
+kept_refused parts new marks new_marks waits new_waits asked held rounds e tracked kept =
+    kept_by parts new marks new_marks waits new_waits asked held held rounds tracked (subst (λ (p : Parts). AreKeptFronts p asked held) (sym e) kept.fronts) kept
 
--- a session that was lengthened and cut again
-pub cut_back : (remain : List (List Txn)) (s n : ℕ) (txns : List Txn) → s < length remain → n ≡ length (session_of remain s) → slice_set (slice_set remain s (session_of remain s ++ txns)) s (take n (session_of (slice_set remain s (session_of remain s ++ txns)) s)) ≡ remain
-cut_back [] s n txns within e = absurd (omega arith)
-cut_back (session ∷ remain) zero n txns within e = ap (λ front. front ∷ remain) (ap (λ k. take k (session ++ txns)) e ∙ take-append_seam session txns)
-cut_back (session ∷ remain) (suc s) n txns within e = ap (λ rest. session ∷ rest) (cut_back remain s n txns (omega arith) e)
+-- a fragment that was admitted
+pub kept_offered : FragmentKeepsFront → (parts new : Parts) (marks new_marks : List SessionMark) (waits new_waits : Index) (asked : Option Parts) (held : Option Cut) (rounds : ℕ) (f : Fragment) → new ≡ parts_with parts f → IsOpenSession parts f.session → IsTracked new_marks new_waits new → IsKept parts marks waits asked held rounds → IsKept new new_marks new_waits asked held rounds
+kept_offered law parts new marks new_marks waits new_waits asked held rounds f e receives tracked kept =
+    kept_by parts new marks new_marks waits new_waits asked held held rounds tracked (subst (λ (p : Parts). AreKeptFronts p asked held) (sym e) (fronts_with parts asked held f law receives kept.fronts)) kept
 
-pub cut_back_to : (remain grown cut : List (List Txn)) (place s n : ℕ) (txns before : List Txn) → place ≡ s → s < length remain → before ≡ session_of remain s → n ≡ length before → grown ≡ slice_set remain place (session_of remain place ++ txns) → cut ≡ slice_set grown place (take n (session_of grown place)) → cut ≡ remain
-cut_back_to remain grown cut place s n txns before p within b e g c =
-    let inside : place < length remain = omega (arith, p, within) in
-    let size : n ≡ length (session_of remain place) = e ∙ ap length (b ∙ ap (session_of remain) (sym p)) in
-    c ∙ ap (λ (list : List (List Txn)). slice_set list place (take n (session_of list place))) g ∙ cut_back remain place n txns inside size
+-- no round is open, and no cut is held any more
+pub kept_joined : (parts new : Parts) (marks new_marks : List SessionMark) (waits new_waits : Index) (asked : Option Parts) (held : Option Cut) (rounds : ℕ) → asked ≡ None → IsTracked new_marks new_waits new → IsKept parts marks waits asked held rounds → IsKept new new_marks new_waits asked None rounds
+kept_joined parts new marks new_marks waits new_waits asked held rounds none tracked kept =
+    kept_by parts new marks new_marks waits new_waits asked held None rounds tracked (subst (λ (a : Option Parts). AreKeptFronts new a None) (sym none) (no_fronts new)) kept
 
 -- a session closed
 pub kept_closed : CloseKeepsFront → (parts : Parts) (marks : List SessionMark) (waits : Index) (asked : Option Parts) (held : Option Cut) (rounds s : ℕ) (closed : List Bool) → closed ≡ slice_set parts.closed s true → s < length parts.remain → IsKept parts marks waits asked held rounds → IsKept (record parts { closed = closed }) (with_closed marks s) waits asked held rounds

@@ -8,10 +8,10 @@ use Rattle.order_check.specs.declared.remainder.Kind.{Kind}
 use Rattle.order_check.specs.declared.remainder.Kind.TheVariants as kinds
 use Rattle.order_check.specs.declared.remainder.Parts.{Parts}
 use Rattle.order_check.specs.CutLaws.{CutKeepsReceived, CutKeepsStandsFor, CutKeepsWaiting, CutsOfFrontsFit}
-use Rattle.order_check.specs.Cuts.{GoesOn, IsCutBehind, IsKeptFront, MayGoOn}
+use Rattle.order_check.specs.Cuts.{IsCutBehind, IsKeptFront, IsSettledFor}
 use Rattle.order_check.specs.FrontLaws.{FrontOfItself, SettledStaysSettled}
 use Rattle.order_check.specs.Good.{IsGood}
-use Rattle.order_check.specs.Settled.{IsCutOf, IsSettled}
+use Rattle.order_check.specs.Settled.{IsCutOf}
 use Rattle.polygraph.specs.declared.solving.Answer.{Answer}
 use Rattle.polygraph.specs.declared.solving.Answer.TheVariants as answers
 use Rattle.settle.specs.Found.{IsFound}
@@ -106,18 +106,18 @@ kept_anew parts marks waits asked none good are is = subst (λ (a : Option Parts
 -- what is known of a cut that is kept
 pub fitting : SettledStaysSettled → CutsOfFrontsFit → CutKeepsReceived → CutKeepsWaiting → CutKeepsStandsFor → KeptCutsFit
 fitting stays fits counts waits keeps parts cut good kept = record {
-  can = fits kept.front parts cut.fence cut.gone cut.last kept.kept.is_front settled.1 kept.found.1;
+  can = fits kept.front parts cut.fence cut.gone cut.last kept.kept.is_front settled.so_far kept.found.1;
   cut_off = λ new leaves. record { front = kept.front; last = cut.last; behind = behind new leaves };
   received = λ new leaves. counts kept.front parts new cut.gone cut.last (behind new leaves);
   waiting = λ new leaves. waits kept.front parts new cut.gone cut.last (behind new leaves);
-  stands = λ new history leaves old. keeps kept.front parts new history cut.fence cut.gone cut.last good.base old kept.order kept.kept.is_front settled.0 kept.found.1 leaves;
+  stands = λ new history leaves old. keeps kept.front parts new history cut.fence cut.gone cut.last good.base old kept.order kept.kept.is_front settled kept.found.1 leaves;
 }
   where
-    settled : IsSettled kept.front (MayGoOn kept.front parts) cut.fence × IsSettled kept.front (GoesOn kept.front parts) cut.fence
+    settled : IsSettledFor kept.front parts cut.fence
     settled = stays kept.front parts cut.fence kept.kept kept.found.0.settled
 
     behind : (new : Parts) → IsCutOf parts new cut.gone cut.last → IsCutBehind kept.front parts cut.gone cut.last new
-    behind new leaves = record { fence = cut.fence; is_front = kept.kept.is_front; settled = settled.1; cut = kept.found.1; leaves = leaves }
+    behind new leaves = record { fence = cut.fence; is_front = kept.kept.is_front; settled = settled.so_far; cut = kept.found.1; leaves = leaves }
 
 -- after a cut the marks are to be raised, and nothing else
 pub raised_start : (marks : List SessionMark) (old new : Parts) (cut : Cut) → AreMarksOf marks old → IsFitting old cut → IsCutOf old new cut.gone cut.last → AreRaisedBelow marks new 0

@@ -7,7 +7,9 @@ pub mod Holding
 pub mod Indexed
 pub mod Keeping
 pub mod KeptFronts
+pub mod LetIn
 pub mod Marked
 pub mod Raised
 pub mod Replies
 pub mod Running
+pub mod TakenIn

@@ -11,7 +11,7 @@ use Rattle.txn.specs.declared.refusals.Refusal.TheVariants.{BadSession, Closed, 
 use Rattle.txn.specs.History.{session_of}
 use Rattle.txn.specs.Transactions.{IsWellFormedFragment}
 use Rattle.session_marks.specs.declared.marks.SessionMark.{SessionMark}
-use Rattle.session_marks.specs.Marks.{fresh, mark_at, IsOpen, IsClosed, IsNext, AdmitFault, CloseFault, with_received, with_closed}
+use Rattle.session_marks.specs.Marks.{fresh, mark_at, IsOpen, IsClosed, IsNext, AdmitFault, CloseFault, with_received, with_closed, with_flag}
 use Rattle.session_marks.specs.Marks.{received_counts as counts_of_marks}
 use Rattle.order_check.specs.declared.remainder.Parts.{Parts}
 use Rattle.order_check.specs.Based.{mark_of, received_count, received_counts}
@@ -100,9 +100,9 @@ marks_with marks parts f are within = record {
     there : (s : ℕ) → s ≢ f.session → mark_at marks_new s ≡ mark_at marks s
     there s other = get_or-set_other marks f.session s new fresh other
 
--- the marks with a session closed are those of the parts with it closed
-pub marks_closed : (marks : List SessionMark) (parts : Parts) (s : ℕ) → AreMarksOf marks parts → IsGood parts → s < length parts.remain → AreMarksOf (with_closed marks s) (parts_closed parts s)
-marks_closed marks parts s are good within = record {
+-- the marks with a session closed, or open, are those of the parts with it so
+pub marks_flagged : (marks : List SessionMark) (parts : Parts) (s : ℕ) (flag : Bool) → AreMarksOf marks parts → IsGood parts → s < length parts.remain → AreMarksOf (with_flag marks s flag) (record parts { closed = slice_set parts.closed s flag })
+marks_flagged marks parts s flag are good within = record {
   sessions = length-set marks s new ∙ are.sessions;
   gone = λ t. elim (cases_eq t s) [
     | inl same ↦ subst (λ q. (mark_at marks_new q).gone ≡ mark_of parts q) (sym same) (ap (λ (m : SessionMark). m.gone) here ∙ are.gone s)
@@ -114,14 +114,14 @@ marks_closed marks parts s are good within = record {
   ];
   closed = λ t. elim (cases_eq t s) [
     | inl same ↦
-        let flag : get_or (slice_set parts.closed s true) s false ≡ true = get_or-set_same parts.closed s true false (omega (arith, within, good.closed)) in
-        subst (λ q. (mark_at marks_new q).closed ≡ get_or (slice_set parts.closed s true) q false) (sym same) (ap (λ (m : SessionMark). m.closed) here ∙ sym flag)
-    | inr other ↦ ap (λ (m : SessionMark). m.closed) (there t other) ∙ are.closed t ∙ sym (get_or-set_other parts.closed s t true false other)
+        let is : get_or (slice_set parts.closed s flag) s false ≡ flag = get_or-set_same parts.closed s flag false (omega (arith, within, good.closed)) in
+        subst (λ q. (mark_at marks_new q).closed ≡ get_or (slice_set parts.closed s flag) q false) (sym same) (ap (λ (m : SessionMark). m.closed) here ∙ sym is)
+    | inr other ↦ ap (λ (m : SessionMark). m.closed) (there t other) ∙ are.closed t ∙ sym (get_or-set_other parts.closed s t flag false other)
   ];
 }
   where
     new : SessionMark
-    new = record (mark_at marks s) { closed = true }
+    new = record (mark_at marks s) { closed = flag }
 
     marks_new : List SessionMark
     marks_new = slice_set marks s new
@@ -131,6 +131,9 @@ marks_closed marks parts s are good within = record {
 
     there : (t : ℕ) → t ≢ s → mark_at marks_new t ≡ mark_at marks t
     there t other = get_or-set_other marks s t new fresh other
+
+pub marks_closed : (marks : List SessionMark) (parts : Parts) (s : ℕ) → AreMarksOf marks parts → IsGood parts → s < length parts.remain → AreMarksOf (with_closed marks s) (parts_closed parts s)
+marks_closed marks parts s are good within = marks_flagged marks parts s true are good within
 
 -- the counts that the marks tell are those of the parts
 pub counts_told : (marks : List SessionMark) (parts : Parts) → AreMarksOf marks parts → IsGood parts → counts_of_marks marks ≡ received_counts parts

@@ -1,7 +1,10 @@
 -- Right replies are legal: they are so by the engine alone, and what they say is true of whole histories that it stands for.
-use Rattle.std.proofs.Common.{◌≡◌, ℕ, ◌+◌, List, Option, Some, None, refl, sym, ap, ◌∙◌, subst}
-use Rattle.std.specs.Prelude.{Result, Ok, Err, IfOk, IfErr, IfSome, IsSomeAnd, MatchResult}
-use Rattle.txn.specs.History.{History}
+use Rattle.std.proofs.Common.{◌≡◌, ℕ, ◌+◌, ◌⊎◌, inl, inr, Bool, true, false, nat_eq, [], length, arith, List, Option, Some, None, refl, sym, ap, ◌∙◌, subst}
+use Rattle.std.proofs.lemmas.Bool.{eq-eqb, eqb-true, false≢true}
+use Rattle.std.specs.Prelude.{if◌then◌else◌, Result, Ok, Err, IfOk, IfErr, IfSome, IsSomeAnd, MatchResult}
+use Rattle.txn.specs.History.{History, session_of}
+use Rattle.txn.specs.declared.transactions.Fragment.{Fragment}
+use Rattle.txn.specs.declared.transactions.Txn.{Txn}
 use Rattle.txn.specs.declared.transactions.TxnId.{TxnId}
 use Rattle.txn.specs.declared.refusals.Refusal.{Refusal}
 use Rattle.txn.specs.declared.refusals.Refusal.TheVariants as refusals
@@ -10,8 +13,10 @@ use Rattle.order_check.specs.declared.remainder.Kind.{Kind}
 use Rattle.order_check.specs.declared.remainder.Kind.TheVariants as kinds
 use Rattle.order_check.specs.Explains.{Explains}
 use Rattle.order_check.specs.Good.{IsGood}
-use Rattle.order_check.specs.Laws.{SameVerdictAsStoodFor, OfferKeepsStandsFor, CloseKeepsStandsFor}
-use Rattle.order_check.specs.StandsFor.{StandsFor}
+use Rattle.order_check.specs.Laws.{SameVerdictAsStoodFor, OfferKeepsStandsFor, JoinKeepsStandsFor, ReturnKeepsStandsFor, CloseKeepsStandsFor}
+use Rattle.order_check.specs.StandsFor.{Arrival, Joins, Returns, StandsFor, IsReturningFragment, history_after, parts_after}
+use Rattle.order_check.specs.Based.{remaining_of}
+use Rattle.std.proofs.lemmas.List.{get_or_past}
 use Rattle.order_check.specs.Verdict.{IsVerdict}
 use Rattle.order_check.specs.Whole.{IsVerdictWhole}
 use Rattle.refutation.specs.declared.trees.Tree.{Tree}
@@ -26,12 +31,12 @@ use Rattle.round_state.specs.Kept.{IsFitting}
 use Rattle.round_state.specs.Legal.{State, Legal, IsTrueOf, TellsOf, IsTrueReply, whole_after, asked_after}
 use Rattle.round_state.specs.Runs.{Holds, StepsLegally}
 use Rattle.round_state.specs.Solving.{IsRight, IsWrong, IsReportOn}
-use Rattle.round_state.specs.Steps.{IsFinishRefusal, IsSolvedRefusal, IsFinished, IsHeldAfter, IsKindOf, Shows, answer_told, IsRightReport, StepsTo}
+use Rattle.round_state.specs.Steps.{IsFinishRefusal, IsSolvedRefusal, IsFinished, IsHeldAfter, IsKindOf, Shows, answer_told, IsRightReport, IsClosedSession, IsLetIn, StepsTo, arrival_of}
 use Rattle.round_state.specs.declared.reports.Certificate.{Certificate}
 use Rattle.round_state.specs.declared.reports.Certificate.TheVariants.{Order, Refuted, Nothing}
 use Rattle.round_state.specs.declared.reports.Report.{Report}
 use Rattle.round_state.specs.declared.steps.Step.{Step}
-use Rattle.round_state.specs.declared.steps.Step.TheVariants.{Offer, Close, Begin, Finish, Abandon, Truncate, Rebuild}
+use Rattle.round_state.specs.declared.steps.Step.TheVariants.{Offer, Join, Close, Begin, Finish, Abandon, Truncate, Rebuild}
 use Rattle.round_state.specs.declared.steps.StepReply.{StepReply}
 use Rattle.round_state.specs.declared.steps.StepReply.TheVariants as reply
 use Rattle.round_state.proofs.Counts.{counts_of}
@@ -122,6 +127,8 @@ tells_of old new (Some parts) whole budget depth report law fits right =
 -- what an engine's laws and its snapshot give
 pub record Grounds (engine : EngineState) : Type 0 where
   pub offers : OfferKeepsStandsFor
+  pub joins : JoinKeepsStandsFor
+  pub returns : ReturnKeepsStandsFor
   pub closes : CloseKeepsStandsFor
   pub verdicts : SameVerdictAsStoodFor
   pub snapshot : (parts : Parts) → engine.asked ≡ Some parts → IsGood parts
@@ -146,6 +153,28 @@ parts_along new made whole e stands = subst (λ (engine : EngineState). StandsFo
 asked_along : (new made : EngineState) (asked : History) → new ≡ made → ((parts : Parts) → made.asked ≡ Some parts → StandsFor parts asked) → (parts : Parts) → new.asked ≡ Some parts → StandsFor parts asked
 asked_along new made asked e stands parts h = stands parts (ap (λ (engine : EngineState). engine.asked) (sym e) ∙ h)
 
+-- a session that joins or comes back
+joins_of : (parts : Parts) (whole : History) (f : Fragment) → JoinKeepsStandsFor → ReturnKeepsStandsFor → StandsFor parts whole → IsLetIn parts f → StandsFor (parts_after parts (arrival_of (length parts.remain) f)) (history_after whole (arrival_of (length whole) f))
+joins_of parts whole f joins returns stands fits = subst (λ (n : ℕ). StandsFor (parts_after parts (arrival_of (length parts.remain) f)) (history_after whole (arrival_of n f))) (sym stands.sessions) (by_test (nat_eq f.session (length parts.remain)) refl)
+  where
+    arrival : Bool → Arrival
+    arrival new = if new then Joins f else Returns f
+
+    by_old : (f.session ≡ length parts.remain) ⊎ (IsClosedSession parts f.session × (remaining_of parts f.session ≡ [])) → nat_eq f.session (length parts.remain) ≡ false → IsReturningFragment parts f
+    by_old (inl same) apart = absurd (false≢true (sym apart ∙ eq-eqb f.session (length parts.remain) same))
+    by_old (inr (closed, none)) apart = record { well_formed = fits.well_formed; session = closed.0; next = fits.next; anchored = fits.anchored }
+
+    first : f.session ≡ length parts.remain → f.first ≡ 0
+    first same =
+        let none : remaining_of parts f.session ≡ [] = get_or_past parts.remain f.session [] (omega (arith, same)) in
+        let missing : session_of whole f.session ≡ [] = get_or_past whole f.session [] (omega (arith, same, stands.sessions)) in
+        omega (arith, fits.next, stands.received f.session, ap (λ (txns : List Txn). length txns) missing)
+
+    by_test : (t : Bool) → nat_eq f.session (length parts.remain) ≡ t → StandsFor (parts_after parts (arrival (nat_eq f.session (length parts.remain)))) (history_after whole (arrival (nat_eq f.session (length parts.remain))))
+    by_test true e = subst (λ (b : Bool). StandsFor (parts_after parts (arrival b)) (history_after whole (arrival b))) (sym e)
+        (let same = eqb-true f.session (length parts.remain) e in joins parts whole f stands (record { well_formed = fits.well_formed; session = same; first = first same; anchored = fits.anchored }))
+    by_test false e = subst (λ (b : Bool). StandsFor (parts_after parts (arrival b)) (history_after whole (arrival b))) (sym e) (returns parts whole f stands (by_old fits.session e))
+
 -- whatever histories the engine stood for, a right step is legal
 pub legal_of : (old new : EngineState) (step : Step) (said : StepReply) → Grounds old → StepsTo old step said new → StepsLegally old step said new
 legal_of old new (Offer f) reply.Done grounds right before holds =
@@ -154,6 +183,12 @@ legal_of old new (Offer f) reply.Done grounds right before holds =
     (asked_along new _ _ right.1 holds.asked)
 legal_of old new (Offer f) (reply.Refused refusal) grounds right before holds =
     legal_by old new (Offer f) (reply.Refused refusal) before holds right tt (parts_along new old _ right.1 holds.parts) (asked_along new old _ right.1 holds.asked)
+legal_of old new (Join f) reply.Done grounds right before holds =
+    legal_by old new (Join f) reply.Done before holds right tt
+    (parts_along new _ _ right.2 (joins_of old.parts before.whole f grounds.joins grounds.returns holds.parts right.1))
+    (asked_along new _ _ right.2 holds.asked)
+legal_of old new (Join f) (reply.Refused refusal) grounds right before holds =
+    legal_by old new (Join f) (reply.Refused refusal) before holds right tt (parts_along new old _ right.1 holds.parts) (asked_along new old _ right.1 holds.asked)
 legal_of old new (Close s) reply.Done grounds right before holds =
     legal_by old new (Close s) reply.Done before holds right tt
     (parts_along new _ _ right.1 (grounds.closes old.parts before.whole s holds.parts))

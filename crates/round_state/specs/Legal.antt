@@ -4,13 +4,13 @@ use Rattle.std.specs.Prelude.{◌≡◌, ⊤, List, [], ◌∷◌, length, map}
 use Rattle.txn.specs.History.{History}
 use Rattle.order_check.specs.declared.remainder.Kind.{Kind}
 use Rattle.order_check.specs.declared.remainder.Kind.TheVariants.{Spent}
-use Rattle.order_check.specs.StandsFor.{with_fragment}
+use Rattle.order_check.specs.StandsFor.{history_after, with_fragment}
 use Rattle.order_check.specs.Whole.{IsVerdictWhole}
 use Rattle.round_state.specs.EngineState.{EngineState}
-use Rattle.round_state.specs.Steps.{StepsTo}
+use Rattle.round_state.specs.Steps.{StepsTo, arrival_of}
 use Rattle.round_state.specs.declared.reports.Report.{Report}
 use Rattle.round_state.specs.declared.steps.Step.{Step}
-use Rattle.round_state.specs.declared.steps.Step.TheVariants.{Offer, Begin}
+use Rattle.round_state.specs.declared.steps.Step.TheVariants.{Offer, Join, Begin}
 use Rattle.round_state.specs.declared.steps.StepReply.{StepReply}
 use Rattle.round_state.specs.declared.steps.StepReply.TheVariants as reply
 
@@ -21,9 +21,10 @@ pub record State : Type 0 where
   pub asked : History
 
 -- What a step that was replied to so makes of the whole history that was received: an offer that is done puts its fragment
--- at the end.
+-- at the end, and so does a join, where its session is new in a session more.
 abbrev pub whole_after : State → Step → StepReply → History
 whole_after old (Offer fragment) reply.Done = with_fragment old.whole fragment
+whole_after old (Join fragment) reply.Done = history_after old.whole (arrival_of (length old.whole) fragment)
 whole_after old step said = old.whole
 
 -- and of the one of the open round: a begin that is done takes what was received

@@ -1,6 +1,7 @@
 pub mod Awaiting
 pub mod Behind
 pub mod EngineState
+pub mod Joining
 pub mod Kept
 pub mod Legal
 pub mod Opening

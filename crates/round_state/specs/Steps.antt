@@ -1,17 +1,17 @@
 -- Which replies to a step are right, and what they lead to, by the engine alone: whatever parts it has, also such as stand for
 -- no whole history.
-use Rattle.std.specs.Prelude.{◌≡◌, ℕ, ◌+◌, ◌-◌, ◌<◌, ◌≤◌, ◌^◌, ◌⊎◌, ⊤, true, List, [], ◌∷◌, length, slice_get, Option, Some, None, IsSome, IsSomeAnd, sum_by}
+use Rattle.std.specs.Prelude.{◌≡◌, ℕ, ◌+◌, ◌-◌, ◌<◌, ◌≤◌, ◌^◌, ◌⊎◌, ⊤, true, List, [], ◌∷◌, length, slice_get, Option, Some, None, IsSome, IsSomeAnd, sum_by, nat_eq, if◌then◌else◌}
 use Rattle.txn.specs.declared.transactions.Fragment.{Fragment}
 use Rattle.txn.specs.declared.refusals.Refusal.{Refusal}
-use Rattle.txn.specs.declared.refusals.Refusal.TheVariants.{BadSession, Closed, Gap, Repeat, Backlog, TooLong, RoundOpen, NoRound, BadCertificate, NoCut, NoMemory}
+use Rattle.txn.specs.declared.refusals.Refusal.TheVariants.{BadSession, Closed, Gap, Repeat, Backlog, TooLong, RoundOpen, NoRound, BadCertificate, NoCut, NoMemory, NotAnchored}
 use Rattle.txn.specs.Transactions.{IsWellFormedFragment, FragmentFault}
 use Rattle.order_check.specs.declared.remainder.Parts.{Parts}
 use Rattle.order_check.specs.declared.remainder.Kind.{Kind}
 use Rattle.order_check.specs.declared.remainder.Kind.TheVariants as kinds
-use Rattle.order_check.specs.Based.{received_count, received_counts}
+use Rattle.order_check.specs.Based.{received_count, received_counts, remaining_of}
 use Rattle.order_check.specs.Explains.{Explains}
 use Rattle.order_check.specs.Settled.{IsCutOf}
-use Rattle.order_check.specs.StandsFor.{IsOpenSession, IsNextFragment, parts_with, parts_closed}
+use Rattle.order_check.specs.StandsFor.{Arrival, Joins, Returns, IsAnchored, IsOpenSession, IsNextFragment, parts_after, parts_with, parts_closed}
 use Rattle.order_check.specs.Verdict.{IsVerdict}
 use Rattle.refutation.specs.Refutes.{IsRefutation}
 use Rattle.polygraph.specs.Solving.{MayBeSpent, MayComeTo}
@@ -25,7 +25,7 @@ use Rattle.round_state.specs.declared.reports.Certificate.{Certificate}
 use Rattle.round_state.specs.declared.reports.Certificate.TheVariants.{Order, Refuted, Nothing}
 use Rattle.round_state.specs.declared.reports.Report.{Report}
 use Rattle.round_state.specs.declared.steps.Step.{Step}
-use Rattle.round_state.specs.declared.steps.Step.TheVariants.{Offer, Close, Begin, Finish, Abandon, Truncate, Rebuild}
+use Rattle.round_state.specs.declared.steps.Step.TheVariants.{Offer, Join, Close, Begin, Finish, Abandon, Truncate, Rebuild}
 use Rattle.round_state.specs.declared.steps.StepReply.{StepReply}
 use Rattle.round_state.specs.declared.steps.StepReply.TheVariants as reply
 
@@ -51,6 +51,38 @@ pub record IsAdmitted (parts : Parts) (fragment : Fragment) : Type 0 where
 abbrev pub IsOfferRefusal : Parts → Fragment → Refusal → Type 0
 IsOfferRefusal parts fragment NoMemory = IsAdmitted parts fragment
 IsOfferRefusal parts fragment refusal = FragmentFault fragment refusal ⊎ (IsWellFormedFragment fragment × IntakeFault parts fragment refusal)
+
+-- A session may join where it is the next new one, or is closed and nothing of it remains.
+abbrev pub MayJoin : Parts → ℕ → Type 0
+MayJoin parts s = (s ≡ length parts.remain) ⊎ (IsClosedSession parts s × (remaining_of parts s ≡ []))
+
+-- Why a session isn't let join with a well-formed fragment: each case stands behind the ones above it. Of a new session
+-- nothing was received.
+abbrev pub JoinFault : Parts → Fragment → Refusal → Type 0
+JoinFault parts fragment BadSession = ¬ MayJoin parts fragment.session
+JoinFault parts fragment Gap = MayJoin parts fragment.session × (received_count parts fragment.session < fragment.first)
+JoinFault parts fragment Repeat = MayJoin parts fragment.session × (fragment.first < received_count parts fragment.session)
+JoinFault parts fragment NotAnchored = MayJoin parts fragment.session × (fragment.first ≡ received_count parts fragment.session) × (¬ IsAnchored parts fragment)
+JoinFault parts fragment Backlog = MayJoin parts fragment.session × (fragment.first ≡ received_count parts fragment.session) × IsAnchored parts fragment × (parts.limit < sum_by length parts.remain + length fragment.txns)
+JoinFault parts fragment refusal = ⊥
+
+-- a session is let join with the fragment, unless memory is wanting: it is next and anchored, and there is room for it
+pub record IsLetIn (parts : Parts) (fragment : Fragment) : Type 0 where
+  pub well_formed : IsWellFormedFragment fragment
+  pub session : MayJoin parts fragment.session
+  pub next : fragment.first ≡ received_count parts fragment.session
+  pub anchored : IsAnchored parts fragment
+  pub room : sum_by length parts.remain + length fragment.txns ≤ parts.limit
+
+-- Why a join is refused: what is wrong with the fragment comes first, then that a round is open; memory is asked for last.
+abbrev pub IsJoinRefusal : EngineState → Fragment → Refusal → Type 0
+IsJoinRefusal engine fragment RoundOpen = IsWellFormedFragment fragment × IsSome engine.asked
+IsJoinRefusal engine fragment NoMemory = (engine.asked ≡ None) × IsLetIn engine.parts fragment
+IsJoinRefusal engine fragment refusal = FragmentFault fragment refusal ⊎ (IsWellFormedFragment fragment × (engine.asked ≡ None) × JoinFault engine.parts fragment refusal)
+
+-- what a fragment is with which a session joins, where there are so many sessions
+abbrev pub arrival_of : ℕ → Fragment → Arrival
+arrival_of sessions fragment = if nat_eq fragment.session sessions then Joins fragment else Returns fragment
 
 -- Why a close is refused: the session isn't there, or is closed already.
 abbrev pub IsCloseRefusal : Parts → ℕ → Refusal → Type 0
@@ -106,6 +138,10 @@ IsRebuildRefusal engine refusal = ⊥
 
 abbrev pub engine_offered : EngineState → Fragment → EngineState
 engine_offered old fragment = record old { parts = parts_with old.parts fragment }
+
+-- a cut that was held is dropped
+abbrev pub engine_joined : EngineState → Fragment → EngineState
+engine_joined old fragment = record old { parts = parts_after old.parts (arrival_of (length old.parts.remain) fragment); held = None }
 
 abbrev pub engine_closed : EngineState → ℕ → EngineState
 engine_closed old s = record old { parts = parts_closed old.parts s }
@@ -175,6 +211,8 @@ pub record IsRightReport (old : EngineState) (parts : Parts) (budget depth : ℕ
 abbrev pub StepsTo : EngineState → Step → StepReply → EngineState → Type 0
 StepsTo old (Offer fragment) reply.Done new = IsAdmitted old.parts fragment × (new ≡ engine_offered old fragment)
 StepsTo old (Offer fragment) (reply.Refused refusal) new = IsOfferRefusal old.parts fragment refusal × (new ≡ old)
+StepsTo old (Join fragment) reply.Done new = (old.asked ≡ None) × IsLetIn old.parts fragment × (new ≡ engine_joined old fragment)
+StepsTo old (Join fragment) (reply.Refused refusal) new = IsJoinRefusal old fragment refusal × (new ≡ old)
 StepsTo old (Close s) reply.Done new = IsOpenSession old.parts s × (new ≡ engine_closed old s)
 StepsTo old (Close s) (reply.Refused refusal) new = IsCloseRefusal old.parts s refusal × (new ≡ old)
 StepsTo old Begin reply.Done new = MayBegin old × (new ≡ engine_begun old)

@@ -46,6 +46,12 @@ IsIndexOf index parts = (reader writer : TxnId) (key : ℕ) → Waits index read
 abbrev pub IsIndexBelow : Index → Parts → ℕ → Type 0
 IsIndexBelow index parts s = (reader writer : TxnId) (key : ℕ) → Waits index reader key writer ↔ ((reader.session < s) × IsPendingRead parts reader key writer)
 
+-- What is kept beside the parts tells of them, and they keep their rules.
+pub record IsTracked (marks : List SessionMark) (index : Index) (parts : Parts) : Type 0 where
+  pub good : IsGood parts
+  pub marks_fit : AreMarksOf marks parts
+  pub waits_fit : IsIndexOf index parts
+
 -- What is kept with a snapshot of good parts: how many were received of each session, and whether a read was pending.
 pub record IsSnapshot (parts : Parts) (told : List ℕ) (some : Bool) : Type 0 where
   pub good : IsGood parts

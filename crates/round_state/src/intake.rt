@@ -1,10 +1,11 @@
-ghost use Rattle.std.specs.Prelude.{◌≡◌, [], ◌∷◌, ◌++◌, ◌+◌, ◌≤◌, ◌^◌, length, OnOk, IfOk, MatchResult};
+ghost use Rattle.std.specs.Prelude.{◌≡◌, [], ◌∷◌, ◌++◌, ◌+◌, ◌≤◌, ◌^◌, length, OnOk, OnErr, IfOk, MatchResult};
 ghost use Rattle.std.specs.Option.{option_to_list};
 ghost use Rattle.txn.specs.Transactions.{IsWellFormedFragment};
 ghost use Rattle.order_check.specs.Good.{IsGood};
+ghost use Rattle.order_check.specs.StandsFor.{parts_with};
 ghost use Rattle.round_state.specs.Awaiting.{awaited_of, awaited_from, HaveArrived};
 ghost use Rattle.round_state.specs.Steps.{IsAdmitted, IntakeFault};
-ghost use Rattle.round_state.specs.Tracked.{AreMarksOf};
+ghost use Rattle.round_state.specs.Tracked.{AreMarksOf, IsTracked};
 
 use order_check::Parts;
 use pending_reads::{PendingRead, PendingReads};
@@ -94,4 +95,38 @@ pub(crate) fn arrive_all(waits: &mut PendingReads, session: u8, first: u64, coun
     for number in first..first + count {
         waits.arrive(TxnId { session, number });
     }
+}
+
+/// Takes in a fragment that is admitted, or leaves the parts as they were.
+pub(crate) fn take_in(
+    alloc: Global,
+    parts: &mut Parts,
+    marks: &mut Marks,
+    waits: &mut PendingReads,
+    fragment: Fragment,
+) -> Result<(), NoMemory>
+    requires tracked { IsTracked marks.old waits.old parts.old }
+    requires fits { IsAdmitted parts.old fragment }
+    ensures tracked { IsTracked marks.new waits.new parts.new }
+    ensures ok { OnOk result (parts.new ≡ parts_with parts.old fragment) }
+    ensures err { OnErr result (parts.new ≡ parts.old) }
+{
+    let txns = fragment.txns.as_slice();
+    let awaited = awaited_reads(alloc, marks, fragment.session, fragment.first, txns)?;
+    let before = parts.remaining_of(fragment.session).len();
+    let Fragment {
+        session,
+        first,
+        txns,
+    } = fragment;
+    let count = txns.len() as u64;
+    let place = usize::from(session);
+    parts.remain.append_at(place, txns)?;
+    if let Err(refused) = waits.add_all(awaited.as_slice()) {
+        parts.remain.truncate_at(place, before);
+        return Err(refused);
+    }
+    marks.receive(session, count);
+    arrive_all(waits, session, first, count);
+    Ok(())
 }

@@ -5,6 +5,7 @@
 mod catching_up;
 mod fronts;
 mod intake;
+mod joining;
 mod opening;
 mod reports;
 mod snapshots;
@@ -12,6 +13,7 @@ mod state;
 mod steps;
 mod tracking;
 
+pub use opening::{is_limit, is_sessions};
 pub use reports::{Certificate, Report, received_counts};
 pub use state::Engine;
 pub use steps::{Step, StepReply};

@@ -12,13 +12,15 @@ const GREATEST_SESSIONS: u64 = 64;
 /// The greatest number of transactions that may remain.
 const GREATEST_LIMIT: u64 = 4096;
 
-pub(crate) fn is_sessions(sessions: u64) -> bool
+/// Whether an audit may begin with so many sessions.
+pub fn is_sessions(sessions: u64) -> bool
     ensures { IsTrue result ↔ IsSessions sessions }
 {
     1 <= sessions && sessions <= GREATEST_SESSIONS
 }
 
-pub(crate) fn is_limit(limit: u64) -> bool
+/// Whether so many transactions may be let remain.
+pub fn is_limit(limit: u64) -> bool
     ensures { IsTrue result ↔ IsLimit limit }
 {
     1 <= limit && limit <= GREATEST_LIMIT

@@ -1,10 +1,10 @@
-ghost use Rattle.std.specs.Prelude.{◌≡◌, ◌+◌, length, sum_by, Some, None, IfOk, IfErr, OnOk, IsSome, IsSomeAnd};
+ghost use Rattle.std.specs.Prelude.{◌≡◌, ◌+◌, length, sum_by, Some, None, IfOk, IfErr, OnErr, OnOk, IsSome, IsSomeAnd};
 ghost use Rattle.txn.specs.History.{History};
 ghost use Rattle.settle.specs.declared.cuts.Cut.{Cut};
 ghost use Rattle.order_check.specs.Good.{IsGood};
 ghost use Rattle.order_check.specs.StandsFor.{IsOpenSession, StandsFor};
 ghost use Rattle.round_state.specs.Opening.{IsSessions, IsLimit, IsOpenRefusal, IsPartsRefusal, fresh, fresh_state};
-ghost use Rattle.round_state.specs.Steps.{IsAdmitted, IsOfferRefusal, IsCloseRefusal, MayBegin, IsBeginRefusal, IsFinishRefusal, IsAbandonRefusal, IsRebuildRefusal, IsTruncateRefusal, IsTruncated, IsFinished, IsHeldAfter, engine_offered, engine_closed, engine_begun, engine_abandoned, engine_rebuilt};
+ghost use Rattle.round_state.specs.Steps.{IsAdmitted, IsJoinRefusal, IsLetIn, IsOfferRefusal, IsCloseRefusal, MayBegin, IsBeginRefusal, IsFinishRefusal, IsAbandonRefusal, IsRebuildRefusal, IsTruncateRefusal, IsTruncated, IsFinished, IsHeldAfter, engine_joined, engine_offered, engine_closed, engine_begun, engine_abandoned, engine_rebuilt};
 ghost use Rattle.round_state.specs.EngineState.{engine_over, parts_asked};
 ghost use Rattle.round_state.specs.Runs.{Holds};
 ghost use Rattle.round_state.specs.Kept.{IsFitting};
@@ -12,7 +12,8 @@ ghost use Rattle.round_state.specs.Solving.{IsReportOn};
 
 use crate::catching_up::{known_after_cut, known_of, known_to_cut};
 use crate::fronts::kept_cuts_fit;
-use crate::intake::{admit, arrive_all, awaited_reads};
+use crate::intake::{admit, take_in};
+use crate::joining::{join_with, let_in};
 use crate::opening::{empty_parts, is_limit, is_sessions};
 use crate::reports::{Report, report_on};
 use crate::snapshots::{Snapshot, asked_of, relation_of};
@@ -139,23 +140,38 @@ impl Engine {
         fragment_keeps_front();
         check_fragment(&fragment)?;
         admit(&self.parts, &self.marks, &fragment)?;
-        let txns = fragment.txns.as_slice();
-        let awaited = awaited_reads(alloc, &self.marks, fragment.session, fragment.first, txns)?;
-        let before = self.parts.remaining_of(fragment.session).len();
-        let Fragment {
-            session,
-            first,
-            txns,
-        } = fragment;
-        let count = txns.len() as u64;
-        let place = usize::from(session);
-        self.parts.remain.append_at(place, txns)?;
-        if let Err(refused) = self.waits.add_all(awaited.as_slice()) {
-            self.parts.remain.truncate_at(place, before);
-            return Err(Refusal::from(refused));
+        take_in(
+            alloc,
+            &mut self.parts,
+            &mut self.marks,
+            &mut self.waits,
+            fragment,
+        )?;
+        Ok(())
+    }
+
+    /// Lets a session join with a fragment, while no round is open: the next new session with its first fragment, or one that was
+    /// closed and of which nothing remains with its next. The fragment begins with a fence that reads from a fence that
+    /// remains, or from the last gone writer of the epoch key. After it the session is open, and a cut that was held is
+    /// dropped.
+    pub fn join(&mut self, alloc: Global, fragment: Fragment) -> Result<(), Refusal>
+        ensures ok { OnOk result ((self.old.asked ≡ None) × IsLetIn self.old.parts fragment × (self.new ≡ engine_joined self.old fragment)) }
+        ensures err { IfErr result (λ refusal. IsJoinRefusal self.old fragment refusal × (self.new ≡ self.old)) }
+    {
+        check_fragment(&fragment)?;
+        if self.asked.is_some() {
+            return Err(Refusal::RoundOpen);
         }
-        self.marks.receive(session, count);
-        arrive_all(&mut self.waits, session, first, count);
+        let_in(&self.parts, &fragment)?;
+        join_with(
+            alloc,
+            &mut self.parts,
+            &mut self.marks,
+            &mut self.waits,
+            fragment,
+        )?;
+        self.held = None; // It was settled without this session.
+        self.kept = None;
         Ok(())
     }
 

@@ -7,7 +7,10 @@ ghost use Rattle.round_state.specs.Steps.{StepsTo, RunsTo};
 
 use crate::reports::Report;
 use crate::state::Engine;
-use order_check::{close_keeps_stands_for, offer_keeps_stands_for, verdict_as_stood_for};
+use order_check::{
+    close_keeps_stands_for, join_keeps_stands_for, offer_keeps_stands_for, return_keeps_stands_for,
+    verdict_as_stood_for,
+};
 use polygraph::{Answer, Problem, Solver};
 use refutation::refuted_has_no_order;
 use settle::Cut;
@@ -18,6 +21,8 @@ use txn::{Fragment, NoMemory, Refusal};
 #[derive(Drop, Debug)]
 pub enum Step {
     Offer(Fragment),
+    /// Lets a session join with the fragment, or come back with it.
+    Join(Fragment),
     /// Closes the session.
     Close(u8),
     Begin,
@@ -59,6 +64,16 @@ impl Engine {
         ensures asked { self.new.asked ≡ self.old.asked }
     {
         match self.offer(alloc, fragment) {
+            Ok(()) => StepReply::Done,
+            Err(refusal) => StepReply::Refused(refusal),
+        }
+    }
+
+    fn reply_to_join(&mut self, alloc: Global, fragment: Fragment) -> StepReply
+        ensures right { StepsTo self.old (Step.Join fragment) result self.new }
+        ensures asked { self.new.asked ≡ self.old.asked }
+    {
+        match self.join(alloc, fragment) {
             Ok(()) => StepReply::Done,
             Err(refusal) => StepReply::Refused(refusal),
         }
@@ -167,6 +182,8 @@ impl Engine {
         ensures { (step : Step) (reply : StepReply) (new : EngineState) → StepsTo self.now step reply new → StepsLegally self.now step reply new }
     {
         offer_keeps_stands_for();
+        join_keeps_stands_for();
+        return_keeps_stands_for();
         close_keeps_stands_for();
         verdict_as_stood_for();
         self.has_good_snapshot();
@@ -192,6 +209,7 @@ impl Engine {
         self.right_is_legal();
         match step {
             Step::Offer(fragment) => self.reply_to_offer(alloc, fragment),
+            Step::Join(fragment) => self.reply_to_join(alloc, fragment),
             Step::Close(session) => self.reply_to_close(session),
             Step::Begin => self.reply_to_begin(alloc, kept),
             Step::Finish {

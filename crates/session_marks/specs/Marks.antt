@@ -1,5 +1,5 @@
 -- How far each session has come, which fragment is next, and why another is refused.
-use Rattle.std.specs.Prelude.{◌≡◌, ℕ, ◌+◌, ◌<◌, ◌≤◌, true, false, List, length, map, slice_index_or, slice_set}
+use Rattle.std.specs.Prelude.{◌≡◌, ℕ, ◌+◌, ◌<◌, ◌≤◌, Bool, true, false, List, length, map, slice_index_or, slice_set}
 use Rattle.txn.specs.declared.transactions.TxnId.{TxnId}
 use Rattle.txn.specs.declared.transactions.Fragment.{Fragment}
 use Rattle.txn.specs.declared.refusals.Refusal.{Refusal}
@@ -39,6 +39,10 @@ with_gone marks s count = let mark = mark_at marks s in slice_set marks s (recor
 -- the marks after a session is closed
 abbrev pub with_closed : List SessionMark → ℕ → List SessionMark
 with_closed marks s = slice_set marks s (record (mark_at marks s) { closed = true })
+
+-- the marks with a session closed, or open
+abbrev pub with_flag : List SessionMark → ℕ → Bool → List SessionMark
+with_flag marks s closed = slice_set marks s (record (mark_at marks s) { closed = closed })
 
 -- the fragment begins where its session, which is open, ends
 pub record IsNext (marks : List SessionMark) (fragment : Fragment) : Type 0 where

@@ -1,6 +1,6 @@
-ghost use Rattle.std.specs.Prelude.{◌≡◌, ◌↔◌, ◌+◌, ◌<◌, ◌≤◌, ◌^◌, length, replicate, IsTrue, IfOk, OnOk, IfErr, MatchResult};
+ghost use Rattle.std.specs.Prelude.{◌≡◌, ◌↔◌, ◌+◌, ◌-◌, ◌++◌, ◌∷◌, [], take, ◌<◌, ◌≤◌, ◌^◌, length, replicate, IsTrue, IfOk, OnOk, OnErr, IfErr, MatchResult};
 ghost use Rattle.txn.specs.Transactions.{IsWellFormedFragment};
-ghost use Rattle.session_marks.specs.Marks.{fresh, mark_at, IsOpen, with_received, with_gone, with_closed, IsReceived, received_counts, IsNext, AdmitFault, CloseFault};
+ghost use Rattle.session_marks.specs.Marks.{fresh, mark_at, IsOpen, with_received, with_gone, with_closed, with_flag, IsReceived, received_counts, IsNext, AdmitFault, CloseFault};
 
 use std::alloc::Global;
 use std::marker::Model;
@@ -161,5 +161,31 @@ impl Marks {
         }
         mark.closed = true;
         Ok(())
+    }
+
+    /// Makes a session closed or open, whatever it was. It takes no memory.
+    pub fn set_closed(&mut self, session: u8, closed: bool)
+        requires { session < length self.old }
+        ensures { self.new ≡ with_flag self.old session closed }
+    {
+        let sessions = &mut self.sessions;
+        let mark = &mut sessions[session as usize];
+        mark.closed = closed;
+    }
+
+    /// Adds a session of which nothing was received, and that is open.
+    pub fn add(&mut self) -> Result<(), NoMemory>
+        ensures ok { OnOk result (self.new ≡ self.old ++ fresh ∷ []) }
+        ensures err { OnErr result (self.new ≡ self.old) }
+    {
+        self.sessions.push(FRESH)?;
+        Ok(())
+    }
+
+    /// Takes the last session away, where there is one.
+    pub fn take_last(&mut self)
+        ensures { self.new ≡ take (length self.old - 1) self.old }
+    {
+        let _ = self.sessions.pop();
     }
 }

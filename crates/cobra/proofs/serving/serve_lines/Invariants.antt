@@ -3,16 +3,14 @@ use Rattle.std.proofs.Common.{◌≡◌, ℕ, List, [], Some}
 use Rattle.std.specs.Io.KnownBytes.{Appends}
 use Rattle.byte_lines.specs.declared.lines.TheConstants.{LONGEST_LINE}
 use Rattle.byte_lines.specs.LineReaders.{lines_left}
-use Rattle.cobra.specs.Scripts.{IsUnderWay}
 use Rattle.cobra.proofs.ServedLines.{IsServing}
 use Rattle.cobra.proofs.serving.serve_lines.Given as goal
 
 abbrev pub invariant-loop-next : goal.invariant-loop-next
 invariant-loop-next g l = record {
-  script : IsUnderWay l.script.engine;
   fresh : l.reader.under_way ≡ Some [];
   limit : l.reader.limit ≡ LONGEST_LINE;
-  told : (input : List ℕ) → g.R.ByteSource.remaining l.initial.source ≡ Some input → (output : List ℕ) × Appends (g.W.ByteSink.contents l.initial.sink) (g.W.ByteSink.contents l.sink) output × IsServing input l.reader (g.R.ByteSource.remaining l.source) output l.script.engine [];
+  told : (input : List ℕ) → g.R.ByteSource.remaining l.initial.source ≡ Some input → (output : List ℕ) × Appends (g.W.ByteSink.contents l.initial.sink) (g.W.ByteSink.contents l.sink) output × IsServing input l.reader (g.R.ByteSource.remaining l.source) output l.script.stage [];
   read : g.R.ByteSource.faults l.source ≡ g.R.ByteSource.faults l.initial.source;
   written : g.W.ByteSink.faults l.sink ≡ g.W.ByteSink.faults l.initial.sink;
 }

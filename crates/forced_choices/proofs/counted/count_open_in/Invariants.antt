@@ -3,5 +3,5 @@ use Rattle.forced_choices.specs.Tables.{choices_at}
 use Rattle.forced_choices.specs.Undecided.{AreCounted}
 use Rattle.forced_choices.proofs.counted.count_open_in.Given as goal
 
-abbrev pub invariant-loop-placed : goal.invariant-loop-placed
-invariant-loop-placed l = AreCounted l.graph.arcs (choices_at l.parts l.table.ids.items (take l.placed-index l.table.reads.items)) l.most l.first.items l.count
+abbrev pub invariant-loop-place : goal.invariant-loop-place
+invariant-loop-place l = AreCounted l.graph.arcs (choices_at l.parts l.table.ids.items (take l.place l.table.reads.items)) l.most l.first.items l.count

@@ -1,4 +1,4 @@
-use Rattle.std.proofs.Common.{◌≡◌, refl}
+use Rattle.std.proofs.Common.{refl}
 use Rattle.live_audit.proofs.Rounds.{lawful_by, not_moved}
 use Rattle.live_audit.proofs.live.answer.Goals as goal
 

@@ -1,11 +1,10 @@
-use Rattle.std.proofs.Common.{◌≡◌, ℕ, [], List, sym, ◌∙◌, ap, subst}
+use Rattle.std.proofs.Common.{[], List, sym, ◌∙◌, ap, subst}
 use Rattle.std.specs.Prelude.{MatchResult, map, length}
 use Rattle.fragment_intake.specs.declared.rules.Parcel.{Parcel}
-use Rattle.round_state.specs.EngineState.{EngineState}
 use Rattle.round_state.specs.Opening.{fresh_state}
 use Rattle.round_state.specs.Runs.{Holds}
 use Rattle.live_audit.specs.CoreState.{CoreState}
-use Rattle.live_audit.specs.Running.{HasEnded, HasMoved, IsLastCount, IsLastSkipped}
+use Rattle.live_audit.specs.Running.{HasEnded, IsLastCount, IsLastSkipped}
 use Rattle.live_audit.specs.Truth.{accepted_history}
 use Rattle.live_audit.proofs.Finishing.{fresh_moved, live_of, true_of, last_of, published_end}
 use Rattle.live_audit.proofs.Rounds.{moved_on}

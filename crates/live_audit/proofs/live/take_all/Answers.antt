@@ -1,8 +1,6 @@
-use Rattle.std.proofs.Common.{◌≡◌, Bool, List, refl, sym, ◌∙◌, ap, subst}
-use Rattle.fragment_intake.specs.declared.rules.Parcel.{Parcel}
+use Rattle.std.proofs.Common.{refl, sym, ◌∙◌, ap, subst}
 use Rattle.order_check.specs.Effort.{IsEffort}
 use Rattle.live_audit.specs.CoreState.{Search}
-use Rattle.live_audit.specs.Running.{AreEnded}
 use Rattle.live_audit.proofs.Rounds.{moved_on, not_moved}
 use Rattle.live_audit.proofs.live.take_all.Goals as goal
 

@@ -1,4 +1,4 @@
-use Rattle.std.proofs.Common.{◌≡◌, refl, sym, ap}
+use Rattle.std.proofs.Common.{refl, sym, ap}
 use Rattle.live_audit.proofs.Rounds.{lawful_by}
 use Rattle.live_audit.proofs.searching.start.Goals as goal
 

@@ -18,4 +18,4 @@ returns-clause-good c = c.cut_keeps_good.ensures c.args.parts.now c.take_out.new
 pub returns-clause-stands : goal.returns-clause-stands
 returns-clause-stands c front fence history stands order kept settled at =
     let cut = all_cut c.args.parts.now c.take_out.new.parts c.args.gone.now c.args.last.now c.requires.good c.requires.can c.take_out.ensures.remain c.take_out.ensures.marks (λ key. ap (λ m. get m key) c.take_out.ensures.writers ∙ c.in_ok-writers.ensures key) c.take_out.ensures.rest in
-    c.cut_keeps_stands_for.ensures front c.args.parts.now c.take_out.new.parts history fence c.args.gone.now c.args.last.now c.requires.good.base stands order kept.is_front (c.settled_stays_settled.ensures front c.args.parts.now fence kept settled).0 at cut
+    c.cut_keeps_stands_for.ensures front c.args.parts.now c.take_out.new.parts history fence c.args.gone.now c.args.last.now c.requires.good.base stands order kept.is_front (c.settled_stays_settled.ensures front c.args.parts.now fence kept settled) at cut

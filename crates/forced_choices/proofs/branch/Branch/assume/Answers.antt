@@ -6,14 +6,21 @@ use Rattle.known_graph.specs.Graphs.{GraphState, HasKey}
 use Rattle.forced_choices.specs.BranchState.{Level, BranchState, AreForcedBy, assumed, last_steps, taken_with}
 use Rattle.forced_choices.specs.declared.branch.Top.{Top}
 use Rattle.forced_choices.specs.Forcing.{IsClosed}
-use Rattle.forced_choices.specs.Tables.{IsTable}
+use Rattle.forced_choices.specs.Tables.{ArePassed, IsTable}
+use Rattle.forced_choices.specs.declared.table.Table.{Table}
+use Rattle.forced_choices.specs.SharedTables.{table_in}
 use Rattle.forced_choices.specs.Stacks.{AreStacked, HavePassed, levels_onto, level_of, passed_onto}
 use Rattle.forced_choices.proofs.Passed.{passed_push, passed_before, passed_more, passed_again}
 use Rattle.forced_choices.proofs.Stacked.{at_nodes, at_forced, at_full, stacked_new, levels_push, stacked_here, stacked_more, stacked_again, graph_again, at_closed, marked_there, last_of_marked, state_of, state_with}
 use Rattle.forced_choices.proofs.branch.Branch.assume.Goals as goal
 
 pub first_open_from-requires-clause-passed : goal.first_open_from-requires-clause-passed
-first_open_from-requires-clause-passed c = passed_before c.self.inside.parts c.self.inside.table c.self.inside.tops.items c.deref.result.now c.passed_by-passed.result c.self.inside.graph c.deref.ensures.value c.passed_by-passed.ensures c.self.invariant.passed
+first_open_from-requires-clause-passed c =
+    let passed = passed_before c.self.inside.parts (table_in c.self.inside.table) c.self.inside.table.passed c.self.inside.tops.items c.deref.result.now c.passed_by-passed.result c.self.inside.graph c.deref.ensures.value c.passed_by-passed.ensures c.self.invariant.passed in
+    subst (λ (table : Table). ArePassed c.self.inside.parts c.self.inside.graph.arcs table c.passed_by-passed.result) (sym c.get-table.ensures) passed
+
+pub first_open_from-requires-clause-table : goal.first_open_from-requires-clause-table
+first_open_from-requires-clause-table c = subst (λ (table : Table). IsTable c.self.inside.parts c.self.inside.graph.nodes table) (sym c.get-table.ensures) c.self.invariant.table
 
 pub take_side-requires-clause-choice : goal.take_side-requires-clause-choice
 take_side-requires-clause-choice c = subst (λ (b : BranchState). IsChoice b.parts c.args.choice) (sym c.self.view_is) c.requires
@@ -25,7 +32,9 @@ take_side-requires-clause-nodes c = λ id remains.
     subst (λ (g : GraphState). HasKey g.nodes id) (sym c.in_ok-mark.ensures.ok) (at_nodes c.self.inside.parts c.self.inside.log levels c.self.inside.graph here id remains)
 
 pub take_side-requires-clause-table : goal.take_side-requires-clause-table
-take_side-requires-clause-table c = subst (λ (g : GraphState). IsTable c.self.inside.parts g.nodes c.self.inside.table) (sym c.in_ok-mark.ensures.ok) c.self.invariant.table
+take_side-requires-clause-table c =
+    let here : IsTable c.self.inside.parts c.self.inside.graph.nodes c.get-table.result.now = subst (λ (table : Table). IsTable c.self.inside.parts c.self.inside.graph.nodes table) (sym c.get-table.ensures) c.self.invariant.table in
+    subst (λ (g : GraphState). IsTable c.self.inside.parts g.nodes c.get-table.result.now) (sym c.in_ok-mark.ensures.ok) here
 
 pub take_side-requires-clause-closed : goal.take_side-requires-clause-closed
 take_side-requires-clause-closed c =
@@ -41,11 +50,11 @@ invariant_of-self-in-Err c =
     let levels = levels_onto [] c.self.inside.tops.items in
     record {
       good = c.self.invariant.good;
-      table = subst (λ (g : GraphState). IsTable c.self.inside.parts g.nodes c.self.inside.table) (sym (graph_again c.self.inside.graph c.mark.new.self c.take_side.new.graph c.back.new.self c.in_ok-mark.ensures.ok c.take_side.ensures.mark c.back.ensures)) c.self.invariant.table;
+      table = subst (λ (g : GraphState). IsTable c.self.inside.parts g.nodes (table_in c.self.inside.table)) (sym (graph_again c.self.inside.graph c.mark.new.self c.take_side.new.graph c.back.new.self c.in_ok-mark.ensures.ok c.take_side.ensures.mark c.back.ensures)) c.self.invariant.table;
       stacked = subst (λ (tops : List Top). AreStacked c.self.inside.parts c.self.inside.log (levels_onto [] tops) c.back.new.self) (sym c.in-Err.ensures.err)
           (stacked_again c.self.inside.parts c.self.inside.log levels c.self.inside.graph c.mark.new.self c.take_side.new.graph c.back.new.self c.self.invariant.stacked c.in_ok-mark.ensures.ok c.take_side.ensures.mark c.back.ensures);
-      passed = subst (λ (tops : List Top). HavePassed c.self.inside.parts c.self.inside.table (passed_onto [] tops) c.back.new.self) (sym c.in-Err.ensures.err)
-          (passed_again c.self.inside.parts c.self.inside.table (passed_onto [] c.self.inside.tops.items) c.self.inside.graph c.mark.new.self c.take_side.new.graph c.back.new.self c.self.invariant.passed c.in_ok-mark.ensures.ok c.take_side.ensures.mark c.back.ensures);
+      passed = subst (λ (tops : List Top). HavePassed c.self.inside.parts (table_in c.self.inside.table) c.self.inside.table.passed (passed_onto [] tops) c.back.new.self) (sym c.in-Err.ensures.err)
+          (passed_again c.self.inside.parts (table_in c.self.inside.table) c.self.inside.table.passed (passed_onto [] c.self.inside.tops.items) c.self.inside.graph c.mark.new.self c.take_side.new.graph c.back.new.self c.self.invariant.passed c.in_ok-mark.ensures.ok c.take_side.ensures.mark c.back.ensures);
     }
 
 pub returns-in-Err-clause-err : goal.returns-in-Err-clause-err
@@ -59,11 +68,11 @@ invariant_of-self-in-Ok c =
     let more : levels_onto [] c.take_side.new.tops.items ≡ level_of top ∷ levels = ap (λ tops. levels_onto [] tops) ok.1 ∙ levels_push [] c.self.inside.tops.items top in
     record {
       good = c.self.invariant.good;
-      table = subst (λ (nodes : List (Option TxnId)). IsTable c.self.inside.parts nodes c.self.inside.table) (sym (c.in-Ok.ensures.nodes ∙ ap (λ (g : GraphState). g.nodes) c.in_ok-mark.ensures.ok)) c.self.invariant.table;
+      table = subst (λ (nodes : List (Option TxnId)). IsTable c.self.inside.parts nodes (table_in c.self.inside.table)) (sym (c.in-Ok.ensures.nodes ∙ ap (λ (g : GraphState). g.nodes) c.in_ok-mark.ensures.ok)) c.self.invariant.table;
       stacked = subst (λ (levels : List Level). AreStacked c.self.inside.parts c.self.inside.log levels c.take_side.new.graph) (sym more)
           (stacked_more c.self.inside.parts c.self.inside.log levels c.self.inside.graph c.mark.new.self c.take_side.new.graph c.args.choice c.args.side ok.0 c.self.invariant.stacked c.in_ok-mark.ensures.ok c.take_side.ensures.mark ok.2 (subst (λ (b : BranchState). IsChoice b.parts c.args.choice) (sym c.self.view_is) c.requires));
-      passed = subst (λ (counts : List ℕ). HavePassed c.self.inside.parts c.self.inside.table counts c.take_side.new.graph) (sym (ap (λ tops. passed_onto [] tops) ok.1 ∙ passed_push [] c.self.inside.tops.items top))
-          (passed_more c.self.inside.parts c.self.inside.table (passed_onto [] c.self.inside.tops.items) c.in_ok-first.first.passed c.self.inside.graph c.mark.new.self c.take_side.new.graph c.self.invariant.passed c.in_ok-mark.ensures.ok c.take_side.ensures.mark c.in_ok-first.ensures.passed);
+      passed = subst (λ (counts : List ℕ). HavePassed c.self.inside.parts (table_in c.self.inside.table) c.self.inside.table.passed counts c.take_side.new.graph) (sym (ap (λ tops. passed_onto [] tops) ok.1 ∙ passed_push [] c.self.inside.tops.items top))
+          (passed_more c.self.inside.parts (table_in c.self.inside.table) c.self.inside.table.passed (passed_onto [] c.self.inside.tops.items) c.in_ok-first.first.passed c.self.inside.graph c.mark.new.self c.take_side.new.graph c.self.invariant.passed c.in_ok-mark.ensures.ok c.take_side.ensures.mark (subst (λ (table : Table). ArePassed c.self.inside.parts c.self.inside.graph.arcs table c.in_ok-first.first.passed) c.get-table.ensures c.in_ok-first.ensures.passed));
     }
 
 pub returns-in-Ok-clause-ok : goal.returns-in-Ok-clause-ok

@@ -1,24 +1,28 @@
 use Rattle.std.proofs.Common.{[], List, sym, subst}
-use Rattle.std.specs.Prelude.{Contains}
+use Rattle.std.specs.Prelude.{All, Contains}
 use Rattle.std.specs.Option.{MatchOption}
 use Rattle.txn.specs.declared.transactions.TxnId.{TxnId}
 use Rattle.order_check.specs.Cycles.{IsCycle}
 use Rattle.order_check.specs.Search.{HasCycle}
 use Rattle.forced_choices.specs.BranchState.{BranchState, assumed, all_taken}
+use Rattle.forced_choices.specs.SharedTables.{table_in}
+use Rattle.forced_choices.specs.Tables.{AreAtColumns}
+use Rattle.forced_choices.specs.declared.table.Table.{Table}
+use Rattle.known_graph.specs.Reach.{Reaches}
 use Rattle.forced_choices.specs.Stacks.{levels_onto}
 use Rattle.forced_choices.proofs.KnownRemain.{cycle_found, none_on_cycle, known_listed}
 use Rattle.forced_choices.proofs.Stacked.{stacked_here}
 use Rattle.forced_choices.proofs.branch.Branch.cycle.Goals as goal
 
 pub on_cycle-requires : goal.on_cycle-requires
-on_cycle-requires c = c.self.invariant.table.writers.placed
+on_cycle-requires c = subst (λ (table : Table). AreAtColumns c.self.inside.graph.nodes table) (sym c.get-table.ensures) c.self.invariant.table.writers.placed
 
 pub returns-in_default : goal.returns-in_default
 returns-in_default c =
     let b = c.self.inside in
     let levels = levels_onto [] b.tops.items in
     let here = stacked_here b.parts b.log levels b.graph c.self.invariant.stacked in
-    let none = none_on_cycle b.parts b.log levels b.graph b.table.ids.items here (λ x y known. subst (λ (ids : List TxnId). Contains ids x × Contains ids y) (sym c.self.invariant.table.ids) (known_listed b.parts b.log levels b.graph x y c.self.invariant.stacked known)) c.in_default.ensures in
+    let none = none_on_cycle b.parts b.log levels b.graph (table_in b.table).ids.items here (λ x y known. subst (λ (ids : List TxnId). Contains ids x × Contains ids y) (sym c.self.invariant.table.ids) (known_listed b.parts b.log levels b.graph x y c.self.invariant.stacked known)) (subst (λ (table : Table). All (λ id. ¬ Reaches b.graph.arcs id id) table.ids.items) c.get-table.ensures c.in_default.ensures) in
     subst (λ (b : BranchState). ¬ HasCycle b.parts (assumed b.levels)) c.self.view_is none
 
 pub returns : goal.returns

@@ -19,6 +19,8 @@ invariant_of-self-in_err-append_at c =
     let parts = c.self.inside.parts in (
       subst (λ (remain : List (List Txn)). IsKept (record parts { remain = remain }) c.self.inside.graph c.self.inside.log) (sym c.in_err-append_at.ensures.err) c.self.invariant.0,
       if_none c.take.new.self (λ (kept : KeptTable). IsKeptTable (record parts { remain = c.append_at.new.self }) c.self.inside.graph.nodes kept) c.take.ensures.after,
+      tt,
+      tt,
     )
 
 pub catch_up-requires-clause-next : goal.catch_up-requires-clause-next
@@ -51,6 +53,8 @@ invariant_of-self-in-Err c =
     let kept = kept_more_nodes parts c.self.inside.graph c.catch_up.new.graph c.self.inside.log c.self.invariant.0 err.1 err.2 in (
       subst (λ (remain : List (List Txn)). IsKept (record parts { remain = remain }) c.catch_up.new.graph c.catch_up.new.log) (sym back) (subst (λ (log : List ForceStep). IsKept parts c.catch_up.new.graph log) (sym err.0) kept),
       if_none c.take.new.self (λ (kept : KeptTable). IsKeptTable (record parts { remain = c.truncate_at.new.self }) c.catch_up.new.graph.nodes kept) c.take.ensures.after,
+      tt,
+      tt,
     )
 
 pub returns-in-Err-clause-err : goal.returns-in-Err-clause-err

@@ -10,4 +10,6 @@ invariant_of-self c =
     let flags : c.set.new.self ≡ slice_set parts.closed c.args.session true = c.set.ensures ∙ ap (λ place. slice_set parts.closed place true) c.from.ensures in (
       subst (λ (closed : List Bool). IsKept (record parts { closed = closed }) c.self.inside.graph c.self.inside.log) (sym flags) (kept_closed parts c.args.session c.self.inside.graph c.self.inside.log c.self.invariant.0),
       tt,
+      tt,
+      tt,
     )

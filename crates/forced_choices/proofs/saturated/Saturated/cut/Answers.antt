@@ -65,7 +65,7 @@ invariant_of-self c =
     let cuts = cuts_of parts new gone graph log c.cut_leaves_the_rest.ensures c.cut_moves_base.ensures c.cut_keeps_known.ensures cut kept is.back in
     let drops : Drops new graph then gone = record { nodes = c.drop_gone.ensures.nodes; among = c.drop_gone.ensures.among; rest = c.drop_gone.ensures.rest } in
     let made = kept_left parts new gone graph then log left c.requires.good cuts kept is drops in
-    (subst (λ (p : Parts). IsKept p then c.new.result) (sym c.in_ok-copy.ensures) (subst (λ (steps : List ForceStep). IsKept new then steps) (sym c.new.ensures) made), tt)
+    (subst (λ (p : Parts). IsKept p then c.new.result) (sym c.in_ok-copy.ensures) (subst (λ (steps : List ForceStep). IsKept new then steps) (sym c.new.ensures) made), tt, tt, tt)
 
 pub returns-clause-logged : goal.returns-clause-logged
 returns-clause-logged c =

@@ -1,11 +1,16 @@
 use Rattle.std.proofs.Common.{◌≡◌, [], sym, ap, subst}
 use Rattle.order_check.specs.Known.{AreOpenChoices}
 use Rattle.forced_choices.specs.SaturatedState.{SaturatedState}
+use Rattle.forced_choices.specs.Tables.{IsTable}
+use Rattle.forced_choices.specs.declared.table.Table.{Table}
 use Rattle.forced_choices.proofs.Keeping.{open_choices_of}
 use Rattle.forced_choices.proofs.saturated.Saturated.open_choices.Goals as goal
 
-pub table_of-requires-clause-nodes : goal.table_of-requires-clause-nodes
-table_of-requires-clause-nodes c = c.self.invariant.0.relation.nodes
+pub shared_table-requires-clause-nodes : goal.shared_table-requires-clause-nodes
+shared_table-requires-clause-nodes c = c.self.invariant.0.relation.nodes
+
+pub open_in-requires : goal.open_in-requires
+open_in-requires c = subst (λ (table : Table). IsTable c.self.inside.parts c.self.inside.graph.nodes table) (sym c.get.ensures) c.in_ok-table.ensures.table
 
 pub returns : goal.returns
 returns c =

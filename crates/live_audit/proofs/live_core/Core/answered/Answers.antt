@@ -1,4 +1,4 @@
-use Rattle.live_audit.proofs.Answering.{reported_moves, abandoned_moves, reported_outcome}
+use Rattle.live_audit.proofs.Answering.{reported_moves, abandoned_moves}
 use Rattle.live_audit.proofs.live_core.Core.answered.Goals as goal
 
 pub returns-in-Some-clause-moves : goal.returns-in-Some-clause-moves

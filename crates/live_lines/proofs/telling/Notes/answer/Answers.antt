@@ -1,4 +1,4 @@
-use Rattle.std.proofs.Common.{arith, ◌≡◌, ◌+◌, List, ℕ, None, refl, ◌∙◌, subst}
+use Rattle.std.proofs.Common.{arith, ◌≡◌, ◌+◌, None, refl, ◌∙◌, subst}
 use Rattle.std.specs.Io.KnownBytes.{Appends}
 use Rattle.live_lines.specs.Texts.{answer_text}
 use Rattle.live_lines.proofs.ToldLines.{tells_answer}

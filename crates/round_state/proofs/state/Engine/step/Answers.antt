@@ -6,6 +6,12 @@ returns-in-Offer-clause-right g c = rw c.in-Offer.is c.reply_to_offer.ensures.ri
 pub returns-in-Offer-clause-legal : goal.returns-in-Offer-clause-legal
 returns-in-Offer-clause-legal g c = c.right_is_legal.ensures c.args.step c.reply_to_offer.result c.reply_to_offer.new.self (rw c.in-Offer.is c.reply_to_offer.ensures.right)
 
+pub returns-in-Join-clause-right : goal.returns-in-Join-clause-right
+returns-in-Join-clause-right g c = rw c.in-Join.is c.reply_to_join.ensures.right
+
+pub returns-in-Join-clause-legal : goal.returns-in-Join-clause-legal
+returns-in-Join-clause-legal g c = c.right_is_legal.ensures c.args.step c.reply_to_join.result c.reply_to_join.new.self (rw c.in-Join.is c.reply_to_join.ensures.right)
+
 pub returns-in-Begin-clause-right : goal.returns-in-Begin-clause-right
 returns-in-Begin-clause-right g c = rw c.in-Begin.is c.reply_to_begin.ensures.right
 

@@ -1,11 +1,16 @@
-use Rattle.std.proofs.Common.{◌≡◌, ◌∙◌, List, Some, None, sym, subst}
+use Rattle.std.proofs.Common.{◌≡◌, ◌∙◌, List, Option, Some, None, rules, sym, ap, subst}
+use Rattle.std.specs.Prelude.{IsSome}
+use Rattle.txn.specs.declared.refusals.Refusal.{Refusal}
+use Rattle.txn.specs.declared.refusals.Refusal.TheVariants.{NoMemory}
 use Rattle.txn.specs.declared.transactions.TxnId.{TxnId}
+use Rattle.order_check.specs.declared.remainder.Parts.{Parts}
 use Rattle.order_check.specs.Cutting.{CanBeApplied}
 use Rattle.order_check.specs.Settled.{IsCutOf}
 use Rattle.order_check.specs.StandsFor.{StandsFor}
 use Rattle.settle.specs.declared.cuts.Cut.{Cut}
 use Rattle.round_state.specs.EngineState.{EngineState}
 use Rattle.round_state.specs.Kept.{IsFitting}
+use Rattle.round_state.specs.Steps.{IsTruncateRefusal}
 use Rattle.round_state.proofs.Behind.{known_cut, known_none, known_parts, known_whole, last_behind}
 use Rattle.round_state.proofs.KeptFronts.{kept_holding, kept_parts, kept_truncated, none_open, raised_start}
 use Rattle.round_state.proofs.state.Engine.truncate.Goals as goal
@@ -69,3 +74,18 @@ known_after_cut-requires-clause-cut_off c =
     let held : e.held ≡ Some cut = sym c.take.ensures.value ∙ c.in-Some.is in
     let leaves : IsCutOf e.parts c.apply.new.parts cut.gone cut.last = subst (λ (gone : List TxnId). IsCutOf e.parts c.apply.new.parts gone cut.last) c.as_slice.ensures c.in_default-apply.ensures.ok in
     known_cut e.parts c.apply.new.parts cut c.as_slice-2.result.now c.known_to_cut-whole.result c.as_slice-2.ensures (fits cut held) leaves c.known_to_cut-whole.ensures
+
+-- answered here, since the search has too much to read: all that a relation holds is let go on the way
+pub returns-in-Err-clause-err : goal.returns-in-Err-clause-err
+returns-in-Err-clause-err c =
+    let e = c.self.inside in
+    let cut : Cut = c.in-Some.cut in
+    let held : e.held ≡ Some cut = sym c.take.ensures.value ∙ c.in-Some.is in
+    let none : e.asked ≡ None = none_open e.asked c.is_some.result c.is_some.ensures c.if-is_some.false in
+    let here : IsSome (Some cut) = search rules in
+    let some : IsSome e.held = subst (λ (found : Option Cut). IsSome found) (sym held) here in
+    let state_of : Parts → Option Cut → EngineState = λ parts found. record { parts = parts; asked = e.asked; held = found; rounds = e.round } in
+    let why : IsTruncateRefusal (state_of e.parts e.held) NoMemory = (none, some) in (
+      subst (λ (refusal : Refusal). IsTruncateRefusal c.args.self.now refusal) (sym c.from.ensures) (subst (λ (engine : EngineState). IsTruncateRefusal engine NoMemory) c.self.view_is why),
+      ap (λ parts. state_of parts (Some cut)) c.in-Err.ensures.err ∙ ap (λ found. state_of e.parts found) (sym held) ∙ c.self.view_is,
+    )

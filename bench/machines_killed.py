@@ -1,0 +1,285 @@
+"""Audits of clients on several machines in which processes and the Redis are killed, over and over.
+
+    /usr/bin/python3 bench/machines_killed.py [--seeds 10] [--first 1]
+    /usr/bin/python3 bench/machines_killed.py --seconds 3600 [--every 10] [--clients 5] [--fault] [--keep DIR]
+
+Without `--seconds` it runs collectors/python/tests/test_machines.py once for each seed, by which clients choose what
+they do and when: each verdict has to be that of the same log, given whole to cobra_audit. It prints a line a seed, and
+ends with status 1 at the first that fails, with what it told.
+
+With `--seconds` clients of a PostgreSQL run for so long. Every so many seconds one of the auditor, the daemon, a client
+and the Redis is killed, by turns, at a moment drawn by the seed; another one comes in its place. It prints a line a
+kill. A client that is killed keeps its session, so that another audit begins when none is left. At the end of each, all
+commits that the table has are in the log, and no violation is found, by the daemon, by a cobra_audit to which the log
+is given whole, and by examples/check_reports.py, which believes neither. With `--fault` the store is at repeatable
+read, and clients skew writes: then each audit ends violated, and the next one begins."""
+import argparse
+import json
+import os
+import random
+import shutil
+import signal
+import subprocess
+import sys
+import time
+import unittest
+
+PLACE = os.path.join(os.path.dirname(os.path.dirname(os.path.abspath(__file__))), "collectors", "python")
+sys.path.insert(0, PLACE)
+from tests import machines  # noqa: E402
+from tests.machines import Machines  # noqa: E402
+from tests.owed import are_right  # noqa: E402
+from tests.test_restarting_processes import child_of  # noqa: E402
+
+TURNS = ("auditor", "daemon", "client", "redis")
+ROUND = ["round", 65536, 4, 2]
+BETWEEN_ROUNDS = 400  # transactions, where the log is given whole
+
+
+class LongRun(Machines):
+    """One audit, or with a fault one behind the other."""
+
+    asked = None  # how long, and with what
+    silence = 10.0
+
+    def runTest(self):
+        self.dice, self.kills, self.audits = random.Random(self.asked.seed), dict.fromkeys(TURNS, 0), 0
+        self.began = self.due = time.monotonic()
+        self.ends = self.began + self.asked.seconds
+        self.turns = self.take_turns()
+        self.make_place()
+        try:
+            self.run_all()
+        except BaseException:
+            self.keep()
+            raise
+        self.say("all", f"{self.audits} audits; killed: {self.kills}")
+
+    def run_all(self):
+        while time.monotonic() < self.ends:
+            self.run_audit()
+            if self.asked.fault:
+                self.wait_for(self.is_over)
+                self.ended(1)
+                told = "violated"
+            else:
+                self.wait_for(lambda: self.is_over() or self.given_up() >= self.killed_clients)
+                self.ended(3 if self.killed_clients else 0)
+                told = f"{self.last_round()}; {self.longest():.2f} s the longest of a client that lived"
+            self.say("ended", f"{told}; {len(self.txns)} transactions in the log")
+            self.keep()
+            self.make_place()
+
+    def make_place(self):
+        """For another audit."""
+        self.folder = self.folder_of_its_own()
+        self.sql("DELETE FROM zanteyard")
+        self.daemons, self.clients, self.logs, self.killed_clients = [], [], [], 0
+
+    def run_audit(self):
+        self.audits += 1
+        self.begin_daemon()
+        for _ in range(self.asked.clients):
+            self.begin_client()
+        while time.monotonic() < self.ends and not self.is_over() and self.has_sessions_left():
+            self.due = max(self.due, time.monotonic() - self.asked.every / 2) + self.asked.every
+            moment = self.due - self.dice.random() * self.asked.every / 2
+            while time.monotonic() < min(moment, self.ends) and not self.is_over():
+                time.sleep(0.05)
+            if time.monotonic() < self.ends and not self.is_over():
+                self.kill(next(self.turns))
+
+    def take_turns(self):
+        while True:
+            yield from self.dice.sample(TURNS, len(TURNS))
+
+    def has_sessions_left(self):
+        """Each client that was killed has kept its own."""
+        return self.killed_clients + self.asked.clients < self.asked.sessions
+
+    def is_over(self):
+        return self.daemons[-1].poll() is not None
+
+    def begin_daemon(self):
+        self.daemon(sessions=self.asked.sessions, every=self.asked.meets)
+        self.logs.append(self.log)
+
+    def begin_client(self):
+        workload = "skew" if self.asked.fault else "counter"
+        client = self.client(pause=self.asked.pause, workload=workload)
+        if not self.asked.fault:  # else the audit may be over by now
+            self.begun(client)
+
+    def wait_for(self, condition, seconds=300.0):
+        """Other programs may have the processors."""
+        super().wait_for(condition, seconds)
+
+    # the kills
+
+    def kill(self, kind):
+        getattr(self, f"kill_{kind}")()
+        self.kills[kind] += 1
+        self.say(kind, self.figures())
+
+    def kill_auditor(self):
+        try:
+            os.kill(child_of(self.daemons[-1].pid), signal.SIGKILL)
+        except (OSError, AssertionError):
+            pass  # the daemon has just ended
+
+    def kill_daemon(self):
+        super().kill_daemon()
+        time.sleep(2 * self.dice.random())
+        self.begin_daemon()
+
+    def kill_client(self):
+        client = self.dice.choice([it for it in self.clients if it.poll() is None])
+        client.kill()
+        client.wait()
+        self.killed_clients += 1
+        self.begin_client()
+
+    def kill_redis(self):
+        self.redis.stop()
+        time.sleep(2 * self.dice.random())
+        self.redis.start()
+
+    # what is told
+
+    def say(self, what, text):
+        print(f"{time.monotonic() - self.began:7.1f} {what:8} {text}", flush=True)
+
+    def figures(self):
+        """What grows if something isn't given back."""
+        daemon, tells = self.daemons[-1].pid, machines.redis.Redis(unix_socket_path=self.redis.socket)
+        try:
+            streams = {kind: [tells.xlen(key) for key in tells.scan_iter(f"*:{kind}:*")] for kind in ("up", "down")}
+            fields, used = tells.hlen("zanteyard audit bank:clients"), tells.info("memory")["used_memory"]
+        finally:
+            tells.close()
+        with open(self.log, encoding="utf-8") as log:
+            rounds = [line.split("INFO ", 1)[1].strip() for line in log if " round " in line]
+        its = [
+            f"{self.committed()} rows",
+            f"daemon {resident(daemon)} MB {len(os.listdir(f'/proc/{daemon}/fd'))} files {threads(daemon)} threads",
+            *(f"{len(its)} {kind} {sum(its)}" for kind, its in streams.items()),
+            f"{fields} fields, {used >> 10} KB",
+            *(f"{name} {size(f'{self.folder}/audit/audit.{name}')} KB" for name in ("journal", "journal.live")),
+            *rounds[-1:],
+        ]
+        return "; ".join(its)
+
+    def given_up(self):
+        """Processes of which the auditor's knows that they aren't heard of."""
+        tells = machines.redis.Redis(unix_socket_path=self.redis.socket)
+        try:
+            return sum(1 for _ in tells.scan_iter("*:buried:*"))
+        finally:
+            tells.close()
+
+    def longest(self):
+        """Seconds that a transaction took of a client that wasn't killed."""
+        return max(float(it.stdout.readline().split()[1]) for it in self.clients if it.returncode == 0)
+
+    def keep(self):
+        """What is told of the audit at hand."""
+        if self.asked.keep:
+            shutil.copytree(self.folder, f"{self.asked.keep}/{self.audits}")
+            for at, log in enumerate(self.logs):
+                shutil.copy(log, f"{self.asked.keep}/{self.audits}/log.{at}")
+
+    # the log
+
+    def each_commit_is_in_the_log(self, _):
+        super().each_commit_is_in_the_log(False)
+        self.assertEqual(self.missed, set())  # nor of who was killed: all was noted
+
+    def log_is_whole(self):
+        """In the order in which the auditor was given it first."""
+        self.lines = {}
+        for at in range(len(self.daemons)):
+            with open(f"{self.folder}/script.{at}", "rb") as script:
+                for line in map(json.loads, (it for it in script if it.endswith(b"\n"))):
+                    if line[0] == "offer":
+                        for number, txn in enumerate(line[3], line[2]):
+                            self.lines["offer", line[1], number] = txn
+                    elif line[0] == "close":
+                        self.lines.pop((*line[:2], None), None)
+                        self.lines[(*line[:2], None)] = line
+        self.txns = {its[1:]: txn for its, txn in self.lines.items() if its[0] == "offer"}
+
+    def verdict(self):
+        """Of the same log, given whole, with cuts; and each report and cut has to be right."""
+        lines, count = [["open", self.asked.sessions, 4096]], 0
+        for (kind, session, number), its in self.lines.items():
+            lines.append(["offer", session, number, [its]] if kind == "offer" else its)
+            count += 1
+            if count % BETWEEN_ROUNDS == 0:
+                lines += [ROUND, ["truncate"]]
+        lines.append(ROUND)
+        text = "".join(f"{json.dumps(line)}\n" for line in lines).encode()
+        told = subprocess.run([machines.PROGRAM], input=text, stdout=subprocess.PIPE, check=True, timeout=3600)
+        replies = told.stdout.splitlines()
+        refused = [it for it in map(json.loads, replies) if it[0] == "no" and it[2] != "NoCut"]
+        self.assertEqual(refused, [])
+        self.assertTrue(are_right(lines, replies))
+        kinds = [it[2] for it in map(json.loads, replies) if it[0] == "report"]
+        return "violated" if "violated" in kinds else kinds[-1]
+
+
+def resident(pid):
+    with open(f"/proc/{pid}/statm", encoding="ascii") as file:
+        return int(file.read().split()[1]) * 4096 >> 20
+
+
+def threads(pid):
+    return len(os.listdir(f"/proc/{pid}/task"))
+
+
+def size(path):
+    return os.path.getsize(path) >> 10 if os.path.exists(path) else 0
+
+
+def run_long(asked):
+    LongRun.asked = asked
+    if asked.fault:
+        LongRun.level = "repeatable read"
+    if asked.keep:
+        os.makedirs(asked.keep, exist_ok=True)
+    found = unittest.TextTestRunner(verbosity=2).run(unittest.TestSuite([LongRun()]))
+    sys.exit(0 if found.wasSuccessful() and not found.skipped else 1)
+
+
+def run_seeds(asked):
+    print("| Seed | Seconds | |")
+    print("|---|---|---|")
+    for seed in range(asked.first, asked.first + asked.seeds):
+        began, around = time.monotonic(), {**os.environ, "ZANTEYARD_SEED": str(seed)}
+        call = [sys.executable, "-W", "ignore", "-m", "unittest", "tests.test_machines"]
+        ended = subprocess.run(call, cwd=PLACE, env=around, stderr=subprocess.PIPE, text=True)
+        told = ended.stderr.strip().splitlines()[-1:] or ["nothing was told"]
+        print(f"| {seed} | {time.monotonic() - began:.0f} | {told[0]} |", flush=True)
+        if ended.returncode:
+            print(ended.stderr)
+            sys.exit(1)
+
+
+def main():
+    parser = argparse.ArgumentParser(description=__doc__.splitlines()[0])
+    parser.add_argument("--seeds", type=int, default=10)
+    parser.add_argument("--first", type=int, default=1)
+    parser.add_argument("--seconds", type=float, help="runs for so long, with a kill every so many")
+    parser.add_argument("--every", type=float, default=10.0)
+    parser.add_argument("--clients", type=int, default=5)
+    parser.add_argument("--sessions", type=int, default=64, help="when none is left, another audit begins")
+    parser.add_argument("--pause", type=float, default=0.3, help="seconds that a client waits at most")
+    parser.add_argument("--meets", type=int, default=300, help="transactions between two meetings")
+    parser.add_argument("--seed", type=int, default=1)
+    parser.add_argument("--fault", action="store_true", help="repeatable read, and writes that skew")
+    parser.add_argument("--keep", metavar="DIR", help="where the daemons' logs and scripts go at the end")
+    asked = parser.parse_args()
+    run_seeds(asked) if asked.seconds is None else run_long(asked)
+
+
+if __name__ == "__main__":
+    main()

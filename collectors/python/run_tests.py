@@ -1,0 +1,268 @@
+#!/usr/bin/env python3
+"""Runs the tests in a few processes side by side, since most of them wait for servers and clients.
+
+    ./run_tests.py [--processes N] [--seconds N] [--slowest N] [MODULE ...]
+
+Each process runs one module after the other, and has a folder of its own for what is temporary; a
+server that modules share is the process's. What a module has told is printed whole once it and
+those before it in the alphabet have ended. The status is 1 where a test fails, where a process ends
+by itself, and where the time is up: each thread that still runs is then told of.
+"""
+
+from __future__ import annotations
+
+import argparse
+import contextlib
+import glob
+import json
+import os
+import shutil
+import signal
+import subprocess
+import sys
+import tempfile
+import threading
+import time
+import unittest
+from typing import Any, Dict, Iterator, List, NamedTuple, Optional, TextIO
+
+HERE = os.path.dirname(os.path.abspath(__file__))
+# These take longest, and are begun first.
+LONG = [
+    f"tests.test_{each}"
+    for each in (
+        *("machines", "stores", "killed", "journal_kills", "streams", "sql_killed", "faults"),
+        *("restarting", "postgres_live", "sql_bank", "shrinking", "examples", "live", "no_harm"),
+    )
+]
+ENDING = 10.0  # seconds for a process to tell where its threads stand
+
+
+class Ran(NamedTuple):
+    """What came of a module. `problem` is "" where all is well."""
+
+    tests: int
+    skipped: int
+    problem: str
+    seconds: float
+    slow: List[Any]  # a pair for each test: its seconds, and its name
+
+
+LATE = Ran(0, 0, "it hasn't ended in time", 0.0, [])
+
+
+# One of the processes: reads names of modules, a line each, and answers a line to each.
+
+
+class Timed(unittest.TextTestResult):
+    def __init__(self, *arguments: Any) -> None:
+        super().__init__(*arguments)
+        self.slow: List[Any] = []
+
+    def startTest(self, test: unittest.TestCase) -> None:
+        self.began = time.monotonic()
+        super().startTest(test)
+
+    def stopTest(self, test: unittest.TestCase) -> None:
+        super().stopTest(test)
+        self.slow.append((round(time.monotonic() - self.began, 2), test.id()))
+
+
+def run_modules(asked: TextIO, answers: TextIO) -> None:
+    for line in asked:
+        name, path = json.loads(line)
+        with told_to(path):
+            began = time.monotonic()
+            suite = unittest.defaultTestLoader.loadTestsFromName(name)
+            runs: Any = unittest.TextTestRunner
+            its = runs(resultclass=Timed, warnings="default").run(suite)
+            bad = len(its.failures) + len(its.errors) + len(its.unexpectedSuccesses)
+            problem = "" if its.wasSuccessful() else f"{bad} failed"
+            seconds = time.monotonic() - began
+            ran = Ran(its.testsRun, len(its.skipped), problem, seconds, its.slow)
+        print(json.dumps(ran), file=answers, flush=True)
+
+
+@contextlib.contextmanager
+def told_to(path: str) -> Iterator[None]:
+    """What this process, and those that it begins, tell meanwhile is written there."""
+    file = os.open(path, os.O_WRONLY | os.O_CREAT | os.O_APPEND, 0o600)
+    for each in (1, 2):
+        os.dup2(file, each)
+    os.close(file)
+    try:
+        yield
+    finally:
+        sys.stdout.flush()
+        sys.stderr.flush()
+
+
+# The one that begins them.
+
+
+class Names:
+    """What is left to be run, for threads."""
+
+    def __init__(self, names: List[str]) -> None:
+        self._left = sorted(names, key=lambda it: (LONG.index(it) if it in LONG else len(LONG), it))
+        self._turn = threading.Lock()
+
+    def next(self) -> Optional[str]:
+        with self._turn:
+            return self._left.pop(0) if self._left else None
+
+
+class Worker(threading.Thread):
+    """Has a process, or another one where that has ended."""
+
+    def __init__(self, folder: str, number: int, names: Names, results: Dict[str, Ran]) -> None:
+        super().__init__(daemon=True)
+        self.folder, self.number, self.names, self.results = folder, number, names, results
+        self.process: Optional[subprocess.Popen[str]] = None
+        self.is_stopped = False
+
+    def run(self) -> None:
+        while not self.is_stopped and (name := self.names.next()) is not None:
+            began = time.monotonic()
+            answer = self.ask(name)
+            if answer:
+                self.results[name] = Ran(*json.loads(answer))
+            elif not self.is_stopped:
+                assert self.process is not None
+                ended = f"its process ended, with status {self.process.wait()}"
+                self.results[name] = Ran(0, 0, ended, time.monotonic() - began, [])
+                self.process = None
+        if self.process is not None and not self.is_stopped:
+            self.end()
+
+    def end(self) -> None:
+        """Its servers end with it."""
+        assert self.process is not None and self.process.stdin is not None
+        self.process.stdin.close()
+        try:
+            self.process.wait(6 * ENDING)
+        except subprocess.TimeoutExpired:
+            self.results[f"process {self.number}"] = LATE
+
+    def ask(self, name: str) -> str:
+        if self.process is None:
+            self.process = subprocess.Popen(
+                [sys.executable, "-X", "faulthandler", __file__, "--one-of-them"],
+                cwd=HERE,
+                env=self.environment(),
+                stdin=subprocess.PIPE,
+                stdout=subprocess.PIPE,
+                text=True,
+            )
+        assert self.process.stdin is not None and self.process.stdout is not None
+        with contextlib.suppress(BrokenPipeError):
+            self.process.stdin.write(json.dumps([name, os.path.join(self.folder, name)]) + "\n")
+            self.process.stdin.flush()
+        return self.process.stdout.readline()
+
+    def environment(self) -> Dict[str, str]:
+        """With a folder of its own. What is compiled once is kept for the hundreds of programs that
+        tests begin, wherever the tree may not be written to."""
+        own, compiled = (os.path.join(self.folder, it) for it in (str(self.number), "compiled"))
+        os.makedirs(own, mode=0o711, exist_ok=True)
+        its = {**os.environ, "TMPDIR": own, "PYTHONPYCACHEPREFIX": compiled}
+        its.pop("PYTHONDONTWRITEBYTECODE", None)
+        return its
+
+    def stop(self) -> None:
+        """Tells where its threads stand."""
+        self.is_stopped, process = True, self.process
+        if process is not None and process.poll() is None:
+            process.send_signal(signal.SIGABRT)
+            with contextlib.suppress(subprocess.TimeoutExpired):
+                process.wait(ENDING)
+            process.kill()
+            process.wait()
+
+
+def run_all(names: List[str], count: int, seconds: float) -> Dict[str, Ran]:
+    """In so many processes, for at most so many seconds; prints what they tell."""
+    ends, waiting = time.monotonic() + seconds, Names(names)
+    results: Dict[str, Ran] = {}
+    told = 0
+    with folder_of_its_own() as folder:
+        workers = [Worker(folder, at, waiting, results) for at in range(count)]
+        try:
+            for worker in workers:
+                worker.start()
+            while any(it.is_alive() for it in workers) and time.monotonic() < ends:
+                time.sleep(0.1)
+                while told < len(names) and names[told] in results:
+                    tell(names[told], results[names[told]], folder)
+                    told += 1
+        finally:
+            for worker in workers:
+                worker.stop()
+        for name in names[told:]:
+            tell(name, results.setdefault(name, LATE), folder)
+    return results
+
+
+@contextlib.contextmanager
+def folder_of_its_own() -> Iterator[str]:
+    folder = tempfile.mkdtemp()
+    os.chmod(folder, 0o711)  # servers in it run as another user, where this runs as root
+    try:
+        yield folder
+    finally:
+        end_servers(folder)
+        shutil.rmtree(folder, ignore_errors=True)
+
+
+def end_servers(folder: str) -> None:
+    """Those that are left by tests that were killed."""
+    files = (("data/postmaster.pid", signal.SIGQUIT), ("own_server.pid", signal.SIGKILL))
+    for name, number in files:
+        for path in glob.glob(f"{folder}/**/{name}", recursive=True):
+            with contextlib.suppress(OSError, ValueError), open(path, encoding="ascii") as file:
+                os.kill(abs(int(file.readline())), number)
+
+
+def tell(name: str, ran: Ran, folder: str) -> None:
+    print(f"== {name}: {', '.join([f'{ran.seconds:.1f} s', *filter(None, [ran.problem])])}")
+    with contextlib.suppress(FileNotFoundError):
+        with open(os.path.join(folder, name), encoding="utf-8", errors="replace") as file:
+            print(file.read().rstrip("\n"), flush=True)
+
+
+def summary(results: Dict[str, Ran], seconds: float, slowest: int) -> Iterator[str]:
+    slow = sorted((each for ran in results.values() for each in ran.slow), reverse=True)
+    for taken, test in slow[:slowest]:
+        yield f"{taken:8.2f} s  {test}"
+    tests = sum(it.tests for it in results.values())
+    skipped = sum(it.skipped for it in results.values())
+    yield f"{tests} tests in {seconds:.0f} s, {skipped} of them skipped"
+    for name, ran in sorted(results.items()):
+        if ran.problem:
+            yield f"FAILED: {name}: {ran.problem}"
+
+
+def main() -> int:
+    words = argparse.ArgumentParser(description=__doc__.splitlines()[0])
+    words.add_argument("--processes", type=int, default=3, help="side by side (3)")
+    words.add_argument("--seconds", type=float, default=3600.0, help="for all of them (3600)")
+    words.add_argument("--slowest", type=int, default=0, help="so many tests are named at the end")
+    words.add_argument("--one-of-them", action="store_true", help=argparse.SUPPRESS)
+    words.add_argument("modules", nargs="*", metavar="MODULE", help="as tests.test_sql; else all")
+    asked = words.parse_args()
+    if asked.one_of_them:
+        answers = os.fdopen(os.dup(1), "w", encoding="utf-8")
+        run_modules(sys.stdin, answers)
+        return 0
+    paths = glob.glob(os.path.join(HERE, "tests", "test_*.py"))
+    names = asked.modules or [f"tests.{os.path.basename(path)[:-3]}" for path in paths]
+    signal.signal(signal.SIGTERM, lambda *_: sys.exit(1))
+    began = time.monotonic()
+    results = run_all(sorted(names), min(asked.processes, len(names)), asked.seconds)
+    for line in summary(results, time.monotonic() - began, asked.slowest):
+        print(line)
+    return int(any(ran.problem for ran in results.values()))
+
+
+if __name__ == "__main__":
+    sys.exit(main())

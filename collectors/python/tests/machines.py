@@ -1,0 +1,219 @@
+"""An audit of clients on several machines, as far as one machine can have them: the auditor is a daemon, clients are
+processes with folders of their own, and what they have in common is a Redis and a PostgreSQL."""
+import json
+import logging
+import os
+import re
+import signal
+import subprocess
+import sys
+import tempfile
+import time
+import unittest
+
+from zanteyard.auditor import PROGRAM
+from zanteyard.cluster import Cluster, program
+from zanteyard.redis_server import redis_server
+
+from .plain_sql import run_sql
+
+try:
+    import redis
+
+    from zanteyard.redis_server import RedisServer
+except ImportError:
+    redis = None
+
+try:
+    import psycopg2
+
+    from zanteyard.postgres_store import PostgresStore, prepare
+except ImportError:
+    psycopg2 = PostgresStore = None
+
+PLACE = os.path.join(os.path.dirname(os.path.abspath(__file__)), "..")
+CLIENT = os.path.join(PLACE, "tests", "killed_client.py")
+SOON = 120.0  # seconds, where other programs have the processors
+SEED = int(os.environ.get("ZANTEYARD_SEED", "1"))
+
+
+def knows_save():
+    if not os.path.isfile(PROGRAM):
+        return False
+    told = subprocess.run([PROGRAM], input=b'["open",1,4]\n["save","marks"]\n', stdout=subprocess.PIPE)
+    return b'["marks",' in told.stdout
+
+
+HAS_ALL = bool(redis and redis_server() and psycopg2 and program("initdb") and knows_save())
+
+
+@unittest.skipUnless(HAS_ALL, "Redis, redis-py, PostgreSQL, psycopg2 or an auditor that knows save isn't there (no machines)")
+class Machines(unittest.TestCase):
+    level = "serializable"
+    silence = 2.0
+
+    @classmethod
+    def setUpClass(cls):
+        cls.cluster = Cluster()
+        cls.cluster.__enter__()
+        cls.addClassCleanup(cls.cluster.__exit__)
+
+    def setUp(self):
+        logging.getLogger("zanteyard").setLevel(logging.CRITICAL)
+        self.addCleanup(logging.getLogger("zanteyard").setLevel, logging.NOTSET)
+        self.folder = self.folder_of_its_own()
+        self.redis = RedisServer(keeps=True)
+        self.redis.__enter__()
+        self.addCleanup(self.redis.__exit__)
+        self.sql("DROP TABLE IF EXISTS zanteyard")
+        prepare(self.cluster.dsn)
+        self.daemons, self.clients = [], []
+
+    def folder_of_its_own(self):
+        folder = tempfile.TemporaryDirectory()
+        self.addCleanup(folder.cleanup)
+        return folder.name
+
+    def sql(self, text):
+        return run_sql(self.cluster.dsn, text)
+
+    # the daemon
+
+    def daemon(self, *more, sessions=8, every=60):
+        folder = self.folder_of_its_own()
+        self.log = f"{folder}/log"
+        call = [sys.executable, "-m", "zanteyard", "serve", "--journal", f"{self.folder}/audit", "--redis", self.redis.dsn]
+        call += ["--audit", "bank", "--sessions", str(sessions), "--every", str(every), "--rather-wait", "--round-seconds", "600"]
+        call += ["--silence", str(self.silence), "--script", f"{self.folder}/script.{len(self.daemons)}", *more]
+        with open(self.log, "wb") as log:
+            daemon = subprocess.Popen(call, cwd=folder, env={**os.environ, "PYTHONPATH": os.path.abspath(PLACE)}, stderr=log)
+        self.daemons.append(daemon)
+        self.addCleanup(self.end, daemon)
+        self.wait_for(lambda: "it keeps" in self.said() or daemon.poll() is not None)
+        return daemon
+
+    @staticmethod
+    def end(process):
+        process.kill()
+        process.wait()
+        for pipe in (process.stdin, process.stdout):
+            if pipe:
+                pipe.close()
+
+    def said(self):
+        with open(self.log, encoding="utf-8") as log:
+            return log.read()
+
+    def kill_daemon(self):
+        self.daemons[-1].kill()
+        self.daemons[-1].wait()
+
+    def stopped(self):
+        """The daemon's exit status."""
+        self.daemons[-1].send_signal(signal.SIGTERM)
+        self.wait_for(lambda: self.daemons[-1].poll() is not None, 3 * SOON)  # a last round is told
+        return self.daemons[-1].returncode
+
+    # clients
+
+    def client(self, where="-", left=0, pause=0.25, workload="counter", sessions=1):
+        call = [os.path.abspath(PLACE), f"{self.redis.dsn} bank", "postgres", self.cluster.dsn, self.level, str(len(self.clients))]
+        call += [f"{SEED} {len(self.clients)}", where, str(left), str(pause), workload, str(sessions)]
+        pipes = {"stdin": subprocess.PIPE, "stdout": subprocess.PIPE, "text": True, "cwd": self.folder_of_its_own()}
+        client = subprocess.Popen([sys.executable, os.path.abspath(CLIENT), *call], **pipes)
+        self.clients.append(client)
+        self.addCleanup(self.end, client)
+        return client
+
+    def begun(self, *clients):
+        for client in clients:
+            self.assertEqual(client.stdout.readline(), "begun\n")
+
+    def leave(self):
+        for client in self.clients:
+            if client.poll() is None:
+                client.stdin.write("\n")
+                client.stdin.flush()
+        for client in self.clients:
+            client.wait(SOON)
+
+    def wait_for(self, condition, seconds=SOON):
+        until = time.monotonic() + seconds
+        while not condition() and time.monotonic() < until:
+            time.sleep(0.02)
+        self.assertTrue(condition(), self.said()[-3000:])
+
+    def committed(self):
+        return self.sql("SELECT count(*) FROM zanteyard WHERE key LIKE 'row %'")[0][0]
+
+    def run_for(self, more=30):
+        """Until clients have committed so many more."""
+        count = self.committed()
+        self.wait_for(lambda: self.committed() >= count + more)
+
+    # what every run owes
+
+    def ended(self, status, is_left=True):
+        if is_left:
+            self.leave()
+        found = self.stopped() if self.daemons[-1].poll() is None else self.daemons[-1].returncode
+        self.assertEqual(found, status, self.said()[-3000:])
+        self.log_is_whole()
+        kind = self.verdict()
+        wanted = {0: ("serial",), 1: ("violated",), 3: ("serial", "pending")}[status]
+        self.assertIn(kind, wanted)
+        if status != 1:
+            self.each_commit_is_in_the_log(status == 0)
+            self.assertIn(f"; {kind}; ", f"; {self.last_round()}; ")
+        return self.said()
+
+    def last_round(self):
+        return re.findall(r"round \d+: (\w+);", self.said())[-1]
+
+    def log_is_whole(self):
+        """All that was offered to any process of the auditor's, each transaction once."""
+        self.txns = {}
+        for at in range(len(self.daemons)):
+            with open(f"{self.folder}/script.{at}", encoding="utf-8") as script:
+                for line in map(json.loads, script):
+                    if line[0] == "offer":
+                        for number, txn in enumerate(line[3], line[2]):
+                            # What no process was answered may have other numbers for its keys there.
+                            self.txns[line[1], number] = txn
+
+    def verdict(self):
+        """Of the same log, given whole."""
+        sessions = 1 + max(session for session, _ in self.txns)
+        lines = [["open", sessions, 4096]]
+        for session, number in sorted(self.txns):
+            lines.append(["offer", session, number, [self.txns[session, number]]])
+        for effort in ((4096, 0, 1), (65536, 4, 2)):
+            kind = self.told([*lines, ["round", *effort]])
+            if kind != "spent":
+                break
+        return kind
+
+    def told(self, lines):
+        text = "".join(f"{json.dumps(line)}\n" for line in lines)
+        told = subprocess.run([PROGRAM], input=text, stdout=subprocess.PIPE, text=True, check=True, timeout=5 * SOON)
+        replies = [json.loads(line) for line in told.stdout.splitlines()]
+        self.assertEqual([it for it in replies if it[0] == "no"], [])
+        return replies[-1][2]
+
+    def each_commit_is_in_the_log(self, is_whole):
+        from zanteyard.resuming import reopened
+
+        found = reopened(f"{self.folder}/audit/audit.journal")
+        try:
+            names, run = found.kept.names, found.kept.head.run_name
+        finally:
+            found.journal.close()
+        text = "SELECT key, session, number FROM zanteyard WHERE run = %r AND session >= 0" % run
+        there = {(session, number, key) for key, session, number in self.sql(text)}
+        logged = {(*id, names[key]) for id, txn in self.txns.items() for key in txn[1]}
+        self.assertGreater(len(there), 0)
+        self.missed = {it for it in there if it not in logged}
+        if is_whole:
+            self.assertEqual(self.missed, set())
+            rows = {it for it in logged if it[2].startswith("row ")}
+            self.assertEqual(rows - there, set())

@@ -1,0 +1,94 @@
+"""What is owed of a log whose auditors were killed: what a program says that nobody kills, and to which the log is given whole.
+
+A log is, of each session, its transactions as lines have them. What was told is a list of rounds, each as how many transactions of
+each session it was about, and its verdict."""
+import contextlib
+import io
+import json
+import os
+import subprocess
+import sys
+
+from zanteyard import Auditor
+from zanteyard.auditor import LONGEST
+
+sys.path.insert(0, os.path.join(os.path.dirname(os.path.abspath(__file__)), "../../../examples"))
+from check_reports import check_run  # noqa: E402
+
+ROUND = ["round", 65536, 0, 1]
+
+
+def log_of(entries, sessions, program):
+    """Of triples of session, number and what was logged; and the same by the keys' names that it gave them."""
+    log = [[] for _ in range(sessions)]
+    with Auditor(sessions, program=program) as auditor:
+        for session, number, logged in entries:
+            assert number == len(log[session])
+            log[session].append(auditor.txn(logged))
+    return log
+
+
+def log_in(script, replies=None):
+    """Of a script's lines; of those alone that were answered ok, where the replies are given."""
+    lines = [json.loads(line) for line in script]
+    log = [[] for _ in range(lines[0][1])]
+    for at, line in enumerate(lines):
+        if line[0] == "offer" and (replies is None or json.loads(replies[at]) == ["ok"]):
+            assert line[2] == len(log[line[1]]), line
+            log[line[1]] += line[3]
+    return log
+
+
+def verdicts(log, told, program):
+    """Of a fresh program, over the same numbers of transactions; each of them is checked by who doesn't believe it."""
+    given, script = [0] * len(log), [["open", len(log), 4096]]
+    for counts, _ in told:
+        for session, count in enumerate(counts):
+            while given[session] < count:
+                txns = log[session][given[session] : count][:LONGEST]
+                script.append(["offer", session, given[session], txns])
+                given[session] += len(txns)
+        script.append(ROUND)
+    text = "".join(json.dumps(line) + "\n" for line in script).encode()
+    replies = subprocess.run([program], input=text, stdout=subprocess.PIPE, check=True).stdout.splitlines()
+    assert not [reply for reply in replies if reply.startswith(b'["no"')], replies
+    reports = [json.loads(reply) for reply in replies if reply.startswith(b'["report"')]
+    last = [script[0], *(line for line in script if line[0] == "offer"), ROUND]
+    assert are_right(last, [*[b'["ok"]'] * (len(last) - 1), replies[-1]])
+    return [(tuple(report[3]), report[2]) for report in reports]
+
+
+def are_right(script, replies):
+    """Whether examples/check_reports.py finds nothing wrong with what a program was given and has told."""
+    lines = [line if isinstance(line, bytes) else json.dumps(line).encode() for line in script]
+    with contextlib.redirect_stdout(io.StringIO()) as printed:
+        wrong = check_run(lines, replies)
+    if wrong:
+        print(printed.getvalue())
+    return not wrong
+
+
+class Heard:
+    """The lines that an auditor's program is given, and what is told of them, whichever programs die."""
+
+    def __init__(self, auditor):
+        program = auditor.program
+        self.lines, self.replies = [b'["open",%d,%d]' % (auditor.sessions, auditor.limit)], [b'["ok"]']
+        ask, answers = program.ask, program.answers
+
+        def asked(lines):
+            lines = [*lines]
+            ask(lines)
+            self.lines += lines
+
+        def answered(count, seconds):
+            found = answers(count, seconds)
+            self.replies += found
+            return found
+
+        program.ask, program.answers = asked, answered
+
+    @property
+    def told(self):
+        reports = [json.loads(reply) for reply in self.replies if reply.startswith(b'["report"')]
+        return [(tuple(report[3]), report[2]) for report in reports]

@@ -1,0 +1,314 @@
+"""Auditors with a journal and their processes, killed at moments drawn by a seed, over a store in memory and over PostgreSQL: each
+verdict is that of the same log, given whole to a program that nobody kills, and to who checks it without believing it.
+
+ZANTEYARD_KILLS is how many times as long they run; ZANTEYARD_SEED is what moments are drawn by."""
+import json
+import os
+import pickle
+import random
+import signal
+import subprocess
+import sys
+import threading
+import time
+import unittest
+
+from zanteyard import RATHER_WAIT, AuditorApart, AuditServer, LiveAuditor, Logged
+from zanteyard.auditor import PROGRAM as BUILT
+from zanteyard.cluster import Cluster, program
+from zanteyard.memory_store import FAULTS, MemoryStore
+from zanteyard.store_kinds import MakeStore
+from zanteyard.workloads import ClientProcesses
+
+from .killing import PLAIN, Log
+from .owed import Heard, are_right, log_in, log_of, verdicts
+from .test_restarting import PROGRAM, WithJournal, log_with
+from .test_restarting_processes import FEEDER, child_of
+
+try:
+    import psycopg2
+
+    from zanteyard.postgres_store import PostgresStore, prepare
+except ImportError:
+    psycopg2 = None
+
+TIMES = float(os.environ.get("ZANTEYARD_KILLS", "1"))
+SEED = os.environ.get("ZANTEYARD_SEED", "1")
+ONE_OF = [Logged([("never written", "init")], [f"of {session}"]) for session in range(3)]
+LIVE = os.path.join(os.path.dirname(os.path.abspath(__file__)), "journal_live.py")
+LACKING = [
+    name
+    for name, there in (("psycopg2", psycopg2), ("initdb of PostgreSQL", program("initdb")), (BUILT, os.path.isfile(BUILT)))
+    if not there
+]
+
+
+def shuffled(entries, dice):
+    """Each session's in their order, and the sessions in any, so that reads have to wait for what they name."""
+    waiting = {}
+    for entry in entries:
+        waiting.setdefault(entry[0], []).append(entry)
+    found = []
+    while waiting:
+        session = dice.choice([*waiting])
+        found += waiting[session][: (count := dice.randrange(1, 6))]
+        del waiting[session][:count]
+        if not waiting[session]:
+            del waiting[session]
+    return found
+
+
+class Killing(threading.Thread):
+    """Kills what `pid()` gives, again and again, until it is left; twice at most while `done()` stays as it is, since of eight
+    programs that die over one line the last is the end."""
+
+    def __init__(self, pid, done, dice, pause=(0.05, 0.5)):
+        super().__init__(daemon=True)
+        self.pid, self.done, self.dice, self.pause = pid, done, dice, pause
+        self.kills, self.has_ended = 0, threading.Event()
+
+    def run(self):
+        done, idle = None, 0
+        while not self.has_ended.wait(self.dice.uniform(*self.pause)):
+            now = self.done()
+            done, idle = now, idle + 1 if now == done else 0
+            if idle < 2:
+                try:
+                    os.kill(self.pid(), signal.SIGKILL)
+                    self.kills += 1
+                except (OSError, AssertionError, AttributeError, ValueError):
+                    pass  # it is being started
+
+    def __enter__(self):
+        self.start()
+        return self
+
+    def __exit__(self, *_):
+        self.has_ended.set()
+        self.join()
+
+
+@unittest.skipIf(PROGRAM == PLAIN, "no auditor is built that knows save and resume")
+class Live(WithJournal):
+    """The auditor of clients that run is killed."""
+
+    def audited(self, fault, dice, seconds):
+        """The outcome, how many were killed, and what the auditor was given and has told."""
+        auditor, store, most = self.auditor(limit=4096), MemoryStore(fault), 120 * TIMES
+        heard = Heard(auditor)
+        live = LiveAuditor(auditor, every=100, seconds=0.1, policy=RATHER_WAIT)
+        log = Log(dice, fault, connect=store.connect)
+        log.sessions = [live.session(store.connect()) for _ in range(3)]
+        until = time.monotonic() + seconds
+        with Killing(lambda: auditor.program.process.pid, lambda: len(heard.replies), dice, (0.02, 0.2)) as killing:
+            while time.monotonic() < until and not live.is_over and live.handed_in < most:
+                log.run(1)
+                time.sleep(0.005)
+            outcome = live.stop()
+        auditor.end()
+        return outcome, killing.kills, heard
+
+    def test_over_a_store_in_memory(self):
+        """Where a fault hasn't shown in a run, in another one."""
+        kills = 0
+        for at, fault in enumerate((None, *FAULTS)):
+            with self.subTest(fault=fault):
+                wanted = "violated" if fault else "serial"
+                for more in range(8):
+                    self.path = os.path.join(self.folder, f"journal {at} {more}")
+                    outcome, killed, heard = self.audited(fault, random.Random(f"{SEED} {at} {more}"), TIMES * 8.0)
+                    kills += killed
+                    self.see(outcome, heard)
+                    if outcome.kind == wanted:
+                        break
+                self.assertEqual(outcome.kind, wanted)
+        self.assertGreater(kills, 3)
+
+    def test_threads(self):
+        """Each waits for replies of its own as the program is started again."""
+        auditor, failures = self.auditor(limit=4096), []
+        heard = Heard(auditor)
+
+        def offers(session):
+            for number in range(300):
+                auditor.offer(session, number, ONE_OF[session])
+
+        def rounds(_):
+            for _ in range(6):
+                auditor.last_round()
+
+        def run(deed, session):
+            try:
+                deed(session)
+            except Exception as error:
+                failures.append(error)
+
+        deeds = [*((offers, session) for session in range(3)), (rounds, None), (rounds, None)]
+        threads = [threading.Thread(target=run, args=each) for each in deeds]
+        with Killing(lambda: auditor.program.process.pid, lambda: len(heard.replies), random.Random(SEED), (0.005, 0.05)) as killing:
+            for thread in threads:
+                thread.start()
+            for thread in threads:
+                thread.join()
+        self.assertEqual((failures, auditor.received), ([], [300] * 3))
+        self.assertGreater(killing.kills, 0)
+        self.assertEqual(verdicts(log_in(heard.lines, heard.replies), heard.told, PROGRAM), heard.told)
+        self.assertTrue(are_right(heard.lines, heard.replies))
+
+    def see(self, outcome, heard):
+        self.assertEqual((outcome.failure, outcome.earlier), (None, ()))
+        self.assertEqual(outcome.kind, heard.told[-1][1], str(outcome))
+        self.assertTrue(are_right(heard.lines, heard.replies))
+        self.assertEqual(verdicts(log_in(heard.lines, heard.replies), heard.told, PROGRAM), heard.told)
+        with self.resumed() as auditor:
+            self.assertEqual(tuple(auditor.received), heard.told[-1][0])
+            self.assertEqual(auditor.outcome().kind, "violated" if outcome.kind == "violated" else "incomplete")
+
+
+class Fed(WithJournal):
+    """The process that has the journal is killed, and the auditor with it; what clients did is in a file."""
+
+    def fed(self, entries, dice, chance=1.0):
+        """What was told, of all processes that fed it."""
+        path, told = os.path.join(self.folder, "log"), os.path.join(self.folder, "told")
+        with open(path, "wb") as file:
+            pickle.dump(entries, file)
+        for kills in range(200):
+            feeder = subprocess.Popen(
+                [sys.executable, FEEDER, PROGRAM, self.path, path, told],
+                stdout=subprocess.PIPE,
+                stderr=subprocess.PIPE,
+                bufsize=0,
+            )
+            dots, count = b"", dice.randrange(1, 40) if kills < 60 * chance else 1 << 20
+            while len(dots) < count and (more := feeder.stdout.read(count - len(dots))):
+                dots += more
+            time.sleep(dice.random() * 0.004)
+            os.kill(feeder.pid, signal.SIGKILL)
+            more, error = feeder.communicate()
+            self.assertEqual(error, b"")
+            if b"\n" in dots + more:
+                break
+        with open(told) as file:
+            lines = [json.loads(line) for line in file.read().splitlines()]
+        os.unlink(told)
+        os.unlink(self.path)
+        return [(tuple(counts), kind) for counts, kind in lines], kills
+
+    def check(self, entries, dice, wanted):
+        told, kills = self.fed(shuffled(entries, dice), dice)
+        log = log_of(entries, 3, PROGRAM)
+        self.assertEqual(told[-1], (tuple(map(len, log)), wanted))
+        self.assertEqual(verdicts(log, told, PROGRAM), told)
+        return kills, {kind for _, kind in told}
+
+    @unittest.skipIf(PROGRAM == PLAIN, "no auditor is built that knows save and resume")
+    def test_over_a_store_in_memory(self):
+        kills, kinds = 0, set()
+        for at, fault in enumerate((None, *FAULTS)):
+            with self.subTest(fault=fault):
+                entries, wanted = log_with(fault, f"{SEED} {at}")
+                more, those = self.check(entries, random.Random(f"{SEED} {at}"), wanted)
+                kills, kinds = kills + more, kinds | those
+        self.assertGreater(kills, 8)
+        self.assertLessEqual({"serial", "violated"}, kinds)
+
+    @unittest.skipIf(PROGRAM == PLAIN, "no auditor is built that knows save and resume")
+    def test_a_process_with_clients(self):
+        """It is killed with its clients: what it had taken in is there, and no more is said than of that."""
+        for at, fault in enumerate((None, "lost-update", "write-skew")):
+            dice, script = random.Random(f"{SEED} {at}"), os.path.join(self.folder, f"script {at}")
+            self.path = os.path.join(self.folder, f"journal {at}")
+            command = [sys.executable, LIVE, PROGRAM, self.path, script, fault or "-", f"{SEED} {at}"]
+            process = subprocess.Popen(command, stdout=subprocess.PIPE)
+            self.assertEqual(process.stdout.readline(), b"begun\n")
+            time.sleep(0.5 + dice.random())
+            process.kill()
+            process.communicate()
+            self.see_resumed(script)
+
+    def see_resumed(self, script):
+        with open(script, "rb") as file:
+            lines = file.read().splitlines(keepends=True)
+        log = log_in(line for line in lines if line.endswith(b"\n"))
+        until = time.monotonic() + 30
+        while True:
+            try:
+                auditor = self.resumed()
+                break
+            except Exception:  # a process of its own may still have it
+                if time.monotonic() > until:
+                    raise
+                time.sleep(0.05)
+        counts = tuple(auditor.received)
+        told = auditor.last_round()
+        self.assertEqual(tuple(told.counts), counts)
+        self.assertEqual(verdicts([txns[:count] for txns, count in zip(log, counts)], [(counts, None)], PROGRAM), [(counts, told.kind)])
+        if auditor.violation is not None:
+            self.assertEqual(told.kind, "violated")
+        self.assertEqual(auditor.outcome().kind, "violated" if told.kind == "violated" else "incomplete")
+        auditor.end()
+        return told.kind
+
+
+@unittest.skipIf(LACKING or PROGRAM == PLAIN, f"not installed or not built: {', '.join(LACKING)}")
+class Postgres(Fed):
+    @classmethod
+    def setUpClass(cls):
+        cluster = Cluster()
+        cls.dsn = cluster.__enter__().dsn
+        cls.addClassCleanup(cluster.__exit__)
+
+    def setUp(self):
+        super().setUp()
+        connection = psycopg2.connect(self.dsn)
+        connection.autocommit = True
+        connection.cursor().execute("DROP TABLE IF EXISTS zanteyard")
+        connection.close()
+        prepare(self.dsn)
+
+    test_over_a_store_in_memory = test_a_process_with_clients = None
+
+    def test_a_log_of_it(self):
+        """At the lowest level updates are lost; at the highest none is."""
+        for level, wanted in (("serializable", "serial"), ("read committed", "violated")):
+            with self.subTest(level=level):
+                self.setUp()
+                dice = random.Random(f"{SEED} {level}")
+                log = Log(dice, connect=lambda level=level: PostgresStore(self.dsn, level))
+                for _ in range(3):
+                    log.run(10)
+                    log.meet()
+                for session in log.sessions:
+                    session.store.close()
+                self.check(log.entries, dice, wanted)
+
+    def test_eight_processes(self):
+        """The auditor of clients that run is killed again and again; they go on, in one audit."""
+        for level, workload, wanted in (("serializable", "counter", "serial"), ("repeatable read", "skew", "violated")):
+            with self.subTest(level=level):
+                self.setUp()
+                dice, script = random.Random(f"{SEED} {level}"), os.path.join(self.folder, f"script {level}")
+                self.path, told = os.path.join(self.folder, level), []
+                auditor = AuditorApart(8, 4096, PROGRAM, script=script)
+                self.addCleanup(auditor.end)
+                live = LiveAuditor(auditor, every=300, seconds=0.5, policy=RATHER_WAIT, tell=told.append, journal=self.path)
+                last, rounds = auditor.last_round, []
+                auditor.last_round = lambda *asked: rounds.append(last(*asked)) or rounds[-1]
+                with AuditServer(live, os.path.join(self.folder, f"audit {wanted}")) as server:
+                    with Killing(lambda: child_of(auditor.process.pid, 0.5), lambda: live.taken_in + live.rounds, dice, (0.2, 1.0)) as killing:
+                        make = MakeStore("postgres", self.dsn, level)
+                        clients = ClientProcesses(server.path, make, 8, workload, 4.0 * TIMES, 100.0)
+                outcome = live.stop()
+                self.assertEqual((outcome.kind, outcome.earlier), (wanted, ()), str(outcome))
+                self.assertGreater(killing.kills, 0)
+                self.assertGreater(clients.committed, 0)
+                auditor.end()
+                with open(script, "rb") as file:
+                    log = log_in(file.read().splitlines())
+                heard = [(tuple(each.counts), each.kind) for each in rounds]
+                self.assertEqual(verdicts(log, heard, PROGRAM), heard)
+
+
+if __name__ == "__main__":
+    unittest.main()

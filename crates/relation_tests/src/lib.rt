@@ -1,0 +1,17 @@
+//! Tests of the known relation, of fences, and of the cuts that are found by them, by the public calls of these libraries.
+#![tactic(auto)]
+
+#[cfg(test)]
+mod arrivals;
+#[cfg(test)]
+mod cuts;
+#[cfg(test)]
+mod fences;
+#[cfg(test)]
+mod relations;
+#[cfg(test)]
+mod settled;
+#[cfg(test)]
+mod sides;
+#[cfg(test)]
+mod turned;

@@ -1,0 +1,233 @@
+//! Searches: worked histories with budgets.
+use forced_choices::Saturated;
+use order_check::Parts;
+use polygraph::{Answer, Problem, Single, Solver};
+use refutation::Tree;
+use std::alloc::Global;
+use std::process::Abort;
+use std::test::*;
+use test_histories::{EMPTY, ID_0_0, ID_1_0, ID_2_0, ID_3_0, Table};
+use txn::NoMemory;
+use txn::Source::{By, Init};
+
+/// Four writers and four readers: each way to order the writers of key 1 and those of key 2 fails one of the readers.
+const REAL_SPLIT: Table = Table {
+    marks: &[0; 8],
+    remain: &[
+        &[(&[], &[1, 3])],
+        &[(&[], &[1, 4])],
+        &[(&[], &[2, 5])],
+        &[(&[], &[2, 6])],
+        &[(&[(1, By(ID_0_0)), (5, By(ID_2_0)), (6, By(ID_3_0))], &[])],
+        &[(&[(1, By(ID_1_0)), (5, By(ID_2_0)), (6, By(ID_3_0))], &[])],
+        &[(&[(2, By(ID_2_0)), (3, By(ID_0_0)), (4, By(ID_1_0))], &[])],
+        &[(&[(2, By(ID_3_0)), (3, By(ID_0_0)), (4, By(ID_1_0))], &[])],
+    ],
+    closed: &[false; 8],
+    ..EMPTY
+};
+
+/// A word for what is answered.
+pub type Said = &'static str;
+
+struct Row {
+    table: Table,
+    open: usize,
+    budget: u64,
+    depth: u64,
+    said: Said,
+}
+
+static ROWS: [Row; 14] = [
+    Row {
+        table: EMPTY,
+        open: 0,
+        budget: 32,
+        depth: 0,
+        said: "yes",
+    },
+    // a reader from the initial state comes before the writer
+    Row {
+        table: Table {
+            remain: &[&[(&[], &[5])], &[(&[(5, Init)], &[])]],
+            ..EMPTY
+        },
+        open: 0,
+        budget: 1,
+        depth: 0,
+        said: "yes",
+    },
+    // its writer hasn't come
+    Row {
+        table: Table {
+            remain: &[&[], &[(&[(5, By(ID_0_0))], &[])]],
+            ..EMPTY
+        },
+        open: 0,
+        budget: 32,
+        depth: 0,
+        said: "yes",
+    },
+    // write skew
+    Row {
+        table: Table {
+            remain: &[&[(&[(5, Init)], &[6])], &[(&[(6, Init)], &[5])]],
+            ..EMPTY
+        },
+        open: 0,
+        budget: 32,
+        depth: 0,
+        said: "no",
+    },
+    // a lost update, by forced sides alone
+    Row {
+        table: Table {
+            remain: &[
+                &[(&[], &[5]), (&[(5, By(ID_0_0))], &[5])],
+                &[(&[(5, By(ID_0_0))], &[5])],
+            ],
+            ..EMPTY
+        },
+        open: 0,
+        budget: 1,
+        depth: 6,
+        said: "no",
+    },
+    // 1.1 reads the initial state behind 1.0, which read 0.0's write
+    Row {
+        table: Table {
+            remain: &[
+                &[(&[], &[5])],
+                &[(&[(5, By(ID_0_0))], &[]), (&[(5, Init)], &[])],
+            ],
+            ..EMPTY
+        },
+        open: 0,
+        budget: 32,
+        depth: 0,
+        said: "no",
+    },
+    // two writers of a key and a reader of one of them
+    Row {
+        table: Table {
+            marks: &[0; 3],
+            remain: &[&[(&[], &[5])], &[(&[], &[5])], &[(&[(5, By(ID_0_0))], &[])]],
+            closed: &[false; 3],
+            ..EMPTY
+        },
+        open: 1,
+        budget: 2,
+        depth: 0,
+        said: "yes",
+    },
+    // the root and both sides of its first open choice are looked at
+    Row {
+        table: REAL_SPLIT,
+        open: 4,
+        budget: 1,
+        depth: 0,
+        said: "spent",
+    },
+    Row {
+        table: REAL_SPLIT,
+        open: 4,
+        budget: 2,
+        depth: 0,
+        said: "spent",
+    },
+    Row {
+        table: REAL_SPLIT,
+        open: 4,
+        budget: 3,
+        depth: 0,
+        said: "no",
+    },
+    Row {
+        table: REAL_SPLIT,
+        open: 4,
+        budget: 32,
+        depth: 0,
+        said: "no",
+    },
+    // four cubes, and no node for any
+    Row {
+        table: REAL_SPLIT,
+        open: 4,
+        budget: 3,
+        depth: 2,
+        said: "spent",
+    },
+    Row {
+        table: REAL_SPLIT,
+        open: 4,
+        budget: 32,
+        depth: 2,
+        said: "no",
+    },
+    Row {
+        table: REAL_SPLIT,
+        open: 4,
+        budget: 32,
+        depth: 6,
+        said: "no",
+    },
+];
+
+fn rows() -> &'static [Row] {
+    &ROWS
+}
+
+/// Whether each node of steps has some.
+fn is_neat(tree: &Tree) -> bool {
+    match tree {
+        Tree::Close(_) => true,
+        Tree::Force { steps, rest } => !steps.is_empty() && is_neat(rest),
+        Tree::Split {
+            choice: _,
+            first,
+            second,
+        } => is_neat(first) && is_neat(second),
+    }
+}
+
+/// A word for the answer, if a tree in it is as the search makes them.
+fn said_by(answer: &Answer) -> Said {
+    match answer {
+        Answer::Yes(_) => "yes",
+        Answer::No(tree) if is_neat(tree) => "no",
+        Answer::No(_) => "a tree with a node of steps that is empty",
+        Answer::Spent => "spent",
+        Answer::NoMemory => "no memory",
+    }
+}
+
+pub fn problem_of(rt: &impl Abort, alloc: Global, parts: &Parts) -> Result<Problem, NoMemory> {
+    assert!(rt; parts.is_good());
+    let known = Saturated::of(alloc, parts)?;
+    Problem::of(alloc, &known)
+}
+
+/// What the solver of one thread answers, as a word.
+pub fn solved(rt: &impl Abort, alloc: Global, problem: &Problem, budget: u64, depth: u64) -> Said {
+    assert!(rt; 1 <= budget && budget <= 4_294_967_296 && depth <= 6);
+    said_by(&Single.solve(alloc, problem, budget, depth, 1))
+}
+
+fn answers(rt: &impl Abort, alloc: Global, row: &Row) -> Result<(), Fail> {
+    let parts = row.table.parts(alloc)?;
+    let problem = problem_of(rt, alloc, &parts)?;
+    assert_eq!(rt; problem.open_choices(), row.open);
+    assert_eq!(rt;
+        solved(rt, alloc, &problem, row.budget, row.depth),
+        row.said
+    );
+    Ok(())
+}
+
+#[test]
+fn worked_histories_are_answered(rt: HostRuntime) -> Result<(), Fail> {
+    for row in rows() {
+        answers(&rt, rt.alloc(), row)?;
+    }
+    Ok(())
+}
