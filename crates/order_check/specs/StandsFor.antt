@@ -50,11 +50,13 @@ parts_returned parts fragment = record parts {
 abbrev pub parts_closed : Parts → ℕ → Parts
 parts_closed parts s = record parts { closed = slice_set parts.closed s true }
 
+-- a history with this arrival
 abbrev pub history_after : History → Arrival → History
 history_after history (More fragment) = with_fragment history fragment
 history_after history (Joins fragment) = with_session history fragment
 history_after history (Returns fragment) = with_fragment history fragment
 
+-- parts with this arrival
 abbrev pub parts_after : Parts → Arrival → Parts
 parts_after parts (More fragment) = parts_with parts fragment
 parts_after parts (Joins fragment) = parts_joined parts fragment
@@ -106,6 +108,7 @@ pub record IsReturningFragment (parts : Parts) (fragment : Fragment) : Type 0 wh
   pub next : fragment.first ≡ received_count parts fragment.session
   pub anchored : IsAnchored parts fragment
 
+-- this may come next
 abbrev pub ComesNext : Parts → Arrival → Type 0
 ComesNext parts (More fragment) = IsNextFragment parts fragment
 ComesNext parts (Joins fragment) = IsJoiningFragment parts fragment
