@@ -176,6 +176,7 @@ def _check(asked: Any) -> int:
             _tell(_story(verdict, run, asked.seconds), run.history.names)
             is_told = verdict.kind == "violated"
         _tell_no_cuts(run)
+        _tell_resumed(run)
     return _status(run)
 
 
@@ -188,6 +189,7 @@ def _explain(asked: Any) -> int:
         story = _story(run.verdict, run, asked.seconds)
         print(_where(run.verdict), end=" ")
         _tell(story, run.history.names)
+        _tell_resumed(run)
     if asked.html:
         about = os.path.basename(asked.script) if asked.script != "-" else "a script"
         _write_page(story, about, asked.html)
@@ -264,6 +266,12 @@ def _tell_no_cuts(run: ScriptRun) -> None:
         lines: List[str] = [str(number) for number in run.no_cut_lines[:8]]
         more = " and more" if len(run.no_cut_lines) > 8 else ""
         print(f"(nothing was settled, so nothing forgotten, at line {', '.join(lines)}{more})")
+
+
+def _tell_resumed(run: ScriptRun) -> None:
+    if run.is_resumed:  # what had gone before isn't in the script
+        what = "a verdict is of every history that the parts stand for"
+        print(f"(the script resumes another: {what})")
 
 
 def _write_page(story: Story, about: str, path: str) -> None:

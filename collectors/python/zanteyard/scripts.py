@@ -25,17 +25,21 @@ MOST_OPEN = "a script has 1 to 64 sessions, and at most 4,096 transactions remai
 # What to do about a refusal, where it isn't plain from its name.
 ADVICE: Mapping[str, str] = {
     "BadLine": "it is no command, or none that may stand there (docs/FORMATS.md has them all)",
-    "BadSession": MOST_OPEN,
+    "BadSession": MOST_OPEN + "; one that joins is the next new one, or was closed and has "
+    "nothing left",
     "BadTxn": "reads and keys have to ascend, and nothing reads from itself",
     "BadFence": "key 0 is for fences alone",
     "Gap": "an earlier transaction of this session is missing",
     "Repeat": "this session has a transaction of that number already",
-    "Closed": "that session was closed before",
+    "Closed": "that session was closed before; it comes back by `join`",
     "Backlog": "as many transactions remain as `open` has room for (at most 4,096): "
     "fences make room, or audit it in parts",
     "TooLong": "a line has 1 to 256 transactions, each with at most 256 reads and 256 writes; "
     + MOST_OPEN,
     "RoundOpen": "a round is open: `finish` it first",
+    "NotAnchored": "a session joins with a fence that reads from one that remains, or from the "
+    "last one that is forgotten",
+    "BadParts": "what is handed over isn't what a run has given out (docs/FORMATS.md)",
     "NoRound": "no round is open",
 }
 
@@ -65,7 +69,14 @@ class ScriptHistory:
 
     def begin(self, sessions: int) -> None:
         """Nothing has come yet."""
-        self.history, self.marks = [[] for _ in range(sessions)], [0] * sessions
+        self.history, self.marks, self.base = [[] for _ in range(sessions)], [0] * sessions, {}
+
+    def join(self, session: int, transactions: Iterable[Any]) -> None:
+        """What an accepted `join` has said."""
+        if session == len(self.history):
+            self.history.append([])
+            self.marks.append(0)
+        self.take_in(session, transactions)
 
     def take_in(self, session: int, transactions: Iterable[Any]) -> None:
         """What an accepted `offer` has said."""
@@ -83,7 +94,7 @@ class ScriptHistory:
         return self.names.key(number) if number else FENCE
 
     def forget(self, gone: Sequence[Sequence[int]], last: Sequence[Sequence[int]]) -> None:
-        """What a `cut` has told."""
+        """What a `cut` has told, or of the last writers a `last` that is handed over."""
         self.base.update((self.key_name(key), (session, number)) for key, session, number in last)
         for session, count in Counter(session for session, _ in gone).items():
             del self.history[session][:count]
@@ -133,6 +144,7 @@ class ScriptRun:
         self.history = ScriptHistory(names or ScriptNames(""))
         self.verdict: Verdict | None = None  # the last one
         self.no_cut_lines: List[int] = []  # where `truncate` found nothing to forget
+        self.is_resumed = False  # it began with what an earlier run had given out
         self._is_open = False
         self._round_is_open = False
         self._has_more = False  # something was accepted since the last verdict
@@ -142,7 +154,8 @@ class ScriptRun:
 
     def verdicts(self, lines: Iterable[bytes]) -> Iterator[Verdict]:
         """Gives the lines to the auditor, and yields each round's verdict as it comes; a round is
-        put at the end where something came behind the last one. Raises ScriptMistakeError at the
+        put at the end where something came behind the last one. A verdict of a script that resumes
+        another is one of every history that the parts stand for. Raises ScriptMistakeError at the
         first line that is refused, and ProgramEndedError where the program ends."""
         number = 0
         for number, line in enumerate(lines, 1):
@@ -151,7 +164,8 @@ class ScriptRun:
                 reply = self._ask(text, number)
                 yield from self._taken(json.loads(text), reply, number)
         if not self._is_open:
-            raise ScriptMistakeError(number, "nothing", 'a script begins with ["open",..]')
+            begins = 'a script begins with ["open",..], or by ["resume",..] up to ["resumed"]'
+            raise ScriptMistakeError(number, "nothing", begins)
         if self._round_is_open:
             yield from self._taken(["finish", 4096, 0, 1], self._ask_for("finish", 4096, 0, 1), 0)
         if self._has_more or self.verdict is None:
@@ -161,11 +175,20 @@ class ScriptRun:
         """Keeps what the command has done."""
         if reply[0] == "no":  # a truncate that found nothing
             self.no_cut_lines.append(number)
-        elif command[0] == "open":
-            self._is_open = True
+        elif command[0] in ("open", "resume"):
+            self._is_open, self.is_resumed = command[0] == "open", command[0] == "resume"
             self.history.begin(command[1])
+        elif command[0] == "marks":
+            self.history.marks = [*command[1]]
+        elif command[0] == "last":
+            self.history.forget((), command[1])
+        elif command[0] == "resumed":
+            self._is_open = True
         elif command[0] == "offer":
             self.history.take_in(command[1], command[3])
+            self._has_more = True
+        elif command[0] == "join":
+            self.history.join(command[1], command[-1])
             self._has_more = True
         elif command[0] == "begin":
             self._round_is_open, self._has_more = True, False

@@ -55,8 +55,9 @@ def from_start(auditor: Any) -> Tuple[History, Names]:
     def moved(key: str, source: Source) -> Source:
         if source == "init" or not some_gone:
             return source
-        if source[1] >= marks[source[0]]:
-            return (source[0], source[1] - marks[source[0]] + 1)
+        mark = marks[source[0]] if source[0] < len(marks) else 0  # it may join later
+        if source[1] >= mark:
+            return (source[0], source[1] - mark + 1)
         # an older one than the last is as wrong as the initial state
         return "init" if base.get(key, source) != source else gone
 

@@ -1,0 +1,229 @@
+"""What `zanteyard check` and `explain` say of scripts: the worked ones, those in which sessions join
+or come back, and those that resume another."""
+import glob
+import io
+import json
+import os
+import tempfile
+import unittest
+from contextlib import redirect_stderr, redirect_stdout
+
+from zanteyard.auditor import FENCE, PROGRAM
+from zanteyard.command_line import STATUSES, main
+from zanteyard.errors import ScriptMistakeError
+from zanteyard.scripts import ScriptRun
+
+TOP = os.path.normpath(os.path.join(os.path.dirname(os.path.abspath(__file__)), "../../.."))
+WORKED = os.path.join(TOP, "crates/cobra_examples/data")
+ROUND = '["round",4096,0,1]'
+CUT = [  # 0.0 has written key 5, and is forgotten with the fence 0.1; the fence 1.0 remains
+    '["open",2,16]',
+    '["offer",0,0,[[[],[5]],[[[0,"init"]],[0]]]]',
+    '["offer",1,0,[[[[0,0,1]],[0]]]]',
+    ROUND,
+    '["truncate"]',
+]
+HANDED = [  # the same, handed over
+    '["resume",2,16]',
+    '["marks",[2,0],[false,false]]',
+    '["last",[[0,0,1],[5,0,0]]]',
+    '["offer",1,0,[[[[0,0,1]],[0]]]]',
+    '["resumed"]',
+]
+OF_PARTS = "(the script resumes another: a verdict is of every history that the parts stand for)"
+
+
+def run(*words):
+    out, err = io.StringIO(), io.StringIO()
+    with redirect_stdout(out), redirect_stderr(err):
+        status = main(words)
+    return status, out.getvalue(), err.getvalue()
+
+
+def worked():
+    """Of each worked script its name, its lines, and what they are answered."""
+    for path in sorted(glob.glob(f"{WORKED}/*.jsonl")):
+        with open(path, "rb") as script, open(path[: -len("jsonl")] + "replies", "rb") as replies:
+            lines, told = script.read().split(b"\n"), replies.read().splitlines()
+        if not lines[-1]:
+            lines.pop()
+        assert len(lines) == len(told), path
+        yield os.path.basename(path)[: -len(".jsonl")], lines, [*map(json.loads, told)]
+
+
+def is_refusal(reply):
+    return reply[0] == "no" and reply[2] != "NoCut"
+
+
+def reports(replies):
+    return [(reply[2], reply[3], [*reply[4:]]) for reply in replies if reply[0] == "report"]
+
+
+@unittest.skipUnless(os.path.isfile(PROGRAM), f"{PROGRAM} is not built")
+class Scripts(unittest.TestCase):
+    maxDiff = None
+
+    def setUp(self):
+        folder = tempfile.TemporaryDirectory()
+        self.addCleanup(folder.cleanup)
+        self.folder = folder.name
+
+    def path(self, lines):
+        path = os.path.join(self.folder, "script.jsonl")
+        with open(path, "wb") as file:
+            file.writelines((it if isinstance(it, bytes) else it.encode()) + b"\n" for it in lines)
+        return path
+
+    def told(self, lines, command="check"):
+        """The status of the command, and what it prints."""
+        status, out, err = run(command, self.path(lines))
+        self.assertEqual(err, "")
+        return status, out
+
+    def verdicts(self, lines):
+        with ScriptRun(PROGRAM, most_nodes=1) as asked:  # so that a spent round isn't given again
+            found = [*asked.verdicts(lines)]
+            return found, asked.history
+
+    def test_worked_scripts_get_the_verdicts_of_their_replies(self):
+        """What was refused changes nothing, and is left out."""
+        words = set()
+        for name, lines, replies in worked():
+            kept = [(line, reply) for line, reply in zip(lines, replies) if not is_refusal(reply)]
+            if not kept:
+                continue
+            words.update(json.loads(line)[0] for line, _ in kept)
+            wanted = reports(reply for _, reply in kept)
+            with self.subTest(script=name):
+                found, history = self.verdicts(line for line, _ in kept)
+                asked_for = [it for it in found if it.line_number]
+                self.assertEqual([(it.kind, it.counts) for it in asked_for],
+                                 [(kind, counts) for kind, counts, _ in wanted])
+                self.assertEqual([it.certificate for it in asked_for],
+                                 [more[0] if more else [] for _, _, more in wanted])
+                counts = [mark + len(its) for mark, its in zip(history.marks, history.history)]
+                self.assertEqual(counts, found[-1].counts)
+        self.assertGreaterEqual(words, {"join", "resume", "marks", "last", "resumed", "save"})
+
+    def test_worked_scripts_by_check_and_explain(self):
+        for name, lines, replies in worked():
+            kept = [(line, reply) for line, reply in zip(lines, replies) if not is_refusal(reply)]
+            kinds = [kind for kind, _, _ in reports(reply for _, reply in kept)]
+            if not kinds or "spent" in kinds:
+                continue  # a spent round is given again
+            lines = [line for line, _ in kept]
+            while not lines[-1].strip().startswith((b'["round"', b'["finish"')):
+                lines.pop()  # so that no round is put at the end
+            with self.subTest(script=name):
+                status, out = self.told(lines)
+                self.assertEqual(status, STATUSES[kinds[-1]], out)
+                status, out = self.told(lines, "explain")
+                is_violated = "violated" in kinds
+                self.assertEqual(status, 1 if is_violated else STATUSES[kinds[-1]], out)
+                self.assertEqual(is_violated, "because" in out)
+
+    def test_the_first_refusal_of_a_worked_script_is_the_mistake(self):
+        count = 0
+        for name, lines, replies in worked():
+            refused = [(at, reply[2]) for at, reply in enumerate(replies, 1) if is_refusal(reply)]
+            if refused and lines[refused[0][0] - 1].strip():
+                count += 1
+                with self.subTest(script=name), self.assertRaises(ScriptMistakeError) as raised:
+                    self.verdicts(lines)
+                error = raised.exception
+                self.assertEqual((error.line_number, error.refusal), refused[0])
+        self.assertGreater(count, 5)
+
+    def test_a_violation_by_a_session_that_joined(self):
+        stale = '["join",2,[[[[0,1,0]],[0]],[[[5,"init"]],[]]]]'
+        for lines in (
+            [*CUT, stale],  # the round is put at the end
+            [*CUT, stale, ROUND],
+            [*CUT, '["join",2,[[[[0,1,0]],[0]]]]', '["offer",2,1,[[[[5,"init"]],[]]]]', ROUND],
+        ):
+            for command in ("check", "explain"):
+                with self.subTest(lines=lines[5:], command=command):
+                    status, out = self.told(lines, command)
+                    self.assertEqual(status, 1, out)
+                    self.assertIn("    2.1 read key 5 in a version older than that at the cut\n", out)
+                    self.assertIn("because\n", out)
+
+    def test_a_violation_by_a_session_that_came_back(self):
+        back = [*CUT, '["close",0]', '["join",0,2,[[[[0,1,0]],[0]],[[],[7]]]]']
+        for lines in ([*back, '["offer",0,4,[[[[7,"init"]],[]]]]'], [*back, '["offer",0,4,[[[[5,0,9]],[]]]]']):
+            with self.subTest(last=lines[-1]):
+                status, out = self.told(lines)
+                kind = "violated" if "init" in lines[-1] else "pending"
+                self.assertEqual(status, STATUSES[kind], out)
+                told = {"violated": ("    0.3 wrote key 7\n", "    0.4 read key 7 as it was at first\n"),
+                        "pending": ("    0.4 read key 5 from 0.9, which hasn't come\n",)}[kind]
+                for line in told:
+                    self.assertIn(line, out)
+
+    def test_a_join_without_a_violation(self):
+        status, out = self.told([*CUT, '["join",2,[[[[0,1,0]],[0]],[[[5,0,0]],[]]]]'])
+        self.assertEqual(status, 0, out)
+        self.assertTrue(out.endswith("one such order: 1.0 2.0 2.1\n"), out)
+
+    def test_what_a_session_that_is_not_there_yet_wrote(self):
+        """It is pending; a violation beside it is told, also behind a cut."""
+        lines = [*CUT, '["offer",1,1,[[[[5,"init"],[7,2,1]],[]]]]', ROUND]
+        status, out = self.told(lines)
+        self.assertEqual(status, 1, out)
+        self.assertIn("    1.1 read key 5 in a version older than that at the cut\n", out)
+
+    def test_refused_joins_are_mistakes(self):
+        for refusal, line, advice in (
+            ("NotAnchored", '["join",2,[[[],[5]]]]', "joins with a fence"),
+            ("BadSession", '["join",3,[[[[0,1,0]],[0]]]]', "the next new one"),
+            ("Gap", '["join",2,1,[[[[0,1,0]],[0]]]]', "an earlier transaction"),
+        ):
+            with self.subTest(refusal=refusal):
+                status, out, err = run("check", self.path([*CUT, line]))
+                self.assertEqual(status, 2, out)
+                self.assertIn(f"mistake: line 6 was answered {refusal}: ", err)
+                self.assertIn(advice, err)
+
+    def test_a_script_that_resumes_another(self):
+        """It is as if the lines before had been there, and that they aren't is told."""
+        for more in (
+            [],
+            ['["offer",1,1,[[[[5,0,0]],[]]]]'],
+            ['["offer",1,1,[[[[5,"init"]],[]]]]'],
+            ['["join",2,[[[[0,1,0]],[0]],[[[5,"init"]],[]]]]'],
+            ['["close",0]', '["join",0,2,[[[[0,1,0]],[0]],[[[5,0,0]],[]]]]', ROUND, '["truncate"]',
+             '["offer",0,4,[[[[0,1,0]],[0]]]]'],
+        ):
+            with self.subTest(more=more):
+                status, out = self.told([*CUT, *more, ROUND])
+                resumed, its = self.told([*HANDED, *more, ROUND])
+                self.assertEqual(resumed, status)
+                *its, last = its.splitlines()
+                self.assertEqual(last, OF_PARTS)
+                whole = [line for line in out.splitlines() if not line.startswith("line 4: ")]
+                self.assertEqual(_without_places(its), _without_places(whole[1:]))
+        self.assertIn(OF_PARTS, self.told(HANDED, "explain")[1])
+
+    def test_a_hand_over_that_is_begun_again_or_never_ends(self):
+        again = ['["resume",1,9]', '["marks",[3],[false]]', '["last",[[7,0,2]]]', *HANDED]
+        status, out = self.told([*again, ROUND])
+        wanted_status, wanted = self.told([*HANDED, ROUND])
+        self.assertEqual(status, wanted_status)
+        self.assertEqual(_without_places(out.splitlines()), _without_places(wanted.splitlines()))
+        _, history = self.verdicts([line.encode() for line in again])
+        self.assertEqual(history.marks, [2, 0])
+        self.assertEqual(history.base, {FENCE: (0, 1), "key 5": (0, 0)})
+        for end in range(1, len(HANDED)):
+            status, _, err = run("check", self.path(HANDED[:end]))
+            self.assertEqual((status, 'up to ["resumed"]' in err), (2, True), err)
+        status, _, err = run("check", self.path([*HANDED[:2], '["last",[[5,0,2]]]', HANDED[-1]]))
+        self.assertEqual((status, "answered BadParts" in err), (2, True), err)
+
+
+def _without_places(lines):
+    """Without the numbers of lines at which verdicts stand."""
+    return [line.partition(": ")[2] if line.startswith("line ") else line for line in lines]
+
+
+if __name__ == "__main__":
+    unittest.main()
