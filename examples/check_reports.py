@@ -243,8 +243,8 @@ def check_run(script, replies):
             history.join(command[1], command[-1])
         elif command[0] == "begin":
             begun = history.copy()
-        elif command[0] == "rebuild":
-            order = []
+        if command[0] in ("join", "rebuild"):
+            order = []  # a cut that was found is dropped
         if reply[0] not in ("report", "cut"):
             continue
         told = f"round {reply[1]}: {reply[2]}" if reply[0] == "report" else f"cut at {reply[1][0]}.{reply[1][1]}"

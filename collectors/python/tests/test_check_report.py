@@ -88,6 +88,17 @@ class StoredReplies(unittest.TestCase):
                       ended.stdout)
         self.assertTrue(plainly_right(plain_checker(), script, replies))
 
+    def test_a_cut_from_before_a_join_is_wrong(self):
+        name = os.path.join(DATA, "join_drops_the_cut.")
+        script, replies = lines_of(name + "jsonl"), lines_of(name + "replies")
+        at = script.index(b'["truncate"]')
+        self.assertEqual(script.index(b'["truncate"]', at + 1), len(script) - 1)
+        self.assertTrue(plainly_right(plain_checker(), script, replies))
+        script, replies = script[: at + 1], [*replies[:at], replies[-1]]
+        self.assertEqual(json.loads(replies[-1])[0], "cut")
+        self.assertEqual(status_of(script, replies), 3)
+        self.assertFalse(plainly_right(plain_checker(), script, replies))
+
     def test_changed_replies_are_wrong(self):
         for name in ("three_rounds", "lost_update", "first_cut"):
             script = lines_of(os.path.join(DATA, name + ".jsonl"))
