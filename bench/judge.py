@@ -236,21 +236,24 @@ class Model:
     def judge(self, line, reply):
         """Raises Wrong where this isn't the reply that is owed to the line; neither has its LF."""
         command = command_of(line)
-        if command is None:
-            owed = REFUSALS[1]
-        elif self.handed and command[0] not in BEGINNING:
-            owed = self.hand_over(command)
-        elif (self.parts is None) != (command[0] in BEGINNING) or command[0] in HANDED:
-            owed = REFUSALS[1]
-        elif command[0] in ("round", "finish"):
-            owed = self.refused_round(command[0])
-            if owed is None:
-                self.judge_report(command, reply)
-                return
-        else:
-            owed = getattr(self, command[0])(*command[1:])
-        if reply != owed:
+        owed = self.owed(command)
+        if owed is None:
+            self.judge_report(command, reply)
+        elif reply != owed:
             raise Wrong(f"owed is {owed[:300].decode()}")
+
+    def owed(self, command):
+        """The reply that is owed to what `command_of` gives, which is done; None, and nothing is
+        done, where that is a report."""
+        if command is None:
+            return REFUSALS[1]
+        if self.handed and command[0] not in BEGINNING:
+            return self.hand_over(command)
+        if (self.parts is None) != (command[0] in BEGINNING) or command[0] in HANDED:
+            return REFUSALS[1]
+        if command[0] in ("round", "finish"):
+            return self.refused_round(command[0])
+        return getattr(self, command[0])(*command[1:])
 
     def open(self, sessions, limit):
         refused = self.refused_opening(sessions, limit)
