@@ -98,6 +98,52 @@ class Documents(unittest.TestCase):
                             self.assertTrue(is_elsewhere(line))
 
 
+class Definitions(unittest.TestCase):
+    """docs/DEFINITIONS.md beside the files of definitions."""
+
+    @classmethod
+    def setUpClass(cls):
+        cls.page = text_of("docs/DEFINITIONS.md")
+        cls.files = {}  # their texts, by crate and name
+        for path in glob.glob(os.path.join(TOP, "crates/*/specs/*.antt")):
+            crate, name = path.split(os.sep)[-3], os.path.basename(path)[: -len(".antt")]
+            if name != "Lib":
+                cls.files[crate, name] = text_of(os.path.relpath(path, TOP))
+
+    def test_each_file_is_named_once_by_a_heading_or_among_those_left_out(self):
+        """Some headings share a file; none of these is left out."""
+        listed, _, left_out = self.page.partition("\n## Files that aren't listed\n")
+        named = set()
+        for heading in re.findall(r"^## .*`.*$", listed, re.MULTILINE):
+            crate = None
+            for word in re.findall(r"`([\w/]+)`", heading):
+                crate, name = word.split("/") if "/" in word else (crate, word)
+                named.add((crate, name))
+        left = set()
+        for crate, names in re.findall(r"^- `(\w+)`: ((?:`\w+`,?\s+)+)", left_out + "\n", re.MULTILINE):
+            left.update((crate, name) for name in re.findall(r"\w+", names))
+        self.assertEqual(named & left, set())
+        self.assertEqual(sorted(self.files.keys() - named - left), [], "not named")
+        self.assertEqual(sorted((named | left) - self.files.keys()), [], "not there")
+
+    def test_each_word_that_is_told_of_is_defined(self):
+        whole = "\n".join(self.files.values())
+        defined = set(re.findall(r"^(?:abbrev |record |data )?pub (?:record |data )?(\w+)", whole, re.MULTILINE))
+        structs = set()  # of which the definitions speak as they are declared
+        for path in glob.glob(os.path.join(TOP, "crates/*/src/**/*.rt"), recursive=True):
+            structs.update(re.findall(r"^pub (?:struct|enum) (\w+)", text_of(os.path.relpath(path, TOP)), re.MULTILINE))
+        names = {name for file in self.files for name in file}
+        count = 0
+        for told in re.findall(r"^- (`(?:.*\n)(?:  .*\n)*)", self.page, re.MULTILINE):
+            for words in re.findall(r"`([^`]+)`", re.split(r":\s", told, maxsplit=1)[0]):
+                word = words.split()[0]
+                if "/" not in word and word not in names:
+                    count += 1
+                    with self.subTest(word=word):
+                        self.assertIn(word, defined | structs)
+        self.assertGreater(count, 400)
+
+
 @unittest.skipUnless(os.path.isfile(PROGRAM), f"{PROGRAM} is not built")
 class Shown(unittest.TestCase):
     maxDiff = None
