@@ -87,6 +87,21 @@ class Documents(unittest.TestCase):
                     with self.subTest(document=name, path=path):
                         self.assertTrue(os.path.exists(os.path.join(TOP, path)))
 
+    def test_what_is_there_is_named(self):
+        """Benchmarks, modules and how many edits there are."""
+        for document, folder, rest in (
+            ("CONTRIBUTING.md", "bench", ()),
+            ("collectors/python/README.md", "collectors/python/zanteyard", ("__init__.py", "__main__.py", "version.py")),
+        ):
+            text = text_of(document)
+            for path in glob.glob(os.path.join(TOP, folder, "*.py")):
+                name = os.path.basename(path)
+                if name not in rest:
+                    with self.subTest(document=document, name=name):
+                        self.assertRegex(text, rf"[`/]{re.escape(name)}\b")
+        (edits,) = re.findall(r"There are (\d+) edits", text_of("CONTRIBUTING.md"))
+        self.assertEqual(int(edits), len(glob.glob(os.path.join(TOP, "crates/*/must-fail/*.edit"))))
+
     def test_every_command_is_run_somewhere(self):
         """One without a prompt stands in a block of commands alone."""
         begins = ("rt ", "./", "python3 ", "/usr/bin/python3 ", "zanteyard ", "cd ", "apt-get ")
