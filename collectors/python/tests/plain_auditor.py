@@ -1,6 +1,7 @@
 #!/usr/bin/env python3
 """A slow auditor in plain Python, over the model that the fuzzer judges cobra_audit by: it answers the
 lines of docs/FORMATS.md. Its refutations are empty, and its orders and cuts those of the model."""
+import copy
 import json
 import os
 import sys
@@ -15,6 +16,10 @@ MOST_KEYS = 3  # so that tests see that there are more
 
 class Plain(Model):
     """Answers in place of judging."""
+
+    def copy(self):
+        """As it stands."""
+        return copy.deepcopy(self)
 
     def answer(self, line):
         command = command_of(line)

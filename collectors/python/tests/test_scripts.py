@@ -4,6 +4,7 @@ import glob
 import io
 import json
 import os
+import random
 import tempfile
 import unittest
 from contextlib import redirect_stderr, redirect_stdout
@@ -12,6 +13,10 @@ from zanteyard.auditor import FENCE, PROGRAM
 from zanteyard.command_line import STATUSES, main
 from zanteyard.errors import ScriptMistakeError
 from zanteyard.scripts import ScriptRun
+from zanteyard.shrinking import from_start, is_violated
+
+from .plain_auditor import Plain  # with which what is in bench is found
+from fuzz_lines import Scripts as Generator  # noqa: E402
 
 TOP = os.path.normpath(os.path.join(os.path.dirname(os.path.abspath(__file__)), "../../.."))
 WORKED = os.path.join(TOP, "crates/cobra_examples/data")
@@ -49,6 +54,25 @@ def worked():
             lines.pop()
         assert len(lines) == len(told), path
         yield os.path.basename(path)[: -len(".jsonl")], lines, [*map(json.loads, told)]
+
+
+def generated(seed):
+    """The lines of a script that the plain auditor accepts, in which sessions join and parts are
+    handed over, up to the first round that it doesn't decide; and that auditor."""
+    plain, made, lines = Plain(), Generator(random.Random(seed)), []
+    made.odd = 0.0
+    while len(lines) < 150 and not made.is_over(plain):
+        for _, line in made.chunk(plain):
+            word = json.loads(line)[0]
+            before = plain
+            if word in ("round", "finish"):
+                line, before = json.dumps([word, 256, 0, 1]).encode(), plain.copy()
+            reply = json.loads(plain.answer(line))
+            if reply[0] == "report" and reply[2] == "spent":
+                return lines, before
+            if not is_refusal(reply):
+                lines.append(line)
+    return lines, plain
 
 
 def is_refusal(reply):
@@ -121,6 +145,35 @@ class Scripts(unittest.TestCase):
                 is_violated = "violated" in kinds
                 self.assertEqual(status, 1 if is_violated else STATUSES[kinds[-1]], out)
                 self.assertEqual(is_violated, "because" in out)
+
+    def test_generated_scripts(self):
+        """What is kept of each is what the plain auditor keeps; and what is made of that, without a
+        cut, is violated exactly where the last round is."""
+        count, kinds, words = 0, set(), set()
+        for seed in range(100):
+            lines, plain = generated(seed)
+            told = [json.loads(line)[0] for line in lines]
+            if plain.parts is None or not {"join", "resume"} & {*told}:
+                continue
+            with self.subTest(seed=seed):
+                found, its = self.verdicts([*lines, *([b'["finish",4096,0,1]'] if plain.snapshot else []),
+                                            ROUND.encode()])
+                remaining = [[[[*map(_read, txn.reads)], [*txn.writes]] for txn in txns]
+                             for txns in its.history]
+                owed = [[[[(its.key_name(key), source if source[0] >= 0 else "init") for key, source in reads],
+                          [*map(its.key_name, writes)]] for reads, writes in txns]
+                        for txns in plain.parts.remaining]
+                self.assertEqual(remaining, owed)
+                self.assertEqual(its.marks, plain.parts.gone)
+                self.assertEqual(its.base, {its.key_name(key): it for key, it in plain.parts.base.items()})
+                if found[-1].kind != "spent":
+                    self.assertEqual(is_violated(from_start(its)[0]), found[-1].kind == "violated")
+                    count += 1
+                    kinds.add(found[-1].kind)
+                    words.update(told)
+        self.assertGreater(count, 20)
+        self.assertGreaterEqual(kinds, {"serial", "violated"})
+        self.assertGreaterEqual(words, {"join", "close", "truncate", "resumed"})
 
     def test_the_first_refusal_of_a_worked_script_is_the_mistake(self):
         count = 0
@@ -218,6 +271,11 @@ class Scripts(unittest.TestCase):
             self.assertEqual((status, 'up to ["resumed"]' in err), (2, True), err)
         status, _, err = run("check", self.path([*HANDED[:2], '["last",[[5,0,2]]]', HANDED[-1]]))
         self.assertEqual((status, "answered BadParts" in err), (2, True), err)
+
+
+def _read(read):
+    key, source = read
+    return key, source if source == "init" else tuple(source)
 
 
 def _without_places(lines):
