@@ -98,9 +98,10 @@ class Scripts(unittest.TestCase):
             file.writelines((it if isinstance(it, bytes) else it.encode()) + b"\n" for it in lines)
         return path
 
-    def told(self, lines, command="check"):
-        """The status of the command, and what it prints."""
-        status, out, err = run(command, self.path(lines))
+    def told(self, lines, command="check", seconds="100"):
+        """The status of the command, and what it prints, where making a violation small may take so
+        many seconds: by default more than it ever does."""
+        status, out, err = run(command, self.path(lines), "--seconds", seconds)
         self.assertEqual(err, "")
         return status, out
 
@@ -139,18 +140,18 @@ class Scripts(unittest.TestCase):
             while not lines[-1].strip().startswith((b'["round"', b'["finish"')):
                 lines.pop()  # so that no round is put at the end
             with self.subTest(script=name):
-                status, out = self.told(lines)
+                status, out = self.told(lines, "check", "0.5")
                 self.assertEqual(status, STATUSES[kinds[-1]], out)
-                status, out = self.told(lines, "explain")
-                is_violated = "violated" in kinds
-                self.assertEqual(status, 1 if is_violated else STATUSES[kinds[-1]], out)
-                self.assertEqual(is_violated, "because" in out)
+                self.assertEqual("violated" in kinds, "because" in out)
+                if "violated" in kinds:  # the first one ends it
+                    status, out = self.told(lines, "explain", "0.5")
+                    self.assertEqual((status, "because" in out), (1, True), out)
 
     def test_generated_scripts(self):
         """What is kept of each is what the plain auditor keeps; and what is made of that, without a
         cut, is violated exactly where the last round is."""
         count, kinds, words = 0, set(), set()
-        for seed in range(100):
+        for seed in range(60):
             lines, plain = generated(seed)
             told = [json.loads(line)[0] for line in lines]
             if plain.parts is None or not {"join", "resume"} & {*told}:
@@ -171,7 +172,7 @@ class Scripts(unittest.TestCase):
                     count += 1
                     kinds.add(found[-1].kind)
                     words.update(told)
-        self.assertGreater(count, 20)
+        self.assertGreater(count, 12)
         self.assertGreaterEqual(kinds, {"serial", "violated"})
         self.assertGreaterEqual(words, {"join", "close", "truncate", "resumed"})
 
