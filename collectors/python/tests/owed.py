@@ -55,7 +55,9 @@ def verdicts(log, told, program):
     reports = [json.loads(reply) for reply in replies if reply.startswith(b'["report"')]
     last = [script[0], *(line for line in script if line[0] == "offer"), ROUND]
     assert are_right(last, [*[b'["ok"]'] * (len(last) - 1), replies[-1]])
-    return [(tuple(report[3]), report[2]) for report in reports]
+    assert len(reports) == len(told)
+    # Sessions that had not joined by then are there from the start, and have nothing yet.
+    return [(tuple(report[3][: len(counts)]), report[2]) for report, (counts, _) in zip(reports, told)]
 
 
 def are_right(script, replies):
