@@ -39,8 +39,8 @@ ADVICE: Mapping[str, str] = {
     "RoundOpen": "a round is open: `finish` it first",
     "NotAnchored": "a session joins with a fence that reads from one that remains, or from the "
     "last one that is forgotten",
-    "BadParts": "what is handed over isn't what a run has given out (docs/FORMATS.md)",
     "NoRound": "no round is open",
+    "BadParts": "what is handed over isn't what a run has given out (docs/FORMATS.md)",
 }
 
 
@@ -69,7 +69,8 @@ class ScriptHistory:
 
     def begin(self, sessions: int) -> None:
         """Nothing has come yet."""
-        self.history, self.marks, self.base = [[] for _ in range(sessions)], [0] * sessions, {}
+        self.base = {}
+        self.history, self.marks = [[] for _ in range(sessions)], [0] * sessions
 
     def join(self, session: int, transactions: Iterable[Any]) -> None:
         """What an accepted `join` has said."""
