@@ -69,8 +69,7 @@ class ScriptHistory:
 
     def begin(self, sessions: int) -> None:
         """Nothing has come yet."""
-        self.base = {}
-        self.history, self.marks = [[] for _ in range(sessions)], [0] * sessions
+        self.history, self.marks, self.base = [[] for _ in range(sessions)], [0] * sessions, {}
 
     def join(self, session: int, transactions: Iterable[Any]) -> None:
         """What an accepted `join` has said."""
