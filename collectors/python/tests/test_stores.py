@@ -216,7 +216,7 @@ class Each:
     def test_nothing_is_left_where_it_is_killed(self):
         """Neither a server nor a folder; SIGHUP comes as a terminal is closed."""
         environment = {**os.environ, "PYTHONPATH": PLACE, "COBRA_AUDIT": os.path.abspath(PROGRAM)}
-        words = ["--workload", "counter", "--clients", "2", "--rate", "50", "--seconds", "100", "--unaudited", "0"]
+        words = ["--workload", "counter", "--clients", "2", "--rate", "50", "--seconds", "100", "--unaudited", "0", "--rather-wait"]
         call = [sys.executable, "-m", "zanteyard", "audit", *self.command_words, *words]
         for number, *words in ((signal.SIGHUP,), (signal.SIGKILL,), (signal.SIGKILL, "--processes")):
             with self.subTest(signal=number, words=words):
