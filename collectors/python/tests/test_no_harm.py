@@ -705,7 +705,8 @@ class Scripts(NoHarm):
                 self.wait_for(lambda: live.cuts or session.run(add_one("x")))
                 outcome = live.stop()
                 replies = self.given_again(path)
-                self.assertEqual([it for it in replies if it[0] == "no"], [])
+                # the last round may come behind the last meeting
+                self.assertEqual([it for it in replies if it[0] == "no" and it[2] != "NoCut"], [])
                 last = [it for it in replies if it[0] == "report"][-1]
                 self.assertEqual(last, ["report", *outcome.report])
 
