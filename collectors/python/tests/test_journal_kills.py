@@ -234,7 +234,8 @@ class Fed(WithJournal):
             command = [sys.executable, LIVE, PROGRAM, self.path, script, fault or "-", f"{SEED} {at}"]
             process = subprocess.Popen(command, stdout=subprocess.PIPE)
             self.assertEqual(process.stdout.readline(), b"begun\n")
-            time.sleep(0.5 + dice.random())
+            self.assertTrue(wait_until(lambda: os.path.getsize(script) > 4096))
+            time.sleep(dice.random())
             process.kill()
             process.communicate()
             self.see_resumed(script)
