@@ -234,11 +234,16 @@ class Fed(WithJournal):
             command = [sys.executable, LIVE, PROGRAM, self.path, script, fault or "-", f"{SEED} {at}"]
             process = subprocess.Popen(command, stdout=subprocess.PIPE)
             self.assertEqual(process.stdout.readline(), b"begun\n")
-            self.assertTrue(wait_until(lambda: os.path.getsize(script) > 4096))
+            self.assertTrue(wait_until(lambda script=script: self.has_offers(script)))
             time.sleep(dice.random())
             process.kill()
             process.communicate()
             self.see_resumed(script)
+
+    @staticmethod
+    def has_offers(script):
+        with open(script, "rb") as file:
+            return b'["offer"' in file.read()
 
     def see_resumed(self, script):
         with open(script, "rb") as file:
