@@ -106,6 +106,7 @@ class Behind(WithRedis, TwoProcesses, test_live.Meetings):
 
     def test_an_audit_has_one_auditor(self):
         self.live(1)
+        self.server._held_at = time.monotonic() + SOON  # else it might say meanwhile that it has it for half a second
         with Auditor(1) as auditor, mock.patch("zanteyard.stream_server.HELD", 0.5):
             live = LiveAuditor(auditor)
             with self.assertRaisesRegex(AuditTakenError, "another auditor has it"):
