@@ -1,11 +1,12 @@
 #!/usr/bin/env bash
 # Tests the collectors: types and style, and the unit tests, in processes side by side, with servers of their own. It wants the auditor,
 # built (crates/cobra_audit/out/cobra_audit, or what COBRA_AUDIT names), and tells in one line what is skipped where something isn't
-# installed. It ends within minutes: what hangs is killed, and fails. ZANTEYARD_SECONDS gives it more than 800 s, as beside other programs.
+# installed. It takes about ten minutes on two processors, and ends in any case: what hangs for long is killed after 2400 s, or
+# ZANTEYARD_SECONDS, and fails.
 #
 #     collectors/python/test.sh [--install]      --install: as root, first installs the packages of Debian that it wants
 set -euo pipefail
-seconds=${ZANTEYARD_SECONDS:-800}
+seconds=${ZANTEYARD_SECONDS:-2400}
 [ -z "${COBRA_AUDIT:-}" ] || COBRA_AUDIT=$(realpath "$COBRA_AUDIT")
 cd "$(dirname "$0")"
 if [ "${1:-}" = --install ]; then

@@ -21,7 +21,9 @@ def die():
 
 
 def send_and_die(store):
-    """The commit is on its way as the client is gone."""
+    """The commit is on its way as the client is gone; the server can see which one that is."""
+    with store.connection.cursor() as cursor:
+        cursor.execute("SET LOCAL zanteyard.dies = 'yes'")
     text = b"COMMIT\0"
     os.write(store.connection.fileno(), b"Q" + (len(text) + 4).to_bytes(4, "big") + text)
     die()

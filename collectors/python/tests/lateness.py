@@ -3,7 +3,8 @@ import threading
 import time
 
 BOUND = 0.25  # seconds that a client waits for the audit at most
-SLACK = 0.1  # seconds more, on a machine that does nothing else
+SLACK = 0.5  # seconds more, for what comes to who waits alone, as a page that isn't in memory
+OTHERS = 1.0  # seconds more, where it waits for other processes too, each of which may be late
 
 
 class Lateness:
@@ -29,3 +30,7 @@ class Lateness:
     def allowed(self):
         """Seconds: a wait of the audit's comes in a few steps, each of which may be as late."""
         return BOUND + SLACK + 4 * self.most
+
+    @property
+    def allowed_beside_others(self):
+        return self.allowed + OTHERS

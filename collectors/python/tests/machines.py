@@ -50,7 +50,8 @@ HAS_ALL = bool(redis and redis_server() and psycopg2 and program("initdb") and k
 @unittest.skipUnless(HAS_ALL, "Redis, redis-py, PostgreSQL, psycopg2 or an auditor that knows save isn't there (no machines)")
 class Machines(unittest.TestCase):
     level = "serializable"
-    silence = 2.0
+    silence = 60.0  # seconds: who lives is never taken for one that is dead
+    soon_silent = 8.0  # seconds, where one is killed; a client gives a sign of life every second
 
     @classmethod
     def setUpClass(cls):

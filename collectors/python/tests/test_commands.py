@@ -184,10 +184,11 @@ class Commands(unittest.TestCase):
             self.skipTest("PostgreSQL is not installed")
         self.addCleanup(os.chdir, os.getcwd())
         os.chdir(self.folder)
-        few = ("audit", "postgres", "--unaudited", "0", "--clients", "4", "--html", "page.html")
+        few = ("audit", "postgres", "--unaudited", "0", "--clients", "4", "--rather-wait")
+        few = (*few, "--html", "page.html")
         skewed = ("--level", "repeatable", "--workload", "skew", "--every", "128")
         for wanted, kind, more in (
-            (1, "violated", (*skewed, "--seconds", "20")),
+            (1, "violated", (*skewed, "--seconds", "120")),  # the violation ends it
             (0, "serial", ("--workload", "counter", "--seconds", "2")),
         ):
             with self.subTest(kind=kind):

@@ -118,7 +118,7 @@ class Examples(unittest.TestCase):
             os.symlink("/dev/full", f"{self.folder}/work/{name}")
         status, lines, _ = self.told(
             *("postgres_live.py", "--level", "committed", "--workload", "counter"),
-            *("--seconds", "20", "--unaudited", "0", "--every", "256", "--rather-wait"),
+            *("--seconds", "120", "--unaudited", "0", "--every", "256", "--rather-wait"),
         )
         text = "\n".join(lines)
         self.assertEqual(status, 1, text)
@@ -129,8 +129,7 @@ class Examples(unittest.TestCase):
         self.postgres_is_there()
         for more in ((), ("--processes",)):
             with self.subTest(more=more):
-                # at a rate at which the auditor keeps up, beside whatever other programs
-                more = ("--unaudited", "0", "--rate", "100", *more)
+                more = ("--unaudited", "0", "--rate", "100", "--rather-wait", *more)
                 running = self.begin("postgres_live.py", "--seconds", "100", *more)
                 self.assertIn("round 1", running.stdout.readline())
                 began = time.monotonic()

@@ -12,8 +12,9 @@ import sys
 import threading
 import time
 import unittest
+from contextlib import suppress
 
-from zanteyard import RATHER_WAIT, AuditorApart, AuditServer, LiveAuditor, Logged
+from zanteyard import RATHER_WAIT, Aborted, AuditorApart, AuditServer, LiveAuditor, Logged
 from zanteyard.auditor import PROGRAM as BUILT
 from zanteyard.cluster import Cluster, program
 from zanteyard.memory_store import FAULTS, MemoryStore
@@ -24,6 +25,7 @@ from .killing import PLAIN, Log
 from .owed import Heard, are_right, log_in, log_of, verdicts
 from .test_restarting import PROGRAM, WithJournal, log_with
 from .test_restarting_processes import FEEDER, child_of
+from .waiting import wait_until
 
 try:
     import psycopg2
@@ -34,6 +36,9 @@ except ImportError:
 
 TIMES = float(os.environ.get("ZANTEYARD_KILLS", "1"))
 SEED = os.environ.get("ZANTEYARD_SEED", "1")
+KILLS = 3  # at least: of who audits what is honest, and before a violation that is provoked
+MANY = 2000  # transactions, in which a fault shows
+ENOUGH = 120.0  # seconds for what is waited for, on the slowest machine
 ONE_OF = [Logged([("never written", "init")], [f"of {session}"]) for session in range(3)]
 LIVE = os.path.join(os.path.dirname(os.path.abspath(__file__)), "journal_live.py")
 LACKING = [
@@ -92,37 +97,40 @@ class Killing(threading.Thread):
 class Live(WithJournal):
     """The auditor of clients that run is killed."""
 
-    def audited(self, fault, dice, seconds):
-        """The outcome, how many were killed, and what the auditor was given and has told."""
+    def audited(self, fault, seed, least):
+        """The outcome, how many were killed, and what the auditor was given and has told. It goes on until so many at least were,
+        and with a fault until that is found."""
+        dice = random.Random(seed)
         auditor, store, most = self.auditor(limit=4096), MemoryStore(fault), 120 * TIMES
         heard = Heard(auditor)
         live = LiveAuditor(auditor, every=100, seconds=0.1, policy=RATHER_WAIT)
         log = Log(dice, fault, connect=store.connect)
         log.sessions = [live.session(store.connect()) for _ in range(3)]
-        until = time.monotonic() + seconds
-        with Killing(lambda: auditor.program.process.pid, lambda: len(heard.replies), dice, (0.02, 0.2)) as killing:
-            while time.monotonic() < until and not live.is_over and live.handed_in < most:
+        until, when = time.monotonic() + ENOUGH, random.Random(f"{seed} when")
+        with Killing(lambda: auditor.program.process.pid, lambda: len(heard.replies), when, (0.02, 0.2)) as killing:
+            while time.monotonic() < until and not live.is_over:
+                if live.handed_in >= most and (fault is None or live.handed_in > MANY) and killing.kills >= least:
+                    break
                 log.run(1)
-                time.sleep(0.005)
+                time.sleep(0.005 if live.handed_in < most else 0.05)
             outcome = live.stop()
         auditor.end()
         return outcome, killing.kills, heard
 
     def test_over_a_store_in_memory(self):
         """Where a fault hasn't shown in a run, in another one."""
-        kills = 0
         for at, fault in enumerate((None, *FAULTS)):
-            with self.subTest(fault=fault):
+            with self.subTest(fault=fault, seed=SEED):
                 wanted = "violated" if fault else "serial"
                 for more in range(8):
                     self.path = os.path.join(self.folder, f"journal {at} {more}")
-                    outcome, killed, heard = self.audited(fault, random.Random(f"{SEED} {at} {more}"), TIMES * 8.0)
-                    kills += killed
+                    least = 0 if fault else KILLS
+                    outcome, killed, heard = self.audited(fault, f"{SEED} {at} {more}", least)
                     self.see(outcome, heard)
                     if outcome.kind == wanted:
                         break
                 self.assertEqual(outcome.kind, wanted)
-        self.assertGreater(kills, 3)
+                self.assertGreaterEqual(killed, least)
 
     def test_threads(self):
         """Each waits for replies of its own as the program is started again."""
@@ -131,6 +139,8 @@ class Live(WithJournal):
 
         def offers(session):
             for number in range(300):
+                if number == 150:
+                    wait_until(lambda: killing.kills > 0)
                 auditor.offer(session, number, ONE_OF[session])
 
         def rounds(_):
@@ -205,8 +215,10 @@ class Fed(WithJournal):
     @unittest.skipIf(PROGRAM == PLAIN, "no auditor is built that knows save and resume")
     def test_over_a_store_in_memory(self):
         kills, kinds = 0, set()
-        for at, fault in enumerate((None, *FAULTS)):
-            with self.subTest(fault=fault):
+        for at, fault in enumerate((None, *FAULTS, *[None] * 40)):
+            if at > len(FAULTS) and kills > 8:
+                break  # else the others were through with it before they were killed
+            with self.subTest(fault=fault, seed=f"{SEED} {at}"):
                 entries, wanted = log_with(fault, f"{SEED} {at}")
                 more, those = self.check(entries, random.Random(f"{SEED} {at}"), wanted)
                 kills, kinds = kills + more, kinds | those
@@ -222,16 +234,22 @@ class Fed(WithJournal):
             command = [sys.executable, LIVE, PROGRAM, self.path, script, fault or "-", f"{SEED} {at}"]
             process = subprocess.Popen(command, stdout=subprocess.PIPE)
             self.assertEqual(process.stdout.readline(), b"begun\n")
-            time.sleep(0.5 + dice.random())
+            self.assertTrue(wait_until(lambda script=script: self.has_offers(script)))
+            time.sleep(dice.random())
             process.kill()
             process.communicate()
             self.see_resumed(script)
+
+    @staticmethod
+    def has_offers(script):
+        with open(script, "rb") as file:
+            return b'["offer"' in file.read()
 
     def see_resumed(self, script):
         with open(script, "rb") as file:
             lines = file.read().splitlines(keepends=True)
         log = log_in(line for line in lines if line.endswith(b"\n"))
-        until = time.monotonic() + 30
+        until = time.monotonic() + ENOUGH
         while True:
             try:
                 auditor = self.resumed()
@@ -272,7 +290,7 @@ class Postgres(Fed):
     def test_a_log_of_it(self):
         """At the lowest level updates are lost; at the highest none is."""
         for level, wanted in (("serializable", "serial"), ("read committed", "violated")):
-            with self.subTest(level=level):
+            with self.subTest(level=level, seed=SEED):
                 self.setUp()
                 dice = random.Random(f"{SEED} {level}")
                 log = Log(dice, connect=lambda level=level: PostgresStore(self.dsn, level))
@@ -284,30 +302,88 @@ class Postgres(Fed):
                 self.check(log.entries, dice, wanted)
 
     def test_eight_processes(self):
-        """The auditor of clients that run is killed again and again; they go on, in one audit."""
-        for level, workload, wanted in (("serializable", "counter", "serial"), ("repeatable read", "skew", "violated")):
-            with self.subTest(level=level):
+        """The auditor of clients that run is killed again and again; they go on, in one audit. Beside them two sessions write in
+        lockstep what the other one has read: at the level where both may, that is the violation, and nothing else can be one."""
+        for level, workload, wanted in (("serializable", "skew", "serial"), ("repeatable read", "counter", "violated")):
+            with self.subTest(level=level, seed=SEED):
                 self.setUp()
                 dice, script = random.Random(f"{SEED} {level}"), os.path.join(self.folder, f"script {level}")
                 self.path, told = os.path.join(self.folder, level), []
-                auditor = AuditorApart(8, 4096, PROGRAM, script=script)
+                auditor = AuditorApart(10, 4096, PROGRAM, script=script)
                 self.addCleanup(auditor.end)
                 live = LiveAuditor(auditor, every=300, seconds=0.5, policy=RATHER_WAIT, tell=told.append, journal=self.path)
                 last, rounds = auditor.last_round, []
                 auditor.last_round = lambda *asked: rounds.append(last(*asked)) or rounds[-1]
                 with AuditServer(live, os.path.join(self.folder, f"audit {wanted}")) as server:
                     with Killing(lambda: child_of(auditor.process.pid, 0.5), lambda: live.taken_in + live.rounds, dice, (0.2, 1.0)) as killing:
-                        make = MakeStore("postgres", self.dsn, level)
-                        clients = ClientProcesses(server.path, make, 8, workload, 4.0 * TIMES, 100.0)
+                        pair = Lockstep(live, lambda level=level: PostgresStore(self.dsn, level), killing)
+                        # a violation that is found ends it
+                        seconds = 4.0 * TIMES if wanted == "serial" else ENOUGH
+                        with pair:
+                            make = MakeStore("postgres", self.dsn, level)
+                            clients = ClientProcesses(server.path, make, 8, workload, seconds, 100.0)
                 outcome = live.stop()
+                self.assertEqual((clients.failures, pair.failure), ([], None))
+                # at the highest level the store may also abort both, for what it takes others to have read
+                self.assertIn(pair.committed, (2,) if wanted == "violated" else (0, 1))
                 self.assertEqual((outcome.kind, outcome.earlier), (wanted, ()), str(outcome))
-                self.assertGreater(killing.kills, 0)
+                self.assertGreaterEqual(killing.kills, KILLS)
                 self.assertGreater(clients.committed, 0)
                 auditor.end()
                 with open(script, "rb") as file:
                     log = log_in(file.read().splitlines())
                 heard = [(tuple(each.counts), each.kind) for each in rounds]
+                self.assertEqual(heard[-1][1], wanted)
                 self.assertEqual(verdicts(log, heard, PROGRAM), heard)
+
+
+class Lockstep(threading.Thread):
+    """Once the auditor has been killed a few times, while clients run, each of two sessions reads two keys and then writes one of
+    them, before the other has ended: it is told how many of the two transactions the store has committed."""
+
+    def __init__(self, live, connect, killing):
+        super().__init__(daemon=True)
+        self.live, self.connect, self.killing = live, connect, killing
+        self.committed, self.failure = 0, None
+
+    def run(self):
+        try:
+            stores = [self.connect(), self.connect()]
+            sessions = [self.live.session(store) for store in stores]
+            self.wait_for_kills(sessions[0])
+            with suppress(Aborted), sessions[0].transaction() as one:
+                self.read(one)
+                with suppress(Aborted), sessions[1].transaction() as other:
+                    self.read(other)
+                    other.put("that side", "1")
+                    other.commit()
+                    self.committed += 1
+                one.put("this side", "1")
+                one.commit()
+                self.committed += 1
+            for store in stores:
+                store.close()
+        except Exception as error:  # told by the main thread
+            self.failure = error
+
+    def wait_for_kills(self, session):
+        """It is killed only where something is done meanwhile."""
+        until = time.monotonic() + ENOUGH / 2
+        while self.killing.kills < KILLS and time.monotonic() < until:
+            with suppress(Aborted):
+                session.run(lambda transaction: transaction.put("while it is killed", "1"))
+            time.sleep(0.05)
+
+    def read(self, transaction):
+        for key in ("this side", "that side"):
+            transaction.get(key)
+
+    def __enter__(self):
+        self.start()
+        return self
+
+    def __exit__(self, *_):
+        self.join()
 
 
 if __name__ == "__main__":

@@ -244,17 +244,17 @@ class KilledOverPostgres(Killed):
         return self.run_sql("SELECT key, run, session, number FROM zanteyard")
 
     def commits_take(self, seconds):
-        """At the server, for who writes a row of its own."""
+        """At the server, for who is killed in it."""
         self.run_sql(f"""
             CREATE OR REPLACE FUNCTION wait_a_while() RETURNS trigger LANGUAGE plpgsql AS
-            'BEGIN IF NEW.key LIKE ''row 1.%'' AND NEW.number > 3 THEN PERFORM pg_sleep({seconds}); END IF;
+            'BEGIN IF current_setting(''zanteyard.dies'', true) = ''yes'' THEN PERFORM pg_sleep({seconds}); END IF;
             RETURN NULL; END';
             CREATE CONSTRAINT TRIGGER waits AFTER INSERT ON zanteyard DEFERRABLE INITIALLY DEFERRED
             FOR EACH ROW EXECUTE FUNCTION wait_a_while()""")
 
     def test_a_commit_that_goes_on_behind_its_clients_end(self):
         """It is waited for; what takes too long is ended."""
-        for seconds, is_there in ((1.0, True), (60.0, False)):
+        for seconds, is_there in ((1.0, True), (600.0, False)):
             with self.subTest(seconds=seconds):
                 self.setUp()
                 self.commits_take(seconds)
@@ -266,7 +266,7 @@ class KilledOverPostgres(Killed):
                 self.wait_for(lambda: self.live.handed_in > done + 20)
                 began = time.monotonic()
                 self.ended()
-                self.assertLess(time.monotonic() - began, 30.0)
+                self.assertLess(time.monotonic() - began, 2 * SOON)
                 last = [row for row in self.rows() if row[0].startswith("row 1.")]
                 waits = "SELECT count(*) FROM pg_stat_activity WHERE query LIKE 'COMMIT%' AND state = 'active'"
                 self.assertEqual(self.run_sql(waits), [(0,)])

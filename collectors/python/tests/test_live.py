@@ -57,11 +57,13 @@ def run_clients(live, stores, count, body):
             except Aborted:
                 pass
 
-    threads = [threading.Thread(target=client, args=(live.session(store),)) for store in stores]
+    sessions = [live.session(store) for store in stores]
+    threads = [threading.Thread(target=client, args=(session,)) for session in sessions]
     for thread in threads:
         thread.start()
     for thread in threads:
         thread.join()
+    return sessions
 
 
 class Meetings(WithProgram):
@@ -77,7 +79,9 @@ class Meetings(WithProgram):
     def test_a_store_whose_commits_take_a_while(self):
         """So that one client's begin comes between another one's commit and its answer."""
         live, store = self.live(4), MemoryStore(takes=0.004)
-        run_clients(live, [store.connect() for _ in range(4)], 60, lambda t: (add_one("x")(t), set_to("y", 1)(t)))
+        sessions = run_clients(live, [store.connect() for _ in range(4)], 60, lambda t: (add_one("x")(t), set_to("y", 1)(t)))
+        # else they may all have done before the auditor's thread has had its turn
+        self.wait_for(lambda: live.cuts or sessions[0].run(add_one("x")))
         self.assertEqual(self.ended(live).kind, "serial")
         self.assertEqual((live.taken_in, len(live._backlog)), (live.handed_in, 0))
         self.assertGreater(live.cuts, 0)

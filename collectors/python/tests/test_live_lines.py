@@ -179,7 +179,7 @@ class Lines(unittest.TestCase):
         reader.send_signal(signal.SIGKILL)
         reader.wait()
         with self.assertRaises(BrokenPipeError):
-            for _ in range(1000):
+            for _ in range(int(SECONDS / 0.01)):
                 running.stdin.write(b'["close",9]\n')
                 time.sleep(0.01)
         running.stdin.close()
@@ -228,13 +228,16 @@ class Lines(unittest.TestCase):
             ["sh", "-c", "printf '%s\\n%s\\n[\"clo' \"$0\" \"$1\"; sleep 600", OPEN, WRITE],
             stdout=subprocess.PIPE, start_new_session=True,
         )
-        running = subprocess.Popen([live_path()], stdin=writer.stdout, stdout=subprocess.PIPE)
+        running = subprocess.Popen(
+            [live_path()], stdin=writer.stdout, stdout=subprocess.PIPE, bufsize=0
+        )
         writer.stdout.close()
-        time.sleep(0.2)
+        first = running.stdout.readline()  # by then the piece has come with what is told of
         os.killpg(writer.pid, signal.SIGKILL)
         writer.wait()
         told = running.communicate(timeout=SECONDS)[0]
-        judge([OPEN, WRITE, b'["clo'], told)
+        self.assertIn(b"accepted", first)
+        judge([OPEN, WRITE, b'["clo'], first + told)
 
     def test_the_example_of_the_formats(self):
         """Each line is given once all has come of the one before it."""

@@ -49,6 +49,7 @@ class Kills(Machines):
         self.assertIn("goes on; it keeps", said)
 
     def test_an_audit_that_had_ended_has_ended_for_the_next_daemon_too(self):
+        self.silence = self.soon_silent
         self.daemon()
         client = self.client(left=10**9)
         self.begun(client)
@@ -65,6 +66,7 @@ class Kills(Machines):
     PLACES = ("before a note", "behind a note", "in its commit", "behind its commit", "behind its take")
 
     def test_clients_are_killed_and_the_audit_goes_on(self):
+        self.silence = self.soon_silent
         self.daemon(sessions=8)
         self.begun(*[self.client(pause=0.5) for _ in range(2)])
         for at, where in enumerate(self.PLACES):
@@ -74,12 +76,13 @@ class Kills(Machines):
         self.wait_for(lambda: self.said().count("nothing was heard of it for") >= len(self.PLACES))
         self.wait_for(lambda: "cut at" in self.said().rsplit("nothing was heard of it for", 1)[1], 3 * SOON)
         said = self.ended(3)
-        self.assertIn("isn't known, if anything was: nothing was heard of it for 2 s", said)
+        self.assertIn("isn't known, if anything was: nothing was heard of it for 8 s", said)
         self.assertEqual(self.missed, set())  # what was noted was asked of the store
 
 
     def test_the_daemon_is_killed_before_what_a_client_did_that_was_killed_is_taken_in(self):
         """The next one hears it again, and asks the store again for its last commit."""
+        self.silence = self.soon_silent
         self.daemon()
         self.begun(self.client(), self.client("in its commit", 4, 0.02))
         auditor = child_of(self.daemons[-1].pid)
@@ -98,6 +101,7 @@ class Kills(Machines):
 class LostSeconds(Machines):
     def test_a_redis_that_comes_back_without_its_last_seconds(self):
         """Who lives tells it again. Of a client that is killed meanwhile it is said what is missing."""
+        self.silence = self.soon_silent
         self.daemon()
         self.begun(*[self.client() for _ in range(2)])
         doomed = self.client()
@@ -106,7 +110,10 @@ class LostSeconds(Machines):
         kept = f"{self.folder_of_its_own()}/kept"
         shutil.copytree(f"{self.redis.folder}/appendonlydir", kept)
         self.kill_daemon()
+        rows = "SELECT count(*) FROM zanteyard WHERE key LIKE 'row 2.%'"
+        done = self.sql(rows)[0][0]
         self.run_for(30)
+        self.wait_for(lambda: self.sql(rows)[0][0] > done + 2)  # of the doomed one
         doomed.kill()
         doomed.wait()
         self.redis.stop()
@@ -124,6 +131,7 @@ class LostSeconds(Machines):
 
 class Faults(Machines):
     level = "repeatable read"
+    silence = Machines.soon_silent
 
     def test_a_fault_is_found_though_the_auditor_and_a_client_are_killed(self):
         self.daemon()

@@ -307,7 +307,7 @@ os.kill(os.getpid(), signal.SIGKILL)
             live = LiveAuditor(auditor, policy=Policy(30.0, begins_anew=False))
             with AuditServer(live, f"{folder}/audit") as server:
                 call = [sys.executable, "-c", self.PROGRAM, PLACE, server.path, f"{folder}/store"]
-                ended = subprocess.run(call, stdout=subprocess.PIPE, timeout=60.0)
+                ended = subprocess.run(call, stdout=subprocess.PIPE, timeout=120.0)
                 self.assertEqual(ended.returncode, -signal.SIGKILL)
                 until = time.monotonic() + 60.0
                 # its files are removed last

@@ -16,7 +16,7 @@ except ImportError:
 
 TOP = os.path.normpath(os.path.join(os.path.dirname(os.path.abspath(__file__)), "../../.."))
 WORKLOADS = ("counter", "skew", "mixed", "blind")
-PATIENCE = 60  # seconds to find a fault in: a run ends with the first one
+PATIENCE = 120  # seconds to find a fault in: a run ends with the first one
 LATE = 200.0  # seconds for a program, where others have the processors
 
 
@@ -49,7 +49,7 @@ class PostgresLive(unittest.TestCase):
 
     def serial_with_cuts(self, *words):
         """Where others have the processors it runs longer until there is one."""
-        for seconds in (1.5, 6, 24):
+        for seconds in (1.5, 6, 24, 96):
             kind, cuts = self.outcome(seconds, "--rather-wait", "--every", "128", *words)
             self.assertEqual(kind, "serial")
             if cuts:

@@ -147,8 +147,12 @@ class Elsewhere(TwoProcesses, test_live.Meetings):
             return pass_on(*arguments)
 
         self.client._group.pass_on, RemoteGroup.patience = later, 0.2
-        a.run(add_one("x"))
-        self.wait_for(lambda: any("hasn't answered" in line for line in self.told))
+
+        def is_late():  # one that fails otherwise, since all is slow, is followed by another one
+            a.run(add_one("x"))
+            return any("hasn't answered" in line for line in self.told)
+
+        self.wait_for(is_late)
         RemoteGroup.patience = live._pace.patience = 60.0
         self.wait_for(live._places.numbers)
         self.wait_for(lambda: self.is_cut(live, a))
@@ -202,8 +206,12 @@ class Elsewhere(TwoProcesses, test_live.Meetings):
         a, b = self.client.session(store.connect()), other.session(store.connect())
         (stuck,) = [it.messages for it in self.server._processes if b.number in it.group.numbers()]
         plain, stuck.tell = stuck.tell, lambda *_, **__: True  # calls don't get there
-        a.run(add_one("x"))
-        self.wait_for(lambda: any(f"sessions {b.number} hasn't answered" in line for line in self.told))
+
+        def is_missed():  # a's process may be late, too
+            a.run(add_one("x"))
+            return any(f"sessions {b.number} hasn't answered" in line for line in self.told)
+
+        self.wait_for(is_missed)
         RemoteGroup.patience, live._pace.patience, stuck.tell = 60.0, 60.0, plain  # where other programs have the processors
         self.wait_for(lambda: self.is_cut(live, a))
         other.leave()

@@ -30,6 +30,7 @@ except ImportError:
 
 from tests.test_sql import LACKING as LACKING_SQL
 from tests.test_sql import OverAServer
+from tests.waiting import begin_to_wait
 
 LACKING = [*LACKING_SQL, *([] if psycopg else ["psycopg 3"])]
 SCHEMA = """CREATE TABLE t (id int PRIMARY KEY, v int);
@@ -412,10 +413,16 @@ class Logs(OverPsycopg3):
     def test_another_thread_may_cancel(self) -> None:
         one, other = self.begun()
         other.execute("UPDATE t SET v = 1 WHERE id = 1")
-        timer = threading.Timer(0.5, one.cancel)
-        timer.start()
+
+        def cancel() -> None:
+            begin_to_wait(self.place, pid=one.info.backend_pid)
+            one.cancel()
+
+        thread = threading.Thread(target=cancel)
+        thread.start()
         with self.assertRaises(psycopg.errors.QueryCanceled):
             one.execute("UPDATE t SET v = 2 WHERE id = 1")
+        thread.join()
         one.rollback()
         other.commit()
         one.execute("SELECT v FROM t WHERE id = 1")

@@ -22,6 +22,7 @@ except ImportError:
 
 from tests.test_psycopg3 import LACKING, OverPsycopg3
 from tests.test_sql_workloads import LEVELS, Tagged, Workloads, at_once
+from tests.waiting import SOON, wait_until, waits_for
 
 TAGGED = "CREATE TABLE t (id int PRIMARY KEY, v int, tag text, previous text);"
 
@@ -76,16 +77,19 @@ class Faults(OverPsycopg3):
 
         try:
             for is_block in (False, True):
-                for _ in range(60):  # the server takes its time until it waits for nobody
+                pid = self.one.info.backend_pid
+                is_waiting = lambda: waits_for(self.place, "SyncRep", pid)
+                for _ in range(600):  # the server takes its time until it waits for nobody
                     thread = threading.Thread(target=commit, args=(self.one, is_block))
                     thread.start()
-                    thread.join(0.7)
+                    wait_until(lambda: not thread.is_alive() or is_waiting())
                     if thread.is_alive():
                         break
+                    time.sleep(0.05)
                 with psycopg.connect(self.place) as other:
                     other.execute("SET synchronous_commit = off")
                     other.execute("SELECT pg_terminate_backend(%s)", (self.one.info.backend_pid,))
-                thread.join(20)
+                thread.join(SOON)
                 self.one, self.two = self.two, self.one
         finally:
             with psycopg.connect(self.place, autocommit=True) as other:
@@ -233,7 +237,7 @@ class AtOnce(OverPsycopg3):
 
     def test_write_skew_is_found(self) -> None:
         def work(client: Any, chance: random.Random) -> None:
-            ends = time.monotonic() + 3
+            ends = time.monotonic() + seconds
             while time.monotonic() < ends and not live.is_over:
                 try:
                     with client.transaction():
@@ -247,6 +251,7 @@ class AtOnce(OverPsycopg3):
                     pass
 
         for level, wanted in (("repeatable read", "violated"), ("serializable", "serial")):
+            seconds = SOON if wanted == "violated" else 3  # the violation ends it
             with AuditorApart(4) as auditor:
                 live = LiveAuditor(auditor, every=128, policy=RATHER_WAIT)
                 self.auditor = live

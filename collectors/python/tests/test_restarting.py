@@ -205,7 +205,7 @@ class Killed(WithJournal):
                     made()
 
     def test_late_rounds(self):
-        with self.auditor(round_seconds=0.5) as auditor:
+        with self.auditor(round_seconds=3.0) as auditor:
             auditor.offer(0, 0, ONE)
             with Killer(once(0, STOPPED)):
                 self.assertEqual(auditor.round().kind, "serial")
@@ -214,7 +214,7 @@ class Killed(WithJournal):
             def is_round(lines):
                 return STOPPED if lines[0].startswith(b'["round"') else None
 
-            with Killer(is_round), self.assertRaisesRegex(RoundTooLongError, "0.5 s, twice"):
+            with Killer(is_round), self.assertRaisesRegex(RoundTooLongError, "3 s, twice"):
                 auditor.round()
             auditor.offer(0, 1, ONE)
             self.assertEqual(auditor.program.restarts, 3)

@@ -79,14 +79,19 @@ class Serving(unittest.TestCase):
         return its
 
     def test_a_daemon_of_one_machine_and_its_figures(self):
-        daemon = self.begun("--metrics", "127.0.0.1:0")
+        daemon = self.begun("--metrics", "127.0.0.1:0", "--rather-wait")
         port = re.search(r"metrics are at port (\d+)", self.said()).group(1)
         store = MemoryStore()
         with AuditClient(self.socket) as client:
             session = client.session(store.connect())
             for _ in range(60):
                 session.run(add_one("x"))
-            self.wait_for(lambda: self.figures(port)["zanteyard_cuts_total"] > 0)
+
+            def is_cut():
+                session.run(add_one("x"))
+                return self.figures(port)["zanteyard_cuts_total"] > 0
+
+            self.wait_for(is_cut)
             found = self.figures(port)
         self.assertGreaterEqual(found["zanteyard_transactions_taken_total"], 60)
         self.assertGreaterEqual(found['zanteyard_rounds_total{kind="serial"}'], 1)

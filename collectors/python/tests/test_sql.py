@@ -184,7 +184,7 @@ SCRIPT: List[Any] = [
     ("UPDATE accounts SET balance = 12 WHERE id = 1", None),
     "commit",
     ("SELECT * FROM accounts WHERE id = 1", None),
-    ("SET LOCAL statement_timeout = 1000", None),
+    ("SET LOCAL statement_timeout = 100000", None),
     ("SHOW statement_timeout", None),
     "commit",
 ]

@@ -19,6 +19,7 @@ except ImportError:
     psycopg2 = None  # type: ignore[assignment]
 
 from tests.test_sql import LACKING, OverAServer
+from tests.waiting import SOON, begin_to_wait, wait_until, waits_for
 
 DEFAULT = """DO $$ BEGIN EXECUTE format('ALTER DATABASE %I SET default_transaction_isolation = %L',
     current_database(), '{}'); END $$"""
@@ -79,22 +80,24 @@ class Faults(OverAServer):
                 except psycopg2.OperationalError as error:
                     failed.append(error)
 
-            for _ in range(40):  # the server takes its time until it waits for nobody
+            pid = self.one.info.backend_pid
+            is_waiting = lambda: waits_for(self.place, "SyncRep", pid)
+            for _ in range(600):  # the server takes its time until it waits for nobody
                 self.do(self.one, "UPDATE t SET v = 1 WHERE id = 1")
                 thread = threading.Thread(target=commit)
                 thread.start()
-                thread.join(0.5)
+                wait_until(lambda: not thread.is_alive() or is_waiting())
                 if thread.is_alive():
                     break
-            self.tell("SELECT pg_terminate_backend(%s)", self.one.info.backend_pid)
-            thread.join(10)
+                time.sleep(0.05)
+            self.tell("SELECT pg_terminate_backend(%s)", pid)
+            thread.join(SOON)
         finally:
             self.tell("ALTER SYSTEM RESET synchronous_standby_names")
             self.tell("SELECT pg_reload_conf()")
         self.assertEqual(len(failed), 1)  # the application sees what it would have seen
         logged = self.auditor.history[0][-1]
         self.assertEqual((logged.outcome, list(logged.writes)), ("committed", ["t 1"]))
-        time.sleep(0.2)
         self.assertEqual(self.do(self.two, "SELECT v FROM t WHERE id = 1"), [(1,)])
         self.two.commit()
         self.assertEqual(self.auditor.outcome().kind, "serial")
@@ -123,11 +126,11 @@ class Faults(OverAServer):
         self.do(self.one, "UPDATE t SET v = 1 WHERE id = 1")
         thread = threading.Thread(target=self.tell, args=("ALTER TABLE t ADD w int",))
         thread.start()
-        time.sleep(0.3)
+        begin_to_wait(self.place)
         began = time.monotonic()
         self.one.commit()
-        self.assertLess(time.monotonic() - began, 5)
-        thread.join(10)
+        self.assertLess(time.monotonic() - began, 20)  # else it waits for 30 s, as its policy says
+        thread.join(SOON)
         self.assertFalse(thread.is_alive())
         self.assertEqual(self.tell("SELECT v FROM t WHERE id = 1"), (1,))
         self.assertEqual(self.auditor.outcome().kind, "incomplete")

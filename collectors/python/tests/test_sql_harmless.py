@@ -24,6 +24,7 @@ except ImportError:
     psycopg2 = None  # type: ignore[assignment]
 
 from tests.test_sql import LACKING, OverAServer
+from tests.waiting import begin_to_wait
 
 SCHEMA = "CREATE TABLE t (id int PRIMARY KEY, v int); INSERT INTO t VALUES (1, 10), (2, 20)"
 DEFAULT = """DO $$ BEGIN EXECUTE format('ALTER DATABASE %I SET default_transaction_isolation = %L',
@@ -211,8 +212,8 @@ class Commits(Harmless):
         client = self.client(self.place)
         other = psycopg2.connect(self.place)
         other.cursor().execute("LOCK TABLE zanteyard_writes IN SHARE MODE")
-        self.do(client, "SET LOCAL statement_timeout = '200ms'")
         self.do(client, "UPDATE t SET v = 11 WHERE id = 1")
+        self.do(client, "SET LOCAL statement_timeout = '200ms'")
         began = time.monotonic()
         client.commit()
         self.assertLess(time.monotonic() - began, 10)
@@ -231,14 +232,14 @@ class Commits(Harmless):
 
     def test_a_limit_of_idle_time_isnt_reached(self) -> None:
         client = self.client(self.place)
-        self.do(client, "SET idle_in_transaction_session_timeout = '1500ms'")
+        self.do(client, "SET idle_in_transaction_session_timeout = '10s'")
         client.commit()
         self.do(client, "UPDATE t SET v = 11 WHERE id = 1")
         thread = threading.Thread(
             target=self.run_sql, args=(self.place, "ALTER TABLE t ADD COLUMN w int")
         )
         thread.start()
-        time.sleep(0.3)
+        begin_to_wait(self.place)
         client.commit()
         thread.join()
         self.assertEqual(self.value(self.place), 11)

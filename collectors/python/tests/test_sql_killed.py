@@ -35,7 +35,7 @@ PLACES = (
 )
 BEFORE = PLACES[: PLACES.index("in its commit")]  # where no commit was sent
 TOGETHER = 5  # that are killed in one audit
-TRIES = 8  # to have a commit that the store doesn't abort
+TRIES = 30  # to have a commit that the store doesn't abort
 
 
 def named(places: Iterable[str]) -> Iterable[Tuple[str, str]]:

@@ -3,7 +3,6 @@
 from __future__ import annotations
 
 import threading
-import time
 import unittest
 from typing import Any, List
 
@@ -15,6 +14,7 @@ except ImportError:
     psycopg2 = None  # type: ignore[assignment]
 
 from tests.test_sql import LACKING, OverAServer
+from tests.waiting import SOON, begin_to_wait
 
 
 def entry(number: int, transaction: int, is_absent: bool = False, run: str = "r") -> Entry:
@@ -108,11 +108,11 @@ class Lockstep(OverAServer):
 
         thread = threading.Thread(target=run)
         thread.start()
-        time.sleep(0.3)
+        begin_to_wait(self.place, pid=client.info.backend_pid)
         self.assertEqual(found, [])
 
         def end() -> Any:
-            thread.join(10)
+            thread.join(SOON)
             return found[0]
 
         return end

@@ -23,6 +23,7 @@ except ImportError:
     psycopg2 = None  # type: ignore[assignment]
 
 from tests.test_sql import LACKING, OverAServer
+from tests.waiting import SOON
 
 SINGLE = (
     *("SELECT v FROM t WHERE id = %s", "SELECT v FROM t WHERE id = %s FOR UPDATE"),
@@ -160,9 +161,22 @@ class Workloads(OverAServer):
                 client.session_here = True
                 client.set_session(isolation_level="serializable")
             clients.append(psycopg2.connect(place, connection_factory=Stranger))
-            timer = threading.Timer(4, stop.set)
-            timer.start()
+            least, most = time.monotonic() + 4, time.monotonic() + SOON
+
+            def end() -> None:
+                """Once enough was audited, and an audit has ended."""
+                while time.monotonic() < most and not stop.is_set():
+                    time.sleep(0.05)
+                    its = self.live.outcome
+                    if time.monotonic() > least and its.audited > 20 and its.earlier:
+                        break
+                stop.set()
+
+            ends = threading.Thread(target=end)
+            ends.start()
             at_once(clients, work, 0)
+            stop.set()
+            ends.join()
             outcome = self.live.stop()
             for client in clients:
                 client.close()
@@ -216,9 +230,15 @@ class Workloads(OverAServer):
         return tag if tag == "init" else tuple(map(int, tag.split(".")))
 
     def test_write_skew_is_found_and_a_run_has_no_end(self) -> None:
+        def goes_on() -> bool:
+            """Until it is violated, or for a while and until something is forgotten."""
+            took = time.monotonic() - began
+            has_shown = wanted == "serial" and took > 4 and self.live.cuts > 0
+            return not (has_shown or self.live.is_over or took > SOON)
+
         def work(client: Any, chance: random.Random) -> None:
-            cursor, ends = client.cursor(), time.monotonic() + 4
-            while time.monotonic() < ends and not self.live.is_over:
+            cursor = client.cursor()
+            while goes_on():
                 try:
                     key = chance.randint(1, 3)
                     cursor.execute("SELECT v FROM t WHERE id = %s", (key,))
@@ -234,7 +254,7 @@ class Workloads(OverAServer):
             place = self.database(SCHEMA + "INSERT INTO t VALUES (1, 0), (2, 0), (3, 0)", ["t"])
             with AuditorApart(4) as self.auditor:
                 self.live = LiveAuditor(self.auditor, every=128, policy=RATHER_WAIT)
-                clients = self.clients(place, level, ["t"], 4)
+                clients, began = self.clients(place, level, ["t"], 4), time.monotonic()
                 at_once(clients, work, 0)
                 outcome = self.live.stop()
                 for client in clients:

@@ -7,6 +7,7 @@ import gc
 import logging
 import os
 import threading
+import time
 import unittest
 from typing import Any, List
 
@@ -33,6 +34,7 @@ except ImportError:
     IS_THERE = False
 
 from tests.test_sql import LACKING, OverAServer
+from tests.waiting import SOON, wait_until, waits_for
 
 LACKS = [*LACKING, *([] if IS_THERE else ["SQLAlchemy"])]
 LEVELS = ("REPEATABLE READ", "SERIALIZABLE")
@@ -490,18 +492,20 @@ class Connections(OverAnEngine):
         try:
             cursor.execute("ALTER SYSTEM SET synchronous_standby_names = 'nobody'")
             cursor.execute("SELECT pg_reload_conf()")
-            for _ in range(40):  # the server takes its time until it waits for nobody
+            for at in range(600):  # the server takes its time until it waits for nobody
                 session = orm.Session(engine, future=True)
-                session.get(Plain, 1).v = 70
+                session.get(Plain, 1).v = 70 + at
                 session.flush()
                 pid = session.connection().connection.cursor().connection.info.backend_pid
+                is_waiting = lambda: waits_for(self.place, "SyncRep", pid)
                 thread = threading.Thread(target=commit, args=(session,))
                 thread.start()
-                thread.join(0.5)
+                wait_until(lambda: not thread.is_alive() or is_waiting())
                 if thread.is_alive():
                     break
+                time.sleep(0.05)
             cursor.execute("SELECT pg_terminate_backend(%s)", (pid,))
-            thread.join(10)
+            thread.join(SOON)
         finally:
             cursor.execute("ALTER SYSTEM RESET synchronous_standby_names")
             cursor.execute("SELECT pg_reload_conf()")

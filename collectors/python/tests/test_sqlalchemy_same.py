@@ -9,12 +9,14 @@ import os
 import queue
 import random
 import threading
+import time
 import unittest
 from typing import Any, Dict, List, Optional, Tuple
 
 from zanteyard import RATHER_WAIT, Auditor, AuditorApart, LiveAuditor
 
 from tests.test_sqlalchemy import IS_THERE, LACKS, LEVELS, OverAnEngine
+from tests.waiting import SOON
 
 if IS_THERE:
     import psycopg2
@@ -511,9 +513,11 @@ class Busy(OverAnEngine):
             engine = self.engine(self.place, pool_size=4)
             prepare(engine, Base)
             audit(engine, live, Base)
-            counts: List[int] = []
+            counts: List[int] = [0] * 4
+            ended: List[int] = []
             threads = [
-                threading.Thread(target=self.work, args=(engine, it, counts)) for it in range(4)
+                threading.Thread(target=self.work, args=(engine, it, counts, ended))
+                for it in range(4)
             ]
             for thread in threads:
                 thread.start()
@@ -526,13 +530,15 @@ class Busy(OverAnEngine):
             engine.dispose()
             outcome = live.stop()
         self.assertEqual(outcome.kind, "serial", str(outcome))
-        self.assertEqual(len(counts), 4)
+        self.assertEqual(sorted(ended), [0, 1, 2, 3])
         self.assertGreater(sum(counts), 20)
 
     @staticmethod
-    def work(engine: Any, number: int, counts: List[int]) -> None:
-        chance, count = random.Random(SEED * 10 + number), 0
-        for _ in range(TRANSACTIONS):
+    def work(engine: Any, number: int, counts: List[int], ended: List[int]) -> None:
+        chance, ran, until = random.Random(SEED * 10 + number), 0, time.monotonic() + SOON
+        # where most are aborted, more are run
+        while ran < TRANSACTIONS or sum(counts) <= 20 and time.monotonic() < until:
+            ran += 1
             session = orm.Session(engine, future=True)
             try:
                 its, added = chance.randint(5, 8), 0
@@ -555,12 +561,12 @@ class Busy(OverAnEngine):
                     Parent.id == its - 4, Parent.version == chance.randint(1, 3)
                 ).values(version=chance.randint(1, 3)))
                 session.commit()
-                count += added
+                counts[number] += added
             except exc.DBAPIError:
                 session.rollback()
             finally:
                 session.close()
-        counts.append(count)
+        ended.append(number)
 
 
 if __name__ == "__main__":

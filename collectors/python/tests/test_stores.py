@@ -53,7 +53,7 @@ def lacking(**wanted):
     return missing and f"not installed or not built: {', '.join(missing)}"
 
 
-def eventually(condition, seconds=30.0):
+def eventually(condition, seconds=120.0):
     until = time.monotonic() + seconds
     while not condition() and time.monotonic() < until:
         time.sleep(0.01)
@@ -107,7 +107,8 @@ class Each:
         for workload, serial, violated in self.by_load:
             for level in (*serial, *violated):
                 with self.subTest(workload=workload, level=level):
-                    kind = self.load(workload, level, 0.5 if level in serial else 20.0)
+                    # a violation ends it
+                    kind = self.load(workload, level, 0.5 if level in serial else 60.0)
                     self.assertEqual(kind, "serial" if level in serial else "violated")
 
     def load(self, workload, level, seconds):
@@ -148,13 +149,13 @@ class Each:
         for level in self.levels:
             with self.subTest(level=level):
                 auditor = self.auditor(4, 256)
-                sessions = [Session(auditor, it, self.made(level, **self.waiting), patience=20) for it in range(4)]
+                sessions = [Session(auditor, it, self.made(level, **self.waiting), patience=60) for it in range(4)]
                 failures = []
 
                 def client(session):
                     try:
                         for _ in range(8):
-                            session.run_alone(lambda t: t.exchange(FENCE, ""), 20.0, attempts=1000)
+                            session.run_alone(lambda t: t.exchange(FENCE, ""), 60.0, attempts=1000)
                     except Exception as error:
                         failures.append(error)
 
@@ -173,8 +174,8 @@ class Each:
             with self.subTest(level=level):
                 told = []
                 with AuditorApart(4) as auditor:
-                    policy = RATHER_WAIT
-                    live = LiveAuditor(auditor, every=12, seconds=0.5, tell=told.append, policy=policy)
+                    more = {"tell": told.append, "policy": RATHER_WAIT, "patience": 10.0}
+                    live = LiveAuditor(auditor, every=12, seconds=0.5, **more)
                     sessions = [live.session(self.made(level, **self.waiting)) for _ in range(3)]
 
                     def body(transaction, client):
@@ -183,7 +184,7 @@ class Each:
 
                     wanted = 2 if level == self.levels[0] else 1
                     until = lambda: live.is_over or live.cuts >= wanted
-                    clients = Clients(sessions, body, 60.0, until, 30)
+                    clients = Clients(sessions, body, 120.0, until, 30)
                     outcome = live.stop()
                 self.assertEqual(clients.failures, [])
                 self.assertEqual((outcome.kind, live.cuts >= wanted), ("serial", True), (str(outcome), told[-3:]))
@@ -194,7 +195,7 @@ class Each:
         self.addCleanup(shutil.rmtree, folder, ignore_errors=True)
         environment = {**os.environ, "PYTHONPATH": PLACE, "COBRA_AUDIT": os.path.abspath(PROGRAM)}
         more = {"cwd": folder, "env": environment, "stdout": subprocess.PIPE, "stderr": subprocess.STDOUT}
-        ended = subprocess.run([sys.executable, *words], text=True, timeout=150, **more)
+        ended = subprocess.run([sys.executable, *words], text=True, timeout=300, **more)
         return ended.returncode, ended.stdout
 
     def audit(self, *words):
@@ -204,7 +205,7 @@ class Each:
     def test_the_command(self):
         """The same of each store as of a PostgreSQL: a violation ends it, and else it goes on."""
         level, workload = self.audited
-        status, told = self.audit("--level", level, "--workload", workload, "--seconds", "60", "--html", "page.html")
+        status, told = self.audit("--level", level, "--workload", workload, "--seconds", "120", "--html", "page.html")
         self.assertEqual(status, 1, told)
         self.assertIn(f"{workload} at ", told)
         self.assertIn("so none can come first of", told)
@@ -215,7 +216,7 @@ class Each:
     def test_nothing_is_left_where_it_is_killed(self):
         """Neither a server nor a folder; SIGHUP comes as a terminal is closed."""
         environment = {**os.environ, "PYTHONPATH": PLACE, "COBRA_AUDIT": os.path.abspath(PROGRAM)}
-        words = ["--workload", "counter", "--clients", "2", "--rate", "50", "--seconds", "100", "--unaudited", "0"]
+        words = ["--workload", "counter", "--clients", "2", "--rate", "50", "--seconds", "100", "--unaudited", "0", "--rather-wait"]
         call = [sys.executable, "-m", "zanteyard", "audit", *self.command_words, *words]
         for number, *words in ((signal.SIGHUP,), (signal.SIGKILL,), (signal.SIGKILL, "--processes")):
             with self.subTest(signal=number, words=words):
@@ -230,7 +231,7 @@ class Each:
                     running.send_signal(number)
                     running.stdout.read()
                 self.assertEqual(running.returncode, 128 + number if number == signal.SIGHUP else -number)
-                self.assertTrue(eventually(lambda: not self.left_in(own), 20.0), self.left_in(own))
+                self.assertTrue(eventually(lambda: not self.left_in(own)), self.left_in(own))
 
     def left_in(self, own):
         """The folders, and the processes that work in them, whose path begins so."""
@@ -471,14 +472,36 @@ class MariaDB(Each, unittest.TestCase):
         one, other = self.made(**self.waiting), self.made(**self.waiting)
         one.begin(), one.write("x", "1", NAME)
         other.begin_alone(20.0)
-        threading.Timer(0.3, other.hang_up).start()
+        hangs_up = threading.Thread(target=lambda: self.begin_to_wait() and other.hang_up())
+        hangs_up.start()
         began = time.monotonic()
         self.assertRaises(OutcomeUnknown, other.exchange, "x", "2", NAME)
         self.assertLess(time.monotonic() - began, 10.0)
+        hangs_up.join()
         one.rollback()  # now the server may go on with it, or find that nobody waits
-        outcome = other.outcome_within(10.0)
+        outcome = other.outcome_within(60.0)
         self.assertEqual(self.value("x"), {"committed": "2", "aborted": None}[outcome])
         other.begin(), other.rollback()  # over another connection
+
+    def begin_to_wait(self):
+        """Whether somebody has come to wait for another one's lock."""
+
+        def is_waiting():
+            self.admin.execute("SELECT count(*) FROM information_schema.innodb_trx WHERE trx_state = 'LOCK WAIT'")
+            return self.admin.fetchone()[0] > 0
+
+        return eventually(is_waiting)
+
+    def end_connection(self, store):
+        """Once it has ended: the server takes its time."""
+        its = store.connection.thread_id()
+        self.admin.execute(f"KILL {its}")
+
+        def has_ended():
+            self.admin.execute(f"SELECT count(*) FROM information_schema.processlist WHERE id = {its}")
+            return self.admin.fetchone()[0] == 0
+
+        self.assertTrue(eventually(has_ended))
 
     @contextlib.contextmanager
     def commits_that_wait(self):
@@ -508,9 +531,9 @@ class MariaDB(Each, unittest.TestCase):
             thread = threading.Thread(target=run, daemon=True)
             with self.commits_that_wait():
                 thread.start()
-                thread.join(8.0)
+                thread.join(60.0)
                 self.assertEqual(ended, ["unknown"], number)
-        outcome = store.outcome_within(20.0)
+        outcome = store.outcome_within(60.0)
         self.assertEqual(self.value("x"), {"committed": "2", "aborted": "1"}[outcome])
         store.begin(), store.write("x", "3", NAME), store.commit()  # over another connection
         self.assertEqual((self.value("x"), store.connection._read_timeout), ("3", 70))
@@ -548,11 +571,11 @@ class MariaDB(Each, unittest.TestCase):
     def test_a_connection_that_was_idle_for_too_long(self):
         auditor, (a,) = self.sessions(self.made())
         a.run(lambda t: t.put("x", "1"))
-        self.admin.execute(f"KILL {a.store.connection.thread_id()}")
+        self.end_connection(a.store)
         a.run(lambda t: t.put("x", "2"))
         transaction = a.begin()
         transaction.get("x")
-        self.admin.execute(f"KILL {a.store.connection.thread_id()}")
+        self.end_connection(a.store)
         transaction.put("x", "3")
         self.assertRaises((pymysql.MySQLError, Aborted), transaction.commit)
         a.run(lambda t: t.get("x"))
@@ -563,16 +586,16 @@ class MariaDB(Each, unittest.TestCase):
         class Killing(mariadb_store.MariaDBStore):
             def send_commit(self):
                 server.stop()
+                starting.start()
                 super().send_commit()
 
         with MariaDBServer() as server:
             server.restart()
             mariadb_store.prepare(server.dsn)
-            stores = (Killing(server.dsn), mariadb_store.MariaDBStore(server.dsn))
-            auditor, (a, b) = self.sessions(*stores)
-            b.run(lambda t: t.put("y", "1"))
             starting = threading.Timer(0.5, server.start)
-            starting.start()
+            stores = (Killing(server.dsn), mariadb_store.MariaDBStore(server.dsn))
+            auditor, (a, b) = self.sessions(*stores, patience=120)
+            b.run(lambda t: t.put("y", "1"))
             with contextlib.suppress(Aborted):
                 a.run(lambda t: (t.get("y"), t.put("x", "1")), attempts=1)
             starting.join()
@@ -855,7 +878,7 @@ class Redis(Each, unittest.TestCase):
 
                     thread = threading.Thread(target=run, daemon=True)
                     thread.start()
-                    thread.join(4.0)
+                    thread.join(60.0)  # else it waits for ever
                     self.assertEqual(ended, [True])
             finally:
                 os.kill(server.process.pid, signal.SIGCONT)
@@ -864,14 +887,14 @@ class Redis(Each, unittest.TestCase):
         class Killing(redis_store.RedisStore):
             def send_exec(self, commands):
                 server.stop()
+                starting.start()
                 return super().send_exec(commands)
 
         with RedisServer(keeps=True) as server:
-            stores = (Killing(server.dsn), redis_store.RedisStore(server.dsn))
-            auditor, (a, b) = self.sessions(*stores)
-            b.run(lambda t: t.put("y", "1"))
             starting = threading.Timer(0.5, server.start)
-            starting.start()
+            stores = (Killing(server.dsn), redis_store.RedisStore(server.dsn))
+            auditor, (a, b) = self.sessions(*stores, patience=120)
+            b.run(lambda t: t.put("y", "1"))
             with self.assertRaises(Aborted):
                 a.run(lambda t: (t.get("y"), t.put("x", "1")), attempts=1)
             starting.join()

@@ -19,6 +19,7 @@ from . import test_live
 from .machines import knows_save
 from .test_live import add_one
 from .test_processes import TwoProcesses
+from .waiting import SOON, wait_until
 
 try:
     import redis
@@ -105,6 +106,7 @@ class Behind(WithRedis, TwoProcesses, test_live.Meetings):
 
     def test_an_audit_has_one_auditor(self):
         self.live(1)
+        self.server._held_at = time.monotonic() + SOON  # else it might say meanwhile that it has it for half a second
         with Auditor(1) as auditor, mock.patch("zanteyard.stream_server.HELD", 0.5):
             live = LiveAuditor(auditor)
             with self.assertRaisesRegex(AuditTakenError, "another auditor has it"):
@@ -219,8 +221,8 @@ class Behind(WithRedis, TwoProcesses, test_live.Meetings):
         with mock.patch("zanteyard.stream_server.WRITES", 2.0), mock.patch.object(process, "_bury") as bury:
             self.tells.config_set("maxmemory", "1mb")
             self.addCleanup(self.tells.config_set, "maxmemory", "0")
-            process._silence = 3.0
-            time.sleep(5.0)
+            process._silence = 7.0  # a sign of life comes every second
+            time.sleep(9.0)
             bury.assert_not_called()
             self.tells.config_set("maxmemory", "0")
             a.run(add_one("x"))
@@ -289,11 +291,13 @@ class Behind(WithRedis, TwoProcesses, test_live.Meetings):
 class GoneOnWith(WithRedis, unittest.TestCase):
     """The auditor's process is killed, which here means that it does nothing more, and that another one has its folder."""
 
+    silence = 60.0  # seconds: who lives is never given up
+
     def begun(self, auditor, **more):
         live = LiveAuditor(auditor, policy=Policy(60.0, False), elsewhere=True, **more)
         self.addCleanup(auditor.end)
         self.addCleanup(live.stop, 1.0)
-        server = StreamServer(live, self.redis.dsn, "bank", silence=2.0)
+        server = StreamServer(live, self.redis.dsn, "bank", silence=self.silence)
         self.addCleanup(server.close, 0.0)
         return live, server
 
@@ -314,10 +318,7 @@ class GoneOnWith(WithRedis, unittest.TestCase):
         return another
 
     def wait_for(self, condition):
-        until = time.monotonic() + 30.0
-        while not condition() and time.monotonic() < until:
-            time.sleep(0.02)
-        self.assertTrue(condition())
+        self.assertTrue(wait_until(condition))
 
     def test_what_is_not_taken_in_of_who_has_left_is_heard_again(self):
         with tempfile.TemporaryDirectory() as folder:
@@ -349,6 +350,7 @@ class GoneOnWith(WithRedis, unittest.TestCase):
 
     def test_what_is_not_taken_in_of_who_was_given_up_is_heard_again(self):
         """And what it had noted is found out again."""
+        self.silence = 8.0  # a sign of life comes every second
         with tempfile.TemporaryDirectory() as folder:
             live, server = self.begun(Auditor(2, journal=f"{folder}/journal"))
             store, lasts = MemoryStore(), threading.Event()
@@ -400,7 +402,7 @@ class GoneOnWith(WithRedis, unittest.TestCase):
                 again, server = self.killed(server, folder, every=40)
                 for _ in range(15):
                     session.run(add_one("x"))
-                self.wait_for(lambda: again.cuts)
+                self.wait_for(lambda: again.cuts or session.run(add_one("x")))
                 self.assertEqual(live.meetings, 0)
             server.close()
             self.assertEqual(again.stop().kind, "serial")
@@ -450,8 +452,15 @@ class Ends(WithRedis, unittest.TestCase):
         self.addCleanup(reader.close)
         return appender, reader
 
-    def heard(self, reader):
-        return [message[0] for _, message in iter(lambda: reader.receive(0.2), None)]
+    def heard(self, reader, count):
+        """So many messages, and all that come besides."""
+        found, until = [], time.monotonic() + SOON
+        while True:
+            received = reader.receive(0.2)
+            if received is not None:
+                found.append(received[1][0])
+            elif len(found) >= count or time.monotonic() > until:
+                return found
 
     def test_what_was_not_answered_is_given_again_and_is_there_once(self):
         appender, reader = self.ends()
@@ -466,41 +475,41 @@ class Ends(WithRedis, unittest.TestCase):
 
         with mock.patch("zanteyard.stream_ends.answers", loses_answers):
             for count in range(10):
-                self.assertTrue(appender.flush(appender.put(count), 5.0, insists=True))
-        self.assertEqual((self.heard(reader), len(lost)), ([*range(10)], 3))
+                self.assertTrue(appender.flush(appender.put(count), SOON, insists=True))
+        self.assertEqual((self.heard(reader, 10), len(lost)), ([*range(10)], 3))
 
     def test_a_redis_that_lost_its_end_is_told_again(self):
         appender, reader = self.ends()
-        appender.flush(appender.put(0), 5.0)
+        self.assertTrue(appender.flush(appender.put(0), SOON))
         copy = self.tells.dump("a stream")
         for count in range(1, 5):
-            appender.flush(appender.put(count), 5.0)
+            self.assertTrue(appender.flush(appender.put(count), SOON))
         self.tells.restore("a stream", 0, copy, replace=True)
         self.tells.client_kill_filter(skipme=True, _type="normal")
-        self.assertTrue(appender.flush(appender.put(5), 5.0, insists=True))
-        self.assertEqual(self.heard(reader), [*range(6)])
+        self.assertTrue(appender.flush(appender.put(5), SOON, insists=True))
+        self.assertEqual(self.heard(reader, 6), [*range(6)])
 
     def test_what_nobody_tells_again_is_missing(self):
         appender, reader = self.ends()
         for count in range(3):
-            appender.flush(appender.put(count), 5.0)
+            self.assertTrue(appender.flush(appender.put(count), SOON))
         self.tells.xdel("a stream", "2-0")
         with self.assertRaisesRegex(Gap, "2 to 2"):
-            self.heard(reader)
+            self.heard(reader, 3)
 
     def test_many_threads(self):
         appender, reader = self.ends()
 
         def put(first):
             for count in range(100):
-                self.assertTrue(appender.flush(appender.put(first + count), 30.0))
+                self.assertTrue(appender.flush(appender.put(first + count), SOON))
 
         threads = [threading.Thread(target=put, args=(1000 * at,)) for at in range(8)]
         for each in threads:
             each.start()
         for each in threads:
             each.join()
-        found = self.heard(reader)
+        found = self.heard(reader, 800)
         self.assertEqual(len(found), 800)
         for at in range(8):
             its = [it for it in found if it // 1000 == at]
@@ -555,7 +564,7 @@ class Ends(WithRedis, unittest.TestCase):
             for password, is_there in (("secret", True), ("wrong", False)):
                 url = f"unix://:{password}@{locked.socket}?db=0"
                 appender = Appender(url, "a stream")
-                self.assertEqual(appender.flush(appender.put(0), 1.0), is_there)
+                self.assertEqual(appender.flush(appender.put(0), SOON if is_there else 1.0), is_there)
                 appender.close()
         appender = Appender("rediss://127.0.0.1:1/0", "a stream")
         self.assertFalse(appender.flush(appender.put(0), 1.0))
