@@ -1,5 +1,5 @@
-"""Refutations in plain Python: one as a search comes to it, with all that it tried, and what is left
-of a tree once all that can go has gone.
+"""Refutations in plain Python: one as a search comes to it, with all that it tried, and what is
+left of a tree once all that can go has gone.
 
 Written from docs/FORMATS.md and docs/DEFINITIONS.md alone. A tree is a list of items, as a report
 has it. Nothing here is quick: it is for histories of some tens of transactions.
@@ -9,7 +9,7 @@ from plain_verdicts import INIT, Wrong
 
 
 class Arcs:
-    """What comes before what by the transactions alone: of each id the arcs that lead on from it."""
+    """What comes before what by the transactions alone: of each id the arcs that lead on."""
 
     def __init__(self, parts):
         ids = parts.ids()
@@ -126,7 +126,7 @@ def end_of(items, start):
 
 
 def smaller(items):
-    """Each tree that is this one without a forced step, or with one half of a split in its place."""
+    """Each tree that is this one without a forced step, or with half of a split in its place."""
     for at, item in enumerate(items):
         if item[0] == "force":
             yield items[:at] + items[at + 1:]

@@ -134,7 +134,7 @@ def before(choice):
 
 
 def ladder(splits):
-    """A right tree of the lost update with so many splits, one below another."""
+    """A right tree of the lost update with so many splits, two or more, one below another."""
     items = []
     for _ in range(splits - 1):
         items += [["split", EARLIER], before(EARLIER)]
@@ -230,7 +230,7 @@ class Forged(unittest.TestCase):
                                         b"spent 0 not-checked 0\n"))
 
     def test_a_tree_is_at_most_4096_deep(self):
-        for splits in (1, 2, DEEPEST - 1, DEEPEST):
+        for splits in (2, 3, DEEPEST - 1, DEEPEST):
             self.assertEqual(checked(LOST, ladder(splits), [2, 1])[0], 0, splits)
         for splits in (DEEPEST + 1, 3 * DEEPEST, 100_000):
             status, told, said = checked(LOST, ladder(splits), [2, 1])
