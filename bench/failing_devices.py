@@ -1,28 +1,41 @@
 #!/usr/bin/env python3
-"""Has each read and each write of cobra_audit fail in turn, with a C library whose calls fail.
+"""Has each read and each write of the four programs fail in turn, by a C library whose calls fail.
 
-Run at the top of the repository, after `cd crates/cobra_audit && rt run < /dev/null` has built the
-program, or with COBRA_AUDIT naming another one; it wants cc:
+Run at the top of the repository, after `rt run < /dev/null` has built each program in its crate, or
+with COBRA_AUDIT, COBRA_CHECK, COBRA_LIVE and COBRA_DEMO naming them; it wants cc:
 
-    python3 bench/failing_devices.py [--some WORD] [PROGRAM]
+    python3 bench/failing_devices.py [--some WORD] [--only PROGRAM]
 
-Each worked script whose name has the word (first_cut, where none is told) is given to the program
+Each worked script whose name has the word (first_cut, where none is told) is given to the programs
 by devices that move 1, 7 and 4,096 bytes a call, whose k-th read fails, for each k that there is,
 and then whose k-th write fails: by an error, by a signal, by having to wait, by a full device, and
-by taking no byte of what is written. What was written has to be a front of what is owed, with every
-reply of the lines before; the status 1, and the words `device failed`. Without a failure all is
-told, with status 0. Then the script is cut off at every byte, and what is told of that has to be
-what the plain model owes (`judge.py`). It prints a line for each size, and ends with status 1 where
-one is wrong.
+by taking no byte of what is written. The status has to be 1, the words `device failed`, and what
+was written a front of what is owed:
+
+- by cobra_audit, with every reply of the lines before;
+- by cobra_check, which is given the script's stored replies, too, with all that is told of the
+  replies before;
+- by cobra_demo, whose run writes once, where the write fails, and nothing where the read does;
+- by cobra_live, which is given the script's offers, judged as its tests judge it: where a read
+  fails all that was read before is told of, up to the end; where a write fails, whole lines and a
+  piece of the next.
+
+Without a failure all is told, with status 0. Then the script is cut off at every byte, and what
+cobra_audit tells of that has to be what the plain model owes (`judge.py`). It prints a line for
+each size, and ends with status 1 where one is wrong.
 """
 import argparse
+import json
 import os
 import shutil
 import subprocess
 import sys
 import tempfile
 
-from judge import first_difference, lines_of
+HERE = os.path.dirname(os.path.abspath(__file__))
+sys.path[:0] = [HERE, os.path.join(HERE, "../collectors/python")]
+from judge import command_of, first_difference, lines_of  # noqa: E402
+from plain_verdicts import Wrong  # noqa: E402
 
 SHIM = r"""
 #define _GNU_SOURCE
@@ -56,8 +69,15 @@ ERRORS = (5, 4, 11, 28)  # EIO, EINTR, EAGAIN, ENOSPC
 FAILED = (1, b"device failed\n")
 
 
+NAMES = ("cobra_audit", "cobra_check", "cobra_demo", "cobra_live")
+
+
 def has_compiler():
     return shutil.which("cc") is not None
+
+
+def path_of(name):
+    return os.environ.get(name.upper()) or f"crates/{name}/out/{name}"
 
 
 class Devices:
@@ -133,7 +153,7 @@ def cut_off(program, script):
 
 
 def wrong_runs(program, folder, script):
-    """For each kind of run how many there were and what was wrong with them."""
+    """For each kind of run of cobra_audit how many there were and what was wrong with them."""
     devices = Devices(program, folder)
     owed, ended = devices.run(script, 4096)
     if first_difference(script, owed) or ended != (0, b""):
@@ -146,26 +166,163 @@ def wrong_runs(program, folder, script):
     yield "cut off at every byte", list(cut_off(program, script))
 
 
+def until_none_fails(device, run):
+    """Has the k-th read or write fail, for each k up to one that isn't made any more; yields k,
+    what was written and how it ended."""
+    errors = ERRORS[:3] if device == "read" else (*ERRORS, 0)
+    for call in range(1, 100000):
+        told, ended = run(**{device: call, "error": errors[call % len(errors)]})
+        if ended == (0, b""):
+            return
+        yield call, told, ended
+    raise RuntimeError("there are too many calls")
+
+
+def checker_runs(program, folder, turns):
+    """The same of cobra_check, which is given a script's lines and the replies by turns."""
+    devices = Devices(program, folder)
+    owed, ended = devices.run(turns, 4096)
+    if ended != (0, b""):
+        raise RuntimeError(f"without a failure it says {owed!r}, {ended}")
+    lines = turns.splitlines(keepends=True)
+    # Of so many lines what is told of them, without the last line, which counts.
+    fronts = [b"".join(devices.run(b"".join(lines[:count - count % 2]), 4096)[0].splitlines(
+        keepends=True)[:-1]) for count in range(len(lines) + 1)]
+
+    for most in SIZES:
+        def run(**how):
+            return devices.run(turns, most, **how)  # noqa: B023
+        same = run()
+        yield f"moving {most:,}", [None if same == (owed, (0, b"")) else f"{same}"]
+        yield f"reads of {most:,} fail", [
+            wrong_unless(ended == FAILED and is_front(told, owed) and told.startswith(
+                fronts[turns[:(call - 1) * most].count(b"\n")]), call, told, ended)
+            for call, told, ended in until_none_fails("read", run)]
+        yield f"writes of {most:,} fail", [
+            wrong_unless(ended == FAILED and owed.startswith(told) and told != owed,
+                         call, told, ended)
+            for call, told, ended in until_none_fails("write", run)]
+
+
+def is_front(told, owed):
+    """Whether it is whole lines of what is owed."""
+    return owed.startswith(told) and (not told or told.endswith(b"\n"))
+
+
+def wrong_unless(is_right, call, told, ended):
+    return None if is_right else f"call {call}: {told!r}, {ended}"
+
+
+def demonstration_runs(program, folder, line, owed):
+    """The same of cobra_demo, which is given a line."""
+    devices = Devices(program, folder)
+    for most in SIZES:
+        def run(**how):
+            return devices.run(line, most, **how)  # noqa: B023
+        same = run()
+        yield f"moving {most:,}", [None if same == (owed, (0, b"")) else f"{same}"]
+        yield f"reads of {most:,} fail", [
+            wrong_unless(ended == FAILED and not told, call, told, ended)
+            for call, told, ended in until_none_fails("read", run)]
+        yield f"writes of {most:,} fail", [
+            wrong_unless(ended == FAILED and told == owed[:(call - 1) * most], call, told, ended)
+            for call, told, ended in until_none_fails("write", run)]
+
+
+def live_runs(program, folder, lines):
+    """The same of cobra_live; which rounds it makes is a matter of moments, so that all that it
+    tells is judged."""
+    from refused_memory import judge_of
+
+    devices = Devices(program, folder)
+    given = b"".join(line + b"\n" for line in lines)
+
+    def wrong(told, ended, owed, whole):
+        """Of how it ended, and what is told of so many whole lines; or of a front of that."""
+        try:
+            if ended != owed:
+                raise Wrong(f"it ends with {ended}")
+            if not whole:
+                return None if not told else f"nothing was read, and told is {told!r}"
+            is_whole = whole_is_told(told)
+            judge_of(lines[:whole]).take_all(told if is_whole else told[:told.rfind(b"\n") + 1],
+                                             is_whole=is_whole)
+        except (Wrong, ValueError) as why:
+            return f"{why}: {told!r}"
+        return None
+
+    for most in SIZES:
+        def run(**how):
+            return devices.run(given, most, **how)  # noqa: B023
+        yield f"moving {most:,}", [wrong(*run(), (0, b""), len(lines))]
+        yield f"reads of {most:,} fail", [
+            read_failed(wrong, given, lines, told, ended, (call - 1) * most)
+            for call, told, ended in until_none_fails("read", run)]
+        yield f"writes of {most:,} fail", [
+            wrong(told, ended, FAILED, len(lines))
+            for call, told, ended in until_none_fails("write", run)]
+
+
+def whole_is_told(told):
+    return told.endswith(b'["end"]\n')
+
+
+def read_failed(wrong, given, lines, told, ended, count):
+    """Whether so many bytes were read, and the next read failed, is told rightly."""
+    whole = given[:count].count(b"\n")
+    if whole and not whole_is_told(told):
+        return f"{count} bytes were read, and it has no end: {told!r}, {ended}"
+    return wrong(told, ended, FAILED, whole)
+
+
+def all_runs(name, program, folder, script, replies):
+    """The runs of the program with this name."""
+    if name == "cobra_audit":
+        return wrong_runs(program, folder, script)
+    if name == "cobra_check":
+        return checker_runs(program, folder, b"".join(
+            line + b"\n" + reply + b"\n" for line, reply in zip(script.splitlines(),
+                                                                replies.splitlines())))
+    if name == "cobra_demo":
+        return demonstration_runs(program, folder, b"none 16\n", HONEST)
+    opening, *lines = map(command_of, script.splitlines())
+    offers = [line for line in lines if line[0] == "offer"]
+    return live_runs(program, folder, [
+        json.dumps(line, separators=(",", ":")).encode()
+        for line in ([*opening, 4096, 0, 1], *offers)])
+
+
+HONEST = (b"fault none\n" + b"".join(b"collector %d submitted 9 taken 9\n" % each
+                                     for each in range(4)) + b"last serial\nlatest serial\n")
+
+
 def main():
     words = argparse.ArgumentParser(description=__doc__.splitlines()[0])
     words.add_argument("--some", default="first_cut", metavar="WORD")
-    words.add_argument("program", nargs="?", default=os.environ.get(
-        "COBRA_AUDIT", "crates/cobra_audit/out/cobra_audit"))
+    words.add_argument("--only", default="", metavar="PROGRAM")
     asked = words.parse_args()
     if not has_compiler():
         sys.exit("no cc is installed: nothing was tried")
-    data, status = "crates/cobra_examples/data", 0
-    for name in sorted(os.listdir(data)):
-        if not name.endswith(".jsonl") or asked.some not in name:
+    data, status, all_tried = os.path.join(HERE, "../crates/cobra_examples/data"), 0, 0
+    for script_name in sorted(os.listdir(data)):
+        if not script_name.endswith(".jsonl") or asked.some not in script_name:
             continue
-        with open(f"{data}/{name}", "rb") as file:
+        with open(f"{data}/{script_name}", "rb") as file:
             script = file.read()
-        with tempfile.TemporaryDirectory() as folder:
-            for what, runs in wrong_runs(os.path.abspath(asked.program), folder, script):
-                wrong = list(filter(None, runs))
-                print(f"{name}, {len(lines_of(script))} lines, {what}: {len(runs)} runs, "
-                      f"{len(wrong)} of them wrong", *wrong[:3], sep="\n  ", flush=True)
-                status = 1 if wrong else status
+        with open(f"{data}/{script_name[:-5]}replies", "rb") as file:
+            replies = file.read()
+        for name in NAMES:
+            program = os.path.abspath(path_of(name))
+            if asked.only not in name or not os.access(program, os.X_OK):
+                continue
+            with tempfile.TemporaryDirectory() as folder:
+                for what, runs in all_runs(name, program, folder, script, replies):
+                    wrong = list(filter(None, runs))
+                    print(f"{name}, {script_name}, {len(lines_of(script))} lines, {what}: "
+                          f"{len(runs)} runs, {len(wrong)} of them wrong", *wrong[:3],
+                          sep="\n  ", flush=True)
+                    status, all_tried = 1 if wrong else status, all_tried + len(runs)
+    print(f"{all_tried} runs, {'SOME OF THEM WRONG' if status else 'none of them wrong'}")
     sys.exit(status)
 
 

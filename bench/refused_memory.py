@@ -1,140 +1,451 @@
 #!/usr/bin/env python3
-"""Has each allocation of cobra_audit refused in turn, over the worked scripts, with a C library that refuses one.
+"""Has each allocation of the four programs refused in turn, and each thread, by a C library that
+refuses one.
 
-Run at the top of the repository, after `cd crates/cobra_audit && rt run < /dev/null` has built the program; it wants cc:
+Run at the top of the repository, after `rt run < /dev/null` has built each program in its crate, or
+with COBRA_AUDIT, COBRA_CHECK, COBRA_LIVE and COBRA_DEMO naming them; it wants cc:
 
-    python3 bench/refused_memory.py [--every N] [--only WORD] [PROGRAM]
+    python3 bench/refused_memory.py [--every N] [--only WORD] [--lasting]
 
-For each pair NAME.jsonl and NAME.replies of crates/cobra_examples/data, and each n up to how many allocations the program
-makes for it, the program is run with its nth allocation refused. It is given line by line; a line that is answered NoMemory is
-given once more. Then either all replies are those of NAME.replies, or the program ends with status 1 and `out of memory`
-after whole replies that are a front of them. It prints a line a script, with how many runs went which way: a line was refused and
-given again; the program ended; or nothing was seen, where the standard library goes on without the room that was refused. Any
-other end is told, and the status is 1 then. --every takes each Nth allocation alone.
+For each run of its table, and each n up to how many allocations the program makes for it, the
+program is run with its nth allocation refused; with --lasting all are refused from the nth on,
+until it has answered a line. Then it has to go one of these ways, and it prints a line a run with
+how many went which way:
+
+- given again: cobra_audit has answered a line NoMemory. Then the state is told as it was before the
+  line, a round that was to be finished is still open, and one that was to begin isn't; and given
+  once more the line is answered as ever.
+- ended: with status 1 and `out of memory`, after whole lines that are a front of what is owed.
+- nothing seen: where the library goes on without the room that was refused.
+
+Where workers share a round's search, its report only has to be one that the plain model
+(`judge.py`) finds right. What cobra_live tells is judged as its tests judge it: each answer, report
+and cut, and that it ends with its end.
+
+The runs are the worked scripts of crates/cobra_examples/data, whole; four of them step by step,
+with workers, and handed over to another run; their stored replies for cobra_check; their offers for
+cobra_live; and the demonstration. --every takes each Nth allocation alone, --only the runs whose
+name has the word. The status is 1 where one went wrong.
 """
 import argparse
+import json
+import mmap
 import os
+import shutil
+import struct
 import subprocess
 import sys
 import tempfile
+import time
 from collections import Counter
 
-# It counts in a file, since a program with threads may end without a last word.
+HERE = os.path.dirname(os.path.abspath(__file__))
+sys.path[:0] = [HERE, os.path.join(HERE, "../collectors/python")]
+from judge import Model, command_of, first_difference, told_txn  # noqa: E402
+from plain_verdicts import Wrong  # noqa: E402
+
 SHIM = r"""
+#define _GNU_SOURCE
+#include <dlfcn.h>
+#include <errno.h>
 #include <fcntl.h>
+#include <pthread.h>
 #include <stdlib.h>
 #include <sys/mman.h>
 #include <unistd.h>
 extern void *__libc_malloc(size_t);
+extern void *__libc_calloc(size_t, size_t);
 extern void *__libc_realloc(void *, size_t);
-static unsigned long unused, refused, *calls = &unused;
-static int is_refused(void) { return __atomic_add_fetch(calls, 1, __ATOMIC_SEQ_CST) == refused; }
+extern void *__libc_memalign(size_t, size_t);
+static int (*create)(pthread_t *, const pthread_attr_t *, void *(*)(void *), void *);
+/* allocations so far; the first and the last that is refused; threads so far; the refused one */
+static unsigned long unused[5], *page = unused;
+static int is_refused(void) {
+    unsigned long call = __atomic_add_fetch(&page[0], 1, __ATOMIC_SEQ_CST);
+    unsigned long first = __atomic_load_n(&page[1], __ATOMIC_SEQ_CST);
+    return first && first <= call && call <= page[2];
+}
 void *malloc(size_t size) { return is_refused() ? 0 : __libc_malloc(size); }
+void *calloc(size_t count, size_t size) { return is_refused() ? 0 : __libc_calloc(count, size); }
 void *realloc(void *block, size_t size) { return is_refused() ? 0 : __libc_realloc(block, size); }
+void *aligned_alloc(size_t align, size_t size) {
+    return is_refused() ? 0 : __libc_memalign(align, size);
+}
+int posix_memalign(void **block, size_t align, size_t size) {
+    void *found = is_refused() ? 0 : __libc_memalign(align, size);
+    if (found) *block = found;
+    return found ? 0 : ENOMEM;
+}
+int pthread_create(pthread_t *thread, const pthread_attr_t *how, void *(*run)(void *),
+                   void *with) {
+    unsigned long call = __atomic_add_fetch(&page[3], 1, __ATOMIC_SEQ_CST);
+    return call == page[4] ? EAGAIN : create(thread, how, run, with);
+}
 __attribute__((constructor)) static void start(void) {
-    int file = open(getenv("COUNTED"), O_RDWR | O_CREAT | O_TRUNC, 0600);
-    if (file < 0 || ftruncate(file, sizeof *calls)) abort();
-    refused = strtoul(getenv("REFUSED"), 0, 10);
-    calls = mmap(0, sizeof *calls, PROT_READ | PROT_WRITE, MAP_SHARED, file, 0);
-    if (calls == MAP_FAILED) abort();
+    create = dlsym(RTLD_NEXT, "pthread_create");
+    int file = open(getenv("PAGE"), O_RDWR);
+    if (file < 0 || !create) abort();
+    void *shared = mmap(0, 4096, PROT_READ | PROT_WRITE, MAP_SHARED, file, 0);
+    if (shared == MAP_FAILED) abort();
+    close(file);
+    page = shared;
 }
 """
-NO_MEMORY = b'["no",16,"NoMemory"]\n'
+NO_MEMORY, ROUND_OPEN, NO_ROUND = (b'["no",16,"NoMemory"]\n', b'["no",10,"RoundOpen"]\n',
+                                   b'["no",11,"NoRound"]\n')
+SHOW = b'["show"]\n'
+ENDED = (1, b"out of memory\n")
+FOR_EVER = 2**63
+SECONDS = 60.0  # within which a program has to end
+STEPS = ("real_split", "first_cut", "gone_read", "unordered_writers")
+DEMONSTRATION = b"lost-update 1\n"
+PROGRAMS = {}  # of a program's name its path, where a caller knows better
 
 
-class Trial:
-    """The program beside the shim, in a folder of its own."""
+def has_compiler():
+    return shutil.which("cc") is not None
 
-    def __init__(self, program, folder):
-        self.program, self.shim, self.counted = program, f"{folder}/refuse.so", f"{folder}/counted"
-        with open(f"{folder}/refuse.c", "w") as file:
+
+def path_of(name):
+    return PROGRAMS.get(name) or os.environ.get(name.upper()) or f"crates/{name}/out/{name}"
+
+
+class Shim:
+    """The library, in a folder, with what it counts and refuses."""
+
+    def __init__(self, folder):
+        self.library, self.counted = f"{folder}/refuse.so", f"{folder}/counted"
+        with open(f"{folder}/refuse.c", "w", encoding="ascii") as file:
             file.write(SHIM)
-        subprocess.run(["cc", "-O1", "-shared", "-fPIC", "-o", self.shim, f"{folder}/refuse.c"], check=True)
+        subprocess.run(["cc", "-O1", "-shared", "-fPIC", "-o", self.library, f"{folder}/refuse.c",
+                        "-ldl"], check=True)
+        with open(self.counted, "wb") as file:
+            file.truncate(4096)
+        with open(self.counted, "r+b") as file:
+            self.page = mmap.mmap(file.fileno(), 4096)
 
-    def run(self, lines, refused):
-        """The replies to the lines, how often one was NoMemory, and how the program ended."""
-        settings = {"LD_PRELOAD": self.shim, "REFUSED": str(refused), "COUNTED": self.counted}
+    def start(self, program, refused=0, is_lasting=False, thread=0):
+        """The program over pipes; refused is the number of an allocation, or of a thread, or 0."""
+        last = FOR_EVER if is_lasting else refused
+        struct.pack_into("5Q", self.page, 0, 0, refused, last, 0, thread)
         pipes = {"stdin": subprocess.PIPE, "stdout": subprocess.PIPE, "stderr": subprocess.PIPE}
-        with subprocess.Popen([self.program], env=settings, **pipes) as running:
-            replies, again = [], 0
-            for line in lines:
-                reply = self.reply(running, line)
+        return subprocess.Popen([program], bufsize=0, **pipes,
+                                env={"LD_PRELOAD": self.library, "PAGE": self.counted})
+
+    def lift(self):
+        """Nothing more is refused."""
+        struct.pack_into("Q", self.page, 8, 0)
+
+    def counts(self):
+        """How many allocations, and how many threads, the last program has asked for."""
+        return struct.unpack_from("Q", self.page)[0], struct.unpack_from("Q", self.page, 24)[0]
+
+    def run(self, program, given, **refused):
+        """What is written of a whole input, the status and what is said."""
+        with self.start(program, **refused) as running:
+            told, said = running.communicate(given, timeout=SECONDS)
+        return told, (running.returncode, said)
+
+
+class Audit:
+    """A script for cobra_audit, given line by line. Where `is_judged`, as where workers share a
+    search, a report may be another than that of the run in which nothing was refused."""
+
+    def __init__(self, name, lines, owed=None, is_judged=False):
+        self.name, self.lines = name, [line + b"\n" for line in lines]
+        self.owed, self.shows, self.is_judged = owed, None, is_judged
+
+    def prepare(self, shim):
+        """Has it run with nothing refused: how many allocations and threads there were."""
+        _, self.shows, _, ended = self.run(shim, shows=True)
+        replies, _, _, also = self.run(shim)
+        if (ended, also) != ((0, b""),) * 2 or self.owed not in (None, replies):
+            raise Wrong(f"{self.name}: with nothing refused it ends with {also}: {replies}")
+        found = first_difference(b"".join(self.lines), b"".join(replies))
+        if found:
+            raise Wrong(f"{self.name}: with nothing refused: {found}")
+        self.owed = replies
+        return shim.counts()
+
+    def run(self, shim, shows=False, **refused):
+        """The replies, the states before each line, where memory was wanting, and the end."""
+        with shim.start(path_of("cobra_audit"), **refused) as running:
+            replies, states, again = [], [], []
+            for line in self.lines:
+                if shows:
+                    states.append(ask(running, SHOW))
+                reply = ask(running, line)
                 if reply == NO_MEMORY:
-                    again += 1
-                    reply = self.reply(running, line)
-                if not reply:
+                    shim.lift()
+                    self.look(running, len(replies), line)
+                    again.append(len(replies))
+                    reply = ask(running, line)
+                if not reply.endswith(b"\n"):
                     break
                 replies.append(reply)
+            rest, said = running.communicate(timeout=SECONDS)
+        if rest:
+            raise Wrong(f"behind all replies it writes {rest!r}")
+        return replies, states, again, (running.returncode, said)
+
+    def look(self, running, place, line):
+        """Nothing has changed by the line that was answered NoMemory."""
+        state = ask(running, SHOW)
+        if self.shows and state != self.shows[place]:
+            raise Wrong(f"behind {line!r} the state is {state!r}, before it {self.shows[place]!r}")
+        word = command_of(line[:-1])[0]
+        probe, owed = {"finish": (b'["begin"]\n', ROUND_OPEN),
+                       "begin": (b'["finish",1,0,1]\n', NO_ROUND),
+                       "round": (b'["finish",1,0,1]\n', NO_ROUND)}.get(word, (SHOW, state))
+        told = ask(running, probe)
+        if told != owed:
+            raise Wrong(f"behind {line!r} {probe!r} is answered {told!r}")
+
+    def way(self, shim, **refused):
+        """Which way it went; raises Wrong."""
+        replies, _, again, ended = self.run(shim, **refused)
+        if ended not in ((0, b""), ENDED) or len(again) > 1:
+            raise Wrong(f"it ends with {ended}, {again}")
+        if ended == (0, b"") and len(replies) != len(self.owed):
+            raise Wrong(f"it ends behind {len(replies)} replies of {len(self.owed)}")
+        if self.is_judged:
+            script = b"".join(self.lines[:len(replies)])
+            found = first_difference(script, b"".join(replies))
+        else:
+            found = None if replies == self.owed[:len(replies)] else "other replies"
+        if found:
+            raise Wrong(f"{found}: {replies}")
+        return "ended" if ended == ENDED else "given again" if again else "nothing seen"
+
+
+def ask(running, line):
+    """The reply to a line; nothing where the program has ended."""
+    try:
+        running.stdin.write(line)
+    except OSError:
+        pass
+    reply = b""
+    while not reply.endswith(b"\n"):
+        piece = running.stdout.readline()
+        if not piece:
+            break
+        reply += piece
+    return reply
+
+
+class Whole:
+    """A program that is given its whole input at once."""
+
+    def __init__(self, name, program, given):
+        self.name, self.program, self.given, self.owed = name, program, given, None
+
+    def prepare(self, shim):
+        self.owed, ended = shim.run(path_of(self.program), self.given)
+        if ended != (0, b""):
+            raise Wrong(f"{self.name}: with nothing refused it ends with {ended}")
+        return shim.counts()
+
+    def way(self, shim, **refused):
+        told, ended = shim.run(path_of(self.program), self.given, **refused)
+        if (told, ended) == (self.owed, (0, b"")):
+            return "nothing seen"
+        if ended == ENDED and self.owed.startswith(told) and (not told or told.endswith(b"\n")):
+            return "ended"
+        raise Wrong(f"it ends with {ended}, and has written {told!r}")
+
+
+class Live:
+    """Lines for cobra_live, one after another; what comes of them is judged."""
+
+    def __init__(self, name, lines):
+        self.name, self.lines = name, lines
+
+    def prepare(self, shim):
+        if self.way(shim) != "nothing seen":
+            raise Wrong(f"{self.name}: memory is wanting with nothing refused")
+        return shim.counts()
+
+    def way(self, shim, **refused):
+        with shim.start(path_of("cobra_live"), **refused) as running:
             try:
-                running.stdin.close()
-            except OSError:
+                for line in self.lines:
+                    running.stdin.write(line + b"\n")
+                    time.sleep(0.001)  # most of them find no round under way
+            except OSError:  # it has ended
                 pass
-            rest, error = running.stdout.read(), running.stderr.read()
-            return replies, again, rest, error, running.wait()
-
-    @staticmethod
-    def reply(running, line):
-        try:
-            running.stdin.write(line)
-            running.stdin.flush()
-        except OSError:  # it has ended
-            pass
-        return running.stdout.readline()
-
-    def made(self):
-        with open(self.counted, "rb") as file:
-            return int.from_bytes(file.read(), sys.byteorder)
+            told, said = running.communicate(timeout=SECONDS)
+        ended = running.returncode, said
+        if ended not in ((0, b""), ENDED):
+            raise Wrong(f"it ends with {ended}")
+        judged = judge_of(self.lines)
+        judged.take_all(told, is_whole=ended == (0, b""))
+        return "ended" if ended == ENDED else "given again" if judged.wanted else "nothing seen"
 
 
-def way(wanted, ended):
-    """Which way a run went, or None where it may not end so."""
-    replies, again, rest, error, status = ended
-    if (rest, error, status) == (b"", b"", 0) and replies == wanted and again <= 1:
-        return "given again" if again else "nothing seen"
-    if (rest, error, status, again) == (b"", b"out of memory\n", 1, 0) and replies == wanted[: len(replies)]:
-        return "ended"
-    return None
+def judge_of(lines):
+    """A judge of what cobra_live tells of these lines where memory may have been wanting."""
+    from tests.live_runs import Judge
+
+    class Pressed(Judge):
+        wanted = 0  # entries that say that memory was wanting
+        was_skipped = has_ended = False
+
+        def take_all(self, told, is_whole):
+            pieces = told.split(b"\n")
+            if pieces.pop():
+                raise Wrong("a last line without LF")
+            for piece in pieces:
+                if self.has_ended:
+                    raise Wrong(f"{piece} stands behind the end")
+                self.take(json.loads(piece))
+            if is_whole and not (self.has_ended and self.next == len(self.lines)):
+                raise Wrong(f"the status is 0, and line {self.next + 1} isn't told of")
+
+        def take(self, told):
+            if told[0] == "skipped":
+                if told[2:] != ["NoMemory"] and told[1:] != [16, "NoMemory"]:
+                    raise Wrong(f"{told} was skipped")
+                self.wanted += 1
+                self.was_skipped, self.cuts = True, [None]
+                return
+            if told == ["end"]:
+                self.has_ended = True
+                if self.was_skipped and None in self.cuts:
+                    return
+            super().take(told)
+            self.was_skipped = False
+
+        def take_answer(self, told):
+            if told[0] != "refused" or told[-1] != "NoMemory" or self.next == len(self.lines):
+                super().take_answer(told)
+                return
+            before = self.model.parts.copy(), [list(txns) for txns in self.history]
+            command = command_of(self.lines[self.next])
+            owed = self.owed_to(command)
+            if owed[0] not in ("accepted", "closed") or told[1:3] != [*owed[1:], None][:2]:
+                raise Wrong(f"owed is {owed}, told is {told}")
+            self.model.parts, self.history = before
+            self.next, self.wanted = self.next + 1, self.wanted + 1
+
+    return Pressed(lines)
 
 
 def lines_of(path):
-    """The lines, each with its LF."""
     with open(path, "rb") as file:
         text = file.read()
-    return [line + b"\n" for line in text.removesuffix(b"\n").split(b"\n")] if text else []
+    return text.removesuffix(b"\n").split(b"\n") if text else []
 
 
-def trial_of(trial, path, every):
-    """Prints a line; gives the ways of all runs, those of None among them."""
-    lines, wanted = lines_of(path), lines_of(path.removesuffix("jsonl") + "replies")
-    ways = Counter()
-    if way(wanted, trial.run(lines, 0)) != "nothing seen":
-        sys.exit(f"{path}: other replies, with no allocation refused")
-    made = trial.made()
-    for refused in range(1, made + 1, every):
-        ended = trial.run(lines, refused)
-        it = way(wanted, ended)
-        ways[it] += 1
-        if it is None:
-            print(f"{path}: WRONG with allocation {refused} refused: {ended[1:]}, {len(ended[0])} replies of {len(wanted)}")
-    told = ", ".join(f"{count} {it or 'WRONG'}" for it, count in sorted(ways.items(), key=str))
-    print(f"{os.path.basename(path)}: {made} allocations; {told}", flush=True)
-    return ways
+def compact(told):
+    return json.dumps(told, separators=(",", ":")).encode()
+
+
+def by_steps(lines):
+    """A script with its rounds begun and finished, and with all else that takes memory behind."""
+    found = []
+    for line in lines:
+        command = command_of(line)
+        found += ([b'["begin"]', compact(["finish", *command[1:]])] if command[0] == "round"
+                  else [line])
+    return [*found, b'["rebuild"]', b'["begin"]', b'["finish",64,0,1]', b'["truncate"]',
+            b'["save","marks"]', b'["save","last",0]', b'["save","remain",0,0]', b'["rebuild"]',
+            b'["round",64,0,1]', b'["begin"]', b'["close",0]', b'["finish",64,0,1]', b'["show"]']
+
+
+def with_workers(lines):
+    """A script whose rounds are shared among four workers."""
+    return [b'["round",2048,6,4]' if command_of(line)[0] == "round" else line for line in lines]
+
+
+def handed_over(lines):
+    """What the script's run keeps, handed over to another one, which makes a round and a cut."""
+    model = Model()
+    for line in lines:
+        command = command_of(line)
+        if command[0] != "round":
+            getattr(model, command[0])(*command[1:])
+    parts = model.parts
+    found = [["resume", len(parts.gone), 16], ["marks", parts.gone, parts.closed],
+             ["last", [[key, *parts.base[key]] for key in sorted(parts.base)]]]
+    found += [["offer", session, parts.gone[session], list(map(told_txn, txns))]
+              for session, txns in enumerate(parts.remaining)]
+    return [*map(compact, found), b'["resumed"]', b'["round",64,0,1]', b'["truncate"]', b'["show"]']
+
+
+def for_live(lines, effort):
+    """The script's offers, and the closing of its sessions."""
+    sessions, limit = command_of(lines[0])[1:]
+    return [compact(["open", sessions, limit, *effort]),
+            *(line for line in lines if command_of(line)[0] == "offer"),
+            *(compact(["close", session]) for session in range(sessions))]
+
+
+def runs(data):
+    """The table."""
+    for name in sorted(os.listdir(data)):
+        if not name.endswith(".jsonl"):
+            continue
+        name = name[:-len(".jsonl")]
+        lines, replies = (lines_of(f"{data}/{name}.{end}") for end in ("jsonl", "replies"))
+        yield Audit(f"cobra_audit, {name}", lines, [reply + b"\n" for reply in replies])
+        if name in STEPS:
+            yield Audit(f"cobra_audit, {name} by steps", by_steps(lines))
+            yield Audit(f"cobra_audit, {name} with workers", with_workers(lines), is_judged=True)
+            yield Audit(f"cobra_audit, {name} handed over", handed_over(lines))
+            turns = b"".join(line + b"\n" + reply + b"\n" for line, reply in zip(lines, replies))
+            yield Whole(f"cobra_check, {name}", "cobra_check", turns)
+            yield Live(f"cobra_live, {name}", for_live(lines, [4096, 0, 1]))
+    gate = [b'["open",1,8,4096,0,1]', b'["offer",0,0,[[[],[5]]]]',
+            b'["offer",0,1,[[[[5,0,0]],[]]]]', b'["close",0]']
+    yield Live("cobra_live, one session", gate)
+    split = lines_of(f"{data}/real_split.jsonl")
+    yield Live("cobra_live, real_split with workers", for_live(split, [4096, 2, 4]))
+    yield Whole("cobra_demo, lost-update 1", "cobra_demo", DEMONSTRATION)
+
+
+def is_built(run):
+    name = run.name.split(",")[0]
+    return os.access(path_of(name), os.X_OK)
+
+
+def ways_of(shim, run, numbers, **how):
+    """How many runs went which way, and what was wrong with those that went none."""
+    ways, wrong = Counter(), []
+    for what, number in numbers:
+        try:
+            ways[run.way(shim, **{what: number}, **how)] += 1
+        except (Wrong, subprocess.TimeoutExpired, ValueError) as why:
+            ways["WRONG"] += 1
+            wrong.append(f"{run.name}, {what} {number}: {why}")
+    return ways, wrong
 
 
 def main():
     asked = argparse.ArgumentParser(description=__doc__.splitlines()[0])
     asked.add_argument("--every", type=int, default=1)
-    asked.add_argument("--only", default="", help="scripts whose name has this word")
-    asked.add_argument("program", nargs="?", default="crates/cobra_audit/out/cobra_audit")
+    asked.add_argument("--only", default="", help="runs whose name has this word")
+    asked.add_argument("--lasting", action="store_true", help="all are refused from the nth on")
     asked = asked.parse_args()
-    folder, ways = "crates/cobra_examples/data", Counter()
-    with tempfile.TemporaryDirectory() as scratch:
-        trial = Trial(os.path.abspath(asked.program), scratch)
-        for name in sorted(os.listdir(folder)):
-            if name.endswith(".jsonl") and asked.only in name:
-                ways += trial_of(trial, f"{folder}/{name}", asked.every)
-    print(f"{sum(ways.values())} allocations refused, {ways[None]} of them with a wrong end")
-    sys.exit(1 if ways[None] else 0)
+    how = {"is_lasting": True} if asked.lasting else {}
+    ways = Counter()
+    with tempfile.TemporaryDirectory() as folder:
+        shim = Shim(folder)
+        for run in runs(os.path.join(HERE, "../crates/cobra_examples/data")):
+            if asked.only not in run.name:
+                continue
+            if not is_built(run):
+                print(f"{run.name}: not built")
+                continue
+            made, threads = run.prepare(shim)
+            numbers = [("refused", each) for each in range(1, made + 1, asked.every)]
+            numbers += [("thread", each) for each in range(1, threads + 1)]
+            found, wrong = ways_of(shim, run, numbers, **how)
+            ways += found
+            told = ", ".join(f"{count} {it}" for it, count in sorted(found.items()))
+            print(f"{run.name}: {made} allocations, {threads} threads; {told}", *wrong[:5],
+                  sep="\n  ", flush=True)
+    print(f"{sum(ways.values())} refused, {ways['WRONG']} of them with a wrong end")
+    sys.exit(1 if ways["WRONG"] else 0)
 
 
 if __name__ == "__main__":

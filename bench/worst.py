@@ -11,7 +11,8 @@ what it is answered, its seconds, by how many MiB the program grew while it was 
 program's peak. --size says how many transactions remain (4,096); --some takes the rows alone whose
 name has the word. A line that takes longer than S seconds (120) or has the program grow past M MiB
 (4,096) is given up, and told so. Wanted is that no line takes over 2 seconds or 64 MiB, and no
-round of a budget up to 65,536 over 10 seconds or 128 MiB; a row that does is marked.
+round of a budget up to 65,536 over 10 seconds or 128 MiB; a row that does is marked. --write FOLDER
+writes each row's script there in place of running it.
 """
 import argparse
 import json
@@ -19,6 +20,9 @@ import os
 import select
 import subprocess
 import time
+
+import hard
+import resume
 
 LONGEST, MOST = 8388608, 256
 LINE, ROUND = (2.0, 64.0), (10.0, 128.0)  # seconds and MiB that are wanted
@@ -122,6 +126,49 @@ def wide_fences(count):
     return [[*txns, [[[0, "init"]], [0]]]]
 
 
+def one_reader(count):
+    """One key, one writer that is read, and as many other writers as there is room for, each of
+    which may stand on either side: the search goes as deep as it may."""
+    sessions = [[] for _ in range(64)]
+    sessions[0].append([[], [1]])
+    sessions[1].append([[[1, 0, 0]], []])
+    for number in range(count - 2):
+        sessions[2 + number % 62].append([[], [1]])
+    return sessions
+
+
+def split_pairs(count):
+    """Pairs of writers of a key of their own, each with a reader: no choice decides another."""
+    sessions = [[] for _ in range(63)]
+    for pair in range(count // 3):
+        first = pair % 21 * 3
+        key, place = pair + 1, len(sessions[first])
+        sessions[first].append([[], [key]])
+        sessions[first + 1].append([[], [key]])
+        sessions[first + 2].append([[[key, first, place]], []])
+    return sessions
+
+
+def stores(size):
+    """Stores of 64 sessions whose clients write what they haven't read, some with stale reads."""
+    for keys, blind, stale, behind in ((16, 0.9, 0.0, 0), (256, 0.9, 0.0, 0), (64, 0.5, 0.0, 0),
+                                       (256, 0.9, 0.01, 20), (1024, 0.9, 0.02, 50),
+                                       (64, 0.3, 0.002, 5)):
+        log = hard.store(size, 64, keys, 1, blind, stale, behind)
+        yield f"store, {keys} keys, blind {blind}, stale {stale}", log.sessions
+
+
+def contradictions(size):
+    """What takes a search, beside as many pairs that play no part as there is room for."""
+    for name, pairs, wrong in (("all ways of 3 pairs", 3, hard.all_ways(3)),
+                               ("chain of 8 pairs", 8, hard.chain(8)),
+                               ("formula of 8 pairs", 8, hard.formula(8, 13, 3, 1))):
+        log = hard.contradiction(pairs, wrong, 0)
+        hard.idle(log, (size - sum(map(len, log.sessions))) // 3)
+        if len(log.sessions) <= 64:
+            yield f"{name}, {size} transactions", log.sessions
+
+
 def rounds(size):
     """Rounds over as many transactions as may remain."""
     made = {
@@ -137,13 +184,77 @@ def rounds(size):
         "stale at the end of a chain": stale(size),
         "fences": fences(size, 64),
         "nothing but its sessions": [[[[], []]] * (size // 64) for _ in range(64)],
+        "one read, all others blind": one_reader(size),
+        "pairs that nothing orders": split_pairs(size),
+        **dict(stores(size)),
+        **dict(contradictions(size)),
     }
     for what, sessions in made.items():
         for budget in BUDGETS:
             yield (f"round of {budget}, {what}", opened(sessions),
                    compact(["round", budget, 0, 1]))
-    yield ("round of 65536, depth 6, 16 workers, blind, 1 key", opened(blind(size, 1)),
-           compact(["round", 65536, 6, 16]))
+    for what in ("blind, 1 key", "one read, all others blind", "pairs that nothing orders"):
+        yield (f"round of 65536, depth 6, 16 workers, {what}", opened(made[what]),
+               compact(["round", 65536, 6, 16]))
+
+
+def awaited(size):
+    """Transactions with as many reads as may be, all of one that hasn't come; and its offer."""
+    keys = list(range(1, MOST + 1))
+    waiting = [[[key, 63, 0] for key in keys], []]
+    sessions = [[waiting] * ((size - 1) // 63) for _ in range(63)]
+    reads = sum(map(len, sessions)) * MOST
+    lead, arrives = opened([*sessions, []]), compact(["offer", 63, 0, [[[], keys]]])
+    yield f"offer, for which {reads:,} reads wait", lead, arrives
+    for what, lines in (("wait for one", lead), ("have come of one", [*lead, arrives])):
+        yield (f"round of 4096, {reads:,} reads {what}", lines, compact(["round", 4096, 0, 1]))
+
+
+def joins(size):
+    """Sessions that join, and one of whom as much comes as may."""
+    fence = [compact(["open", 1, size]), b'["offer",0,0,[[[[0,"init"]],[0]]]]']
+    keys = list(range(DEAREST, DEAREST + MOST))
+    dear = [[[key, 63, 281474976710655] for key in keys], keys]
+    yield ("join, the largest, twenty digits", fence,
+           compact(["join", 1, [[[[0, 0, 0]], [0]], *[dear] * (MOST - 1)]]))
+    each = (size - 1) // 63
+    last, lines = (0, 0), list(fence)
+    for session in range(1, 64):
+        its = [[[[0, *last]], [0]], *[[[], [1, session + 1]]] * (each - 1)]
+        lines.append(compact(["join", session, its[:MOST]]))
+        last = session, 0
+    yield f"join, the 64th, {each} of each", lines[:-1], lines[-1]
+    for budget in BUDGETS:
+        yield (f"round of {budget}, 63 sessions joined", lines, compact(["round", budget, 0, 1]))
+
+
+def hand_overs(size):
+    """Parts with many last writers, and lines of a hand-over that are as long as may be."""
+    begin, keys = compact(["resume", resume.SESSIONS, resume.LIMIT]), 1_000_000
+    handed = list(resume.parts(keys, size))
+    yield f"resumed, {keys:,} last writers", [begin, *handed], b'["resumed"]'
+    opened_so = [begin, *handed, b'["resumed"]']
+    yield f"save last, {keys:,} last writers", opened_so, b'["save","last",0]'
+    yield f"show, {keys:,} last writers", opened_so, b'["show"]'
+    yield f"begin, {keys:,} last writers", opened_so, b'["begin"]'
+    yield f"rebuild, {keys:,} last writers", opened_so, b'["rebuild"]'
+    yield f"round of 4096, {keys:,} last writers", opened_so, compact(["round", 4096, 0, 1])
+    many, marks = [begin], compact(["marks", [2] * 64, [False] * 64])
+    writers = ",".join(f"[{key},0,0]" for key in range(1, LONGEST // 12)).encode()
+    yield "last, the longest", [*many, marks], b'["last",[' + writers[:LONGEST - 30].rsplit(
+        b",[", 1)[0] + b"]]"
+    yield ("marks, the longest", many, b'["marks",[' + b"0," * ((LONGEST - 20) // 2) + b"0],[]]")
+    yield ("offer of a hand-over, the longest", [*many, marks],
+           b'["offer",0,2,[' + b"[[],[]]," * ((LONGEST - 24) // 8) + b"[[],[]]]]")
+    full = compact(["offer", 0, 0, [[[[key, "init"] for key in keys_of(at)], keys_of(at)]
+                                    for at in range(MOST)]])
+    yield "save remain, the largest", [*opened([[]]), full], b'["save","remain",0,0]'
+
+
+def keys_of(at):
+    """The keys of one of many transactions, of twenty digits each."""
+    first = DEAREST - at * MOST
+    return list(range(first, first + MOST))
 
 
 def others(size):
@@ -225,21 +336,32 @@ def measure(path, lead, line, seconds, mib):
         program.stop()
 
 
+def write(folder, name, lines):
+    place = os.path.join(folder, name.replace(",", "").replace(" ", "_") + ".jsonl")
+    with open(place, "wb") as file:
+        file.write(b"".join(line + b"\n" for line in lines))
+
+
 def main():
     words = argparse.ArgumentParser(description=__doc__.splitlines()[0])
     words.add_argument("--size", type=int, default=4096)
     words.add_argument("--some", default="", metavar="WORD")
     words.add_argument("--seconds", type=float, default=120.0)
     words.add_argument("--mib", type=float, default=4096.0)
+    words.add_argument("--write", metavar="FOLDER")
     words.add_argument("program", nargs="?", default=os.environ.get(
         "COBRA_AUDIT", "crates/cobra_audit/out/cobra_audit"))
     asked = words.parse_args()
     path = os.path.abspath(asked.program)
     print(f"{asked.size} transactions, load {os.getloadavg()[0]:.1f}")
     print(f"{'line':52} {'answer':>10} {'s':>8} {'MiB':>7} {'peak':>7}", flush=True)
-    for rows in (largest(), longest(), others(asked.size), rounds(asked.size)):
+    for rows in (largest(), longest(), others(asked.size), joins(asked.size),
+                 awaited(asked.size), hand_overs(asked.size), rounds(asked.size)):
         for name, lead, line in rows:
             if asked.some not in name:
+                continue
+            if asked.write:
+                write(asked.write, name, [*lead, line])
                 continue
             kind, seconds, grown, peak = measure(path, lead, line, asked.seconds, asked.mib)
             wanted = ROUND if name.startswith("round") else LINE

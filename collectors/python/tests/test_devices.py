@@ -1,23 +1,29 @@
-"""The auditor from outside, where its devices fail and memory is refused: the bounded part of what
-bench/failing_devices.py and bench/refused_memory.py try. They want a C compiler."""
+"""The programs from outside, where their devices fail and memory is refused: the bounded part of
+what bench/failing_devices.py and bench/refused_memory.py try. They want a C compiler."""
 import os
 import sys
 import tempfile
 import unittest
 
-from zanteyard.auditor import PROGRAM
+from .built import TOP, WORKED, path_of
 
-TOP = os.path.normpath(os.path.join(os.path.dirname(os.path.abspath(__file__)), "../../.."))
-WORKED = os.path.join(TOP, "crates/cobra_examples/data")
 sys.path.append(os.path.join(TOP, "bench"))
 
 import failing_devices  # noqa: E402
 import refused_memory  # noqa: E402
 
-REFUSALS = 15  # of each script, spread over all allocations that the program makes for it
+refused_memory.PROGRAMS.update((name, path_of(name)) for name in failing_devices.NAMES)
+
+# Allocations of each run that are refused, spread over all that the program makes for it; and those
+# from which on all are.
+REFUSALS, LASTING = 12, 3
 
 
-@unittest.skipUnless(os.path.isfile(PROGRAM), f"{PROGRAM} is not built")
+def worked(name):
+    with open(os.path.join(WORKED, name), "rb") as file:
+        return file.read()
+
+
 @unittest.skipUnless(failing_devices.has_compiler(), "no cc is installed (no device failed)")
 class Devices(unittest.TestCase):
     def setUp(self):
@@ -26,29 +32,33 @@ class Devices(unittest.TestCase):
         self.folder = folder.name
 
     def test_each_read_and_each_write_fails_in_turn(self):
-        with open(os.path.join(WORKED, "first_cut.jsonl"), "rb") as file:
-            script = file.read()
-        for what, runs in failing_devices.wrong_runs(PROGRAM, self.folder, script):
-            with self.subTest(what=what):
-                self.assertGreater(len(runs), 0)
-                self.assertEqual(list(filter(None, runs)), [])
-
-    def test_allocations_are_refused(self):
-        trial = refused_memory.Trial(PROGRAM, self.folder)
-        for name in sorted(os.listdir(WORKED)):
-            if not name.endswith(".jsonl"):
+        script, replies = (worked(f"first_cut.{end}") for end in ("jsonl", "replies"))
+        for name in failing_devices.NAMES:
+            if path_of(name) is None:
                 continue
-            path = os.path.join(WORKED, name)
-            lines = refused_memory.lines_of(path)
-            wanted = refused_memory.lines_of(path[:-5] + "replies")
-            self.assertEqual(refused_memory.way(wanted, trial.run(lines, 0)), "nothing seen", name)
-            made = trial.made()
-            if not made:
-                self.skipTest(f"{PROGRAM} takes its memory elsewhere (no allocation was refused)")
-            for refused in range(1, made + 1, max(made // REFUSALS, 1)):
-                with self.subTest(name=name, refused=refused):
-                    ended = trial.run(lines, refused)
-                    self.assertIsNotNone(refused_memory.way(wanted, ended), ended[1:])
+            for what, runs in failing_devices.all_runs(name, path_of(name), self.folder, script,
+                                                       replies):
+                with self.subTest(program=name, what=what):
+                    self.assertGreater(len(runs), 0)
+                    self.assertEqual(list(filter(None, runs)), [])
+
+    def test_allocations_and_threads_are_refused(self):
+        shim, tried = refused_memory.Shim(self.folder), 0
+        for run in refused_memory.runs(WORKED):
+            if not refused_memory.is_built(run):
+                continue
+            made, threads = run.prepare(shim)
+            numbers = [("refused", each)
+                       for each in range(1, made + 1, max(made // REFUSALS, 1))]
+            numbers += [("thread", each) for each in range(1, threads + 1)]
+            lasting = numbers[:len(numbers) - threads][::max(REFUSALS // LASTING, 1)]
+            for asked, how in ((numbers, {}), (lasting, {"is_lasting": True})):
+                with self.subTest(run=run.name, **how):
+                    ways, wrong = refused_memory.ways_of(shim, run, asked, **how)
+                    self.assertEqual(wrong, [])
+                    tried += sum(ways.values())
+        if not tried:
+            self.skipTest("no program is built that takes its memory from the C library")
 
 
 if __name__ == "__main__":

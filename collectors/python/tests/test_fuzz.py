@@ -168,6 +168,17 @@ def no_cut(line, reply):
     return [judge.REFUSALS[13] if reply.startswith(b'["cut"') else reply]
 
 
+MAY_WANT = ("open", "offer", "join", "begin", "finish", "round", "truncate", "rebuild", "resume",
+            "marks", "last", "resumed")
+
+
+def wanting(line, reply):
+    """Whatever may be answered NoMemory is."""
+    command = judge.command_of(line)
+    is_refused = reply.startswith(b'["no"')
+    return [judge.REFUSALS[16] if command and command[0] in MAY_WANT and not is_refused else reply]
+
+
 def more_room(line):
     told_line = judge.command_of(line)
     if told_line and told_line[0] == "open":
@@ -236,6 +247,7 @@ LIES = {
     "a cut too far": ("scripts", same, lambda _, reply: [too_far(reply)]),
     "another last writer": ("scripts", same, lambda _, reply: [other_last(reply)]),
     "a cut withheld": ("scripts", same, no_cut),
+    "memory is always wanting": ("scripts", same, wanting),
     "one more remains": ("scripts", same, shown(more_remains)),
     "a closed session is shown open": ("scripts", same, shown(all_open)),
     "an offer that isn't kept": ("scripts", swallowed, told_ok),
@@ -353,6 +365,7 @@ class Fuzz(unittest.TestCase):
         for pairs in worked():
             with self.subTest(first=pairs[:3]):
                 self.assertIsNone(found_in([pairs], always))
+                self.assertIsNotNone(found_in([pairs], wanting), "memory is always wanting")
 
 
 if __name__ == "__main__":

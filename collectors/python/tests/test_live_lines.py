@@ -19,6 +19,9 @@ from zanteyard.programs import live_path
 
 from .live_runs import SECONDS, Live, Wrong, generated, judge, run
 
+sys.path.append(os.path.join(os.path.dirname(os.path.abspath(__file__)), "../../../bench"))
+import fuzz_live  # noqa: E402
+
 OPEN = b'["open",2,64,4096,0,1]'
 RUNS, AT_ONCE = int(os.environ.get("ZANTEYARD_RUNS", "150")), 8
 FORMATS = os.path.join(os.path.dirname(os.path.abspath(__file__)), "../../../docs/FORMATS.md")
@@ -75,6 +78,14 @@ class Lines(unittest.TestCase):
                     cuts += found[1]
         self.assertLessEqual({"serial", "pending", "violated"}, kinds)
         self.assertGreater(cuts, 10)
+
+    def test_lines_that_nobody_should_write(self):
+        """Bytes and grammar mutated, as bench/fuzz_live.py has them, for a short while."""
+        told = set()
+        with concurrent.futures.ThreadPoolExecutor(AT_ONCE) as pool:
+            for lines, text in pool.map(fuzz_live.try_run, map(str, range(RUNS // 3))):
+                told.update(fuzz_live.words_of(text))
+        self.assertLessEqual({"accepted", "badline", "BadTxn", "TooLong", "Gap", "violated"}, told)
 
     def test_the_judge_finds_lies(self):
         """Each line left out, told twice, or changed is found."""

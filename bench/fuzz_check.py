@@ -1,0 +1,171 @@
+#!/usr/bin/env python3
+"""Gives cobra_check stored replies and scripts with bytes mutated, beside the plain model of what
+is owed.
+
+Run at the top of the repository, after `cd crates/cobra_check && rt run < /dev/null` has built the
+program, or with COBRA_CHECK naming another one:
+
+    python3 bench/fuzz_check.py [--runs N] [--seed S] [--minutes M] [--keep FILE]
+
+Each run takes a worked script and its replies, mutates some bytes of either (`fuzz_lines.py`), or
+exchanges, drops or doubles replies, and gives them by turns. Where the plain model (`judge.py`)
+finds every reply to be the one owed, the program has to tell them right, with status 0; else wrong,
+with status 3, at the first reply that the model finds wrong or before it, since it holds a reply to
+its own text. It says nothing on standard error. It prints a table of what was told; at the first
+difference it stops, writes the input to FILE (fuzz-check-difference.txt), and ends with status 1.
+"""
+import argparse
+import os
+import random
+import re
+import subprocess
+import sys
+import time
+from collections import Counter
+
+HERE = os.path.dirname(os.path.abspath(__file__))
+sys.path.insert(0, HERE)
+from fuzz_lines import Bytes, NO_TEXT  # noqa: E402
+from judge import REFUSALS, command_of, first_difference  # noqa: E402
+
+DATA = os.path.join(HERE, "../crates/cobra_examples/data")
+SECONDS = 60.0
+
+
+def path_of():
+    return os.environ.get("COBRA_CHECK") or "crates/cobra_check/out/cobra_check"
+
+
+def worked():
+    """The worked scripts that begin with an opening, and their replies."""
+    for name in sorted(os.listdir(DATA)):
+        if name.endswith(".jsonl"):
+            with open(os.path.join(DATA, name), "rb") as file:
+                lines = file.read().removesuffix(b"\n").split(b"\n")
+            with open(os.path.join(DATA, name[:-5] + "replies"), "rb") as file:
+                replies = file.read().removesuffix(b"\n").split(b"\n")
+            if not any(line.startswith(b'["resume"') for line in lines):
+                yield lines, replies
+
+
+class Mutation:
+    """Scripts and replies, changed."""
+
+    def __init__(self, scripts, dice):
+        self.scripts, self.dice, self.bytes = scripts, dice, Bytes(dice)
+
+    def changed(self):
+        lines, replies = (list(its) for its in self.dice.choice(self.scripts))
+        way = self.dice.choice(("nothing", "reply", "reply", "reply", "line", "exchanged",
+                                "dropped", "doubled", "memory"))
+        at = self.dice.randrange(len(replies))
+        if way == "reply":
+            replies[at] = self.mutated(replies[at])
+        elif way == "line":
+            lines[at] = self.mutated(lines[at])
+        elif way == "exchanged":
+            other = self.dice.randrange(len(replies))
+            replies[at], replies[other] = replies[other], replies[at]
+        elif way == "dropped":
+            del replies[at]
+        elif way == "doubled":
+            replies.insert(at, replies[at])
+        elif way == "memory":
+            replies[at] = REFUSALS[16]
+        return way, lines, replies[:len(lines)]
+
+    def mutated(self, line):
+        """The line with some bytes changed, and no LF in it."""
+        line, dice = bytearray(line), self.dice
+        for _ in range(dice.choice((1, 1, 2, 4))):
+            kind = dice.choice(("flipped", "set", "taken_out", "put_in", "doubled", "cut",
+                                "moved", "no_text"))
+            if line:
+                place = dice.randrange(len(line) + 1)
+                getattr(self.bytes, f"make_{kind}")(line, min(place, len(line) - 1), place)
+        return bytes(line).replace(b"\n", dice.choice(NO_TEXT).replace(b"\n", b""))
+
+
+def owed_by_model(lines, replies):
+    """The place of the first reply that isn't owed, or None. A reply that says that memory was
+    wanting is passed over where it may be given, and its line with it."""
+    given, told = [], []
+    places = []
+    for place, (line, reply) in enumerate(zip(lines, replies)):
+        command = command_of(line)
+        if reply == REFUSALS[16] and command and command[0] in MAY_WANT:
+            continue
+        given.append(line)
+        told.append(reply)
+        places.append(place)
+    found = first_difference(b"".join(line + b"\n" for line in given),
+                             b"".join(reply + b"\n" for reply in told))
+    return None if found is None else places[found[0]] if found[0] < len(places) else len(lines)
+
+
+MAY_WANT = ("open", "offer", "join", "begin", "finish", "round", "truncate", "rebuild")
+
+
+def try_run(mutation):
+    """The way it was changed, and how the program ended; raises Difference."""
+    way, lines, replies = mutation.changed()
+    given = b"".join(line + b"\n" + reply + b"\n" for line, reply in zip(lines, replies))
+    lacks = len(replies) < len(lines)
+    if lacks:
+        given += lines[len(replies)] + b"\n"
+    ended = subprocess.run([path_of()], input=given, stdout=subprocess.PIPE,
+                           stderr=subprocess.PIPE, timeout=SECONDS, check=False)
+    wrong = owed_by_model(lines[:len(replies)], replies)
+    why = None
+    if ended.stderr or ended.returncode not in (0, 3):
+        why = f"it ends with {ended.returncode}, {ended.stderr!r}"
+    elif (ended.returncode == 3) != (wrong is not None or lacks):
+        why = f"the model finds reply {wrong} wrong, and the status is {ended.returncode}"
+    elif ended.returncode == 3:
+        told = re.search(rb"^reply (\d+) wrong", ended.stdout, re.MULTILINE)
+        most = len(replies) if wrong is None else wrong
+        if told is None or int(told[1]) > most + 1:
+            why = f"the model finds reply {most + 1} wrong"
+    if why:
+        raise Difference(given, f"{way}: {why}; told is {ended.stdout[-400:]!r}")
+    return way, "right" if ended.returncode == 0 else "wrong"
+
+
+class Difference(Exception):
+    def __init__(self, given, why):
+        super().__init__(why)
+        self.given = given
+
+
+def fuzz(seed, runs, until=None):
+    """What was told by way; raises Difference."""
+    scripts, table = list(worked()), Counter()
+    for number in range(runs):
+        if until and time.monotonic() > until:
+            break
+        table[try_run(Mutation(scripts, random.Random(f"check {seed} {number}")))] += 1
+    return table
+
+
+def main():
+    asked = argparse.ArgumentParser(description=__doc__.splitlines()[0])
+    asked.add_argument("--runs", type=int, default=10000)
+    asked.add_argument("--seed", default="1")
+    asked.add_argument("--minutes", type=float)
+    asked.add_argument("--keep", default="fuzz-check-difference.txt", metavar="FILE")
+    asked = asked.parse_args()
+    begin = time.monotonic()
+    try:
+        table = fuzz(asked.seed, asked.runs, begin + 60 * asked.minutes if asked.minutes else None)
+    except Difference as difference:
+        with open(asked.keep, "wb") as file:
+            file.write(difference.given)
+        sys.exit(f"DIFFERENCE, now in {asked.keep}: {difference}")
+    for (way, told), count in sorted(table.items()):
+        print(f"{way:10} {told:6} {count:>8,}")
+    print(f"seed {asked.seed}: {sum(table.values()):,} runs, {time.monotonic() - begin:.0f} s, "
+          f"no difference")
+
+
+if __name__ == "__main__":
+    main()
