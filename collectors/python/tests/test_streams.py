@@ -174,8 +174,7 @@ class Behind(WithRedis, TwoProcesses, test_live.Meetings):
             with self.assertRaisesRegex(ValueError, "no session is left"):
                 other.session(store.connect())
         asking.join()
-        with self.assertRaisesRegex(ValueError, "no session is left"):
-            other.session(store.connect())
+        self.assertEqual(found[0].number, 0)
         found[0].run(add_one("x"))
         self.assertEqual(self.ended(live).kind, "serial")
 

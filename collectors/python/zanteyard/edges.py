@@ -29,6 +29,7 @@ def coverage_from_now(
             first[session], unknown[session] = unsent, its
     for group in groups:
         group.reopen()
+    places.reopen()
     for session in sorted(places.nobodys()):  # of processes that are lost
         if first[session] is None:
             early[session] = backlog.next_number(session)

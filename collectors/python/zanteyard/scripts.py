@@ -14,6 +14,7 @@ from .auditor import FENCE
 from .errors import ProgramEndedError, ScriptMistakeError
 from .records import Logged, Pending, TransactionId
 from .script_names import NamedTransaction, ScriptNames
+from .stints import Stints
 from .taking import never_came
 
 # What a spent round is given again with: nodes of the search, depth, workers.
@@ -36,6 +37,8 @@ ADVICE: Mapping[str, str] = {
     "TooLong": "a line has 1 to 256 transactions, each with at most 256 reads and 256 writes; "
     + MOST_OPEN,
     "RoundOpen": "a round is open: `finish` it first",
+    "NotAnchored": "a session joins with a fence that reads from one that remains, or from the "
+    "last one that is forgotten",
     "NoRound": "no round is open",
 }
 
@@ -62,10 +65,20 @@ class ScriptHistory:
     history: List[List[Logged]] = field(default_factory=list)
     marks: List[int] = field(default_factory=list)  # of each session, how many are forgotten
     base: Dict[str, TransactionId] = field(default_factory=dict)  # of a key the last one gone
+    stints: Stints = field(default_factory=Stints)  # of sessions that several clients had
 
     def begin(self, sessions: int) -> None:
         """Nothing has come yet."""
         self.history, self.marks = [[] for _ in range(sessions)], [0] * sessions
+        self.stints = Stints()
+
+    def join(self, session: int, transactions: Iterable[Any]) -> None:
+        """What an accepted `join` has said."""
+        if session == len(self.history):
+            self.history.append([])
+            self.marks.append(0)
+        self.stints.begin_behind(session, self.marks[session])  # nothing of it remains
+        self.take_in(session, transactions)
 
     def take_in(self, session: int, transactions: Iterable[Any]) -> None:
         """What an accepted `offer` has said."""
@@ -75,8 +88,9 @@ class ScriptHistory:
             self.history[session].append(logged_of(reads, keys, self.key_name, named))
 
     def called(self, id: TransactionId) -> str:
-        """How the transaction is told."""
-        return self.names.name(id)
+        """How the transaction is told: with its client's first, where its session had others."""
+        told, by_number = self.names.name(id), f"{id[0]}.{id[1]}"
+        return self.stints.called_by_first(id) if told == by_number else told
 
     def key_name(self, number: int) -> str:
         """How the key is told."""
@@ -166,6 +180,9 @@ class ScriptRun:
             self.history.begin(command[1])
         elif command[0] == "offer":
             self.history.take_in(command[1], command[3])
+            self._has_more = True
+        elif command[0] == "join":
+            self.history.join(command[1], command[-1])
             self._has_more = True
         elif command[0] == "begin":
             self._round_is_open, self._has_more = True, False
