@@ -8,6 +8,7 @@ import tempfile
 import threading
 import time
 import unittest
+from contextlib import ExitStack, contextmanager
 from unittest import mock
 
 from zanteyard import FENCE, Aborted, Auditor, AuditorApart, LiveAuditor, Logged, OutcomeUnknown
@@ -308,6 +309,40 @@ class GivenOut(unittest.TestCase):
         places.take_back([*lent, place])
         self.assertEqual([places.take(0.0).number for _ in range(2)], [1, 0])
 
+    def test_half_of_what_clients_do_not_have_can_be_had_at_any_time(self):
+        places = Places(64)
+        for _ in range(5):
+            places.take(0.0)
+        places.let_join()
+        for closed in (29, 0, 0):  # no more, as long as these aren't forgotten
+            lent = places.lend()
+            kept = places.spare(lent)
+            self.assertEqual(len(places.close([it for it in lent if it not in kept])), closed)
+            places.take_back(lent)
+            self.assertEqual(places.free, 30)
+        self.assertEqual([places.take(0.0).must_join for _ in range(30)], [False] * 30)
+        self.assertIsNone(places.take(0.0))
+        self.assertFalse(places.are_all_taken)
+
+    def test_a_few_can_be_had_where_few_are_left(self):
+        places = Places(64)
+        for _ in range(52):
+            places.take(0.0)
+        places.let_join()
+        self.assertEqual(len(places.spare(places.lend())), 8)
+
+    def test_another_audit_has_sessions_for_who_went_without_one(self):
+        places = Places(62)
+        for _ in range(62):
+            places.take(0.0)
+        for _ in range(4):
+            self.assertFalse(places.take_unaudited().is_audited)
+        places.grow()
+        self.assertEqual((places.sessions, places.numbers()), (64, [62, 63]))
+        coverage = coverage_from_now(64, [], places, Backlog(8))
+        self.assertEqual(coverage.first[62:], [0, 0])
+        self.assertEqual([places.take(0.0).number for _ in range(2)], [62, 63])
+
     def test_who_has_one_and_is_not_there_yet(self):
         places = Places(3)
         taken = [places.take(0.0).number for _ in range(2)]
@@ -375,6 +410,15 @@ class Joins(WithProgram):
         outcome = self.ended(live)
         self.assertEqual((outcome.kind, outcome.audited, self.auditor.sessions), ("serial", live.handed_in, 4))
 
+    def until(self, condition, session):
+        """Meetings come by what a client does."""
+
+        def has_come():
+            session.run(add_one("x"))
+            return condition()
+
+        self.wait_for(has_come)
+
     def test_one_client_behind_another(self):
         """Each has its session to itself; what it does first is the fence."""
         live, store = self.live(2, every=6), MemoryStore()
@@ -387,7 +431,8 @@ class Joins(WithProgram):
                 stays.run(add_one("x"))
             if len(seen) % 8 == 0:
                 cuts = live.cuts
-                self.wait_for(lambda: live.cuts > cuts)
+                self.until(lambda: live.cuts > cuts, stays)
+                self.wait_for(lambda: live._places._back)
         self.assertGreater(len(seen), len({number for number, _ in seen}))
         self.assertGreater(live.cuts, 2)
         self.assertEqual(self.ended(live).kind, "serial")
@@ -433,17 +478,10 @@ class Joins(WithProgram):
         stays, leaves = (live.session(store.connect()) for _ in range(2))
         stays.run(add_one("x")), leaves.run(add_one("y"))
         leaves.close()
-        add, coming = live._group.add, threading.Event()
-
-        def later(session):
-            coming.set()
-            time.sleep(0.1)
-            add(session)
-
-        with mock.patch.object(live._group, "add", later):
+        with comes_later(live, live._group, "zanteyard.convener") as coming:
             thread = threading.Thread(target=live.session, args=(store.connect(),))
             thread.start()
-            coming.wait(60)
+            self.assertTrue(coming.wait(60))
             self.assertIsNone(live._convener.meet(60.0, 60.0).failure)
             thread.join(60)
         self.assertEqual((self.ended(live).kind, live.cuts), ("serial", 1))
@@ -465,28 +503,23 @@ class Joins(WithProgram):
 
     def test_a_violation_names_the_client(self):
         live, store = self.live(2, every=4), MemoryStore()
-        stays = live.session(store.connect())
-        for _ in range(6):
-            with live.session(store.connect()) as session:
-                session.run(add_one("x"))
-                for _ in range(3):
-                    stays.run(add_one("x"))
-            cuts = live.cuts
-            self.wait_for(lambda: live.cuts > cuts or not live._is_meeting_due())
+        stays, leaves = (live.session(store.connect()) for _ in range(2))
+        leaves.run(add_one("x"))
+        leaves.close()
+        self.until(lambda: live._places._back, stays)
         session = live.session(store.connect())
         session.run(add_one("x"))
+        self.assertEqual((session.number, session.place.client), (1, 3))
         store.fault = "lost-update"
         one, other = stays.begin(), session.begin()
         add_one("x")(one), add_one("x")(other)
         one.commit(), other.commit()
-        outcome = live.stop()
-        self.assertEqual(outcome.kind, "violated")
+        self.assertEqual(live.stop().kind, "violated")
         _, called = from_start(self.auditor)
-        place, marks = session.place, self.auditor.marks
-        name = called((place.number, place.begun - marks[place.number] if any(marks) else place.begun - 1))
-        if place.number in live._places.stints._shared:
-            self.assertIn(f"(client {place.client})", name)
-        self.assertNotIn("client", called((stays.number, 1)))
+        marks = self.auditor.marks
+        self.assertTrue(any(marks))  # so that each session begins with one that stands for what is forgotten
+        self.assertEqual(called((1, other.number - marks[1] + 1)), f"1.{other.number} (client 3)")
+        self.assertEqual(called((0, one.number - marks[0] + 1)), f"0.{one.number}")
 
     def test_another_audit_begins(self):
         live, store = self.live(1, every=4, policy=Policy(60.0, True, 0.01)), MemoryStore()
@@ -504,6 +537,29 @@ class Joins(WithProgram):
         outcome = live.stop()
         self.assertEqual((outcome.kind, len(outcome.earlier)), ("incomplete", 1))
         self.assertEqual(live._audit.outcome(True, None).kind, "serial")
+
+
+@contextmanager
+def comes_later(live, group, *waiting):
+    """Whose session is added once a meeting waits for that; gives what says that it is about to be."""
+    add, coming, is_waited_for = group.add, threading.Event(), threading.Event()
+    all_there = live._places.coming
+
+    def later(session):
+        coming.set()
+        is_waited_for.wait(60)
+        add(session)
+
+    def looked(there):
+        is_waited_for.set()
+        return all_there(there)
+
+    with ExitStack() as patched:
+        for module in waiting:
+            patched.enter_context(mock.patch(f"{module}.COMING", 60.0))
+        patched.enter_context(mock.patch.object(group, "add", later))
+        patched.enter_context(mock.patch.object(live._places, "coming", looked))
+        yield coming
 
 
 class Behaves:
@@ -568,7 +624,7 @@ class Fences(WithProgram):
     def test_where_the_store_can_not_be_reached_the_client_is_told_so(self):
         self.joining().close()
         store = Behaves(self.store.connect())
-        store.begin = lambda: 1 / 0
+        store.errors, store.begin = (ZeroDivisionError,), lambda: 1 / 0
         session = self.one.session(store)
         self.assertIsNone(session.number)
         with self.assertRaises(ZeroDivisionError):
@@ -668,17 +724,10 @@ class Elsewhere(WithProgram):
         until = time.monotonic() + 60
         while live._places.numbers() != left and time.monotonic() < until:
             time.sleep(0.005)
-        add, coming = comes._group.add, threading.Event()
-
-        def later(session):
-            coming.set()
-            time.sleep(0.1)
-            add(session)
-
-        with mock.patch.object(comes._group, "add", later):
+        with comes_later(live, comes._group, "zanteyard.convener", "zanteyard.group_calls") as coming:
             thread = threading.Thread(target=comes.session, args=(store.connect(),))
             thread.start()
-            coming.wait(60)
+            self.assertTrue(coming.wait(60))
             self.assertIsNone(live._convener.meet(60.0, 60.0).failure)
             thread.join(60)
         stays.leave(), comes.leave()

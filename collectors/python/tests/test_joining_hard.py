@@ -27,7 +27,10 @@ from .test_live import WithProgram, add_one
 
 class Alone:
     """A connection that has exchanges which are committed by themselves. Those of which the turn
-    comes are committed, and then `raises` comes in place of their answer."""
+    comes are committed, and then `raises` comes in place of their answer; what became of them the
+    store `knows`, or doesn't."""
+
+    knows = True
 
     def __init__(self, connection, *raises):
         self._connection, self._raises = connection, [*raises]
@@ -42,7 +45,8 @@ class Alone:
         found = self._connection.read(key)
         self._connection.write(key, value, name)
         self._connection.commit()
-        self.outcome, there = (lambda: there), self._connection.last_outcome
+        there = self._connection.last_outcome
+        self.outcome = lambda: there if self.knows else "unknown"
         self._connection.begin()
         if key == FENCE and self._raises:
             error = self._raises.pop(0)
@@ -57,29 +61,78 @@ class Interrupted(WithProgram):
         logging.getLogger("zanteyard").setLevel(logging.CRITICAL)
         self.addCleanup(logging.getLogger("zanteyard").setLevel, logging.NOTSET)
 
+    def met(self):
+        """A live audit whose clients have met, and its store."""
+        live, store = self.live(2, every=1000), MemoryStore()
+        self.stays = live.session(Alone(store.connect()))
+        self.stays.run(add_one("x"))
+        self.assertIsNone(live._convener.meet(60.0, 60.0).failure)
+        return live, store
+
+    def one_name_each(self, store):
+        names = [name for _, name, _ in store.versions[FENCE]]
+        self.assertEqual(len(names), len({*names}))
+
     def test_a_fence_that_is_there_has_its_name_for_itself(self):
-        """An interrupt comes behind the store's answer; the client goes on."""
-        for error in (KeyboardInterrupt(), TimeoutError("of a handler of SIGALRM")):
-            with self.subTest(type(error).__name__):
-                live, store = self.live(2, every=1000), MemoryStore()
-                stays = live.session(Alone(store.connect()))
-                stays.run(add_one("x"))
-                self.assertIsNone(live._convener.meet(60.0, 60.0).failure)
-                comes = Alone(store.connect())
-                comes.begin_alone = lambda seconds: 1 / 0
-                session = live.session(comes)
-                del comes.begin_alone
-                comes._raises.append(error)
-                try:
+        """An interrupt comes behind the store's answer; the client is told of that, and goes on."""
+        for error in (KeyboardInterrupt(), TimeoutError("of a handler of SIGALRM"), OutcomeUnknown("it is late")):
+            for knows in (True, False):
+                with self.subTest(type(error).__name__, knows=knows):
+                    live, store = self.met()
+                    comes = Alone(store.connect())
+                    comes.errors, comes.begin_alone = (ZeroDivisionError,), lambda seconds: 1 / 0
+                    session = live.session(comes)
+                    self.assertIsNone(session.number)
+                    del comes.begin_alone
+                    comes._raises.append(error)
+                    comes.knows = knows
+                    if isinstance(error, OutcomeUnknown):  # of the collector's own: none of the client's business
+                        session.run(add_one("x"))
+                    else:
+                        with self.assertRaises(type(error)):
+                            session.run(add_one("x"))
+                    self.assertIsNone(live._convener.meet(60.0, 60.0).failure)
                     session.run(add_one("x"))
-                except (KeyboardInterrupt, TimeoutError):
-                    pass
-                self.assertIsNone(live._convener.meet(60.0, 60.0).failure)
-                session.run(add_one("x"))
-                stays.run(add_one("x"))
-                names = [name for _, name, _ in store.versions[FENCE]]
-                self.assertEqual(len(names), len({*names}))
-                self.assertNotIn(live.stop().kind, ("violated", "collector"))
+                    self.stays.run(add_one("x"))
+                    self.one_name_each(store)
+                    # Nobody says what the fence has read. Where it may be none at all, who reads from it waits.
+                    is_known = knows and isinstance(error, Exception)
+                    self.assertEqual(live.stop().kind, "incomplete" if is_known else "pending")
+
+    def test_who_is_interrupted_as_its_session_is_made_is_told_so(self):
+        for error in (KeyboardInterrupt(), TimeoutError("of a handler of SIGALRM")):
+            for when in ("begin_alone", "exchange"):
+                with self.subTest(type(error).__name__, when=when):
+                    live, store = self.met()
+                    comes = Alone(store.connect(), error)
+                    if when == "begin_alone":
+                        comes.begin_alone = mock.Mock(side_effect=error)
+                    with self.assertRaises(type(error)):
+                        live.session(comes)
+                    self.assertEqual((live._group.numbers(), live._places.taken), ([0], 1))
+                    other = live.session(Alone(store.connect()))
+                    other.run(add_one("x"))
+                    self.stays.run(add_one("x"))
+                    self.one_name_each(store)
+                    is_known = isinstance(error, Exception)
+                    kind = "serial" if when == "begin_alone" else "incomplete" if is_known else "pending"
+                    self.assertEqual(live.stop().kind, kind)
+
+    def test_what_an_interrupt_leaves_of_a_fence_has_no_name_of_another(self):
+        """It comes as the fence has its number, and nobody has the fence."""
+        live, store = self.met()
+        start = Session.start
+
+        def started(session, *arguments):
+            start(session, *arguments)
+            raise TimeoutError("of a handler of SIGALRM")
+
+        with mock.patch.object(Session, "start", started), self.assertRaises(TimeoutError):
+            live.session(Alone(store.connect()))
+        other = live.session(Alone(store.connect()))
+        other.run(add_one("x"))
+        self.assertEqual((other.number, other.begun), (2, 2))
+        self.assertEqual(live.stop().kind, "serial")
 
 
 class Stuck(unittest.TestCase):
@@ -110,17 +163,30 @@ class Harmless(WithProgram):
     def test_meetings_that_are_wanted_and_fail_hold_clients_up_ever_more_seldom(self):
         """One client's transaction goes on for long, and few sessions are left."""
         live, store = self.live(58, every=1000, policy=Policy(0.05, False)), MemoryStore()
+        meet, began, ended_at = live._convener.meet, [], []
+
+        def timed(*arguments):
+            began.append(time.monotonic())
+            try:
+                return meet(*arguments)
+            finally:
+                ended_at.append(time.monotonic())
+
+        live._convener.meet = timed
         sessions = [live.session(store.connect()) for _ in range(57)]
         sessions[0].run(add_one("x"))
         live._places.let_join()  # as if they had met before
         ended = live._places.lend()
         live._places.close(ended), live._places.take_back(ended)
         running = sessions[1].begin()
-        with mock.patch.object(live._audit, "run_round"):  # which takes its time on a slow machine
-            time.sleep(3.0)
+        until = time.monotonic() + 60
+        while len(began) < 6 and time.monotonic() < until:
+            time.sleep(0.005)
         running.commit()
-        self.assertTrue(2 <= live.meetings <= 7, live.meetings)
         self.assertEqual(live.stop().kind, "serial")
+        self.assertGreaterEqual(len(began), 6)
+        for at, (ends, begins) in enumerate(zip(ended_at[:5], began[1:6])):
+            self.assertGreaterEqual(begins - ends, 0.05 * 2 ** at)
 
     def test_where_nothing_more_is_audited_nobody_waits_or_joins(self):
         live, store = self.live(1, policy=Policy(60.0, False)), MemoryStore()
@@ -206,18 +272,39 @@ class Harmless(WithProgram):
 
     def test_who_comes_before_a_cut_has_a_session(self):
         """A meeting closes what nobody has; that comes back when there is a cut, if there is one."""
-        live, store = self.live(64, every=1000, policy=Policy(1.0, False)), MemoryStore()
+        live, store = self.live(64, every=1000), MemoryStore()
         stays = live.session(store.connect())
         stays.run(add_one("x"))
         self.assertIsNone(live._convener.meet(60.0, 60.0).failure)
-        others = [live.session(store.connect()) for _ in range(8)]
+        others = [live.session(store.connect()) for _ in range(40)]  # more than were kept
         for session in (stays, *others):
             session.run(add_one("x"))
-        until = time.monotonic() + 60
-        while not live.cuts and time.monotonic() < until:
-            time.sleep(0.005)
         self.assertGreater(live.cuts, 0)
+        self.assertEqual(live._places.taken, 41)
         self.assertEqual(self.ended(live).kind, "serial")
+
+    def test_more_who_come_before_a_cut_than_there_is_room_for_go_on_unaudited(self):
+        """As many as can be at a time are none too many for the application; another audit has sessions for them."""
+        live, store = self.live(64, every=1000, policy=Policy(0.05, True, 0.01)), MemoryStore()
+        stays = live.session(store.connect())
+        stays.run(add_one("x"))
+        live._killed.__enter__()  # no other meeting comes
+        self.assertIsNone(live._convener.meet(60.0, 60.0).failure)
+        others = [live.session(store.connect()) for _ in range(40)]
+        without = [session for session in others if not session.place.is_audited]
+        self.assertEqual(len(without), 8)
+        for session in others:
+            session.run(add_one("x"))
+        live._killed.__exit__()
+        until = time.monotonic() + 60
+        while not live.earlier and time.monotonic() < until:
+            time.sleep(0.005)
+        for session in (stays, *others):
+            session.run(add_one("x"))
+        self.assertEqual([session for session in others if not session.place.is_audited], [])
+        outcome = live.stop()
+        self.assertEqual(outcome.kind, "incomplete")
+        self.assertIn("no session is left for a client: 33 clients", str(outcome.failure))
 
 
 @unittest.skipUnless(StreamProcess, "redis-py isn't installed")

@@ -12,7 +12,7 @@ import unittest
 from typing import Any
 from unittest import mock
 
-from zanteyard import RATHER_WAIT, Auditor, AuditorApart, LiveAuditor
+from zanteyard import RATHER_WAIT, Auditor, AuditorApart, LiveAuditor, Policy
 
 try:
     import psycopg2
@@ -410,8 +410,10 @@ class Odd(Harmless):
 class Sessions(Harmless):
     def test_where_none_is_left_a_connection_isnt_audited(self) -> None:
         place = self.database(SCHEMA, ["t"])
-        with AuditorApart(1) as apart:
-            live = LiveAuditor(apart, policy=RATHER_WAIT)
+        with AuditorApart(64) as apart:
+            live = LiveAuditor(apart, policy=Policy(1.0, begins_anew=False))
+            for _ in range(63):
+                live._places.take(0.0)
             clients = [psycopg2.connect(place, connection_factory=audited(live, ["t"]))
                        for _ in range(2)]
             for client in clients:

@@ -72,15 +72,17 @@ class AuditClient(SessionsHere):
 
     def session(self, store: Store, patience: float = PATIENCE) -> Session:
         """The session of a new client, which asks the store for so many seconds for an outcome that
-        isn't known. Raises ValueError where none is left, and ProgramEndedError where nothing more
-        is audited, or nobody answers."""
+        isn't known. Raises as a LiveAuditor's does, and ProgramEndedError where nothing more is
+        audited, or nobody answers."""
         seconds = ANSWERING + self.policy.wait  # in which a meeting may have all that are left
         place = self._requests.asked("join", True, seconds=seconds)
         if place is not None:
+            if not place.is_audited:
+                self._renewed = time.monotonic()
             return self._add_session(place, store, patience)
         if self._is_over:
             raise ProgramEndedError("nothing more is audited")
-        raise ValueError("no session is left")
+        raise ValueError("no session is left: all have clients")
 
     def leave(self, seconds: float = LEAVING) -> None:
         """Hands over what is left, and gives its sessions back; waits for a meeting that holds

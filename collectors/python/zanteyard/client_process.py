@@ -209,9 +209,11 @@ class ClientProcess:
         live = self._live
         place = live._places.take(max(NEW, live.policy.wait) if is_new else live.policy.wait)
         if place is None:
-            if not is_new:
+            if is_new:
+                place = live._without_place()
+            else:
                 live._lose_for_a_client()
-            self.messages.tell("left", asked, None)
+            self.messages.tell("left", asked, astuple(place) if place else None)
             return
         if self.group.has_left:
             live._places.give_back([place])

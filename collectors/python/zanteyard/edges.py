@@ -15,7 +15,8 @@ def coverage_from_now(
     sessions: int, groups: Sequence[MeetingGroup], places: Places, backlog: Backlog
 ) -> Coverage:
     """What is sent to the store from now on is audited. Who had ended goes on, and the places of
-    processes that are lost may be used again; a process that doesn't answer has no part."""
+    processes that are lost may be used again; a process that doesn't answer has no part. So many
+    sessions there are, and by `Places.grow` no more until it has begun."""
     early: List[int] = [0] * sessions
     first: List[Optional[int]] = [None] * sessions
     unknown: List[Tuple[Tuple[int, int], ...]] = [()] * sessions

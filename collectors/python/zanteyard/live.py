@@ -21,7 +21,7 @@ from .audit import AnyAuditor, Audit, Figures
 from .auditor import FENCE, LONGEST
 from .backlog import Backlog, keys_written_unseen
 from .convener import Convener
-from .coverage import SESSIONS, Coverage
+from .coverage import Coverage
 from .edges import coverage_from_now
 from .errors import AuditLostError, MissingError
 from .forks import is_forked
@@ -140,20 +140,31 @@ class LiveAuditor(SessionsHere):
 
     def session(self, store: Store, patience: float = PATIENCE) -> Session:
         """The session of a new client, which asks the store for so many seconds for an outcome that
-        isn't known. Raises ValueError where none is left."""
+        isn't known. Raises ValueError where as many clients have one each as can at a time; else,
+        where none is left in the policy's time, the client goes on unaudited. Where the client is
+        to join, it may raise what comes meanwhile and isn't of the store, as of a handler of
+        SIGALRM."""
         if is_forked(self):  # threads that have its locks don't run here
             return Session(self, 0, store, self.run_name, patience)
         if not self.auditor.has_sessions:
             self.auditor.note_sessions()
-        place = self._places.take(self.policy.wait)
+        place = self._places.take(self.policy.wait) or self._without_place()
         if place is None:
             raise ValueError(f"no session is left: {self._no_place()}")
         return self._add_session(place, store, patience)
 
+    def _without_place(self) -> Optional[Place]:
+        """For a new client for whom none is left: one that no audit is about; None where all have
+        clients."""
+        if self._places.are_all_taken:
+            return None
+        self._lose_for_a_client()
+        return self._places.take_unaudited()
+
     def _no_place(self) -> str:
         """Why no client more can have one."""
         count, why = self._places.taken, self._audit.why_no_cut
-        if count >= SESSIONS:
+        if self._places.are_all_taken:
             return f"{count} clients have one each, and no more can at a time"
         told = f"{count} clients have one each, and a meeting has to make room for another"
         return f"{told}; the last made none, since {why}" if why else told
@@ -315,7 +326,8 @@ class LiveAuditor(SessionsHere):
         return f"the auditor can't keep up: {waits}"
 
     def _renew(self, session: Session) -> Optional[Place]:
-        place = self._places.take(self.policy.wait)
+        # Where nothing is audited nobody waits for it.
+        place = self._places.take(0.0 if self._drops() else self.policy.wait)
         if place is None:
             self._lose_for_a_client()
         elif session.place is not None:  # which has ended for this audit
@@ -324,7 +336,8 @@ class LiveAuditor(SessionsHere):
 
     def _lose_for_a_client(self) -> None:
         """One goes on unaudited, since there are more than sessions."""
-        self.lose(Lost(f"no session is left for a client: {self._no_place()}"))
+        if not self.is_over:
+            self.lose(Lost(f"no session is left for a client: {self._no_place()}"))
 
     def _cant_join(self, session: Session, why: Exception) -> Optional[Place]:
         self.lose(Lost(f"a client can't join: {str(why).strip() or type(why).__name__}"))
@@ -498,6 +511,7 @@ class LiveAuditor(SessionsHere):
         convener.is_meeting, self._backlog.room = True, self._backlog.most
         self._lost = None  # nothing is dropped from here on: what has ended is known by its number
         try:
+            self._places.grow()
             self.auditor.sessions = sessions = self._places.sessions
             coverage = coverage_from_now(sessions, convener.groups, self._places, self._backlog)
             self.auditor.start_anew(coverage)

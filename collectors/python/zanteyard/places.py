@@ -41,6 +41,7 @@ class Places:
         self._new: Optional[int] = None  # which hasn't joined yet
         self._new_at = 0.0  # when it was given out, by the monotonic clock
         self._waiting = 0  # clients
+        self._without = 0  # clients that went without one, since this audit began
         self._has_ended = False  # nothing more is audited
         self._next_unaudited = max(SESSIONS, sessions)
 
@@ -63,6 +64,7 @@ class Places:
     def take_unaudited(self) -> Place:
         """One that no audit is about, for a client for whom none is left."""
         with self._changed:
+            self._without += 1
             self._next_unaudited += 1
             return Place(self._next_unaudited - 1, is_audited=False)
 
@@ -114,10 +116,13 @@ class Places:
 
     def spare(self, places: Iterable[Place]) -> List[Place]:
         """Of those that are lent, those that stay open for clients that come: what is closed comes
-        back behind a cut alone, and nobody knows when there is one."""
+        back behind a cut alone, and nobody knows when there is one. So half of what clients don't
+        have can be had at any time, and a few where there are few."""
         with self._changed:
             its = [it for it in places if self._lent.get(it.number) is it and _is_behind(it)]
-            return its[: max(0, SPARE - self._may_join())]
+            joining = self._may_join()
+            half = (len(its) + len(self._ended) - joining + 1) // 2
+            return its[: max(0, SPARE - joining, half)]
 
     def close(self, places: Iterable[Place]) -> List[int]:
         """Of those that are lent, those of which all is behind a meeting's fence: nothing more of
@@ -143,6 +148,11 @@ class Places:
     def taken(self) -> int:
         """How many clients have one."""
         return len(self._taken)
+
+    @property
+    def are_all_taken(self) -> bool:
+        """Whether as many clients have one as can at a time."""
+        return len(self._taken) >= SESSIONS
 
     @property
     def free(self) -> int:
@@ -202,6 +212,17 @@ class Places:
                 self._lent.pop(place.number, None)
                 self._ended.pop(place.number, None)
                 self._left.append(place)
+            self._changed.notify_all()
+
+    def grow(self) -> None:
+        """The audit that begins has sessions for the clients that went without one, as far as there
+        may be more; and nobody joins the one before any more, which didn't know of these."""
+        with self._changed:
+            self._can_join, self._new = False, None
+            for _ in range(min(self._without, SESSIONS - self.sessions)):
+                self._left.append(Place(self.sessions))
+                self.sessions += 1
+            self._without = 0
             self._changed.notify_all()
 
     def reopen(self) -> None:
@@ -293,9 +314,11 @@ class Places:
             self._ended[place.number] = place
         elif place.must_join and place.number == self._new:
             self.sessions, self._new = place.number, None  # nobody has seen it
-        elif place.must_join:
+        elif place.must_join and self._can_join:
             self._back.append(place)
         else:
+            if place.must_join:  # in the audit before
+                place.is_due, place.must_join = True, False
             self._left.append(place)
 
 

@@ -21,7 +21,10 @@ with this token, and OutcomeUnknown where it hasn't said so after so many second
 committed, and nobody has to ask. `look_up(transaction)` comes before a client's commit is noted and
 sent, and raises Aborted alone: a store whose clients don't read and write by a Transaction says
 there what they did, or, as its `unclear`, why that isn't known. `statement` is what it has run
-last, as who is told of a violation should see it.
+last, as who is told of a violation should see it. `errors` are the classes of what its driver
+raises: a client joins by a statement of the collector's own, in the application's thread, and what
+comes of that is kept from the application, unless it is of none of these, nor of this package's, as
+what a handler of SIGALRM raises.
 """
 
 from __future__ import annotations
@@ -39,7 +42,7 @@ from .asking import ticket_of
 from .auditor import FENCE, FLAG, MARK
 from .circumstances import brief, caller
 from .errors import AbortedError, AuditLostError, NameTakenError, OutcomeUnknownError
-from .errors import StoreLateError
+from .errors import StoreLateError, ZanteyardError
 from .forks import UNAUDITED, keep
 from .locks import give_back, take
 from .notes import Notes
@@ -215,11 +218,12 @@ class Session:
 
     def go_on(self) -> None:
         """Takes another place where the session has ended, and joins where it has to."""
+        ends = time.monotonic() + self.wait
         try:
             for left in reversed(range(PLACES)):
                 if not (self.is_open or self.has_to_join):
                     self.take_place()
-                if not self.has_to_join or self.join(left == 0):
+                if not self.has_to_join or self.join(not left or time.monotonic() >= ends):
                     return
         finally:
             self.is_changing = False
@@ -232,40 +236,65 @@ class Session:
         return bool(place.must_join) and not (self.is_open or place.is_ended)
 
     def join_now(self) -> bool:
-        """As it is made, so that nobody waits for a session that is new; whether it could."""
+        """As it is made, so that nobody waits for a session that is new; whether it has. Raises
+        what isn't the store's word on it."""
         place, self.is_changing = self.place, True
         try:
             self.take_turn()
             try:
-                if not self.has_to_join:
-                    raise ValueError(f"session {self.number} has ended")
-                self.claim_name()
-                self.run_alone(join_behind, self.wait, JOINING)
-                self.is_open, place.must_join = True, False
+                if self.has_to_join:  # else its process has left
+                    self.claim_name()
+                    self.fence_first()
             finally:
                 give_back(self.turn, self.has_turn)
-            return True
         except Exception as error:
+            if not self.is_of_store(error):
+                raise
             logger.info("a client joins later, since %s", str(error).strip() or repr(error))
-            return False
         finally:
             self.is_changing = False
+        return not (place.must_join or place.is_ended)
 
     def join(self, is_last: bool) -> bool:
         """Behind a fence, which is the first that is handed in of the client. Where the store can't
         say whether it is there, another place is to be taken for it, but for the last time; whether
-        the client can go on."""
+        the client can go on. Raises what isn't the store's word on it."""
         place, self.is_changing, before = self.place, True, self.started
         try:
-            self.run_alone(join_behind, self.wait, JOINING)
-            self.is_open, place.must_join = True, False
+            self.fence_first()
         except Exception as error:
             if self.started == before:  # the store can't be reached, as the client would find out
                 raise
+            if not self.is_of_store(error):
+                raise
             if place.is_ended and not is_last:
                 return False
-            self.pass_over(error)
+            if place.must_join:  # else it is there, by the store's later word
+                self.pass_over(error)
         return True
+
+    def fence_first(self) -> None:
+        """By which it joins, as that is handed in (`Transaction.log`)."""
+        try:
+            self.run_alone(join_behind, self.wait, JOINING)
+        finally:
+            self.drop_alone()
+
+    def drop_alone(self) -> None:
+        """What the collector's own had begun and, by an interrupt, nobody has."""
+        running = self.running
+        if running is None or running.holds or running.is_over:
+            return
+        if running.written:  # it may be there
+            running.log((), running.written, "unknown", is_last=True)
+        else:
+            running.rollback()
+
+    def is_of_store(self, error: Exception) -> bool:
+        """Whether it is what came of a statement of the collector's own: the application, in whose
+        thread that is run, is told of nothing else."""
+        its: Tuple[Any, ...] = tuple(getattr(self.store, "errors", ()))
+        return isinstance(error, (ZanteyardError, *its))
 
     def pass_over(self, error: Exception) -> None:
         """The client goes on, unaudited."""
@@ -719,7 +748,7 @@ class Transaction:
         session = self.session
         try:
             self.is_over = True
-            if session.place.must_join and outcome == "aborted":
+            if session.place.must_join and outcome != "committed" and not is_last:
                 self.give_back_number()
                 return
             session.place.is_due = True
@@ -735,6 +764,8 @@ class Transaction:
             if is_last:
                 session.place.leave_open(self.number)
                 session.end()
+            elif session.place.must_join:  # it has, by this
+                session.is_open, session.place.must_join = True, False
         except BaseException as error:
             told = f"transaction {session.number}.{self.number} was interrupted as it was handed in"
             session.miss(self.number, AuditLostError(f"{told} ({type(error).__name__})"))

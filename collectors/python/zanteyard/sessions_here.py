@@ -45,7 +45,8 @@ class SessionsHere:
     def _add_session(self, place: Place, store: Store, patience: float) -> Session:
         made = Session(self, place.number, store, self.run_name, patience, self._renew)
         made.place, made.notes = place, self._notes_of(store)
-        made.is_open, made.cant_join = not place.must_join, self._cant_join
+        made.is_open = place.is_audited and not place.must_join
+        made.cant_join = self._cant_join
         self._group.add(made)
         if self._leaves:  # and may have told so already: others may have its place
             made.renew, made.is_open = None, False
