@@ -236,6 +236,35 @@ class Harmless(WithProgram):
         self.assertEqual(live.stop().kind, "serial")
         self.assertEqual(self.auditor.closed, [False, True])
 
+    def test_a_session_that_ends_as_another_audit_begins_ends_that_no_more(self):
+        for when, call in (("edges", 2), ("reopen", 1)):
+            with self.subTest(when):
+                live, store = self.live(3, policy=Policy(60.0, True, 0.01)), MemoryStore()
+                stays, connection = live.session(store.connect()), store.connect()
+                ends, calls = live.session(connection, patience=0.1), []
+                stays.run(add_one("x")), ends.run(add_one("y"))
+                whole = getattr(live._group, when)
+
+                def ended():
+                    calls.append(1)
+                    if len(calls) == call:
+                        connection.lost, connection.known = "committed", False
+                        with self.assertRaises(OutcomeUnknown):
+                            ends.run(add_one("y"))
+                        connection.lost, connection.known = None, True
+                    return whole()
+
+                with mock.patch.object(live._group, when, ended):
+                    live.lose(AuditLostError("for a test"))
+                    until = time.monotonic() + 60
+                    while not live.earlier and time.monotonic() < until:
+                        time.sleep(0.005)
+                for _ in range(3):
+                    stays.run(add_one("x")), ends.run(add_one("y"))
+                self.assertEqual(ends.number, 1 if when == "edges" else 2)
+                self.assertEqual((len(live.stop().earlier), live.failure), (1, None))
+                self.assertEqual(live.report.kind, "serial")
+
     def test_several_sessions_of_a_process_that_end_at_once_have_others(self):
         live, store = self.live(6, every=1000), MemoryStore()
         with tempfile.TemporaryDirectory() as folder:

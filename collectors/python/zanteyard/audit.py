@@ -141,15 +141,20 @@ class Audit:
             if number is not None
         ]
         self._offer_all(fragments(offers), joining)
-        for _, session, number, _ in found:
-            if number is None:  # behind all that it did; an earlier process may have closed it
-                is_there = session not in self._closed and session < self._auditor.sessions
-                if is_there and not self._auditor.closed[session]:
-                    self._auditor.close(session)
-                self._closed.add(session)
+        for came, session, number, _ in found:
+            if number is None:
+                if came >= self._backlog.reopened.get(session, 0.0):
+                    self._close(session)
             else:
                 self._tell_first(session, number, session in joining)
             self._backlog.note_taken(session, number)
+
+    def _close(self, session: int) -> None:
+        """Behind all that it did; an earlier process may have closed it."""
+        is_there = session not in self._closed and session < self._auditor.sessions
+        if is_there and not self._auditor.closed[session]:
+            self._auditor.close(session)
+        self._closed.add(session)
 
     def _tell_first(self, session: int, number: int, joins: bool) -> None:
         client = self._stints.first_of(session, number)

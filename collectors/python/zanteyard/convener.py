@@ -26,6 +26,13 @@ class MeetingGroup(Protocol):
     def has_sessions(self) -> bool:
         ...
 
+    @property
+    def asked_at(self) -> float:
+        ...
+
+    def numbers(self) -> Sequence[int]:
+        ...
+
     def there(self) -> Sequence[int]:
         """The numbers of the sessions that a call would find."""
 

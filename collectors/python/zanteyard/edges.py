@@ -29,6 +29,7 @@ def coverage_from_now(
         if session < sessions:
             first[session], unknown[session] = unsent, its
     for group in groups:
+        backlog.reopened.update(dict.fromkeys(group.numbers(), group.asked_at))
         group.reopen()
     places.reopen()
     for session in sorted(places.nobodys()):  # of processes that are lost

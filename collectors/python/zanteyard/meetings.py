@@ -48,6 +48,8 @@ class Group:
         self.held: Dict[Session, Any] = {}
         self.leader: Any = None  # the Session that leads, if one of these does
         self.timer: Any = None
+        self.asked_at = 0.0  # when `edges` was called last, by the monotonic clock
+        self._had_ended: List[Place] = []  # by then
         self.pool = ThreadPoolExecutor(64, "zanteyard-meeting")  # threads are made as they are used
 
     def add(self, session: Session) -> None:
@@ -213,10 +215,13 @@ class Group:
         called twice: all that was answered as the first call ended had been answered when whatever
         hadn't been sent in the second call was sent."""
         found: List[Tuple[Any, ...]] = []
+        self.asked_at, self._had_ended = time.monotonic(), []
         for session in list(self.sessions):
             place = session.place  # which its client may leave meanwhile
             if place is None:
                 continue
+            if place.is_ended:
+                self._had_ended.append(place)
             begun = place.begun  # before it is seen what runs: if nothing does, all have ended
             running = session.running
             if running is None:
@@ -227,13 +232,16 @@ class Group:
         return found
 
     def reopen(self) -> None:
-        """Another audit begins, in which every place may be used again."""
+        """Another audit begins, in which every place may be used again: all are open in it. What
+        had ended as `edges` was called was the place in the audit before; what has ended since has
+        ended in this one."""
         for session in list(self.sessions):
             place = session.place
-            if place is not None:
-                session.is_open, place.is_due = place.is_audited, True
-                # What had ended was the place in the audit before, and in this one all are open.
-                place.is_ended = place.must_join = False
+            if place is None or place.is_ended and not any(it is place for it in self._had_ended):
+                continue
+            session.is_open, place.is_due = place.is_audited, True
+            place.is_ended = place.must_join = False
+        self._had_ended = []
 
     def numbers(self) -> List[Any]:
         """Of the sessions' places."""

@@ -47,6 +47,8 @@ class RemoteGroup:
         self._numbers: Dict[int, Place] = {}  # its places, as they were given to it
         self._untold: Set[int] = set()  # of these, of which it wasn't told yet
         self.ended: Set[int] = set()  # of these, of which it has told that nothing more comes
+        self.asked_at = 0.0  # when `edges` was answered last, by the monotonic clock
+        self._had_ended: Set[int] = set()  # of `ended`, by then
         self._has_left = False
         self._changed = threading.Condition()  # around what follows
         self._calls: Dict[int, _Call] = {}
@@ -182,7 +184,7 @@ class RemoteGroup:
         self._messages.tell("call", 0, "release", ([],), seconds=self.patience)
 
     def reopen(self) -> None:
-        self.ended.clear()
+        self.ended -= self._had_ended
         for place in self.places():
             place.must_join = False  # all are open then
         self._messages.tell("call", 0, "reopen", ([],), seconds=self.patience)
@@ -207,6 +209,8 @@ class RemoteGroup:
             call = self._calls.pop(asked, None)
             if call is None:
                 return
+            if call.name == "edges":
+                self.asked_at, self._had_ended = time.monotonic(), set(self.ended)
             for place, now in zip(call.lent, lent):
                 vars(place).update(vars(Place(*now)))
             if not call.is_late:
