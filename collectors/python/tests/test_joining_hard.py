@@ -299,6 +299,26 @@ class Harmless(WithProgram):
             server.close()
         self.assertRegex(str(live.stop().failure), "no session is left for a client")
 
+    def test_a_client_elsewhere_for_whom_none_is_left_goes_on_unaudited(self):
+        live, store = self.live(1, every=1000, policy=Policy(1.0, True, 0.01)), MemoryStore()
+        with tempfile.TemporaryDirectory() as folder:
+            server = AuditServer(live, os.path.join(folder, "audit"))
+            with AuditClient(server.path) as client:
+                stays = client.session(store.connect())
+                stays.run(add_one("x"))
+                with mock.patch.object(live._places, "take", lambda seconds: None):
+                    comes = client.session(store.connect())
+                self.assertFalse(comes.place.is_audited)
+                until = time.monotonic() + 60
+                while not (live.earlier and comes.place.is_audited) and time.monotonic() < until:
+                    stays.run(add_one("x")), comes.run(add_one("x"))
+                self.assertEqual((stays.number, comes.number), (0, 1))
+            server.close()
+        outcome = live.stop()
+        self.assertEqual((outcome.kind, len(outcome.earlier)), ("incomplete", 1))
+        self.assertRegex(str(outcome.failure), "no session is left for a client: 1 clients have one")
+        self.assertEqual(live.report.kind, "serial")
+
     def test_who_comes_before_a_cut_has_a_session(self):
         """A meeting closes what nobody has; that comes back when there is a cut, if there is one."""
         live, store = self.live(64, every=1000), MemoryStore()

@@ -431,6 +431,15 @@ class Sessions(Harmless):
         self.assertEqual(outcome.kind, "incomplete")
         self.assertIn("no session is left", str(outcome))
 
+    def test_what_a_handler_of_the_applications_raises_meanwhile_reaches_it(self) -> None:
+        place = self.database(SCHEMA, ["t"])
+        with AuditorApart(1) as apart:
+            live = LiveAuditor(apart, policy=RATHER_WAIT)
+            late = mock.patch.object(live, "session", side_effect=TimeoutError("of a handler of SIGALRM"))
+            with late, self.assertRaisesRegex(TimeoutError, "of a handler"):
+                psycopg2.connect(place, connection_factory=audited(live, ["t"]))
+            self.assertIsNone(live.stop().failure)
+
     def test_of_an_auditor_without_a_list_of_them_too(self) -> None:
         place = self.database(SCHEMA, ["t"])
         with Auditor(1, policy=RATHER_WAIT) as self.auditor:
