@@ -2,11 +2,12 @@
 
     python3 examples/postgres_live.py [--level serializable|repeatable|committed]
         [--workload counter|skew|mixed|blind] [--seconds N] [--clients N] [--rate N] [--every N]
-        [--unaudited N] [--processes] [--rather-wait] [--dsn [DSN]] [--html FILE]
+        [--unaudited N] [--processes] [--churn] [--rather-wait] [--dsn [DSN]] [--html FILE]
 
 It starts a server of its own in a folder that is thrown away, or uses the one that --dsn names. It
 first runs the clients without the auditor, to tell what that costs. A violation is told in words,
-and written as a script for cobra_audit and as a picture. The status is 0 where all that was done
+and written as a script for cobra_audit and as a picture. By --churn clients live for two seconds,
+16 at a time, and others come: it tells what each did first. The status is 0 where all that was done
 was audited and is serial, and 1 where it wasn't or isn't.
 
 This is `zanteyard audit postgres`, for who has no wheel installed; its statuses tell more.

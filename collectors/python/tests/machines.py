@@ -177,8 +177,8 @@ class Machines(unittest.TestCase):
         for at in range(len(self.daemons)):
             with open(f"{self.folder}/script.{at}", encoding="utf-8") as script:
                 for line in map(json.loads, script):
-                    if line[0] == "offer":
-                        for number, txn in enumerate(line[3], line[2]):
+                    if line[0] in ("offer", "join"):
+                        for number, txn in enumerate(line[-1], line[2] if len(line) == 4 else 0):
                             # What no process was answered may have other numbers for its keys there.
                             self.txns[line[1], number] = txn
 

@@ -33,9 +33,12 @@ def log_in(script, replies=None):
     lines = [json.loads(line) for line in script]
     log = [[] for _ in range(lines[0][1])]
     for at, line in enumerate(lines):
-        if line[0] == "offer" and (replies is None or json.loads(replies[at]) == ["ok"]):
-            assert line[2] == len(log[line[1]]), line
-            log[line[1]] += line[3]
+        if line[0] in ("offer", "join") and (replies is None or json.loads(replies[at]) == ["ok"]):
+            session, first, txns = line[1], line[2] if len(line) == 4 else 0, line[-1]
+            if session == len(log):
+                log.append([])
+            assert first == len(log[session]), line
+            log[session] += txns
     return log
 
 

@@ -131,8 +131,8 @@ class Killed(unittest.TestCase):
         log = {}
         with open(self.script) as script:
             for line in map(json.loads, script):
-                if line[0] == "offer":
-                    _, session, first, txns = line
+                if line[0] in ("offer", "join"):
+                    session, first, txns = line[1], line[2] if len(line) == 4 else 0, line[-1]
                     for number, (_, writes) in enumerate(txns, first):
                         self.assertNotIn((session, number), log)
                         log[session, number] = {self.auditor.names[it] for it in writes}

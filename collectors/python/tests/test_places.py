@@ -125,7 +125,7 @@ class Leaving(unittest.TestCase):
         place = places.take(0.0)
 
         class Leaves:
-            given = False
+            given, asked_at = False, 0.0
 
             def edges(self):
                 if not self.given:

@@ -6,8 +6,8 @@ import threading
 import time
 import unittest
 
-from zanteyard import FENCE, Aborted, Auditor, Logged, NameTaken, OutcomeUnknown, Session, smaller, words
-from zanteyard.auditor import FLAG, PROGRAM
+from zanteyard import FENCE, Aborted, Auditor, NameTaken, OutcomeUnknown, Session, smaller, words
+from zanteyard.auditor import PROGRAM
 from zanteyard.cluster import Cluster, program
 
 from .waiting import wait_until
@@ -304,7 +304,7 @@ class Postgres(unittest.TestCase):
                 lost()
             found()
             self.assertFalse(session.is_open)
-        self.assertEqual(self.auditor.history[0], [Logged([], [f"{FLAG}0"], "unknown")])
+        self.assertEqual(self.auditor.history[0], [])  # a flag that nobody reads any more
         self.assertEqual(self.auditor.history[1], [])  # a fence of which nobody knows what it read
         outcome = self.auditor.outcome()
         self.assertEqual((outcome.kind, outcome.pending), ("pending", (((2, 1), FENCE, (1, 0)),)))

@@ -36,8 +36,6 @@ class TwoProcesses:
         a, b = self.client.session(store.connect()), other.session(store.connect())
         for session in (a, b):
             session.run(add_one("x"))
-        with self.assertRaisesRegex(ValueError, "no session is left"):
-            self.client.session(store.connect())
         other.leave()
         self.wait_for(live._places.numbers)
         again = self.client.session(store.connect())

@@ -12,7 +12,7 @@ import unittest
 from typing import Any
 from unittest import mock
 
-from zanteyard import RATHER_WAIT, Auditor, AuditorApart, LiveAuditor
+from zanteyard import RATHER_WAIT, Auditor, AuditorApart, LiveAuditor, Policy
 
 try:
     import psycopg2
@@ -411,8 +411,10 @@ class Odd(Harmless):
 class Sessions(Harmless):
     def test_where_none_is_left_a_connection_isnt_audited(self) -> None:
         place = self.database(SCHEMA, ["t"])
-        with AuditorApart(1) as apart:
-            live = LiveAuditor(apart, policy=RATHER_WAIT)
+        with AuditorApart(64) as apart:
+            live = LiveAuditor(apart, policy=Policy(1.0, begins_anew=False))
+            for _ in range(63):
+                live._places.take(0.0)
             clients = [psycopg2.connect(place, connection_factory=audited(live, ["t"]))
                        for _ in range(2)]
             for client in clients:
@@ -429,6 +431,15 @@ class Sessions(Harmless):
                 client.close()
         self.assertEqual(outcome.kind, "incomplete")
         self.assertIn("no session is left", str(outcome))
+
+    def test_what_a_handler_of_the_applications_raises_meanwhile_reaches_it(self) -> None:
+        place = self.database(SCHEMA, ["t"])
+        with AuditorApart(1) as apart:
+            live = LiveAuditor(apart, policy=RATHER_WAIT)
+            late = mock.patch.object(live, "session", side_effect=TimeoutError("of a handler of SIGALRM"))
+            with late, self.assertRaisesRegex(TimeoutError, "of a handler"):
+                psycopg2.connect(place, connection_factory=audited(live, ["t"]))
+            self.assertIsNone(live.stop().failure)
 
     def test_of_an_auditor_without_a_list_of_them_too(self) -> None:
         place = self.database(SCHEMA, ["t"])

@@ -167,17 +167,15 @@ class Behind(WithRedis, TwoProcesses, test_live.Meetings):
 
     def test_a_place_that_is_told_late_is_nobody_elses(self):
         """The Redis is away as it is given, and takes what is told a little later."""
-        live, store, other = self.live(1), MemoryStore(), self.another()
+        live, store = self.live(1), MemoryStore()
         process, found = self.server._processes[self.client._messages.client], []
         asking = threading.Thread(target=lambda: found.append(self.client.session(store.connect())))
         with mock.patch.object(process.messages.appender._link, "ask", lambda *_: None):
             asking.start()
             self.wait_for(lambda: not live._places.numbers())
-            with self.assertRaisesRegex(ValueError, "no session is left"):
-                other.session(store.connect())
+            self.assertIsNone(live._places.take(0.0))
         asking.join()
-        with self.assertRaisesRegex(ValueError, "no session is left"):
-            other.session(store.connect())
+        self.assertEqual(found[0].number, 0)
         found[0].run(add_one("x"))
         self.assertEqual(self.ended(live).kind, "serial")
 

@@ -15,7 +15,7 @@ import subprocess
 import sys
 from multiprocessing.connection import Connection, Pipe
 from multiprocessing.reduction import ForkingPickler
-from typing import Any, List, Optional, Sequence, Tuple
+from typing import Any, Container, List, Optional, Sequence, Tuple
 
 from .auditor import FENCE, Auditor, NoCut
 from .coverage import Coverage
@@ -100,7 +100,9 @@ class AuditorApart(Takes):
         """What a process was asked that has ended. It may have done that, and told nobody."""
         if name == "offer_all":
             received = self._ask("get", "received")
-            arguments = ([it for it in arguments[0] if it[1] + len(it[2]) > received[it[0]]],)
+            fragments, joining = arguments
+            left = [it for it in fragments if it[0] >= len(received) or _end(it) > received[it[0]]]
+            arguments = (left, joining)
         if name == "close" and self._ask("get", "closed")[arguments[0]]:
             return None
         if name == "truncate":
@@ -180,7 +182,7 @@ class AuditorApart(Takes):
         if kind == "close":
             call: Any = ("close", (session,))
         else:
-            call = ("offer_all", ([self._plain((session, offered[0], offered[1:]))],))
+            call = ("offer_all", ([self._plain((session, offered[0], offered[1:]))], ()))
         return ForkingPickler.dumps(call), session, *offered[:1]
 
     def _begin_take(self, asked: Any) -> None:
@@ -205,11 +207,20 @@ class AuditorApart(Takes):
         session, first, txns = fragment
         return session, first, [one if type(one) is bytes else as_bytes(one) for one in txns]
 
-    def offer_all(self, fragments: Sequence[Fragment]) -> List[Fragment]:
+    def offer_all(
+        self, fragments: Sequence[Fragment], joining: Container[int] = ()
+    ) -> List[Fragment]:
         """Their transactions may be packed."""
-        told = self._call("offer_all", [*map(self._plain, fragments)])
+        joins = [session for session, _, _ in fragments if session in joining]
+        told = self._call("offer_all", [*map(self._plain, fragments)], joins)
         refused, self.left_out, self.remaining = told
+        self.sessions = max([self.sessions, *(session + 1 for session in joins)])
         return [fragment for fragment in fragments if fragment[0] in refused]
+
+    @property
+    def vacant(self) -> List[int]:
+        found: List[int] = self._call("get", "vacant")
+        return found
 
     @staticmethod
     def packed(logged: Logged) -> Any:
@@ -291,6 +302,12 @@ class AuditorApart(Takes):
 
     def __enter__(self) -> AuditorApart:
         return self
+
+
+def _end(fragment: Fragment) -> int:
+    """The number behind its last transaction."""
+    _, first, txns = fragment
+    return first + len(txns)
 
 
 class OfPacked(Auditor):
@@ -377,10 +394,10 @@ class Served:
         more = (program, script, RATHER_LOSE_THE_AUDIT, round_seconds)
         self.auditor = OfPacked.resumed(journal, *more)
 
-    def offer_all(self, fragments: Sequence[Fragment]) -> Any:
+    def offer_all(self, fragments: Sequence[Fragment], joining: Sequence[int]) -> Any:
         """The sessions whose transactions there was no room for, how many reads were left out, and
         how many transactions remain."""
-        refused = {session for session, _, _ in self.auditor.offer_all(fragments)}
+        refused = {session for session, _, _ in self.auditor.offer_all(fragments, joining)}
         return refused, self.auditor.left_out, self.auditor.remaining
 
     def truncate(self) -> Any:

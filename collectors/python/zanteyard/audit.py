@@ -6,16 +6,17 @@ import logging
 import time
 from collections import Counter
 from dataclasses import dataclass, field
-from typing import Any, Callable, Dict, Iterable, List, Optional, Sequence, Tuple, Union
+from typing import Any, Callable, Dict, Iterable, List, Optional, Sequence, Set, Tuple, Union
 
 from .apart import AuditorApart
-from .auditor import LONGEST, Auditor, NoCut
-from .backlog import Backlog
-from .coverage import Coverage
-from .errors import MissingError
+from .auditor import FENCE, LONGEST, Auditor, NoCut
+from .backlog import Backlog, HandedIn
+from .coverage import SESSIONS, Coverage
+from .errors import AuditLostError, MissingError, NotAnchoredError
 from .outcome import COLLECTOR, PENDING, RUNNING, SERIAL, VIOLATED, Outcome, kind_of
-from .records import Pending, Report
+from .records import Pending, Report, TransactionId, unpacked
 from .shrinking import is_collectors_own
+from .stints import Stints
 from .taking import Fragment, Full, never_came
 
 logger = logging.getLogger("zanteyard")
@@ -40,7 +41,8 @@ class Figures:
 
 class Audit:
     """For one thread at a time, but for `outcome`. `counted` is how many transactions had been
-    handed in as it began, and `earlier` are those that ended before it."""
+    handed in as it began, and `earlier` are those that ended before it; `closed` are the sessions
+    of which nothing more comes, if they don't come back."""
 
     def __init__(
         self,
@@ -52,6 +54,8 @@ class Audit:
         coverage: Coverage,
         counted: int = 0,
         earlier: Tuple[Outcome, ...] = (),
+        stints: Optional[Stints] = None,
+        closed: Iterable[int] = (),
     ) -> None:
         self._auditor, self._backlog, self._figures = auditor, backlog, figures
         self._tell, self._coverage, self._counted = tell, coverage, counted
@@ -67,6 +71,10 @@ class Audit:
         self._pending: Tuple[Pending, ...] = ()
         self._is_collectors_own = False
         self.missing: Optional[MissingError] = None  # what may have been done, and never comes
+        self._stints = stints or Stints()
+        self._closed: Set[int] = {*closed}
+        # What waits with its session, which is to join behind a fence that isn't taken in yet.
+        self._held: Dict[int, List[HandedIn]] = {}
 
     @property
     def handed_in(self) -> int:
@@ -106,7 +114,7 @@ class Audit:
     @property
     def reserve(self) -> int:
         """Room for a meeting's own transactions."""
-        return 4 * self._auditor.sessions
+        return 4 * max(1, self._auditor.sessions - len(self._closed))
 
     def take_in_all(self, count: int) -> None:
         """So many of what waits."""
@@ -116,22 +124,120 @@ class Audit:
     def take_in(self, most: int = LONGEST) -> int:
         """What waits, up to so many; gives how many these were. Raises Full where there is no room,
         and what the auditor raises."""
-        self._backlog.leave_room(self._auditor.limit - self._auditor.remaining - self.reserve)
+        held = sum(map(len, self._held.values()))
+        free = self._auditor.limit - self._auditor.remaining - self.reserve
+        self._backlog.leave_room(free - held)
         found = self._backlog.take(min(most, LONGEST))
         if found:
-            offers = [
-                (session, self._covered(session, number), logged)
-                for _, session, number, logged in found
-                if number is not None
-            ]
-            self._offer_all(fragments(offers))
+            self._take(self._without_held(found))
+            self._let_join()
             self._behind = max(self._behind, time.monotonic() - found[0][0])
-            for _, session, number, _ in found:
-                # Behind all that it did; what an earlier process has closed may be told again.
-                if number is None and not self._auditor.closed[session]:
-                    self._auditor.close(session)
-                self._backlog.note_taken(session, number)
         return len(found)
+
+    def _take(self, found: Sequence[HandedIn], joining: Sequence[int] = ()) -> None:
+        offers = [
+            (session, self._covered(session, number), logged)
+            for _, session, number, logged in found
+            if number is not None
+        ]
+        self._offer_all(fragments(offers), joining)
+        for came, session, number, _ in found:
+            if number is None:
+                if came >= self._backlog.reopened.get(session, 0.0):
+                    self._close(session)
+            else:
+                self._tell_first(session, number, session in joining)
+            self._backlog.note_taken(session, number)
+
+    def _close(self, session: int) -> None:
+        """Behind all that it did; an earlier process may have closed it."""
+        is_there = session not in self._closed and session < self._auditor.sessions
+        if is_there and not self._auditor.closed[session]:
+            self._auditor.close(session)
+        self._closed.add(session)
+
+    def _tell_first(self, session: int, number: int, joins: bool) -> None:
+        client = self._stints.first_of(session, number)
+        if client is not None:
+            how = "joins as" if joins else "goes on in" if number else "begins"
+            logger.info("client %d %s session %d with %d.%d", client, how, session, session, number)
+
+    # sessions that join
+
+    def _without_held(self, found: Sequence[HandedIn]) -> List[HandedIn]:
+        """What waits until its session has joined is held."""
+        ready: List[HandedIn] = []
+        for one in found:
+            _, session, number, _ = one
+            if session in self._held or self._joins(session, number):
+                self._held.setdefault(session, []).append(one)
+            else:
+                ready.append(one)
+        return ready
+
+    def _joins(self, session: int, number: Optional[int]) -> bool:
+        if number is None or self._covered(session, number) is None:
+            return False
+        return session in self._closed or session >= self._auditor.sessions
+
+    def _let_join(self) -> None:
+        """Those whose fences have read from what was taken in; one may have read from another's,
+        and those that are new join in the order of their numbers."""
+        while not self.is_violated:
+            ready = [session for session in sorted(self._held) if self._may_join(session)]
+            if not ready:
+                break
+            its = self._held[ready[0]]
+            self._join(ready[0], its)
+            del self._held[ready[0]]
+        if sum(map(len, self._held.values())) > self._backlog.most:
+            raise AuditLostError(self._why_held() or "")
+
+    def _may_join(self, session: int) -> bool:
+        source = self._fence_of(session)
+        is_next = session <= self._auditor.sessions
+        return is_next and (source is None or self._backlog.is_taken(*source))
+
+    def _fence_of(self, session: int) -> Optional[TransactionId]:
+        """What the first of a session that is to join has read; None where it is no fence's."""
+        logged = self._held[session][0][3]
+        logged = unpacked(logged) if type(logged) is bytes else logged
+        sources = [source for key, source in logged.reads if key == FENCE and source != "init"]
+        return (sources[0][0], sources[0][1]) if sources else None
+
+    def _join(self, session: int, found: Sequence[HandedIn]) -> None:
+        source = self._fence_of(session)
+        try:
+            self._take(found[:LONGEST], (session,))
+        except NotAnchoredError as error:
+            told = f"session {session} can't join: the fence of its client has read "
+            told += f"from {source[0]}.{source[1]}" if source else "from no fence of this audit"
+            raise AuditLostError(f"{told}, and not the last one") from error
+        for start in range(LONGEST, len(found), LONGEST):
+            self._take(found[start : start + LONGEST])
+
+    def drop_held(self) -> None:
+        """What still waits to join: no audit wants it any more, so that nobody keeps it."""
+        for _, session, number, _ in (one for its in self._held.values() for one in its):
+            self._backlog.note_taken(session, number)
+        self._held.clear()
+
+    def _why_held(self) -> Optional[str]:
+        """What still waits to join, in words."""
+        for session in sorted(self._held):
+            source = self._fence_of(session)
+            if source is not None and not self._backlog.is_taken(*source):
+                its = f"{source[0]}.{source[1]}"
+                return f"session {session} is to join behind the fence {its}, which never came"
+        return f"session {min(self._held)} never joined" if self._held else None
+
+    def vacant(self) -> Dict[int, int]:
+        """The sessions that may come back, each with the number of its next transaction."""
+        if not self._closed:
+            return {}
+        received = self._auditor.received
+        found = {it: self._coverage.number_there(it, received[it]) for it in self._auditor.vacant}
+        return {session: number for session, number in found.items() if number is not None}
 
     def covers(self, session: int, number: int) -> bool:
         """Whether this audit is about the transaction."""
@@ -139,12 +245,18 @@ class Audit:
 
     def _covered(self, session: int, number: int) -> Optional[int]:
         """The transaction's number in this audit; None where it isn't audited."""
-        if session >= self._auditor.sessions:
+        if session >= max(SESSIONS, self._auditor.sessions):
             return None
         return self._coverage.number(session, number)
 
-    def _offer_all(self, found: Sequence[Fragment]) -> None:
-        refused = self._auditor.offer_all(found)
+    def called(self, id: TransactionId) -> str:
+        """How a transaction of the audit is told: with its client, where its session had others."""
+        number = self._coverage.number_there(*id)
+        return self._stints.called(id, id[1] if number is None else number)
+
+    def _offer_all(self, found: Sequence[Fragment], joining: Sequence[int] = ()) -> None:
+        refused = self._auditor.offer_all(found, joining)
+        self._closed.difference_update(joining)
         self.taken_in += sum(len(txns) for _, _, txns in found)
         self.taken_in -= sum(len(txns) for _, _, txns in refused)
         if not refused:
@@ -152,11 +264,11 @@ class Audit:
         self.run_round()  # a cut may make room
         for session, first, txns in () if self.is_violated else refused:
             for number, logged in enumerate(txns, first):
-                self._offer(session, number, logged)
+                self._offer(session, number, logged, session in joining and number == first)
 
-    def _offer(self, session: int, number: int, logged: Any) -> None:
+    def _offer(self, session: int, number: int, logged: Any, joins: bool) -> None:
         try:
-            self._auditor.offer(session, number, logged)
+            (self._auditor.join if joins else self._auditor.offer)(session, number, logged)
         except Full as error:
             why = f", since {self.why_no_cut}" if self.why_no_cut else ""
             limit = self._auditor.limit
@@ -214,9 +326,21 @@ class Audit:
             return "no cut: no fence is settled" if is_none else f"no cut: {error}"
         self._figures.cuts += 1
         self._figures.cut_at = time.monotonic()
+        self._forget_stints()
         return f"cut at {cut.fence[0]}.{cut.fence[1]}: {cut.gone} forgotten"
 
+    def _forget_stints(self) -> None:
+        marks = self._auditor.marks
+        there = (self._coverage.number_there(it, mark) for it, mark in enumerate(marks))
+        self._stints.forget([number or 0 for number in there])
+
     # its end
+
+    def find_held(self) -> None:
+        """Why something that was handed in was never taken in."""
+        why = self._why_held()
+        if why is not None and not self.is_violated:
+            raise AuditLostError(why)
 
     def find_pending(self) -> None:
         """What is still pending, and for whom."""

@@ -44,9 +44,10 @@ class AuditClient(SessionsHere):
         _forked.add(self)
         self._handover = Handover(self._messages, most)
         self._requests = PlaceRequests(self._messages)
-        self._calls = GroupCalls(self._group, self._messages, self._handover)
+        coming = self._requests.coming
+        self._calls = GroupCalls(self._group, self._messages, self._handover, coming)
         self._is_over = self._is_gone = False  # the audit, and the auditor's process
-        self._renewed = 0.0  # when a session was asked for last, in place of one that had ended
+        self._renewed = 0.0  # when a session was asked for in vain, in place of one that had ended
         self._deeds: Dict[str, Callable[..., None]] = {
             "call": self._calls.put,
             "left": self._requests.take_answer,
@@ -71,15 +72,17 @@ class AuditClient(SessionsHere):
 
     def session(self, store: Store, patience: float = PATIENCE) -> Session:
         """The session of a new client, which asks the store for so many seconds for an outcome that
-        isn't known. Raises ValueError where none is left, and ProgramEndedError where nothing more
-        is audited, or nobody answers."""
+        isn't known. Raises as a LiveAuditor's does, and ProgramEndedError where nothing more is
+        audited, or nobody answers."""
         seconds = ANSWERING + self.policy.wait  # in which a meeting may have all that are left
         place = self._requests.asked("join", True, seconds=seconds)
         if place is not None:
+            if not place.is_audited:
+                self._renewed = time.monotonic()
             return self._add_session(place, store, patience)
         if self._is_over:
             raise ProgramEndedError("nothing more is audited")
-        raise ValueError("no session is left")
+        raise ValueError("no session is left: all have clients")
 
     def leave(self, seconds: float = LEAVING) -> None:
         """Hands over what is left, and gives its sessions back; waits for a meeting that holds
@@ -95,7 +98,7 @@ class AuditClient(SessionsHere):
         ]
         self._hand_over_all()
         if len(taken) == len(self.sessions):
-            places = [session.place for session in self.sessions if session.is_open]
+            places = [it.place for it in self.sessions if it.place and it.place.is_audited]
             self._messages.tell("leave", [astuple(place) for place in places])
         else:
             self._messages.tell("lose", "a session was in a transaction as it left")
@@ -179,15 +182,34 @@ class AuditClient(SessionsHere):
         self._handover.lose(why)
         logger.error("nothing more is audited: %s", why)
 
+    @property
+    def _leaves(self) -> bool:
+        return self._calls.is_leaving
+
     def _renew(self, session: Session) -> Optional[Place]:
-        """At most once a second somebody is asked."""
+        """Where none is left the client goes on unaudited; at most once a second somebody is asked
+        then."""
         if session.place is not None and time.monotonic() < self._renewed + 1:
             place: Place = session.place
             return place
-        self._renewed = time.monotonic()
         wait = self.policy.wait / 2
-        found = self._requests.ask("join", False, seconds=wait) or session.place
-        return found or self._requests.ask("overflow", seconds=wait)
+        found = self._requests.ask("join", False, seconds=wait)
+        if found is None:
+            self._renewed = time.monotonic()
+            if self._handover.lost is None and not self._is_over:
+                self._lose("no session is left for a client")
+            return session.place or self._requests.ask("overflow", seconds=wait)
+        if session.place is not None and session.place.is_audited:  # which has ended
+            self._give_back(session.place)
+        return found
+
+    def _cant_join(self, session: Session, why: Exception) -> Optional[Place]:
+        if self._handover.lost is None:
+            self._lose(f"a client can't join: {why}")
+        found = self._requests.ask("overflow", seconds=self.policy.wait / 2)
+        if found is not None:
+            self._give_back(session.place)
+        return found
 
     def _notes_of(self, store: Store) -> Any:
         """The auditor's process is told first where they are, and how the store is asked."""
@@ -217,6 +239,7 @@ class AuditClient(SessionsHere):
 
     def _give_back(self, place: Place) -> None:
         self._handover.put_behind("back", astuple(place))
+        self._requests.coming.discard(place.number)
 
     # the threads
 

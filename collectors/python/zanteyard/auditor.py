@@ -7,11 +7,11 @@ import logging
 import time
 from collections import Counter
 from dataclasses import asdict
-from typing import Any, Dict, List, Mapping, Optional, Sequence, Tuple, Type, Union
+from typing import Any, Container, Dict, List, Mapping, Optional, Sequence, Tuple, Type, Union
 
 from .coverage import Coverage
-from .errors import AuditLostError, JournalError, NoCutError, NoMemoryError, RefusedError
-from .errors import RoundTooLongError
+from .errors import AuditLostError, JournalError, NoCutError, NoMemoryError, NotAnchoredError
+from .errors import RefusedError, RoundTooLongError
 from .journal_entries import Head
 from .outcome import RATHER_LOSE_THE_AUDIT, Policy
 from .pipes import Ended, Late, Pipes
@@ -19,6 +19,7 @@ from .programs import PROGRAM as PROGRAM
 from .records import Cut, Report, TransactionId
 from .restarting import Restarting
 from .resuming import Reopened, journaled, reopened
+from .stints import Stints
 from .taking import EFFORTS, SECONDS, Effort, Fragment, Full, Takes
 
 # The same errors under shorter names.
@@ -36,7 +37,12 @@ OWN = (FENCE, MARK, FLAG, PLAIN_FENCE)  # what keys of the collector's own begin
 ENDED = "cobra_audit has been ended"
 UNKNOWN = "the process that audited has ended, and what its sessions did last isn't known"
 logger = logging.getLogger("zanteyard")
-KINDS: Mapping[str, Type[Refused]] = {"Backlog": Full, "NoCut": NoCut, "NoMemory": NoMemory}
+KINDS: Mapping[str, Type[Refused]] = {
+    "Backlog": Full,
+    "NoCut": NoCut,
+    "NoMemory": NoMemory,
+    "NotAnchored": NotAnchoredError,
+}
 
 
 def is_own(key: object) -> bool:
@@ -49,7 +55,8 @@ class Auditor(Takes):
     in (`take`) never raises; all other calls raise Ended where the program is gone and Refused
     where it refuses a line.
 
-    `sessions` are 1 to 64, and at most `limit` transactions may remain, which is 4,096 at most.
+    `sessions` are 1 to 64 at first, and as many as `join` has made them later; at most `limit`
+    transactions may remain, which is 4,096 at most.
     `program` is the file to start. `run_name` is beside each value that sessions write: each run
     needs one of its own, and has it where none is given. `script` names a file to which every line
     goes that the program was given, so that it can be given them again. `policy` says how long
@@ -78,7 +85,7 @@ class Auditor(Takes):
         its = found.kept.head
         try:
             more = (program, its.run_name, script, policy, found, round_seconds)
-            return cls(its.sessions, its.limit, *more)
+            return cls(len(found.state.gone), its.limit, *more)
         except BaseException:
             found.journal.close()
             raise
@@ -92,6 +99,7 @@ class Auditor(Takes):
         self.closed = [False] * self.sessions  # which nothing more comes of
         # Of each key that a forgotten transaction wrote, the last that did.
         self.base: Dict[str, TransactionId] = {}
+        self._stints = Stints()  # of clients, by their first transactions
         self.can_cut = True  # until the program says that it doesn't know the command
         self.effort = EFFORTS[0]  # of the last round
         self.audits += 1
@@ -117,7 +125,8 @@ class Auditor(Takes):
     def _head(self) -> Head:
         """For the journal."""
         coverage = asdict(self.coverage) if self.coverage is not None else None
-        return Head(self.sessions, self.limit, self.run_name, self.audits, coverage)
+        its = (self.sessions, self.limit, self.run_name, self.audits, coverage)
+        return Head(*its, joined=self._stints.joined())
 
     def _go_on_by(self, found: Reopened) -> None:
         """Where the program of this journal stood."""
@@ -129,6 +138,8 @@ class Auditor(Takes):
         self.numbers.update((name, number) for number, name in enumerate(kept.names))
         self.history, self.base = state.history(self.names), state.base(self.names)
         self.marks, self.closed = list(state.gone), list(state.closed)
+        for one in [*kept.head.joined, *state.joined]:
+            self._stints.begin_behind(*one)
         for session, count in enumerate(self.received):
             self._seen[session] = (count, count)
         self.taken_in = sum(self.received)
@@ -253,12 +264,23 @@ class Auditor(Takes):
             self.closed[json.loads(text)[1]] = True
         return refusal
 
-    def _offer_of(self, fragment: Tuple[Any, ...]) -> str:
+    def _offer_of(self, fragment: Tuple[Any, ...], joins: bool = False) -> str:
         session, first, txns, _ = fragment
-        return written(["offer", session, first, [*map(self.txn, txns)]])
+        where = ["offer", session, first]
+        if joins:  # as a new one, or as one that comes back
+            where = ["join", session] if session >= self.sessions else ["join", session, first]
+        return written([*where, [*map(self.txn, txns)]])
 
-    def _keep_history(self, fragment: Tuple[Any, ...]) -> None:
+    def _keep_history(self, fragment: Tuple[Any, ...], joins: bool = False) -> None:
         session, _, txns, left_out = fragment
+        if session == len(self.history):  # which has joined
+            self.marks.append(0)
+            self.closed.append(False)
+            self.history.append([])
+            self.sessions = len(self.history)
+        if joins:
+            self._stints.begin_behind(session, self.marks[session])  # nothing of it remains
+            self.closed[session] = False
         self.history[session] += txns
         self.left_out += left_out
         if self.is_resumed:  # there are no sessions that count them
@@ -275,18 +297,24 @@ class Auditor(Takes):
                 self.script_failure = error
                 logger.error("%s lacks lines: %s", self.script.name, error)
 
-    def offer_all(self, fragments: Sequence[Fragment]) -> List[Fragment]:
+    @property
+    def vacant(self) -> List[int]:
+        return [at for at, txns in enumerate(self.history) if self.closed[at] and not txns]
+
+    def offer_all(
+        self, fragments: Sequence[Fragment], joining: Container[int] = ()
+    ) -> List[Fragment]:
         refused, wrong = [], None
         with self.lock:
             moved = [self._covered(fragment) for fragment in fragments]
-            texts = [self._offer_of(fragment) for fragment in moved]
+            texts = [self._offer_of(fragment, fragment[0] in joining) for fragment in moved]
             self._begin_to_ask()
             self._note_left_out(sum(it[3] for it in moved))
             replies = self._replies_to(texts)
             for fragment, its, text, reply in zip(fragments, moved, texts, replies):
                 _, refusal = self._settled(text, reply)
                 if refusal is None:
-                    self._keep_history(its)
+                    self._keep_history(its, fragment[0] in joining)
                 elif isinstance(refusal, Full):
                     refused.append(fragment)
                 else:
@@ -342,7 +370,7 @@ class Auditor(Takes):
             return self.numbers[key]
 
     def close(self, session: int) -> None:
-        """Nothing more of this session comes; its number isn't used again."""
+        """Nothing more of this session comes, unless it joins again."""
         self.ask(["close", session])
         self.closed[session] = True
 
@@ -375,7 +403,13 @@ class Auditor(Takes):
         for session, count in Counter(session for session, _ in gone).items():
             del self.history[session][:count]
             self.marks[session] += count
+        self._stints.forget(self.marks)
         return Cut((fence[0], fence[1]), len(gone))
+
+    def called(self, id: TransactionId) -> str:
+        """How a transaction is told: by what its client began with, where its session had others;
+        a live audit tells it by that client's number."""
+        return self.live_called(id) if self.live_called else self._stints.called_by_first(id)
 
     def _end_program(self) -> Optional[int]:
         if self.script is not None:

@@ -36,6 +36,9 @@ class Backlog:
         self._next_numbers: Dict[int, int] = {}
         self._taken: Dict[int, int] = {}  # of each session the number behind the last so taken
         self._closed: Set[int] = set()  # whose end was taken
+        # Of each session when it was asked for what it had done, by the monotonic clock, as the
+        # audit began: an end from before is one in the audit before.
+        self.reopened: Dict[int, float] = {}
         self._counts: Dict[int, int] = {}  # by session, of all audits
         self._dropping = threading.Lock()
 

@@ -138,7 +138,7 @@ class ClientProcess:
             for place in [*places, *lent]:
                 if place.is_audited and place.number not in ended:
                     self._hand_in(place.number, killed.told(place))
-                    if place.is_ended:
+                    if place.is_ended and not place.must_join:
                         self._live.take_close(place.number)
             if places:
                 told = ", ".join(str(place.number) for place in places)
@@ -182,6 +182,7 @@ class ClientProcess:
             self.group.ended.add(session)
             live.take_close(session)
         else:
+            self.group.note_joined(session, number)
             what = packed if live._packed else unpacked(packed)
             live._hand_in(came, session, number, unseen, what)
 
@@ -208,17 +209,20 @@ class ClientProcess:
         live = self._live
         place = live._places.take(max(NEW, live.policy.wait) if is_new else live.policy.wait)
         if place is None:
-            if not is_new:
+            if is_new:
+                place = live._without_place()
+            else:
                 live._lose_for_a_client()
-            self.messages.tell("left", asked, None)
+            self.messages.tell("left", asked, astuple(place) if place else None)
             return
         if self.group.has_left:
             live._places.give_back([place])
             return
-        self.group.add(place)
+        self.group.add_untold(place)
         if not self.messages.tell("left", asked, astuple(place)):
             self.group.remove(place.number)
             live._places.give_back([place])
+        self.group.note_told(place.number)
 
     def _take_overflow(self, asked: int) -> None:
         self.messages.tell("left", asked, astuple(self._live._places.take_unaudited()))
@@ -232,8 +236,14 @@ class ClientProcess:
         self._live._places.give_back([given_back])
 
     def _take_leave(self, places: Sequence[Sequence[Any]]) -> None:
-        """Its sessions are left for others."""
-        numbers = self.group.numbers()
+        """Its sessions are left for others; so are those that it was to join, and didn't."""
+        numbers, told = self.group.numbers(), [Place(*place) for place in places]
+        known = {place.number for place in told}
+        unused = [it for it in self.group.places() if it.must_join and it.number not in known]
+        known.update(self.group.ended, (it.number for it in [*unused, *self.group.given_back()]))
         self.group.leave()
-        self._live._places.give_back([Place(*place) for place in places])
+        self._live._places.give_back([*told, *unused])
         self._live._places.drop(numbers)  # of those that have ended
+        for number in numbers:
+            if number not in known:  # it was told too late that it had this, and did nothing there
+                self._live.take_close(number)

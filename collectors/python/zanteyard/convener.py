@@ -12,6 +12,7 @@ from .places import Places
 from .sessions import Place
 
 READS = 200  # of one transaction; the auditor takes 256
+COMING = 0.2  # seconds for a client that was given a session to have it
 
 
 class MeetingGroup(Protocol):
@@ -25,12 +26,22 @@ class MeetingGroup(Protocol):
     def has_sessions(self) -> bool:
         ...
 
+    @property
+    def asked_at(self) -> float:
+        ...
+
     def numbers(self) -> Sequence[int]:
         ...
+
+    def there(self) -> Sequence[int]:
+        """The numbers of the sessions that a call would find."""
 
     def begin_gather(
         self, meeting: int, seconds: float, leads: bool, places: Sequence[Place], idle: float
     ) -> Wait[Tuple[List[int], List[Place]]]:
+        ...
+
+    def begin_flag(self, meeting: int, places: Sequence[Place]) -> Wait[None]:
         ...
 
     def begin_lead(self, meeting: int, lists: Sequence[Sequence[str]]) -> Wait[None]:
@@ -66,6 +77,7 @@ class Convener:
         self.meetings = 0
         self.is_meeting = False  # clients wait for it, and so for nothing else
         self._counted = 0  # transactions, as the last one ended
+        self._kept: List[Place] = []  # by the last one, for clients that come
 
     @property
     def new(self) -> int:
@@ -84,11 +96,14 @@ class Convener:
     def meet(self, patience: float, idle: float) -> Met:
         """Waits so many seconds for clients' transactions; who was idle for so many goes without a
         session."""
+        self._wait_for_who_comes()
         self.meetings, self.is_meeting = self.meetings + 1, True
         groups, places = list(self.groups), self._places.lend()
         failure: Optional[str] = None
         try:
             failure = self._hold(groups, places, patience, idle)
+            if failure is None:
+                self._close(places)
         except Missed as error:
             failure = str(error)
         except Exception as error:  # the store's: a client will meet it too
@@ -100,6 +115,23 @@ class Convener:
             self._places.take_back(places)
         self._counted = self._backlog.counted
         return Met(failure, came)
+
+    def _wait_for_who_comes(self) -> None:
+        """Who goes on where another client has left is to be found by the call for its session:
+        else nothing would say that what was done there is behind the fence."""
+        self._places.keep()
+        ends = time.monotonic() + COMING
+        while time.monotonic() < ends:
+            there = [number for group in list(self.groups) for number in group.there()]
+            if not self._places.coming(there):
+                break
+            time.sleep(COMING / 100)
+
+    def _close(self, places: Sequence[Place]) -> None:
+        """What nobody has: all of it is behind the fence."""
+        kept = {place.number for place in self._kept}
+        for number in self._places.close(it for it in places if it.number not in kept):
+            self._backlog.put((time.monotonic(), number, None, None))
 
     def _hold(
         self, groups: Sequence[MeetingGroup], places: List[Place], patience: float, idle: float
@@ -119,14 +151,23 @@ class Convener:
             )
             for group, share in zip(meeting, shares)
         ]
-        for share, gathered in zip(shares, gathering):
+        for gathered in gathering:
             flags, given_back = gathered(ends)
             unread.update(flags)
             self._places.lend_taken(given_back)
             places.extend(given_back)
-            share.extend(given_back)
+        late = self._places.lend()  # whose clients left while others were called
+        if late:
+            places.extend(late)
+            leading.begin_flag(number, [it for it in late if it.is_due])(ends)
+            unread.update(place.number for place in late if place.has_flag)
         self._lead(leading, unread, ends)
-        passing = [group.begin_pass_on(number, it) for group, it in zip(meeting, shares)]
+        self._places.let_join()
+        self._kept = self._places.spare(places)  # which are to be behind the fence, then
+        passing = [
+            group.begin_pass_on(number, self._kept if group is leading else [])
+            for group in meeting
+        ]
         for passed in passing:
             passed(ends)
         return None

@@ -13,16 +13,18 @@ from typing import Any, Dict, List, Optional, Tuple
 
 from .records import Logged, Source
 
+SESSIONS = 64  # that an auditor has at a time
 SKIPPED = 1 << 32  # numbers that may have been given unseen, by a process that ended without a word
 
 
 @dataclass
 class Coverage:
-    """Of each session: `early`, below which all had been answered; `first`, from which on all are
-    audited, or None where none is; `last`, up to which they are, or None where there is no end;
-    `unknown`, the numbers, each from one to before another one, of those of before that the store
-    may have committed, or may do so yet: a read from these is neither of the state that the audit
-    begins with nor of anything that is audited."""
+    """Of each session that there was as it began: `early`, below which all had been answered;
+    `first`, from which on all are audited, or None where none is; `last`, up to which they are, or
+    None where there is no end; `unknown`, the numbers, each from one to before another one, of
+    those of before that the store may have committed, or may do so yet: a read from these is
+    neither of the state that the audit begins with nor of anything that is audited. All that is
+    done in sessions that join later is audited."""
 
     early: List[int]
     first: List[Optional[int]]
@@ -39,15 +41,23 @@ class Coverage:
 
     def number(self, session: int, number: int) -> Optional[int]:
         """The transaction's number in the audit; None where it isn't audited."""
+        if session >= len(self.early):
+            return number  # it has joined since
         first, last = self.first[session], self.last[session]
         if first is None or number < first or (last is not None and number > last):
             return None
         return number - first
 
+    def number_there(self, session: int, number: int) -> Optional[int]:
+        """Of a transaction of this number in the audit the one in the store; None where the session
+        isn't audited."""
+        first = self.first[session] if session < len(self.early) else 0
+        return None if first is None else first + number
+
     def source(self, session: int, number: int) -> Optional[Source]:
         """Where a read of this transaction's write was from, as the audit sees it: (session,
         number) or "init"; None where it can't be said, so that the read is to be left out."""
-        if session >= len(self.early):
+        if session >= max(SESSIONS, len(self.early)):
             return None  # it is one that isn't audited, since there were more clients than sessions
         found = self.number(session, number)
         if found is not None:

@@ -15,7 +15,8 @@ def coverage_from_now(
     sessions: int, groups: Sequence[MeetingGroup], places: Places, backlog: Backlog
 ) -> Coverage:
     """What is sent to the store from now on is audited. Who had ended goes on, and the places of
-    processes that are lost may be used again; a process that doesn't answer has no part."""
+    processes that are lost may be used again; a process that doesn't answer has no part. So many
+    sessions there are, and by `Places.grow` no more until it has begun."""
     early: List[int] = [0] * sessions
     first: List[Optional[int]] = [None] * sessions
     unknown: List[Tuple[Tuple[int, int], ...]] = [()] * sessions
@@ -28,7 +29,9 @@ def coverage_from_now(
         if session < sessions:
             first[session], unknown[session] = unsent, its
     for group in groups:
+        backlog.reopened.update(dict.fromkeys(group.numbers(), group.asked_at))
         group.reopen()
+    places.reopen()
     for session in sorted(places.nobodys()):  # of processes that are lost
         if first[session] is None:
             early[session] = backlog.next_number(session)

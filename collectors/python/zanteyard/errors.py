@@ -50,6 +50,11 @@ class NoCutError(RefusedError):
     command."""
 
 
+class NotAnchoredError(RefusedError):
+    """What a session is to join with is no fence, or reads from one that neither remains nor is the
+    last that is forgotten: it makes a fence now, and joins with that."""
+
+
 class AbortedError(ZanteyardError):
     """The store aborted the transaction; nothing of it was committed."""
 

@@ -3,9 +3,11 @@
 from __future__ import annotations
 
 import queue
+import time
 from dataclasses import astuple
-from typing import Any, Callable, Dict, List, Optional, Sequence, Tuple
+from typing import Any, Callable, Dict, List, Optional, Sequence, Set, Tuple
 
+from .convener import COMING
 from .handover import Handover
 from .meetings import Group, Missed
 from .messages import Messages
@@ -17,12 +19,18 @@ Call = Tuple[int, str, Sequence[Any]]  # its number, 0 where no answer is wanted
 class GroupCalls:
     """Runs calls one after another in a thread of their own; any may put them."""
 
-    def __init__(self, group: Group, messages: Messages, handover: Handover) -> None:
+    def __init__(
+        self, group: Group, messages: Messages, handover: Handover, coming: Set[int]
+    ) -> None:
+        """`coming` are the numbers of sessions that were given to clients here, who may not have
+        them yet."""
         self._group, self._messages, self._handover = group, messages, handover
+        self._coming = coming
         self._waiting: queue.SimpleQueue[Optional[Call]] = queue.SimpleQueue()
         self.is_leaving = False  # it takes part in no meeting any more
         self._deeds: Dict[str, Callable[..., Any]] = {
             "edges": self._edges,
+            "flag": lambda meeting, places: self._group.share(meeting, places, "flag"),
             "gather": self._gather,
             "lead": lambda meeting, lists, _: self._group.lead(meeting, lists),
             "pass_on": lambda meeting, places: self._group.pass_on(meeting, places),
@@ -66,8 +74,18 @@ class GroupCalls:
     ) -> Tuple[List[int], List[Tuple[Any, ...]]]:
         if self.is_leaving:
             raise Missed("it leaves")
+        self._wait_for_who_comes()
         flags, given_back = self._group.gather(meeting, seconds, leads, places, idle)
         return flags, [astuple(place) for place in given_back]
+
+    def _wait_for_who_comes(self) -> None:
+        """As a Convener does."""
+        ends = time.monotonic() + COMING
+        there = set(self._group.numbers())
+        while not self._coming <= there and time.monotonic() < ends:
+            time.sleep(COMING / 100)
+            there.update(self._group.numbers())
+        self._coming.clear()  # no other one is given out meanwhile
 
     def _edges(self, _: Sequence[Place]) -> List[Tuple[Any, ...]]:
         self._handover.begin_anew()

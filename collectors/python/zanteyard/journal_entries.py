@@ -31,9 +31,11 @@ class Violation(NamedTuple):
 
 @dataclass
 class Head:
-    """Of an audit: what its program was opened with, the run's name, which audit of the run it is,
-    and where it began, if that was while clients went on; and so far, how many rounds were told,
-    how many reads were left out at most, and whether sessions handed in what they did."""
+    """Of an audit: how many sessions its program has, and how many transactions it may hold, the
+    run's name, which audit of the run it is, and where it began, if that was while clients went on;
+    and so far, how many rounds were told, how many reads were left out at most, whether sessions
+    handed in what they did, and the sessions that several clients had, each with what these began
+    with."""
 
     sessions: int
     limit: int
@@ -43,6 +45,7 @@ class Head:
     rounds: int = 0
     left_out: int = 0
     is_of_sessions: bool = False
+    joined: List[List[int]] = field(default_factory=list)
 
 
 @dataclass

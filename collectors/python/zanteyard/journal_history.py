@@ -16,12 +16,14 @@ LAST = b'["last",'
 @dataclass
 class State:
     """Of each session how many transactions are gone, those that remain as lines have them, and
-    whether it is closed; and of each key the last gone writer."""
+    whether it is closed; of each key the last gone writer; and with which transactions sessions
+    came back since the checkpoint."""
 
     gone: List[int] = field(default_factory=list)
     remaining: List[List[Any]] = field(default_factory=list)
     closed: List[bool] = field(default_factory=list)
     last: Dict[int, TransactionId] = field(default_factory=dict)
+    joined: List[TransactionId] = field(default_factory=list)  # what sessions came back with
 
     def take(self, word: str, *parts: Any) -> None:
         if word == "resume":
@@ -32,10 +34,23 @@ class State:
             self.last.update((key, (session, number)) for key, session, number in parts[0])
         elif word == "offer":
             self.remaining[parts[0]] += parts[2]
+        elif word == "join":
+            self.join(parts[0], parts[-1])
         elif word == "close":
             self.closed[parts[0]] = True
         elif word != "resumed":
             raise ValueError(f"there is no line {word}")
+
+    def join(self, session: int, txns: List[Any]) -> None:
+        """A new one, or one that was closed."""
+        if session == len(self.gone):
+            self.gone.append(0)
+            self.closed.append(False)
+            self.remaining.append([])
+        if self.gone[session]:
+            self.joined.append((session, self.gone[session]))
+        self.closed[session] = False
+        self.remaining[session] += txns
 
     @property
     def received(self) -> List[int]:

@@ -37,10 +37,9 @@ class Keeping:
         self._due = 0  # the file's size at which it is written anew; at first so, where it is old
 
     @property
-    def opened(self) -> Tuple[int, int]:
-        """How many sessions there are, and how many transactions may remain."""
-        head = self._head()
-        return head.sessions, head.limit
+    def limit(self) -> int:
+        """How many transactions may remain."""
+        return self._head().limit
 
     @property
     def is_checkpoint_due(self) -> bool:

@@ -12,7 +12,7 @@ from __future__ import annotations
 
 import logging
 import time
-from typing import Any, Dict, Iterable, List, Optional, Sequence, Tuple
+from typing import Any, Dict, Iterable, List, Optional, Sequence, Set, Tuple
 
 from .asking import find_out
 from .auditor import FENCE, FLAG
@@ -40,10 +40,30 @@ class Killed:
         self, notes: Noted, run_name: str, backlog: Backlog, is_dead: bool = True
     ) -> None:
         self.notes, self.run_name, self.backlog, self.is_dead = notes, run_name, backlog, is_dead
+        # Sessions and numbers of attempts to join that weren't answered, behind one that was.
+        self._again: Set[Tuple[int, int]] = set()
 
     def told(self, place: Place) -> Sequence[Tuple[int, Logged]]:
         """What the session did, which nobody has handed in: numbers, and what is to be logged. The
-        place is then as it would have been given back, or ended. Raises LostError."""
+        place is then as it would have been given back, or ended. Where it was to be joined nothing
+        is handed in but behind the fence of that, which may not be there. Raises LostError."""
+        begun, found = place.begun, self._told(place)
+        if not place.must_join:
+            return found
+        if found and found[0][1].outcome == "committed":
+            place.must_join = False
+            return found
+        if self.is_dead and not place.is_ended:  # what is aborted has left nothing
+            place.begun = max(begun, found[0][0]) if found else begun
+            # The store may have been asked of the one before, which has the same name: this one may
+            # be on its way.
+            if (place.number, place.begun) in self._again:
+                place.leave_open(place.begun)
+                place.begun, place.is_ended = place.begun + 1, True
+        place.is_due = False
+        return ()
+
+    def _told(self, place: Place) -> Sequence[Tuple[int, Logged]]:
         first = max(place.begun, self.backlog.next_number(place.number))
         before, answered = self.sorted_out(place.number, first)
         last = max((*before, *answered, first - 1))
@@ -84,10 +104,14 @@ class Killed:
         for note, how in self.notes.get(session, ()):
             if note.number < first:
                 continue
+            its = (session, note.number)
             if note.outcome is None:
                 before[note.number] = (note, how)
+                if answered.pop(note.number, None) is not None:  # of an attempt to join before
+                    self._again.add(its)
             else:
                 answered[note.number] = note
+                self._again.discard(its)
         return before, answered
 
     def logged(

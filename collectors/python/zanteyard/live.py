@@ -18,7 +18,7 @@ from typing import Any, Callable, Iterable, List, Optional, Tuple
 
 from .apart import AuditorApart
 from .audit import AnyAuditor, Audit, Figures
-from .auditor import LONGEST
+from .auditor import FENCE, LONGEST
 from .backlog import Backlog, keys_written_unseen
 from .convener import Convener
 from .coverage import Coverage
@@ -28,12 +28,16 @@ from .forks import is_forked
 from .outcome import INCOMPLETE, RATHER_LOSE_THE_AUDIT, Outcome, Policy
 from .pace import Pace
 from .places import Places
-from .records import Logged, Report, Store
+from .records import Logged, Report, Store, TransactionId
 from .sessions import Place, Session
 from .sessions_here import PATIENCE, SessionsHere
 
 logger = logging.getLogger("zanteyard")
 PAUSE = 0.04  # seconds, in which more transactions come: a line each would cost the clients more
+# Seconds to the next meeting at least, where clients wait for one, or there are few sessions left:
+# behind one that failed, or not. Behind each more of which no cut comes it's twice as long, since
+# meetings hold clients up, and take room.
+SOON, SOON_AGAIN = 0.05, 0.5
 LONGEST_PAUSE = 30.0  # seconds between two attempts to start an auditor that can't be started
 STOPPING = 120.0  # seconds for what was handed in to be audited, as it is stopped
 GIVING_UP = 1.0  # the same, where an exception ends it
@@ -67,14 +71,16 @@ class Killing:
 
 
 class LiveAuditor(SessionsHere):
-    """Audits clients while they run. For threads.
+    """Audits clients while they run: as many as come, and 64 at a time. For threads.
 
     The auditor is an Auditor, or, so that clients are held up less, an AuditorApart. The name of
     the run, `run_name`, is the auditor's where none is given. After `every` so many transactions
     there is a meeting (after a quarter of that where the last one failed), which waits up to
     `patience` seconds for clients' transactions; `seconds` after the last round there is one where
     anything was done. A client that did nothing for `idle` seconds goes without a session, which
-    others may have. At most `most` transactions may wait to be taken in before clients wait.
+    others may have. What nobody has is closed at the next meeting, and comes back for another
+    client when it is forgotten: that one joins, by a fence, as it comes, and so does one for whom a
+    session more is made. At most `most` transactions may wait to be taken in before clients wait.
     `policy` says what gives way. `journal` and `round_seconds` are as an Auditor's, for one that
     has none yet. Where all sessions are `elsewhere`, and what they do is kept there until it is
     taken in, as behind a StreamServer, the auditor may be one that goes on by a journal.
@@ -121,6 +127,9 @@ class LiveAuditor(SessionsHere):
         now = time.monotonic()
         self._figures = Figures(told_at=now, cut_at=now)
         self._audit = self._resumed_audit() if auditor.is_resumed else self._first_audit()
+        auditor.live_called = self._called
+        self._cuts_seen, self._may_meet_at = self.cuts, 0.0
+        self._in_vain = 0  # meetings since the last cut
         self._lost: Optional[Exception] = None  # why no more is audited, until another audit begins
         self._failure: Optional[Exception] = None  # the same, once nothing more is audited for good
         self._is_stopping = self._has_ended = False
@@ -131,15 +140,34 @@ class LiveAuditor(SessionsHere):
 
     def session(self, store: Store, patience: float = PATIENCE) -> Session:
         """The session of a new client, which asks the store for so many seconds for an outcome that
-        isn't known. Raises ValueError where none is left."""
+        isn't known. Raises ValueError where as many clients have one each as can at a time; else,
+        where none is left in the policy's time, the client goes on unaudited. Where the client is
+        to join, it may raise what comes meanwhile and isn't of the store, as of a handler of
+        SIGALRM."""
         if is_forked(self):  # threads that have its locks don't run here
             return Session(self, 0, store, self.run_name, patience)
         if not self.auditor.has_sessions:
             self.auditor.note_sessions()
-        place = self._places.take(self.policy.wait)
+        place = self._places.take(self.policy.wait) or self._without_place()
         if place is None:
-            raise ValueError(f"no session is left of {self.auditor.sessions}")
+            raise ValueError(f"no session is left: {self._no_place()}")
         return self._add_session(place, store, patience)
+
+    def _without_place(self) -> Optional[Place]:
+        """For a new client for whom none is left: one that no audit is about; None where all have
+        clients."""
+        if self._places.are_all_taken:
+            return None
+        self._lose_for_a_client()
+        return self._places.take_unaudited()
+
+    def _no_place(self) -> str:
+        """Why no client more can have one."""
+        count, why = self._places.taken, self._audit.why_no_cut
+        if self._places.are_all_taken:
+            return f"{count} clients have one each, and no more can at a time"
+        told = f"{count} clients have one each, and a meeting has to make room for another"
+        return f"{told}; the last made none, since {why}" if why else told
 
     def stop(self, seconds: float = STOPPING) -> Outcome:
         """Audits all that was handed in, and gives the outcome; after so many seconds, what is
@@ -272,6 +300,8 @@ class LiveAuditor(SessionsHere):
             self._backlog.put((came, session, number, what))
         elif not self._is_stopping:
             self._backlog.note_taken(session, number)
+        if session == self._places.new:  # the next one that is new may be handed in behind it
+            self._places.note_joined(session)
 
     def _drops(self) -> bool:
         """Whether no audit takes in what is handed in."""
@@ -296,16 +326,23 @@ class LiveAuditor(SessionsHere):
         return f"the auditor can't keep up: {waits}"
 
     def _renew(self, session: Session) -> Optional[Place]:
-        place = self._places.take(self.policy.wait)
+        # Where nothing is audited nobody waits for it.
+        place = self._places.take(0.0 if self._drops() else self.policy.wait)
         if place is None:
             self._lose_for_a_client()
         elif session.place is not None:  # which has ended for this audit
-            self._places.drop([session.place.number])
+            self._give_back(session.place)
         return place or session.place or self._places.take_unaudited()
 
     def _lose_for_a_client(self) -> None:
         """One goes on unaudited, since there are more than sessions."""
-        self.lose(Lost(f"no session of {self.auditor.sessions} is left for a client"))
+        if not self.is_over:
+            self.lose(Lost(f"no session is left for a client: {self._no_place()}"))
+
+    def _cant_join(self, session: Session, why: Exception) -> Optional[Place]:
+        self.lose(Lost(f"a client can't join: {str(why).strip() or type(why).__name__}"))
+        self._give_back(session.place)
+        return self._places.take_unaudited()
 
     def _give_back(self, place: Place) -> None:
         self._places.give_back([place])
@@ -324,6 +361,8 @@ class LiveAuditor(SessionsHere):
             self.lose(error)
         finally:
             self._failure, self._has_ended = (None if self.is_violated else self._lost), True
+            if not self._is_stopping:  # else another process may go on with them
+                self._places.end()
             self._group.end()
             for told in self._at_end:
                 told()
@@ -349,24 +388,34 @@ class LiveAuditor(SessionsHere):
             self._meet()
         elif audit.is_round_due(self._pace.seconds):
             audit.run_round("no meeting yet")
+        if self.cuts > self._cuts_seen:
+            self._cuts_seen = self.cuts
+            self._places.come_back(audit.vacant())
 
     def _is_meeting_due(self) -> bool:
         """Where room asks for it: at a violation nothing is lost by a later one."""
         if self._killed.is_going_on:  # what that did is to be handed in before
             return False
-        return self._convener.new >= self._pace.until_meeting(bool(self._audit.why_no_cut))
+        if self._convener.new >= self._pace.until_meeting(bool(self._audit.why_no_cut)):
+            return True
+        return time.monotonic() >= self._may_meet_at and self._places.wants_meeting
 
     def _meet(self) -> None:
         """With a round behind it, over what came up to its end."""
         audit, patience = self._audit, self._pace.patience_of(is_last=not self._has_room())
-        met = self._convener.meet(min(patience, self.policy.wait), self._pace.idle)
+        met, cuts = self._convener.meet(min(patience, self.policy.wait), self._pace.idle), self.cuts
+        pause = (SOON if met.failure else SOON_AGAIN) * 2 ** min(self._in_vain, 10)
+        self._may_meet_at = time.monotonic() + min(pause, LONGEST_PAUSE)
+        self._in_vain += 1
         audit.why_no_cut = met.failure
         audit.take_in_all(met.came)
         if audit.is_violated:  # by a round that was to make room
             return
-        cuts = self.cuts
+        before = self.cuts
         audit.run_round()
-        if self.cuts == cuts and audit.why_no_cut is None:
+        if self.cuts > cuts:
+            self._in_vain, self._may_meet_at = 0, time.monotonic() + SOON_AGAIN
+        if self.cuts == before and audit.why_no_cut is None:
             audit.why_no_cut = "no fence was settled"  # so that another meeting comes soon
 
     def _has_room(self) -> bool:
@@ -380,6 +429,7 @@ class LiveAuditor(SessionsHere):
         self._guarded(lambda: audit.take_in_all(len(self._backlog)))
         if not audit.is_violated and audit.has_news:
             self._guarded(audit.run_round)
+        self._guarded(audit.find_held)
         self._guarded(audit.find_pending)
         self._guarded(audit.find_whose)
 
@@ -413,7 +463,10 @@ class LiveAuditor(SessionsHere):
                 self._backlog.note_taken(session, None)
         earlier = (Outcome(INCOMPLETE, failure=Lost(EARLIER)),) if auditor.audits > 1 else ()
         its = (self._backlog, self._figures, self._tell, self.run_name, coverage, 0, earlier)
-        audit = Audit(auditor, *its)
+        closed = [session for session, it in enumerate(auditor.closed) if it]
+        audit = Audit(auditor, *its, stints=self._places.stints, closed=closed)
+        if FENCE in auditor.base:
+            self._places.let_join()
         audit.taken_in, audit.report = sum(auditor.received), auditor.violation
         if auditor.failure is not None:  # it had sessions in the process that is gone
             audit.missing = MissingError(str(auditor.failure))
@@ -453,12 +506,14 @@ class LiveAuditor(SessionsHere):
         why, convener = self._lost, self._convener
         ended = self._audit.outcome(True, why)
         self._backlog.clear()
+        self._audit.drop_held()
         # Nobody waits for room: processes are asked.
         convener.is_meeting, self._backlog.room = True, self._backlog.most
         self._lost = None  # nothing is dropped from here on: what has ended is known by its number
         try:
-            sessions, groups = self.auditor.sessions, convener.groups
-            coverage = coverage_from_now(sessions, groups, self._places, self._backlog)
+            self._places.grow()
+            self.auditor.sessions = sessions = self._places.sessions
+            coverage = coverage_from_now(sessions, convener.groups, self._places, self._backlog)
             self.auditor.start_anew(coverage)
         except Exception:
             self._lost = why
@@ -474,8 +529,13 @@ class LiveAuditor(SessionsHere):
     def _next_audit(self, coverage: Coverage, before: Optional[Outcome] = None) -> Audit:
         """Behind this outcome of the last one, if there was any."""
         more = (self._backlog, self._figures, self._tell, self.run_name, coverage)
+        stints = self._places.stints
         if before is None:
-            return Audit(self.auditor, *more)
+            return Audit(self.auditor, *more, stints=stints)
         earlier = (*before.earlier, replace(before, earlier=()))
         counted = sum(one.handed_in for one in earlier)
-        return Audit(self.auditor, *more, counted, earlier)
+        return Audit(self.auditor, *more, counted, earlier, stints)
+
+    def _called(self, id: TransactionId) -> str:
+        """How a transaction of the audit is told: whose it was, where its session had others."""
+        return self._audit.called(id)

@@ -96,6 +96,8 @@ class MariaDBStore:
     `patience` seconds, and a lock no longer than `lock_wait`, whole seconds; where none are given,
     as long as the server says. Where it is `for_update` all reads are SELECT .. FOR UPDATE."""
 
+    errors = (pymysql.MySQLError, LateError)
+
     def __init__(
         self,
         dsn: Mapping[str, Any],

@@ -35,8 +35,8 @@ def none_running() -> Future[Any]:
 
 class Group:
     """All of it but `sessions` is for one thread at a time, and is called in this order: `gather`,
-    `lead` in one group alone, `pass_on`, `release`. Who isn't called on in time releases its
-    sessions by itself, and raises Missed from then on."""
+    `share` and `lead` in one group alone, `pass_on`, `release`. Who isn't called on in time
+    releases its sessions by itself, and raises Missed from then on."""
 
     is_here = True
 
@@ -48,6 +48,8 @@ class Group:
         self.held: Dict[Session, Any] = {}
         self.leader: Any = None  # the Session that leads, if one of these does
         self.timer: Any = None
+        self.asked_at = 0.0  # when `edges` was called last, by the monotonic clock
+        self._had_ended: List[Place] = []  # by then
         self.pool = ThreadPoolExecutor(64, "zanteyard-meeting")  # threads are made as they are used
 
     def add(self, session: Session) -> None:
@@ -76,10 +78,13 @@ class Group:
             self.timer = threading.Timer(seconds, self.release, (meeting,))
             self.timer.daemon = True
             self.timer.start()
-        summoned = [session for session in self.sessions if session.is_open]
-        if leads and not summoned:
+        # Who joins is waited for, and who leaves.
+        there = list(self.sessions)  # others come meanwhile
+        summoned = [session for session in there if session.is_open or session.is_changing]
+        may_lead = [session for session in summoned if session.is_open]
+        if leads and not may_lead:
             raise Missed("no client has a session")
-        self.leader = max(summoned, key=lambda session: session.used_at) if leads else None
+        self.leader = max(may_lead, key=lambda session: session.used_at) if leads else None
         for session in sorted(summoned, key=lambda session: session.current is not None):
             place = self.hold(session, meeting, seconds)
             if session.is_open and session is self.leader:
@@ -87,6 +92,8 @@ class Group:
             elif session.is_open and place.is_due:
                 self.begin(meeting, session, "flag")
         self.end_all()
+        if self.leader is not None and not self.leader.is_open:  # it left before it was held
+            self.lead_instead(meeting)
         self.share(meeting, places, "flag")
         with self.lock:  # else who is released goes on meanwhile
             if self.meeting != meeting:
@@ -95,6 +102,14 @@ class Group:
             flags += [place.number for place in places if place.has_flag]
             return flags, self.given_back(idle)
 
+    def lead_instead(self, meeting: int) -> None:
+        """Another one of those that are held."""
+        self.leader = next((session for session in self.held if session.is_open), None)
+        if self.leader is None:
+            raise Missed("no client has a session")
+        self.begin(meeting, self.leader, "write_mark")
+        self.end_all()
+
     def begin_gather(
         self, meeting: int, seconds: float, leads: bool, places: Sequence[Place], idle: float
     ) -> Wait[Tuple[List[Any], List[Place]]]:
@@ -102,6 +117,10 @@ class Group:
         meanwhile."""
         found = self.gather(meeting, seconds, leads, places, idle)
         return lambda ends: found
+
+    def begin_flag(self, meeting: int, places: Sequence[Place]) -> Wait[None]:
+        self.share(meeting, places, "flag")
+        return lambda ends: None
 
     def begin_lead(self, meeting: int, lists: Sequence[Sequence[str]]) -> Wait[None]:
         self.lead(meeting, lists)
@@ -196,10 +215,13 @@ class Group:
         called twice: all that was answered as the first call ended had been answered when whatever
         hadn't been sent in the second call was sent."""
         found: List[Tuple[Any, ...]] = []
+        self.asked_at, self._had_ended = time.monotonic(), []
         for session in list(self.sessions):
             place = session.place  # which its client may leave meanwhile
             if place is None:
                 continue
+            if place.is_ended:
+                self._had_ended.append(place)
             begun = place.begun  # before it is seen what runs: if nothing does, all have ended
             running = session.running
             if running is None:
@@ -210,17 +232,23 @@ class Group:
         return found
 
     def reopen(self) -> None:
-        """Another audit begins, in which every place may be used again."""
+        """Another audit begins, in which every place may be used again: all are open in it. What
+        had ended as `edges` was called was the place in the audit before; what has ended since has
+        ended in this one."""
         for session in list(self.sessions):
             place = session.place
-            if place is not None:
-                session.is_open, place.is_due = place.is_audited, True
-                place.is_ended = False  # what had ended was the place in the audit before
+            if place is None or place.is_ended and not any(it is place for it in self._had_ended):
+                continue
+            session.is_open, place.is_due = place.is_audited, True
+            place.is_ended = place.must_join = False
+        self._had_ended = []
 
     def numbers(self) -> List[Any]:
         """Of the sessions' places."""
         places = [session.place for session in list(self.sessions)]
         return [place.number for place in places if place is not None]
+
+    there = numbers
 
     def end(self) -> None:
         """No meeting comes any more; what the store hasn't answered is given up, since a program's

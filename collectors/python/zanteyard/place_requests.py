@@ -5,7 +5,7 @@ from __future__ import annotations
 import queue
 import threading
 import time
-from typing import Any, Optional, Sequence, Tuple
+from typing import Any, Optional, Sequence, Set, Tuple
 
 from .errors import ProgramLateError
 from .messages import Messages
@@ -21,6 +21,8 @@ class PlaceRequests:
         self._messages, self._asking = messages, threading.Lock()
         self._asked, self.has_ended = 0, False
         self._answers: queue.SimpleQueue[Optional[Answer]] = queue.SimpleQueue()
+        # The numbers of open ones that were given to clients here, who may not have them yet.
+        self.coming: Set[int] = set()
 
     def ask(self, kind: str, *more: Any, seconds: float) -> Optional[Place]:
         """A place by a message of this kind: "join" for one that is left, "overflow" for one that
@@ -50,6 +52,9 @@ class PlaceRequests:
 
     def take_answer(self, *answer: Any) -> None:
         """The request's number, and a place or None. What nobody waits for is given back."""
+        place = Place(*answer[1]) if answer[1] is not None else None
+        if place is not None and place.is_audited and not place.must_join:
+            self.coming.add(place.number)
         self._answers.put((answer[0], answer[1]))
         if self._asking.acquire(blocking=False):
             try:
@@ -69,7 +74,7 @@ class PlaceRequests:
             except queue.Empty:
                 return
             if answer is not None and answer[1] is not None:
-                self._messages.tell("back", answer[1])
+                self._tell_back(answer[1])
 
     def _answer(self, ends: float) -> Optional[Place]:
         while True:
@@ -81,4 +86,8 @@ class PlaceRequests:
             if asked == self._asked:
                 return Place(*place) if place is not None else None
             if place is not None:
-                self._messages.tell("back", place)
+                self._tell_back(place)
+
+    def _tell_back(self, place: Sequence[Any]) -> None:
+        self._messages.tell("back", place)
+        self.coming.discard(place[0])

@@ -4,6 +4,8 @@ and what can't be at a violation. `zanteyard audit` and `examples/postgres_live.
 from __future__ import annotations
 
 import argparse
+import logging
+import sys
 import time
 from dataclasses import dataclass
 from typing import Any, Callable, List, Optional, Tuple
@@ -22,10 +24,12 @@ from .stories import Story, story_of
 from .telling import tell_violation
 from .store_kinds import POSTGRES, StoreKind
 from .store_kinds import CantAuditError as CantAuditError
-from .workloads import EVERY_WORKLOAD, ClientProcesses, Clients, Nothing
+from .workloads import EVERY_WORKLOAD, ChurningClients, ClientProcesses, Clients, Nothing
 
 PAGE_SECONDS = 5.0  # that finding the reasons for the page may take
+STAYING, CHURNING = 8, 16  # clients at a time, where nothing else is asked for
 MakesStore = Callable[[], Any]
+logger = logging.getLogger("zanteyard")
 
 
 @dataclass(frozen=True)
@@ -44,11 +48,15 @@ class LiveRun:
     def lines(self) -> List[str]:
         """The three lines that end a run."""
         at = f"{self.asked.workload} at {self._level()}"
+        came = getattr(self.clients, "came", None)
+        by = f"{self.asked.clients} clients"
+        if came is not None:
+            by += f" at a time, {came} in all, in {self.live.auditor.sessions} sessions"
         compared = f", {self.alone.rate():.0f} without the auditor" if self.alone else ""
         return [
             f"{at}: {self.outcome}; {self.live.cuts} cuts in {self.live.rounds} rounds",
             f"{self.clients.rate():.0f} transactions a second were committed by "
-            f"{self.asked.clients} clients{compared}; {self.clients.aborted} aborted",
+            f"{by}{compared}; {self.clients.aborted} aborted",
             f"clients waited {100 * self.clients.waited:.1f}% of their time for meetings, and "
             f"{self.clients.longest:.2f} s at most for a transaction; the auditor was at most "
             f"{self.live.lag:.2f} s behind",
@@ -87,6 +95,11 @@ def unaudited_run(asked: Any, make_store: MakesStore) -> Clients:
 
 def _beside(asked: Any, make_store: MakesStore, live: LiveAuditor) -> Clients:
     """The clients of a live audit."""
+    if asked.churn:
+        workload = EVERY_WORKLOAD[asked.workload]
+        return ChurningClients(
+            live, make_store, asked.clients, workload, asked.seconds, asked.rate
+        )
     if not asked.processes:
         sessions = [live.session(make_store()) for _ in range(asked.clients)]
         more = (asked.seconds, lambda: live.is_over, asked.rate)
@@ -121,6 +134,8 @@ def audited_run(
     """The clients beside the auditor, and what became of the audit."""
     policy = RATHER_WAIT if asked.rather_wait else RATHER_LOSE_THE_AUDIT
     rounds, story = _Rounds(), None
+    if asked.churn:
+        _tell_clients()
     with AuditorApart(asked.clients, journal=asked.audit_journal) as auditor:
         live = LiveAuditor(auditor, every=asked.every, policy=policy, tell=rounds.tell)
         rounds.live = live
@@ -133,6 +148,14 @@ def audited_run(
             if asked.html:
                 story = story_of(small, called, _script(), outcome.counts or (), PAGE_SECONDS)
         return live, outcome, clients, story, tuple(rounds.seen)
+
+
+def _tell_clients() -> None:
+    """What each did first, which the log tells."""
+    handler = logging.StreamHandler(sys.stdout)
+    handler.addFilter(lambda record: record.getMessage().startswith("client "))
+    logger.addHandler(handler)
+    logger.setLevel(logging.INFO)
 
 
 def _script() -> str:
@@ -166,7 +189,9 @@ def add_arguments(asked: argparse.ArgumentParser, kind: StoreKind = POSTGRES) ->
     asked.add_argument("--seconds", type=float, default=10.0)
     told = "seconds without the auditor, to compare with; 0 for none"
     asked.add_argument("--unaudited", type=float, default=3.0, help=told)
-    asked.add_argument("--clients", type=count_of_clients, default=8, help="2 to 64")
+    asked.add_argument("--clients", type=count_of_clients, help="2 to 64 at a time (8, or 16)")
+    told = "clients live for two seconds, and others come; tells what each did first"
+    asked.add_argument("--churn", action="store_true", help=told)
     told = "transactions a second that all clients together begin at most; else as many as they can"
     asked.add_argument("--rate", type=float, help=told)
     told = "transactions from one meeting to the next"
@@ -184,6 +209,9 @@ def add_arguments(asked: argparse.ArgumentParser, kind: StoreKind = POSTGRES) ->
 def run(asked: Any) -> LiveRun:
     """Runs the clients as asked, and tells each round. Raises CantAuditError."""
     kind = kind_of(asked)
+    asked.clients = asked.clients or (CHURNING if asked.churn else STAYING)
+    if asked.churn and asked.processes:
+        raise CantAuditError("--churn has each client in a thread, and not in a process")
     with ended_by_signals(), kind.server(asked) as used:
         make_store = kind.maker(asked, used)
         alone = unaudited_run(asked, make_store) if asked.unaudited else None

@@ -108,6 +108,8 @@ class PostgresStore:
     "read committed"; `table` may be "schema.table". A connection is waited for no longer than
     `patience` seconds."""
 
+    errors = (psycopg2.Error,)
+
     def __init__(
         self,
         dsn: str,

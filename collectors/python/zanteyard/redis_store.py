@@ -65,6 +65,8 @@ class RedisStore:
     it; `level` is one of LEVELS. A connection, and the end of a statement of the collector's own,
     are waited for no longer than `patience` seconds."""
 
+    errors = (redis.RedisError, ConnectionError)
+
     def __init__(
         self,
         url: str,

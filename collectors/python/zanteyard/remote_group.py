@@ -45,7 +45,10 @@ class RemoteGroup:
         left."""
         self._messages, self._wait, self._give_back, self._leave = messages, wait, give_back, leave
         self._numbers: Dict[int, Place] = {}  # its places, as they were given to it
+        self._untold: Set[int] = set()  # of these, of which it wasn't told yet
         self.ended: Set[int] = set()  # of these, of which it has told that nothing more comes
+        self.asked_at = 0.0  # when `edges` was answered last, by the monotonic clock
+        self._had_ended: Set[int] = set()  # of `ended`, by then
         self._has_left = False
         self._changed = threading.Condition()  # around what follows
         self._calls: Dict[int, _Call] = {}
@@ -55,6 +58,21 @@ class RemoteGroup:
     def add(self, place: Place) -> None:
         self.ended.discard(place.number)  # as it was in an audit before
         self._numbers[place.number] = replace(place)
+
+    def add_untold(self, place: Place) -> None:
+        """It is to be told of this one."""
+        self._untold.add(place.number)
+        self.add(place)
+
+    def note_told(self, number: int) -> None:
+        self._untold.discard(number)
+
+    def note_joined(self, number: int, transaction: Optional[int]) -> None:
+        """It has told of this transaction there, or, by None, that nothing more comes; or has told
+        of it before it had this place."""
+        place = self._numbers.get(number)
+        if place is not None and transaction is not None and transaction >= place.begun:
+            place.must_join = False
 
     def remove(self, number: int) -> None:
         self._numbers.pop(number, None)
@@ -120,10 +138,14 @@ class RemoteGroup:
 
     @property
     def has_sessions(self) -> bool:
-        return bool(self._numbers) and not self._has_left
+        joined = any(not place.must_join for place in list(self._numbers.values()))
+        return joined and not self._has_left
 
     def numbers(self) -> Sequence[int]:
         return () if self._has_left else sorted(self._numbers)
+
+    def there(self) -> Sequence[int]:
+        return () if self._has_left else [it for it in [*self._numbers] if it not in self._untold]
 
     def told(self) -> str:
         """The numbers of its sessions, also where it has left, in words."""
@@ -142,6 +164,9 @@ class RemoteGroup:
 
         return gathered
 
+    def begin_flag(self, meeting: int, places: Sequence[Place]) -> Wait[None]:
+        return self._begin("flag", meeting, lent=places)
+
     def begin_lead(self, meeting: int, lists: Sequence[Sequence[str]]) -> Wait[None]:
         return self._begin("lead", meeting, lists)
 
@@ -159,7 +184,9 @@ class RemoteGroup:
         self._messages.tell("call", 0, "release", ([],), seconds=self.patience)
 
     def reopen(self) -> None:
-        self.ended.clear()
+        self.ended -= self._had_ended
+        for place in self.places():
+            place.must_join = False  # all are open then
         self._messages.tell("call", 0, "reopen", ([],), seconds=self.patience)
 
     def edges(self) -> Optional[Sequence[Tuple[Any, ...]]]:
@@ -182,6 +209,8 @@ class RemoteGroup:
             call = self._calls.pop(asked, None)
             if call is None:
                 return
+            if call.name == "edges":
+                self.asked_at, self._had_ended = time.monotonic(), set(self.ended)
             for place, now in zip(call.lent, lent):
                 vars(place).update(vars(Place(*now)))
             if not call.is_late:

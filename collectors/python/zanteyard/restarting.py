@@ -30,7 +30,7 @@ Found = Union[bytes, RoundTooLongError]
 
 MOST = 8  # programs that may die over one line
 PAUSE, LONGEST_PAUSE = 0.02, 0.5  # seconds before the third; twice as many before each next
-CHANGES = (b'["offer",', b'["close",')
+CHANGES = (b'["offer",', b'["close",', b'["join",')
 ROUNDS = (b'["round",', b'["finish",')
 OPEN, TRUNCATE = b'["open",', b'["truncate"'
 BEGIN, FINISH = b'["begin"', b'["finish",'
@@ -237,7 +237,7 @@ class Restarting:
 
     def _checkpoint(self, answer: Optional[bytes] = None) -> Talk:
         """Then tells this answer."""
-        saved = yield from saved_lines(*self.keeping.opened)
+        saved = yield from saved_lines(self.keeping.limit)
         is_last = self._round_at == self.keeping.changes  # nothing has come since that round
         self.keeping.note_checkpoint(saved)
         self._round_at, self._open_at = 0 if is_last else None, None
@@ -277,9 +277,8 @@ class Restarting:
 
     def _resume(self, kept: Kept) -> Talk:
         began = time.monotonic()
-        sessions, _ = self.keeping.opened
-        answers = yield from self._begun_with(kept.lines, *standing_lines(sessions))
         state = state_of(kept.lines, has_last=False)
+        answers = yield from self._begun_with(kept.lines, *standing_lines(len(state.gone)))
         if not is_standing(answers, state.gone, state.closed, state.received):
             raise JournalError(f"{self.keeping.journal.path}: what it has leads elsewhere")
         took = time.monotonic() - began

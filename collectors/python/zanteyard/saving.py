@@ -19,13 +19,14 @@ NUMBERS = 1 << 48  # at most this
 TRIES = 3  # where a line is refused for want of memory
 
 
-def saved_lines(sessions: int, limit: int) -> Answers:
+def saved_lines(limit: int) -> Answers:
     """The lines by which another program begins where this one stands. Raises JournalError where
     it can't say. All that is left to ask is asked at once, each part from where it ended."""
-    ends_at = {-1: 0, **dict.fromkeys(range(sessions), 0)}  # keys, and each session's numbers
     last: List[bytes] = []
     remaining: List[bytes] = []
     (marks,) = yield from _answers([MARKS])
+    sessions = len(json.loads(marks)[1])  # those that have joined, too
+    ends_at = {-1: 0, **dict.fromkeys(range(sessions), 0)}  # keys, and each session's numbers
     while ends_at:
         answers = yield from _answers([_part(*each) for each in ends_at.items()])
         for part, answer in zip([*ends_at], answers):

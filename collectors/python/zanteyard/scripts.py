@@ -14,6 +14,7 @@ from .auditor import FENCE
 from .errors import ProgramEndedError, ScriptMistakeError
 from .records import Logged, Pending, TransactionId
 from .script_names import NamedTransaction, ScriptNames
+from .stints import Stints
 from .taking import never_came
 
 # What a spent round is given again with: nodes of the search, depth, workers.
@@ -66,16 +67,19 @@ class ScriptHistory:
     history: List[List[Logged]] = field(default_factory=list)
     marks: List[int] = field(default_factory=list)  # of each session, how many are forgotten
     base: Dict[str, TransactionId] = field(default_factory=dict)  # of a key the last one gone
+    stints: Stints = field(default_factory=Stints)  # of sessions that several clients had
 
     def begin(self, sessions: int) -> None:
         """Nothing has come yet."""
         self.history, self.marks, self.base = [[] for _ in range(sessions)], [0] * sessions, {}
+        self.stints = Stints()
 
     def join(self, session: int, transactions: Iterable[Any]) -> None:
         """What an accepted `join` has said."""
         if session == len(self.history):
             self.history.append([])
             self.marks.append(0)
+        self.stints.begin_behind(session, self.marks[session])  # nothing of it remains
         self.take_in(session, transactions)
 
     def take_in(self, session: int, transactions: Iterable[Any]) -> None:
@@ -86,8 +90,9 @@ class ScriptHistory:
             self.history[session].append(logged_of(reads, keys, self.key_name, named))
 
     def called(self, id: TransactionId) -> str:
-        """How the transaction is told."""
-        return self.names.name(id)
+        """How the transaction is told: with its client's first, where its session had others."""
+        told, by_number = self.names.name(id), f"{id[0]}.{id[1]}"
+        return self.stints.called_by_first(id) if told == by_number else told
 
     def key_name(self, number: int) -> str:
         """How the key is told."""

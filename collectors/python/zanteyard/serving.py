@@ -63,7 +63,7 @@ def add_arguments(command: argparse.ArgumentParser) -> None:
         default=16,
         choices=range(1, 65),
         metavar="N",
-        help="1 to 64 clients at a time (16)",
+        help="1 to 64 sessions at first (16); more join, for 64 clients at a time",
     )
     command.add_argument(
         "--metrics",

@@ -21,7 +21,10 @@ with this token, and OutcomeUnknown where it hasn't said so after so many second
 committed, and nobody has to ask. `look_up(transaction)` comes before a client's commit is noted and
 sent, and raises Aborted alone: a store whose clients don't read and write by a Transaction says
 there what they did, or, as its `unclear`, why that isn't known. `statement` is what it has run
-last, as who is told of a violation should see it.
+last, as who is told of a violation should see it. `errors` are the classes of what its driver
+raises: a client joins by a statement of the collector's own, in the application's thread, and what
+comes of that is kept from the application, unless it is of none of these, nor of this package's, as
+what a handler of SIGALRM raises.
 """
 
 from __future__ import annotations
@@ -39,7 +42,7 @@ from .asking import ticket_of
 from .auditor import FENCE, FLAG, MARK
 from .circumstances import brief, caller
 from .errors import AbortedError, AuditLostError, NameTakenError, OutcomeUnknownError
-from .errors import StoreLateError
+from .errors import StoreLateError, ZanteyardError
 from .forks import UNAUDITED, keep
 from .locks import give_back, take
 from .notes import Notes
@@ -54,6 +57,8 @@ SHORTEST = 0.001  # seconds that the store is given for a transaction
 RANGES = 16  # of numbers that a place keeps
 AGAIN = 1.0  # seconds until a run's name is claimed again
 LEAST = 0.1  # seconds for an outcome, where nobody was promised any
+JOINING = 8  # attempts at the fence with which a client joins
+PLACES = 3  # that a client is given for one transaction, where it can't be known whether it joined
 logger = logging.getLogger("zanteyard")
 Result = TypeVar("Result")
 
@@ -62,9 +67,9 @@ Result = TypeVar("Result")
 class Place:
     """A session of the auditor, whoever has it: its number, how many transactions it has had,
     whether any came after its last flag or mark, and whether its flag wasn't read since; whether it
-    is audited at all, has ended for this audit, or is lent to somebody who runs a flag for it; and
-    the numbers, each from one to before another one, of those that the store may commit yet, or
-    not."""
+    is audited at all, has ended for this audit, or is lent to somebody who runs a flag for it; the
+    numbers, each from one to before another one, of those that the store may commit yet, or not;
+    whether who has it has to join first, by a fence; and which client that is."""
 
     number: int
     begun: int = 0
@@ -74,6 +79,8 @@ class Place:
     is_ended: bool = False
     is_lent: bool = False
     unknown: Tuple[Tuple[int, int], ...] = ()
+    must_join: bool = False
+    client: int = 0
 
     def leave_open(self, number: int) -> None:
         """Nobody knows what becomes of the transaction of this number."""
@@ -88,7 +95,8 @@ class Session:
     given; `patience` is for how many seconds the store is asked for an outcome. Where the session
     has ended, `renew(self)`, if there is one, gives the Place of one that is left; where it gives
     None the client goes on unaudited, and where there is no `renew` at all no transaction begins
-    any more.
+    any more. Where its place is one that has to join, it does so as its first transaction begins,
+    and where the store doesn't let it `cant_join(self, why)` gives another Place.
 
     What the auditor does with the log never reaches who runs transactions: `failure` says why
     nothing more of this session is audited, if that is so."""
@@ -110,11 +118,14 @@ class Session:
         if hasattr(auditor, "note_sessions"):
             auditor.note_sessions()
         self.auditor, self.store, self.patience, self.renew = auditor, store, patience, renew
+        self.cant_join: Optional[Callable[[Session, Exception], Optional[Place]]] = None
+        self.is_changing = False  # it gets its place, or gives it back, and its turn is held
         its_name = getattr(auditor, "run_name", "")
         self.run_name = run_name if run_name is not None else its_name
         self.is_named = self.run_name != its_name or getattr(auditor, "is_named", True)
         self.place: Any = Place(number)  # None where no place is left for it
         self.is_open = True
+        self.started = 0  # how many transactions the store has begun
         self.is_claimed, self.claim_at = False, 0.0  # the latter is when it is tried again
         self.unclaimed: Optional[Exception] = None  # why not, once it was tried in vain
         self.wait = getattr(getattr(auditor, "policy", None), "wait", 30.0)
@@ -175,8 +186,8 @@ class Session:
                 give_back(self.turn, self.has_turn)
 
     def get_ready(self) -> None:
+        self.claim_name()  # before it joins: what that writes has the name
         self.go_on()
-        self.claim_name()
 
     def take_turn(self) -> None:
         """Who holds it, and the gate, are meetings, which end within the policy's wait; but for a
@@ -206,12 +217,100 @@ class Session:
         self.waited, self.longest = self.waited + waited, max(self.longest, waited)
 
     def go_on(self) -> None:
-        """Takes another place where the session has ended."""
-        if self.is_open:
+        """Takes another place where the session has ended, and joins where it has to."""
+        ends = time.monotonic() + self.wait
+        try:
+            for left in reversed(range(PLACES)):
+                if not (self.is_open or self.has_to_join):
+                    self.take_place()
+                if not self.has_to_join or self.join(not left or time.monotonic() >= ends):
+                    return
+        finally:
+            self.is_changing = False
+
+    @property
+    def has_to_join(self) -> bool:
+        place = self.place
+        if place is None or self.renew is None:  # its process has left
+            return False
+        return bool(place.must_join) and not (self.is_open or place.is_ended)
+
+    def join_now(self) -> bool:
+        """As it is made, so that nobody waits for a session that is new; whether it has. Raises
+        what isn't the store's word on it."""
+        place, self.is_changing = self.place, True
+        try:
+            self.take_turn()
+            try:
+                if self.has_to_join:  # else its process has left
+                    self.claim_name()
+                    self.fence_first()
+            finally:
+                give_back(self.turn, self.has_turn)
+        except Exception as error:
+            if not self.is_of_store(error):
+                raise
+            logger.info("a client joins later, since %s", str(error).strip() or repr(error))
+        finally:
+            self.is_changing = False
+        return not (place.must_join or place.is_ended)
+
+    def join(self, is_last: bool) -> bool:
+        """Behind a fence, which is the first that is handed in of the client. Where the store can't
+        say whether it is there, another place is to be taken for it, but for the last time; whether
+        the client can go on. Raises what isn't the store's word on it."""
+        place, self.is_changing, before = self.place, True, self.started
+        try:
+            self.fence_first()
+        except Exception as error:
+            if self.started == before:  # the store can't be reached, as the client would find out
+                raise
+            if not self.is_of_store(error):
+                raise
+            if place.is_ended and not is_last:
+                return False
+            if place.must_join:  # else it is there, by the store's later word
+                self.pass_over(error)
+        return True
+
+    def fence_first(self) -> None:
+        """By which it joins, as that is handed in (`Transaction.log`)."""
+        try:
+            self.run_alone(join_behind, self.wait, JOINING)
+        finally:
+            self.drop_alone()
+
+    def drop_alone(self) -> None:
+        """What the collector's own had begun and, by an interrupt, nobody has."""
+        running = self.running
+        if running is None or running.holds or running.is_over:
             return
-        place = self.renew(self) if self.renew is not None else None
+        if running.written:  # it may be there
+            running.log((), running.written, "unknown", is_last=True)
+        else:
+            running.rollback()
+
+    def is_of_store(self, error: Exception) -> bool:
+        """Whether it is what came of a statement of the collector's own: the application, in whose
+        thread that is run, is told of nothing else."""
+        its: Tuple[Any, ...] = tuple(getattr(self.store, "errors", ()))
+        return isinstance(error, (ZanteyardError, *its))
+
+    def pass_over(self, error: Exception) -> None:
+        """The client goes on, unaudited."""
+        place = self.cant_join(self, error) if self.cant_join is not None else None
         if place is not None:
             self.place, self.is_open = place, place.is_audited
+        else:  # nobody else gets this one
+            self.fail(error)
+            self.is_open, self.place.must_join = True, False
+
+    def take_place(self) -> None:
+        self.is_changing = False  # no meeting waits for who waits for a place
+        place = self.renew(self) if self.renew is not None else None
+        if place is not None:
+            self.is_changing, self.is_open = True, place.is_audited and not place.must_join
+            self.place = place
         elif self.renew is None or self.place is None:
             raise ValueError(f"session {self.number} has ended")
 
@@ -238,6 +337,7 @@ class Session:
     def start(self, begin: Callable[..., Any], holds: bool, *arguments: Any) -> Transaction:
         """A transaction, which has its number once the store has begun it."""
         begin(*arguments)
+        self.started += 1
         transaction = Transaction(self, self.place.begun, holds)
         self.running = transaction
         if holds:  # from here on it is what gives the turn back
@@ -291,7 +391,8 @@ class Session:
     def end(self) -> None:
         """No transaction may stand behind the last one."""
         self.is_open, self.place.is_ended = False, True
-        self.tell(self.auditor.take_close, self.number)
+        if not self.place.must_join:  # else it is closed
+            self.tell(self.auditor.take_close, self.number)
 
     def tell(self, call: Callable[..., Any], *arguments: Any) -> bool:
         """Whether the auditor took it, whose fate is none of the client's business."""
@@ -334,7 +435,7 @@ class Session:
         return attempted(begin, body, attempts, ends)
 
     def fence(self, seconds: float = 60.0) -> None:
-        self.run_alone(lambda transaction: transaction.exchange(FENCE, ""), seconds)
+        self.run_alone(join_behind, seconds)
 
     def flag(self, seconds: float = 60.0) -> None:
         """After it, all that this session did so far is behind one read of its flag away."""
@@ -363,6 +464,18 @@ class Session:
             place.is_lent, place.is_ended = False, not one.is_open
 
 
+def is_dropped_if_unknown(key: str) -> bool:
+    """Of which it isn't known whether it was written. Nothing is known of a fence without its read:
+    who reads from it waits for it then. And nobody reads a flag of a session that has ended, so
+    that nothing would say where it stands, and no fence be settled."""
+    return key == FENCE or key.startswith(FLAG)
+
+
+def join_behind(transaction: Transaction) -> None:
+    """A fence, behind the last one."""
+    transaction.exchange(FENCE, "")
+
+
 @contextmanager
 def whole(transaction: Transaction) -> Iterator[Transaction]:
     try:
@@ -373,7 +486,8 @@ def whole(transaction: Transaction) -> Iterator[Transaction]:
         else:
             transaction.rollback()
         raise
-    except BaseException:
+    except BaseException as error:
+        transaction.find_out_alone(error)
         transaction.rollback()
         raise
     if not transaction.is_over:  # the body may have ended it
@@ -589,6 +703,17 @@ class Transaction:
         except (Aborted, OutcomeUnknown):
             pass
 
+    def find_out_alone(self, error: BaseException) -> None:
+        """Where this came behind a statement of the collector's own that is a transaction by
+        itself, and it isn't known to be the store's answer: a client joins in the application's
+        thread, where an interrupt may come behind that answer, too."""
+        if self.is_over or self.holds or not self.sent or isinstance(error, Aborted):
+            return
+        if not isinstance(error, Exception):
+            self.log((), self.written, "unknown", is_last=True)
+        elif self.session.place.must_join and not self.was_answered(error):
+            self.find_out_behind()
+
     def find_out(self) -> None:
         """Asks the store. Where it can't say, the transaction is logged with its writes alone, as
         the last of its session."""
@@ -623,11 +748,13 @@ class Transaction:
         session = self.session
         try:
             self.is_over = True
+            if session.place.must_join and outcome != "committed" and not is_last:
+                self.give_back_number()
+                return
             session.place.is_due = True
             if self.holds:
                 session.used_at = time.monotonic()
-            # Nothing is known of a fence without its read: who reads from it waits for it then.
-            if not (is_last and FENCE in writes):
+            if not (is_last and any(map(is_dropped_if_unknown, writes))):
                 unclear = session.unclaimed or (self.unclear if outcome != "aborted" else None)
                 if unclear is not None:
                     self.note_unclear(outcome, is_last, unclear)
@@ -637,6 +764,8 @@ class Transaction:
             if is_last:
                 session.place.leave_open(self.number)
                 session.end()
+            elif session.place.must_join:  # it has, by this
+                session.is_open, session.place.must_join = True, False
         except BaseException as error:
             told = f"transaction {session.number}.{self.number} was interrupted as it was handed in"
             session.miss(self.number, AuditLostError(f"{told} ({type(error).__name__})"))
@@ -647,6 +776,12 @@ class Transaction:
                 session.current = None
                 session.has_turn = []
                 session.turn.release()
+
+    def give_back_number(self) -> None:
+        """What a client joins with is a fence that is there: an attempt at one that was aborted has
+        left nothing, and the next one has its number."""
+        self.note_answer(self.logged((), (), "aborted"), False)
+        self.session.place.begun = self.number
 
     def hand_in(
         self, reads: Iterable[Read], writes: Iterable[str], outcome: str, is_last: bool

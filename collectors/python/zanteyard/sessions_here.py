@@ -27,24 +27,43 @@ class SessionsHere:
         the middle of a transaction."""
         if not session.turn.acquire(timeout=self.policy.wait):
             raise ValueError(f"session {session.number} is in a transaction")
+        session.is_changing = True  # until its place is back, which a meeting is to have
         try:
-            self._group.remove(session)
             place, session.place, session.renew = session.place, None, None
             is_open, session.is_open = session.is_open, False
-            if is_open:
-                place.is_due = True
+            if place is not None and place.is_audited:
+                place.is_due = is_open
                 self._give_back(place)
             notes, session.notes = session.notes, None
             if notes is not None:
                 self._forget(notes)
         finally:
+            self._group.remove(session)
+            session.is_changing = False
             session.turn.release()
 
     def _add_session(self, place: Place, store: Store, patience: float) -> Session:
         made = Session(self, place.number, store, self.run_name, patience, self._renew)
         made.place, made.notes = place, self._notes_of(store)
+        made.is_open = place.is_audited and not place.must_join
+        made.cant_join = self._cant_join
         self._group.add(made)
+        if self._leaves:  # and may have told so already: others may have its place
+            made.renew, made.is_open = None, False
+        try:
+            has_joined = not place.must_join or made.join_now()
+        except BaseException:
+            self.leave_session(made)
+            raise
+        if not has_joined:
+            made.place = None  # another one is asked for as its first transaction begins
+            self._give_back(place)
         return made
+
+    @property
+    def _leaves(self) -> bool:
+        """Whether what is done in sessions that are added from here on isn't handed in."""
+        return False
 
     def _notes_of(self, store: Store) -> Optional[Notes]:
         """Where what a session does is noted for who finds this process killed."""
@@ -57,5 +76,11 @@ class SessionsHere:
         """For a session that has ended: another one's place, or its own, and unaudited."""
         raise NotImplementedError
 
+    def _cant_join(self, session: Session, why: Exception) -> Optional[Place]:
+        """For a session whose client can't join, which goes on unaudited: a place that no audit is
+        about, if there is one."""
+        raise NotImplementedError
+
     def _give_back(self, place: Place) -> None:
+        """Also one that has ended."""
         raise NotImplementedError

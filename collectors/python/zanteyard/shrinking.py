@@ -49,7 +49,7 @@ def from_start(auditor: Any) -> Tuple[History, Names]:
     transactions. Where something is forgotten, a first transaction stands for it: it writes the
     last version of each key, and every session begins with one that reads from it."""
     marks, base, history = auditor.marks, auditor.base, auditor.history
-    called: Names = getattr(auditor, "called", name)  # a script may have names of its own
+    called: Names = getattr(auditor, "called", name)  # it may have names, or tell whose it was
     gone, some_gone = (0, 0), any(marks)
 
     def moved(key: str, source: Source) -> Source:

@@ -13,7 +13,7 @@ from typing import Any, Callable, Optional, Sequence, Tuple, Type
 import psycopg2
 
 from .errors import AbortedError, AuditLostError, OutcomeUnknownError, StatementRefusedError
-from .errors import StoreUnfitError
+from .errors import StoreUnfitError, ZanteyardError
 from .foreign import is_foreign
 from .forks import is_forked
 from .locks import give_back
@@ -151,10 +151,10 @@ class Audits:
 
     def _join(self) -> None:
         """Where no session is left the connection is one without an audit, and what it does makes
-        the outcome incomplete."""
+        the outcome incomplete. Raises what is neither of the audit nor of the store."""
         try:
             self.session = self.audit.session(self.store)
-        except Exception as error:
+        except (ZanteyardError, ValueError, *self.store.errors) as error:
             self.session = Session(self.audit.auditor, -1, self.store)
             self.has_session = False
             self._lose(AuditLostError(f"a connection isn't audited: {error}"))

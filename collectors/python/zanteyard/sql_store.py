@@ -37,6 +37,7 @@ class SqlStore:
     def __init__(self, connection: Any, dsn: str, patience: float, wait: float) -> None:
         self._connection = weakref.ref(connection)  # which ends as its last user drops it
         self.driver_error: Type[Exception] = connection.error
+        self.errors = (*PostgresStore.errors, self.driver_error)
         self.beside = PostgresStore(dsn, "serializable", patience=patience)
         self.side = Side(self.beside, wait)
         self.dsn, self.is_alone, self.made_in = dsn, False, os.getpid()

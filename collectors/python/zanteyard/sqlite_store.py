@@ -75,6 +75,8 @@ class SQLiteStore:
     """One connection, for one thread at a time. `level` is one of LEVELS. A lock is waited for no
     longer than `patience` seconds, but where SQLite sees that waiting is in vain."""
 
+    errors = (sqlite3.Error,)
+
     def __init__(
         self,
         path: str,

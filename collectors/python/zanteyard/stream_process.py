@@ -120,12 +120,7 @@ class StreamProcess(ClientProcess):
 
     def _take_leave(self, places: Sequence[Sequence[Any]]) -> None:
         self._has_left = True
-        numbers, gone = self.group.numbers(), {place.number for place in self.group.given_back()}
         super()._take_leave(places)
-        known = gone | self.group.ended | {place[0] for place in places}
-        for number in numbers:
-            if number not in known:  # it was told too late that it had this, and did nothing there
-                self._live.take_close(number)
 
     def _wait_for_others(self, logged: Sequence[Any], is_again: bool) -> None:
         """Which had these sessions before: their streams are heard again, too."""
@@ -160,6 +155,7 @@ class StreamProcess(ClientProcess):
         is_again = self._at <= self.handled
         for _, session, number, unseen, packed in logged:
             last[session] = number
+            self.group.note_joined(session, number)  # it may be taken in already
             is_taken = is_again and backlog.is_taken(session, number)
             if not is_taken and (number is None or number >= backlog.next_number(session)):
                 self._take_one(now, session, number, unseen, packed)

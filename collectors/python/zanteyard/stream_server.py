@@ -382,8 +382,14 @@ class StreamServer:
             lent += self._add(client).begin_behind(of_client)
         left = [Place(*it) for it in state.left]
         taken = [number for it in self._processes.values() for number in it.group.numbers()]
+        closed = [*live.auditor.closed]
+        for place in [*left, *lent]:
+            is_closed = place.number < len(closed) and closed[place.number]
+            place.is_ended = place.is_ended or (is_closed and not place.must_join)
+            place.must_join = place.must_join and is_closed
         live._places.go_on(left, taken, lent, state.unaudited)
-        self._close_what_nobody_has({*taken, *(it.number for it in [*left, *lent])})
+        open_ones = [it.number for it in [*left, *lent] if not it.is_ended]
+        self._close_what_nobody_has({*taken, *open_ones})
         history: Any = live.auditor.history
         for logged in (it for txns in history for it in txns):
             live._backlog.put_unseen(keys_written_unseen(logged))

@@ -9,7 +9,7 @@ import threading
 import time
 from collections import deque
 from contextlib import suppress
-from typing import Any, Deque, Dict, Iterator, List, Optional, Sequence, Tuple, Union
+from typing import Any, Container, Deque, Dict, Iterator, List, Optional, Sequence, Tuple, Union
 
 from .coverage import Coverage
 from .errors import FullError, RefusedError
@@ -17,7 +17,7 @@ from .locks import give_back, take
 from .outcome import RATHER_LOSE_THE_AUDIT, VIOLATED, Outcome, Policy, kind_of
 from .pipes import Ended, Late
 from .programs import PROGRAM
-from .records import History, Logged, Pending, Report
+from .records import History, Logged, Names, Pending, Report, TransactionId
 from .resuming import Reopened
 
 Full = FullError  # the same error under a shorter name
@@ -45,6 +45,7 @@ class Takes:
 
     history: History  # of each session what was taken in and isn't forgotten
     has_sessions = False  # which hand in to it
+    live_called: Optional[Names] = None  # how a live audit tells transactions
 
     def __init__(
         self,
@@ -81,9 +82,12 @@ class Takes:
     def _end_program(self) -> Optional[int]:
         raise NotImplementedError
 
-    def offer_all(self, fragments: Sequence[Fragment]) -> List[Fragment]:
+    def offer_all(
+        self, fragments: Sequence[Fragment], joining: Container[int] = ()
+    ) -> List[Fragment]:
         """Several fragments, each (session, number of the first, transactions): gives those for
-        which there was no room."""
+        which there was no room. Of these sessions they are what they join with, as an Auditor's
+        `join` says; each stands once among the fragments."""
         raise NotImplementedError
 
     def _prepare(self, kind: str, session: int, *offered: Any) -> Any:
@@ -157,6 +161,10 @@ class Takes:
         """Whether anything was handed in or offered."""
         return self.audits > 1 or self.handed_in > 0 or any(self.received)
 
+    def called(self, id: TransactionId) -> str:
+        """How a transaction is told."""
+        return self.live_called(id) if self.live_called else f"{id[0]}.{id[1]}"
+
     received: Any  # how many transactions of each session were taken in, forgotten ones too
 
     @property
@@ -172,6 +180,20 @@ class Takes:
         is no room."""
         if self.offer_all([(session, number, logged)]):
             raise Full(f"there is no room for transaction {number} of session {session}")
+
+    def join(self, session: int, number: int, *logged: Any) -> None:
+        """Lets a session join with its first transactions: a new one, whose number is that of the
+        sessions so far, from 0 on; or one that was closed and of which nothing remains (`vacant`),
+        from where it has ended. The first is a fence that reads from one that remains, or from the
+        last that is forgotten; else it raises NotAnchoredError. Raises Full where there is no
+        room."""
+        if self.offer_all([(session, number, logged)], (session,)):
+            raise Full(f"there is no room for transaction {number} of session {session}")
+
+    @property
+    def vacant(self) -> List[int]:
+        """The sessions that are closed and of which nothing remains, which may come back."""
+        raise NotImplementedError
 
     def round(self, efforts: Sequence[Effort] = EFFORTS) -> Report:
         """The report of a round over all that sessions have handed in. One that ends spent is given

@@ -20,6 +20,7 @@ LEVELS = {
 PAIRS = 8  # of keys
 READY = 60.0  # seconds for all clients' processes to start
 SHORT = 0.002  # seconds between a write and what takes it back
+LIFE = 2.0  # seconds for which a client is there that another one follows
 
 
 def number_at(transaction: Any, key: str) -> int:
@@ -120,14 +121,18 @@ class Clients:
         for thread in threads:
             thread.join()
         self.took = time.monotonic() - self.began
-        self.waited = sum(session.waited for session in sessions) / (self.took * len(sessions))
+        waited = sum(session.waited for session in sessions if session is not None)
+        self.waited = waited / (self.took * len(sessions))
 
     def client(self, number: int, session: Any) -> None:
+        self.live_until(self.until, number, session)
+
+    def live_until(self, until: float, number: int, session: Any) -> None:
         committed = aborted = 0
-        due = self.began + random.random() * self.pause  # not all at once
+        due = time.monotonic() + random.random() * self.pause  # not all at once
         longest = 0.0
         try:
-            while time.monotonic() < self.until and not self.is_over():
+            while time.monotonic() < until and not self.is_over():
                 due = self.wait(due)
                 began = time.monotonic()
                 try:
@@ -153,6 +158,42 @@ class Clients:
         if self.failures:
             raise self.failures[0]
         return float(self.committed / self.took)
+
+
+class ChurningClients(Clients):
+    """Each in the place of one that has gone: so many at a time, each of which comes with a store
+    of its own and leaves after so many seconds, until the time is up or `is_over()`."""
+
+    def __init__(
+        self,
+        live: Any,
+        make_store: Callable[[], Any],
+        count: int,
+        workload: Workload,
+        seconds: float,
+        rate: Optional[float] = None,
+        life: float = LIFE,
+    ) -> None:
+        self.live, self.make_store, self.life = live, make_store, life
+        self.came, self.total = 0, 0.0
+        super().__init__([None] * count, workload, seconds, lambda: bool(live.is_over), rate)
+        self.waited = self.total / (self.took * count)
+
+    def client(self, number: int, session: Any) -> None:
+        # They don't all change at once.
+        until, life = self.until, random.uniform(0.5, 1.0) * self.life
+        while time.monotonic() < until and not (self.is_over() or self.failures):
+            store = self.make_store()
+            try:
+                with self.live.session(store) as its:
+                    self.live_until(min(until, time.monotonic() + life), number, its)
+                    with self.lock:
+                        self.came, self.total = self.came + 1, self.total + its.waited
+            except Exception as error:  # told by the main thread
+                self.failures.append(error)
+            finally:
+                store.close()
+            life = self.life
 
 
 class ClientProcesses(Clients):

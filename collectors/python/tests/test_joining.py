@@ -1,0 +1,806 @@
+"""Sessions that join while an audit goes on, and such that come back for another client."""
+import json
+import logging
+import os
+import subprocess
+import sys
+import tempfile
+import threading
+import time
+import unittest
+from contextlib import ExitStack, contextmanager
+from unittest import mock
+
+from zanteyard import FENCE, Aborted, Auditor, AuditorApart, LiveAuditor, Logged, OutcomeUnknown
+from zanteyard import AuditClient, AuditServer, Policy, from_start
+from zanteyard.audit import Audit, Figures
+from zanteyard.auditor import FLAG, PROGRAM
+from zanteyard.backlog import Backlog
+from zanteyard.coverage import Coverage
+from zanteyard.edges import coverage_from_now
+from zanteyard.errors import AuditLostError, NotAnchoredError
+from zanteyard.killed import NOTHING, Killed
+from zanteyard.memory_store import MemoryStore
+from zanteyard.notes import Note
+from zanteyard.places import Places
+from zanteyard.records import as_bytes
+from zanteyard.sessions import Place
+from zanteyard.stints import Stints
+
+from zanteyard.redis_server import redis_server
+
+from .test_live import WithProgram, add_one
+
+try:
+    import redis
+
+    from zanteyard.redis_server import RedisServer
+    from zanteyard.stream_server import StreamServer
+except ImportError:
+    redis = None
+
+PLACE = os.path.join(os.path.dirname(os.path.abspath(__file__)), "..")
+
+
+def fence(source):
+    return Logged([(FENCE, source)], [FENCE])
+
+
+def wrote(key):
+    return Logged([], [key])
+
+
+def read(key, source):
+    return Logged([(key, source)], [])
+
+
+class Calls(WithProgram):
+    """What an auditor is asked."""
+
+    def auditor(self, sessions=2, **more):
+        auditor = self.AUDITOR(sessions, 16, **more)
+        self.addCleanup(auditor.end)
+        return auditor
+
+    def cut(self, auditor):
+        """Session 0 makes a fence, and all up to there is forgotten."""
+        auditor.offer(0, 0, fence("init"), wrote("x"), fence((0, 0)))
+        auditor.close(1)
+        self.assertEqual(auditor.last_round().kind, "serial")
+        self.assertEqual(auditor.truncate().fence, (0, 2))
+
+    def test_a_new_one(self):
+        auditor = self.auditor()
+        auditor.offer(0, 0, fence("init"))
+        auditor.join(2, 0, fence((0, 0)), wrote("x"))
+        auditor.offer(2, 2, wrote("y"))
+        self.assertEqual((auditor.sessions, list(auditor.received)), (3, [1, 0, 3]))
+        self.assertEqual(auditor.last_round().counts, [1, 0, 3])
+
+    def test_one_that_comes_back(self):
+        auditor = self.auditor()
+        self.cut(auditor)
+        self.assertEqual(auditor.vacant, [1])
+        auditor.offer(0, 3, fence((0, 2)))
+        auditor.join(1, 0, fence((0, 3)), read("x", (0, 1)), fence((1, 0)))
+        self.assertEqual((auditor.vacant, list(auditor.closed)), ([], [False, False]))
+        self.assertEqual(auditor.last_round().kind, "serial")
+        auditor.close(1)
+        auditor.offer(0, 4, fence((1, 2)))
+        auditor.last_round()
+        auditor.truncate()
+        auditor.join(1, 3, fence((0, 4)), read("x", "init"))
+        self.assertEqual(list(auditor.received), [5, 5])
+        report = auditor.last_round()
+        self.assertEqual(report.kind, "violated")
+
+    def test_what_is_refused_changes_nothing(self):
+        auditor = self.auditor()
+        self.cut(auditor)
+        for session, number, logged in ((2, 0, fence("init")), (1, 0, fence((0, 0))), (1, 0, wrote("x"))):
+            with self.assertRaises(NotAnchoredError):
+                auditor.join(session, number, logged)
+        self.assertEqual((auditor.sessions, list(auditor.closed), auditor.vacant), (2, [False, True], [1]))
+
+    def test_several_at_once(self):
+        auditor = self.auditor()
+        auditor.offer(0, 0, fence("init"))
+        fragments = [(2, 0, [fence((0, 0))]), (0, 1, [wrote("x")]), (3, 0, [fence((2, 0))])]
+        self.assertEqual(auditor.offer_all(fragments, (2, 3)), [])
+        self.assertEqual(list(auditor.received), [2, 0, 1, 1])
+
+
+class CallsApart(Calls):
+    AUDITOR = AuditorApart
+
+
+class Journals(Calls):
+    """The same by a journal, with a program that is killed now and then."""
+
+    def auditor(self, sessions=2, **more):
+        folder = tempfile.TemporaryDirectory()
+        self.addCleanup(folder.cleanup)
+        self.journal = os.path.join(folder.name, "journal")
+        auditor = super().auditor(sessions, journal=self.journal, **more)
+        for name in ("join", "close", "truncate"):
+            setattr(auditor, name, self.killing(auditor, getattr(auditor, name)))
+        logging.getLogger("zanteyard").setLevel(logging.CRITICAL)
+        self.addCleanup(logging.getLogger("zanteyard").setLevel, logging.NOTSET)
+        return auditor
+
+    @staticmethod
+    def killing(auditor, call):
+        def killed(*arguments):
+            auditor.program.process.kill()
+            return call(*arguments)
+
+        return killed
+
+    def test_it_is_gone_on_with(self):
+        for is_cut in (False, True):
+            with self.subTest(is_cut=is_cut):
+                auditor = self.auditor()
+                self.cut(auditor)
+                auditor.offer(0, 3, wrote("x"), fence((0, 2)))
+                auditor.join(1, 0, fence((0, 4)), read("x", (0, 3)), fence((1, 0)))
+                auditor.join(2, 0, fence((1, 2)))
+                auditor.close(1)
+                if is_cut:
+                    auditor.offer(0, 5, fence((2, 0)))
+                    auditor.offer(2, 1, fence((0, 5)))
+                    auditor.last_round()
+                    auditor.truncate()
+                    auditor.join(1, 3, fence((2, 1)), read("x", (0, 3)))
+                whole = (list(auditor.received), list(auditor.closed), auditor.history, auditor.marks)
+                auditor.program.kill()
+                auditor.end()
+                with Auditor.resumed(self.journal) as resumed:
+                    self.assertEqual((resumed.received, resumed.closed, resumed.history, resumed.marks), whole)
+                    self.assertEqual((resumed.sessions, resumed.last_round().kind), (3, "serial"))
+                    if is_cut:
+                        self.assertEqual(resumed.called((1, 4)), "1.4 (client from 1.3)")
+                        self.assertEqual(resumed.called((1, 1)), "1.1 (client from 1.0)")
+                    self.assertEqual(resumed.called((2, 0)), "2.0")
+
+
+class TakenIn(WithProgram):
+    """An audit, which is handed what clients did in an order in which it can't be taken in."""
+
+    def setUp(self):
+        super().setUp()
+        self.auditor, self.backlog = Auditor(2, 64), Backlog(8)
+        self.addCleanup(self.auditor.end)
+        its = (self.backlog, Figures(), self.told.append, "run", Coverage.of_all(2))
+        self.stints = Stints()
+        self.audit = Audit(self.auditor, *its, stints=self.stints)
+
+    def hand_in(self, *entries):
+        for session, number, logged in entries:
+            self.backlog.put((0.0, session, number, logged))
+        while self.audit.take_in():
+            pass
+
+    def received(self):
+        return list(self.auditor.received)
+
+    def test_who_joins_waits_for_the_fence_before_its_own(self):
+        self.stints.begin(2, 0)
+        self.hand_in((0, 0, fence("init")), (2, 0, fence((1, 0))), (2, 1, wrote("x")))
+        self.assertEqual(self.received(), [1, 0])
+        self.assertFalse(self.backlog.is_taken(2, 0))
+        self.hand_in((2, 2, wrote("y")), (0, 1, read("x", (2, 1))))
+        self.assertEqual(self.received(), [2, 0])
+        with self.assertLogs("zanteyard", logging.INFO) as log:
+            self.hand_in((1, 0, fence((0, 0))))
+        self.assertEqual(log.output, ["INFO:zanteyard:client 1 joins as session 2 with 2.0"])
+        self.assertEqual(self.received(), [2, 1, 3])
+        self.assertTrue(self.backlog.is_taken(2, 2))
+        self.audit.run_round()
+        self.assertEqual((self.audit.report.kind, self.audit.taken_in), ("serial", 6))
+        self.audit.find_held()
+
+    def test_one_waits_for_another(self):
+        """For a fence of its, and for its number."""
+        self.hand_in((0, 0, fence("init")), (3, 0, fence((2, 0))), (4, 0, fence((0, 0))))
+        self.assertEqual(self.received(), [1, 0])
+        self.hand_in((2, 0, fence((4, 0))))
+        self.assertEqual(self.received(), [1, 0])
+        self.hand_in((0, 1, wrote("x")))
+        self.assertEqual(self.received(), [2, 0])
+        with self.assertRaisesRegex(AuditLostError, "session 2 is to join behind the fence 4.0, which never came"):
+            self.audit.find_held()
+
+    def test_what_is_closed_waits_too(self):
+        self.hand_in((0, 0, fence("init")), (2, 0, fence((1, 0))), (2, None, None))
+        self.assertEqual(self.auditor.closed, [False, False])
+        self.hand_in((1, 0, fence((0, 0))))
+        self.assertEqual(self.auditor.closed, [False, False, True])
+
+    def test_a_fence_that_is_no_anchor_ends_the_audit(self):
+        self.hand_in((0, 0, fence("init")), (0, 1, fence((0, 0))), (0, 2, fence((0, 1))), (1, None, None))
+        self.audit.run_round()
+        self.assertEqual(self.audit.vacant(), {1: 0})
+        with self.assertRaisesRegex(AuditLostError, "session 1 can't join: .* from 0.1, and not the last"):
+            self.hand_in((1, 0, fence((0, 1))))
+
+    def test_more_than_may_wait(self):
+        self.hand_in((2, 0, fence((1, 0))), *((2, number, wrote("x")) for number in range(1, 8)))
+        with self.assertRaisesRegex(AuditLostError, "behind the fence 1.0, which never came"):
+            self.hand_in((2, 8, wrote("x")))
+
+    def test_there_is_room_behind_a_cut(self):
+        self.auditor.limit = 8  # for what is waited for; the program has room for 64
+        self.hand_in((0, 0, fence("init")), (1, 0, fence((0, 0))), (1, None, None), (0, 1, fence((1, 0))))
+        self.audit.run_round()
+        self.assertEqual(self.audit.vacant(), {1: 1})
+        many = [wrote("x")] * 70
+        self.hand_in((1, 1, fence((0, 1))), *((0, 2 + at, one) for at, one in enumerate(many[:50])))
+        self.assertEqual(self.received(), [52, 2])
+        self.hand_in((1, 2, fence((1, 1))))
+        self.assertEqual(self.audit.vacant(), {})
+
+
+class GivenOut(unittest.TestCase):
+    """Places."""
+
+    def test_a_new_one_is_the_next_number_and_the_only_one_until_it_has_joined(self):
+        places = Places(1)
+        first = places.take(0.0)
+        self.assertEqual((first.number, first.must_join, places.take(0.0)), (0, False, None))
+        places.let_join()
+        new = places.take(0.0)
+        self.assertEqual((new.number, new.must_join, new.client, places.new), (1, True, 2, 1))
+        self.assertIsNone(places.take(0.0))
+        places.give_back([new])  # it has done nothing
+        new = places.take(0.0)
+        self.assertEqual((new.number, new.client, places.sessions), (1, 3, 2))
+        places.note_joined(1)
+        self.assertEqual((places.take(0.0).number, places.sessions), (2, 3))
+
+    def test_sixty_four_at_a_time(self):
+        places = Places(60)
+        places.let_join()
+        for _ in range(64):
+            place = places.take(0.0)
+            places.note_joined(place.number)
+        self.assertIsNone(places.take(0.01))
+        self.assertEqual((places.taken, places.take_unaudited().number), (64, 64))
+
+    def test_one_comes_back_when_nothing_of_it_is_left(self):
+        places = Places(2)
+        place = places.take(0.0)
+        place.begun = 5
+        places.give_back([place])
+        lent = places.lend()
+        self.assertEqual(places.close(lent), [1, 0])
+        places.take_back(lent)
+        self.assertIsNone(places.take(0.0))
+        places.let_join()
+        places.come_back({0: 4, 1: 0})  # another one is still to be forgotten
+        self.assertEqual(places.numbers(), [1])
+        places.come_back({0: 5})
+        found = [places.take(0.0) for _ in range(2)]
+        self.assertEqual([(it.number, it.begun, it.must_join) for it in found], [(1, 0, True), (0, 5, True)])
+
+    def test_where_more_may_have_been_done_it_stays_ended(self):
+        for is_open in (False, True):
+            places = Places(1)
+            place = places.take(0.0)
+            place.begun, place.is_ended = 3, True
+            place.leave_open(3 if is_open else 2)
+            places.give_back([place])
+            places.let_join()
+            places.come_back({0: 3})
+            self.assertEqual(places.numbers(), [] if is_open else [0])
+
+    def test_what_is_due_or_lent_is_not_closed(self):
+        places = Places(3)
+        lent = places.lend()
+        lent[0].is_due, lent[1].is_lent = True, True
+        self.assertEqual(places.close(lent), [2])
+
+    def test_what_is_left_while_a_meeting_goes_on_is_left_for_it(self):
+        places = Places(2)
+        place = places.take(0.0)
+        lent = places.lend()
+        places.give_back([place])
+        self.assertIsNone(places.take(0.0))
+        self.assertEqual(places.lend(), [place])
+        places.take_back([*lent, place])
+        self.assertEqual([places.take(0.0).number for _ in range(2)], [1, 0])
+
+    def test_half_of_what_clients_do_not_have_can_be_had_at_any_time(self):
+        places = Places(64)
+        for _ in range(5):
+            places.take(0.0)
+        places.let_join()
+        for closed in (29, 0, 0):  # no more, as long as these aren't forgotten
+            lent = places.lend()
+            kept = places.spare(lent)
+            self.assertEqual(len(places.close([it for it in lent if it not in kept])), closed)
+            places.take_back(lent)
+            self.assertEqual(places.free, 30)
+        self.assertEqual([places.take(0.0).must_join for _ in range(30)], [False] * 30)
+        self.assertIsNone(places.take(0.0))
+        self.assertFalse(places.are_all_taken)
+
+    def test_a_few_can_be_had_where_few_are_left(self):
+        places = Places(64)
+        for _ in range(52):
+            places.take(0.0)
+        places.let_join()
+        self.assertEqual(len(places.spare(places.lend())), 8)
+
+    def test_another_audit_has_sessions_for_who_went_without_one(self):
+        places = Places(62)
+        for _ in range(62):
+            places.take(0.0)
+        for _ in range(4):
+            self.assertFalse(places.take_unaudited().is_audited)
+        places.grow()
+        self.assertEqual((places.sessions, places.numbers()), (64, [62, 63]))
+        coverage = coverage_from_now(64, [], places, Backlog(8))
+        self.assertEqual(coverage.first[62:], [0, 0])
+        self.assertEqual([places.take(0.0).number for _ in range(2)], [62, 63])
+
+    def test_who_has_one_and_is_not_there_yet(self):
+        places = Places(3)
+        taken = [places.take(0.0).number for _ in range(2)]
+        self.assertEqual((places.coming(()), places.coming([1]), places.coming(taken)), ({0, 1}, {0}, set()))
+
+    def test_another_audit_has_all_of_them_open(self):
+        places = Places(3)
+        ended, kept = places.take(0.0), places.take(0.0)
+        ended.is_ended, ended.begun = True, 4
+        places.give_back([ended])
+        lent = places.lend()
+        places.close(lent), places.take_back(lent)
+        places.let_join()
+        places.come_back({2: 0})
+        new = places.take(0.0)
+        self.assertEqual((new.number, new.must_join), (2, True))
+        coverage = coverage_from_now(3, [], places, Backlog(8))
+        self.assertEqual(coverage.first[0], 4)
+        self.assertEqual((coverage.first[1], kept.number), (None, 1))  # no group told of it here
+        again = places.take(0.0)
+        self.assertEqual((again.number, again.must_join, again.is_ended), (0, False, False))
+        self.assertIsNone(places.take(0.0))  # none joins before it has a fence
+
+    def test_who_waits_wants_a_meeting(self):
+        places = Places(1)
+        self.assertFalse(places.wants_meeting)
+        places.take(0.0)
+        waits = threading.Thread(target=places.take, args=(60.0,))
+        waits.start()
+        until = time.monotonic() + 60
+        while not places.wants_meeting and time.monotonic() < until:
+            time.sleep(0.001)
+        places.let_join()
+        waits.join(60)
+        self.assertEqual((places.sessions, places.wants_meeting), (2, False))
+
+    def test_clients_by_what_they_did(self):
+        stints = Stints()
+        self.assertEqual([stints.begin(0, 0), stints.begin(1, 0), stints.begin(0, 0), stints.begin(0, 4)], [1, 2, 3, 4])
+        self.assertEqual([stints.client(0, number) for number in (0, 3, 4, 9)], [3, 3, 4, 4])
+        self.assertEqual([stints.first_of(0, 3), stints.first_of(0, 4), stints.first_of(0, 4)], [None, 4, None])
+        self.assertEqual([stints.called((0, 1), 1), stints.called((0, 2), 5), stints.called((1, 0), 0)],
+                         ["0.1 (client 3)", "0.2 (client 4)", "1.0"])
+        stints.forget([4, 9])
+        self.assertEqual((stints.client(0, 3), stints.client(0, 4), stints.client(1, 9)), (None, 4, 2))
+        self.assertEqual(stints.joined(), [[0, 4]])
+
+
+class Joins(WithProgram):
+    """Clients of a live audit."""
+
+    def wait_for(self, condition):
+        until = time.monotonic() + 60
+        while not condition() and time.monotonic() < until:
+            time.sleep(0.005)
+        self.assertTrue(condition(), self.told[-3:])
+
+    def test_more_than_open_named(self):
+        live, store = self.live(1), MemoryStore()
+        sessions = [live.session(store.connect()) for _ in range(4)]
+        self.assertEqual([session.number for session in sessions], [0, 1, 2, 3])
+        for session in sessions * 2:
+            session.run(add_one("x"))
+        self.assertEqual([session.begun for session in sessions][1:], [3, 3, 3])
+        outcome = self.ended(live)
+        self.assertEqual((outcome.kind, outcome.audited, self.auditor.sessions), ("serial", live.handed_in, 4))
+
+    def until(self, condition, session):
+        """Meetings come by what a client does."""
+
+        def has_come():
+            session.run(add_one("x"))
+            return condition()
+
+        self.wait_for(has_come)
+
+    def test_one_client_behind_another(self):
+        """Each has its session to itself; what it does first is the fence."""
+        live, store = self.live(2, every=6), MemoryStore()
+        stays, seen = live.session(store.connect()), []
+        for _ in range(40):
+            with live.session(store.connect()) as session:
+                session.run(add_one("x"))
+                seen.append((session.number, session.begun))
+                stays.run(add_one("x"))
+                stays.run(add_one("x"))
+            if len(seen) % 8 == 0:
+                cuts = live.cuts
+                self.until(lambda: live.cuts > cuts, stays)
+                self.wait_for(lambda: live._places._back)
+        self.assertGreater(len(seen), len({number for number, _ in seen}))
+        self.assertGreater(live.cuts, 2)
+        self.assertEqual(self.ended(live).kind, "serial")
+
+    def test_who_leaves_as_a_meeting_begins_keeps_no_cut_away(self):
+        live, store = self.live(2, every=1000), MemoryStore()
+        stays, leaves = (live.session(store.connect()) for _ in range(2))
+        stays.run(add_one("x")), leaves.run(add_one("y"))
+        gather = live._group.begin_gather
+
+        def left_before(*arguments):
+            leaves.close()  # what is lent to the meeting is known by now
+            return gather(*arguments)
+
+        with mock.patch.object(live._group, "begin_gather", left_before):
+            self.assertIsNone(live._convener.meet(60.0, 60.0).failure)
+        self.assertEqual((self.ended(live).kind, live.cuts), ("serial", 1))
+        self.assertEqual((self.auditor.closed, self.auditor.vacant), ([False, True], [1]))
+
+    def test_who_has_left_a_meeting_s_group_has_given_its_session_back(self):
+        live, store = self.live(2, every=1000), MemoryStore()
+        stays, leaves = (live.session(store.connect()) for _ in range(2))
+        stays.run(add_one("x")), leaves.run(add_one("y"))
+        give_back, leaving = live._give_back, threading.Event()
+
+        def later(place):
+            leaving.set()
+            time.sleep(0.2)
+            give_back(place)
+
+        with mock.patch.object(live, "_give_back", later):
+            thread = threading.Thread(target=leaves.close)
+            thread.start()
+            leaving.wait(60)
+            self.assertIsNone(live._convener.meet(60.0, 60.0).failure)
+            thread.join(60)
+        self.assertEqual((self.ended(live).kind, live.cuts), ("serial", 1))
+        self.assertEqual((self.auditor.closed, self.auditor.vacant), ([False, True], [1]))
+
+    def test_who_comes_as_a_meeting_begins_is_waited_for(self):
+        """Where another client has left."""
+        live, store = self.live(2, every=1000), MemoryStore()
+        stays, leaves = (live.session(store.connect()) for _ in range(2))
+        stays.run(add_one("x")), leaves.run(add_one("y"))
+        leaves.close()
+        with comes_later(live, live._group, "zanteyard.convener") as coming:
+            thread = threading.Thread(target=live.session, args=(store.connect(),))
+            thread.start()
+            self.assertTrue(coming.wait(60))
+            self.assertIsNone(live._convener.meet(60.0, 60.0).failure)
+            thread.join(60)
+        self.assertEqual((self.ended(live).kind, live.cuts), ("serial", 1))
+
+    def test_who_was_to_lead_a_meeting_may_leave(self):
+        live, store = self.live(2, every=1000), MemoryStore()
+        stays, leads = (live.session(store.connect()) for _ in range(2))
+        stays.run(add_one("x")), leads.run(add_one("y"))
+        hold = live._group.hold
+
+        def left_before(session, *more):
+            if session is leads:
+                leads.close()
+            return hold(session, *more)
+
+        with mock.patch.object(live._group, "hold", left_before):
+            self.assertIsNone(live._convener.meet(60.0, 60.0).failure)
+        self.assertEqual((self.ended(live).kind, live.cuts), ("serial", 1))
+
+    def test_a_violation_names_the_client(self):
+        live, store = self.live(2, every=4), MemoryStore()
+        stays, leaves = (live.session(store.connect()) for _ in range(2))
+        leaves.run(add_one("x"))
+        leaves.close()
+        self.until(lambda: live._places._back, stays)
+        session = live.session(store.connect())
+        session.run(add_one("x"))
+        self.assertEqual((session.number, session.place.client), (1, 3))
+        store.fault = "lost-update"
+        one, other = stays.begin(), session.begin()
+        add_one("x")(one), add_one("x")(other)
+        one.commit(), other.commit()
+        self.assertEqual(live.stop().kind, "violated")
+        _, called = from_start(self.auditor)
+        marks = self.auditor.marks
+        self.assertTrue(any(marks))  # so that each session begins with one that stands for what is forgotten
+        self.assertEqual(called((1, other.number - marks[1] + 1)), f"1.{other.number} (client 3)")
+        self.assertEqual(called((0, one.number - marks[0] + 1)), f"0.{one.number}")
+
+    def test_another_audit_begins(self):
+        live, store = self.live(1, every=4, policy=Policy(60.0, True, 0.01)), MemoryStore()
+        logging.getLogger("zanteyard").setLevel(logging.CRITICAL)
+        self.addCleanup(logging.getLogger("zanteyard").setLevel, logging.NOTSET)
+        stays = live.session(store.connect())
+        others = [live.session(store.connect()) for _ in range(2)]
+        others[0].run(add_one("x"))
+        live.lose(AuditLostError("for a test"))
+        self.wait_for(lambda: live.earlier)
+        for session in (stays, *others):
+            session.run(add_one("x"))
+        again = live.session(store.connect())
+        again.run(add_one("x"))
+        outcome = live.stop()
+        self.assertEqual((outcome.kind, len(outcome.earlier)), ("incomplete", 1))
+        self.assertEqual(live._audit.outcome(True, None).kind, "serial")
+
+
+@contextmanager
+def comes_later(live, group, *waiting):
+    """Whose session is added once a meeting waits for that; gives what says that it is about to be."""
+    add, coming, is_waited_for = group.add, threading.Event(), threading.Event()
+    all_there = live._places.coming
+
+    def later(session):
+        coming.set()
+        is_waited_for.wait(60)
+        add(session)
+
+    def looked(there):
+        is_waited_for.set()
+        return all_there(there)
+
+    with ExitStack() as patched:
+        for module in waiting:
+            patched.enter_context(mock.patch(f"{module}.COMING", 60.0))
+        patched.enter_context(mock.patch.object(group, "add", later))
+        patched.enter_context(mock.patch.object(live._places, "coming", looked))
+        yield coming
+
+
+class Behaves:
+    """A connection whose fences may fail, or what else is written under such a key."""
+
+    def __init__(self, connection, *outcomes, key=FENCE):
+        self._connection, self._outcomes, self._key = connection, [*outcomes], key
+
+    def __getattr__(self, name):
+        return getattr(self._connection, name)
+
+    def write(self, key, value, name):
+        self._connection.write(key, value, name)
+        if key.startswith(self._key) and self._outcomes:
+            failure, is_there = self._outcomes.pop(0)
+            if is_there is None:
+                raise failure
+            self._connection.known, self._connection.lost = False, is_there
+
+    def commit(self):
+        try:
+            self._connection.commit()
+        finally:
+            self._connection.lost = None
+
+
+class Fences(WithProgram):
+    """What becomes of the fence with which a client joins."""
+
+    def setUp(self):
+        super().setUp()
+        logging.getLogger("zanteyard").setLevel(logging.CRITICAL)
+        self.addCleanup(logging.getLogger("zanteyard").setLevel, logging.NOTSET)
+
+    def joining(self, *outcomes, **more):
+        """A live audit, and a session that is to join by these."""
+        self.one, self.store = self.live(1, every=1000, **more), MemoryStore()
+        self.stays = self.one.session(self.store.connect())
+        self.stays.run(add_one("x"))
+        self.assertIsNone(self.one._convener.meet(60.0, 60.0).failure)
+        return self.one.session(Behaves(self.store.connect(), *outcomes))
+
+    def done(self, session):
+        return [sorted(one.writes) for one in self.auditor.history[session]]
+
+    def test_an_attempt_that_aborts_leaves_its_number_to_the_next(self):
+        session = self.joining(*[(Aborted("again"), None)] * 3)
+        session.run(add_one("x"))
+        self.assertEqual((session.number, session.begun), (1, 2))
+        self.assertEqual(self.ended(self.one).kind, "serial")
+        self.assertEqual(self.done(1), [[FENCE], ["x"]])
+
+    def test_where_it_always_aborts_the_client_goes_on_unaudited(self):
+        session = self.joining(*[(Aborted("again"), None)] * 20)
+        session.run(add_one("x"))
+        self.assertEqual((session.number, session.begun), (64, 1))
+        outcome = self.one.stop()
+        self.assertEqual(outcome.kind, "incomplete")
+        self.assertRegex(str(outcome.failure), "a client can't join: again")
+        self.assertIsNone(self.one._places.new)
+
+    def test_where_the_store_can_not_be_reached_the_client_is_told_so(self):
+        self.joining().close()
+        store = Behaves(self.store.connect())
+        store.errors, store.begin = (ZeroDivisionError,), lambda: 1 / 0
+        session = self.one.session(store)
+        self.assertIsNone(session.number)
+        with self.assertRaises(ZeroDivisionError):
+            session.begin()
+        del store.begin
+        session.run(add_one("x"))
+        self.assertEqual((session.number, session.begun), (2, 2))
+        self.assertEqual(self.ended(self.one).kind, "serial")
+
+    def test_where_nobody_knows_whether_it_is_there_another_place_is_taken(self):
+        for is_there in ("aborted", "committed"):
+            with self.subTest(is_there):
+                leaves, session = self.joining(), None
+                session = self.one.session(Behaves(self.store.connect(), (None, is_there)))
+                self.assertEqual((session.number, self.one._places.new), (None, 2))
+                leaves.close()
+                session.run(add_one("x"))
+                self.assertEqual((session.number, session.begun), (1, 2))
+                self.assertIn(2, self.one._places._ended)
+                self.assertIsNone(self.one._convener.meet(60.0, 60.0).failure)
+                outcome = self.one.stop()
+                # Who has read from a fence that nobody told of waits for it.
+                self.assertEqual(outcome.kind, "serial" if is_there == "aborted" else "pending")
+
+    def test_a_flag_that_may_not_be_there_keeps_no_cut_away(self):
+        """Once what its session did is known by what others did."""
+        for is_there in ("aborted", "committed"):
+            with self.subTest(is_there):
+                live, store = self.live(2, every=1000), MemoryStore()
+                flags = Behaves(store.connect(), (None, is_there), key=FLAG)
+                leads, other = live.session(store.connect()), live.session(flags)
+                for session in (other, leads):
+                    session.run(add_one("x"))
+                self.assertIsNotNone(live._convener.meet(60.0, 60.0).failure)
+                self.assertIsNone(live._convener.meet(60.0, 60.0).failure)
+                self.assertEqual((self.ended(live).kind, live.cuts), ("serial", 1))
+
+    def test_it_is_a_killed_process_s(self):
+        logged = as_bytes(fence((0, 3)))
+        told = lambda *notes: Killed({4: [(Note(4, *it), None) for it in notes]}, "run", Backlog(8))
+        for notes, found, begun, must_join in (
+            ((), (), 7, True),
+            (((7, None, logged), (7, "aborted")), (), 7, True),
+            (((7, None, logged), (7, "aborted"), (7, None, logged), (7, "committed")),
+             ((7, fence((0, 3))), (8, NOTHING)), 9, False),
+        ):
+            place = Place(4, 7, must_join=True)
+            its = told(*notes).told(place)
+            self.assertEqual([(number, it.outcome) for number, it in its], [(number, it.outcome) for number, it in found])
+            self.assertEqual((place.begun, place.must_join, place.is_ended), (begun, must_join, False))
+
+
+class Elsewhere(WithProgram):
+    """Clients of other processes."""
+
+    def live(self, sessions, **more):
+        live = super().live(sessions, **more)
+        folder = tempfile.TemporaryDirectory()
+        self.addCleanup(folder.cleanup)
+        self.server = AuditServer(live, os.path.join(folder.name, "audit"))
+        self.addCleanup(self.server.close, 1.0)
+        return live
+
+    def client(self):
+        client = AuditClient(self.server.path)
+        self.addCleanup(client.leave)
+        return client
+
+    def test_they_join_and_leave(self):
+        live, store = self.live(1, every=10), MemoryStore()
+        stays = self.client()
+        first = stays.session(store.connect())
+        for turn in range(6):
+            comes = self.client()
+            others = [comes.session(store.connect()) for _ in range(3)]
+            for session in (first, *others) * 2:
+                session.run(add_one("x"))
+            if turn % 2:
+                others[0].close()
+            comes.leave()
+        first.run(add_one("x"))
+        stays.leave()
+        self.server.close()
+        outcome = self.ended(live)
+        self.assertEqual((outcome.kind, outcome.audited), ("serial", live.handed_in))
+        self.assertEqual(live._places.taken, 0)
+        self.assertGreater(self.auditor.sessions, 3)
+
+    def test_who_comes_as_a_meeting_begins_is_waited_for(self):
+        """Where another client has left."""
+        live, store = self.live(2, every=1000), MemoryStore()
+        stays, comes = self.client(), self.client()
+        first, leaves = stays.session(store.connect()), comes.session(store.connect())
+        first.run(add_one("x")), leaves.run(add_one("y"))
+        left = [leaves.number]
+        leaves.close()
+        until = time.monotonic() + 60
+        while live._places.numbers() != left and time.monotonic() < until:
+            time.sleep(0.005)
+        with comes_later(live, comes._group, "zanteyard.convener", "zanteyard.group_calls") as coming:
+            thread = threading.Thread(target=comes.session, args=(store.connect(),))
+            thread.start()
+            self.assertTrue(coming.wait(60))
+            self.assertIsNone(live._convener.meet(60.0, 60.0).failure)
+            thread.join(60)
+        stays.leave(), comes.leave()
+        self.server.close()
+        self.assertEqual((self.ended(live).kind, live.cuts), ("serial", 1))
+
+
+@unittest.skipUnless(redis and redis_server(), "Redis or redis-py isn't installed")
+class GoneOnWith(WithProgram):
+    """By another process of the auditor's, behind streams."""
+
+    def setUp(self):
+        super().setUp()
+        logging.getLogger("zanteyard").setLevel(logging.CRITICAL)
+        self.addCleanup(logging.getLogger("zanteyard").setLevel, logging.NOTSET)
+
+    def begun(self, auditor):
+        self.addCleanup(auditor.end)
+        policy = {"policy": Policy(60.0, False), "patience": 10.0}
+        live = LiveAuditor(auditor, every=12, elsewhere=True, **policy)
+        server = StreamServer(live, self.url, "bank", silence=60.0)
+        self.addCleanup(server.close, 0.0)
+        return live, server
+
+    def test_sessions_that_joined_go_on(self):
+        with tempfile.TemporaryDirectory() as folder, RedisServer(keeps=True) as server:
+            self.url = server.dsn
+            journal, store = f"{folder}/journal", MemoryStore()
+            live, serves = self.begun(Auditor(1, journal=journal))
+            with AuditClient(self.url, "bank") as client:
+                stays = client.session(store.connect())
+                sessions = [client.session(store.connect()) for _ in range(2)]
+                for session in (stays, *sessions) * 4:
+                    session.run(add_one("x"))
+                sessions[0].close()
+                sessions.append(client.session(store.connect()))
+                for session in (stays, *sessions[1:]) * 2:
+                    session.run(add_one("x"))
+                serves.leave()
+                serves._live.auditor.end()
+                live, serves = self.begun(Auditor.resumed(journal))
+                sessions.append(client.session(store.connect()))
+                for session in (stays, *sessions[1:]) * 4:
+                    session.run(add_one("x"))
+                self.assertEqual(len({session.number for session in (stays, *sessions[1:])}), 4)
+            serves.close()
+            outcome = live.stop()
+            self.assertEqual((outcome.kind, outcome.failure), ("serial", None))
+
+
+class Explained(WithProgram):
+    def test_by_the_first_of_the_client(self):
+        lines = [
+            ["open", 2, 16],
+            ["offer", 0, 0, [[[[0, "init"]], [0]], [[], [5]], [[[0, 0, 0]], [0]]]],
+            ["offer", 1, 0, [[[[0, 0, 2]], [0]]]],
+            ["close", 1],
+            ["offer", 0, 3, [[[[0, 1, 0]], [0]]]],
+            ["round", 4096, 0, 1],
+            ["truncate"],
+            ["join", 1, 1, [[[[0, 0, 3]], [0]], [[[5, 0, 1]], [5]]]],
+            ["join", 2, [[[[0, 1, 1]], [0]], [[[5, 0, 1]], [5]]]],
+        ]
+        with tempfile.NamedTemporaryFile("w", suffix=".jsonl") as file:
+            file.writelines(json.dumps(line) + "\n" for line in lines)
+            file.flush()
+            call = [sys.executable, "-m", "zanteyard", "explain", file.name]
+            ran = subprocess.run(call, cwd=PLACE, stdout=subprocess.PIPE, text=True, check=False)
+        self.assertEqual(ran.returncode, 1)
+        self.assertIn("1.2 (client from 1.1) and 2.1 both read key 5 from the cut", ran.stdout)
+
+
+del WithProgram
+
+if __name__ == "__main__":
+    unittest.main()
