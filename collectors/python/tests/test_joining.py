@@ -12,7 +12,7 @@ from contextlib import ExitStack, contextmanager
 from unittest import mock
 
 from zanteyard import FENCE, Aborted, Auditor, AuditorApart, LiveAuditor, Logged, OutcomeUnknown
-from zanteyard import AuditClient, AuditServer, Policy, from_start
+from zanteyard import AuditClient, AuditServer, Policy, Refused, from_start
 from zanteyard.audit import Audit, Figures
 from zanteyard.auditor import FLAG, PROGRAM
 from zanteyard.backlog import Backlog
@@ -222,6 +222,13 @@ class TakenIn(WithProgram):
         self.assertEqual(self.audit.vacant(), {1: 0})
         with self.assertRaisesRegex(AuditLostError, "session 1 can't join: .* from 0.1, and not the last"):
             self.hand_in((1, 0, fence((0, 1))))
+
+    def test_what_follows_a_missing_one_is_not_told_in_its_place(self):
+        """Else 1.0 would have read what 0.1 didn't write: a violation that never was."""
+        with self.assertRaisesRegex(Refused, "Gap"):
+            self.hand_in((0, 0, wrote("w")), (0, 2, wrote("y")), (1, 0, read("x", (0, 1))))
+        self.audit.run_round()
+        self.assertEqual((self.audit.report.kind, self.received()), ("pending", [1, 1]))
 
     def test_more_than_may_wait(self):
         self.hand_in((2, 0, fence((1, 0))), *((2, number, wrote("x")) for number in range(1, 8)))

@@ -410,6 +410,11 @@ class Fragments(unittest.TestCase):
         a, b, c = (Logged((), (key,)) for key in "abc")
         self.assertEqual(fragments([(1, 3, a), (0, 0, b), (1, 4, c)]), [(1, 3, [a, c]), (0, 0, [b])])
 
+    def test_what_follows_a_missing_one_keeps_its_number(self):
+        a, b, c = (Logged((), (key,)) for key in "abc")
+        found = fragments([(1, 3, a), (1, 5, b), (0, None, a), (1, 6, c), (1, 4, a)])
+        self.assertEqual(found, [(1, 3, [a]), (1, 5, [b, c]), (1, 4, [a])])
+
 
 class MadeUp(unittest.TestCase):
     """Over a program with these replies."""
