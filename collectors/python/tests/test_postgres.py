@@ -5,6 +5,7 @@ import signal
 import threading
 import time
 import unittest
+from unittest import mock
 
 from zanteyard import FENCE, Aborted, Auditor, NameTaken, OutcomeUnknown, Session, smaller, words
 from zanteyard.auditor import PROGRAM
@@ -97,6 +98,27 @@ class Postgres(unittest.TestCase):
             with self.subTest(level=level):
                 self.setUp()
                 self.assertEqual(self.count_at_once(level), wanted)
+
+    def test_what_an_interrupt_left_open_is_not_gone_on_with(self):
+        """It comes before the rollback is sent: what follows would have the snapshot of before, and
+        be committed with it, or fail with it."""
+        for breaks in ("", "SELECT 1 / 0"):
+            with self.subTest(breaks=breaks):
+                self.setUp()
+                a, b, _ = self.sessions()
+                a.run(lambda t: t.put("x", "1"))
+                transaction = a.begin()
+                self.assertEqual(transaction.get("x"), "1")
+                if breaks:
+                    with self.assertRaises(psycopg2.Error):
+                        a.store.send(breaks)
+                with mock.patch.object(a.store, "rollback", side_effect=TimeoutError("of a handler of SIGALRM")):
+                    with self.assertRaises(TimeoutError):
+                        transaction.rollback()
+                b.run(lambda t: t.put("x", "2"))
+                self.assertEqual(a.run(lambda t: t.get("x")), "2")
+                a.fence()
+                self.assertEqual(self.kind(), "serial")
 
     def test_many_keys_are_read_at_once(self):
         a, b, _ = self.sessions()

@@ -165,12 +165,21 @@ class PostgresStore:
         return cursor
 
     def begin(self, seconds: Optional[float] = None) -> None:
-        if self.is_hung_up:
+        if self.is_hung_up or self.is_in_transaction:
             self.close()
         if self.connection is None or self.connection.closed:
             self.connect(seconds)
         self.transaction_id, self.is_alone = None, False
         self.before = f"BEGIN ISOLATION LEVEL {self.level.upper()}; "
+
+    @property
+    def is_in_transaction(self) -> bool:
+        """Whether one is open that was given up, as where an interrupt came before a rollback was
+        sent: what follows would be done in that one."""
+        connection = self.connection
+        if connection is None or connection.closed:
+            return False
+        return bool(connection.get_transaction_status() != extensions.TRANSACTION_STATUS_IDLE)
 
     def begin_alone(self, seconds: float) -> None:
         """Instead of `begin`, where what follows are statements that need no other one: each is a
