@@ -6,10 +6,11 @@ import os
 import sys
 import unittest
 
-from zanteyard import AuditLostError, Auditor, AuditorApart, Report, Session
+from zanteyard import AuditLostError, Auditor, AuditorApart, LiveAuditor, Policy, Report, Session
 from zanteyard.auditor import PROGRAM
 from zanteyard.errors import ProgramEndedError, ProgramUnreachableError
 from zanteyard.memory_store import MemoryStore
+from zanteyard.place_requests import PlaceRequests
 
 from .test_live import add_one, set_to
 
@@ -160,23 +161,46 @@ class Interrupts(unittest.TestCase):
                 return
         self.fail("it has no end")
 
-    def test_who_is_interrupted_as_the_turn_is_taken(self):
+    def interrupted_as_a_lock_is_taken(self, call):
         """As soon as any code can be interrupted behind that."""
+
+        def profile(frame, event, called):
+            if event == "c_return" and getattr(called, "__name__", "") in ("acquire", "extend"):
+                sys.setprofile(None)
+                raise KeyboardInterrupt
+
+        with self.assertRaises(KeyboardInterrupt):
+            sys.setprofile(profile)
+            try:
+                call()
+            finally:
+                sys.setprofile(None)
+
+    def test_who_is_interrupted_as_the_turn_is_taken(self):
         with Auditor(1) as auditor:
             session = Session(auditor, 0, MemoryStore().connect())
-
-            def profile(frame, event, called):
-                if event == "c_return" and getattr(called, "__name__", "") == "extend":
-                    sys.setprofile(None)
-                    raise KeyboardInterrupt
-
-            sys.setprofile(profile)
-            with self.assertRaises(KeyboardInterrupt):
-                session.begin()
-            sys.setprofile(None)
+            self.interrupted_as_a_lock_is_taken(session.begin)
             self.assertFalse(session.turn.locked())
             session.run(add_one("x"))
             self.assertEqual(auditor.round().kind, "serial")
+
+    def test_who_is_interrupted_as_it_leaves(self):
+        """No meeting waits for it any more, and it can leave again."""
+        with Auditor(1) as auditor:
+            live = LiveAuditor(auditor, policy=Policy(60.0, False))
+            session = live.session(MemoryStore().connect())
+            self.interrupted_as_a_lock_is_taken(session.close)
+            self.assertFalse(session.turn.locked())
+            session.run(add_one("x"))
+            session.close()
+            self.assertEqual((live._places.taken, live._group.numbers()), (0, []))
+            self.assertEqual(live.stop().kind, "serial")
+
+    def test_who_is_interrupted_as_it_asks_for_a_session(self):
+        """Nobody else of its process waits for it."""
+        requests = PlaceRequests(None)
+        self.interrupted_as_a_lock_is_taken(lambda: requests.ask("join", True, seconds=60.0))
+        self.assertFalse(requests._asking.locked())
 
 
 if __name__ == "__main__":

@@ -5,9 +5,10 @@ from __future__ import annotations
 import queue
 import threading
 import time
-from typing import Any, Optional, Sequence, Set, Tuple
+from typing import Any, List, Optional, Sequence, Set, Tuple
 
 from .errors import ProgramLateError
+from .locks import give_back, take
 from .messages import Messages
 from .sessions import Place
 
@@ -35,9 +36,10 @@ class PlaceRequests:
     def asked(self, kind: str, *more: Any, seconds: float) -> Optional[Place]:
         """The same. Raises ProgramLateError where nobody answers within so many seconds."""
         late = ProgramLateError(f"the auditor's process hasn't answered for {seconds:g} s")
-        if not self._asking.acquire(timeout=seconds):  # others wait for theirs
-            raise late
+        taken: List[bool] = []
         try:
+            if not take(self._asking, seconds, taken):  # others wait for theirs
+                raise late
             if self.has_ended:
                 return None
             self._asked += 1
@@ -48,7 +50,7 @@ class PlaceRequests:
             except queue.Empty:  # it is given back as it comes
                 raise late from None
         finally:
-            self._asking.release()
+            give_back(self._asking, taken)
 
     def take_answer(self, *answer: Any) -> None:
         """The request's number, and a place or None. What nobody waits for is given back."""

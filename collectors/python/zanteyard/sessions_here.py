@@ -3,8 +3,9 @@
 from __future__ import annotations
 
 import os
-from typing import Optional
+from typing import List, Optional
 
+from .locks import give_back, take
 from .meetings import Group
 from .notes import Notes
 from .outcome import Policy
@@ -25,10 +26,11 @@ class SessionsHere:
     def leave_session(self, session: Session) -> None:
         """Its client does nothing more, and another one may have its place. Raises ValueError in
         the middle of a transaction."""
-        if not session.turn.acquire(timeout=self.policy.wait):
-            raise ValueError(f"session {session.number} is in a transaction")
-        session.is_changing = True  # until its place is back, which a meeting is to have
+        taken: List[bool] = []
         try:
+            if not take(session.turn, self.policy.wait, taken):
+                raise ValueError(f"session {session.number} is in a transaction")
+            session.is_changing = True  # until its place is back, which a meeting is to have
             place, session.place, session.renew = session.place, None, None
             is_open, session.is_open = session.is_open, False
             if place is not None and place.is_audited:
@@ -38,9 +40,10 @@ class SessionsHere:
             if notes is not None:
                 self._forget(notes)
         finally:
-            self._group.remove(session)
-            session.is_changing = False
-            session.turn.release()
+            if taken and taken[-1]:
+                self._group.remove(session)
+                session.is_changing = False
+            give_back(session.turn, taken)
 
     def _add_session(self, place: Place, store: Store, patience: float) -> Session:
         made = Session(self, place.number, store, self.run_name, patience, self._renew)
