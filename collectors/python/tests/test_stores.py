@@ -487,6 +487,7 @@ class MariaDB(Each, unittest.TestCase):
         """Whether somebody has come to wait for another one's lock."""
 
         def is_waiting():
+            time.sleep(0.2)  # asked more often than ten times a second the server says what it said before
             self.admin.execute("SELECT count(*) FROM information_schema.innodb_trx WHERE trx_state = 'LOCK WAIT'")
             return self.admin.fetchone()[0] > 0
 
