@@ -210,7 +210,7 @@ class Each:
         self.assertIn(f"{workload} at ", told)
         self.assertIn("so none can come first of", told)
         self.assertIn("(to look at: page.html)", told)
-        status, told = self.audit("--workload", workload, "--seconds", "1", "--processes", "--rather-wait")
+        status, told = self.audit("--workload", workload, "--seconds", "3", "--processes", "--rather-wait")
         self.assertEqual(status, 0, told)
 
     def test_nothing_is_left_where_it_is_killed(self):
