@@ -170,12 +170,12 @@ def connected(dsn, asked, live):
 
 def run(dsn, asked, live):
     """The four workers, until the time is up or a violation was found."""
+    connections = [connected(dsn, asked, live) for _ in range(WORKERS)]
     ends_at = time.monotonic() + asked.seconds
 
     def ends():
         return time.monotonic() > ends_at or live.is_over
 
-    connections = [connected(dsn, asked, live) for _ in range(WORKERS)]
     threads = [threading.Thread(target=worker, args=(one, ends)) for one in connections]
     for thread in threads:
         thread.start()

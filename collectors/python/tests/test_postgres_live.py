@@ -66,7 +66,7 @@ class PostgresLive(unittest.TestCase):
 
     def test_who_only_writes_is_serial_at_the_lowest_level(self):
         words = ("--level", "committed", "--workload", "blind", "--processes")
-        self.assertEqual(self.outcome(1.5, "--rather-wait", *words)[0], "serial")
+        self.assertEqual(self.outcome(6, "--rather-wait", *words)[0], "serial")
 
     def test_faults_are_found(self):
         for level, workload, *more in (

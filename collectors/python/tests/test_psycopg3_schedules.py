@@ -37,14 +37,17 @@ Deed = Tuple[Any, Optional[str], Any]  # a key, what was seen of it, and (what i
 class Client:
     """Its transactions, each a list of what is done one by one, and what became of them."""
 
+    numbers = itertools.count()  # of all clients, for their tags
+
     def __init__(self, connection: Any, chance: random.Random, keys: List[Any]) -> None:
         self.connection, self.chance, self.keys, self.count = connection, chance, keys, 0
+        self.number = next(Client.numbers)
         self.committed: List[List[Deed]] = []
         connection.prepare_threshold = chance.choice((0, 2, 5, None))
 
     def tag(self) -> str:
         self.count += 1
-        return f"{id(self) % 10**6}.{self.count}"
+        return f"{self.number}.{self.count}"
 
     def cursor(self) -> Any:
         its = self.connection

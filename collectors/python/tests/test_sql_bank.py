@@ -117,7 +117,10 @@ class Bank(unittest.TestCase):
             self.assertIn(self.function_of(place[1]), self.BEGINS)
 
     def test_none_does_at_serializable(self) -> None:
-        told = self.told("--level", "serializable", "--seconds", "2")
+        for seconds in ("2", "60"):  # in which something was done, also beside other programs
+            told = self.told("--level", "serializable", "--seconds", seconds)
+            if "0 of 0" not in told:
+                break
         self.assertRegex(told, r"^the bank at serializable: serial: (\d+) of \1 transactions")
 
 

@@ -210,7 +210,7 @@ class Each:
         self.assertIn(f"{workload} at ", told)
         self.assertIn("so none can come first of", told)
         self.assertIn("(to look at: page.html)", told)
-        status, told = self.audit("--workload", workload, "--seconds", "1", "--processes", "--rather-wait")
+        status, told = self.audit("--workload", workload, "--seconds", "3", "--processes", "--rather-wait")
         self.assertEqual(status, 0, told)
 
     def test_nothing_is_left_where_it_is_killed(self):
@@ -487,6 +487,7 @@ class MariaDB(Each, unittest.TestCase):
         """Whether somebody has come to wait for another one's lock."""
 
         def is_waiting():
+            time.sleep(0.2)  # asked more often than ten times a second the server says what it said before
             self.admin.execute("SELECT count(*) FROM information_schema.innodb_trx WHERE trx_state = 'LOCK WAIT'")
             return self.admin.fetchone()[0] > 0
 
