@@ -177,6 +177,32 @@ class Lines(unittest.TestCase):
         self.assertEqual(status, 0)
         self.assertEqual(last_report(told)[2:4], ["serial", [2, 1]])
 
+    def test_a_join_that_meets_a_round_is_given_again(self):
+        """Where nothing else is given it is taken behind the second report at the latest, though a
+        close, which no report counts, begins a round, too."""
+        live, fence = Live(), b"0,0"
+        live.give(b'["open",24,256,4096,0,1]', b'["offer",0,0,[[[[0,"init"]],[0]]]]')
+        for session in range(24, 47):
+            join = b'["join",%d,[[[[0,%s]],[0]]]]' % (session, fence)
+            ends = (["accepted", session, 0], ["refused", session, 0])
+
+            def answers(told, ends=ends):
+                return [at for at, it in enumerate(told) if it[:3] in ends]
+
+            live.give(b'["close",%d]' % (session - 23))
+            for tries in (1, 2, 3):
+                live.give(join)
+                told = live.wait_for(lambda told, tries=tries: len(answers(told)) == tries)
+                at = answers(told)[-1]
+                if told[at][0] == "accepted":
+                    break
+                self.assertEqual(told[at][3:], [10, "RoundOpen"])
+                live.wait_for(lambda told, at=at: any(it[0] in ("report", "skipped") for it in told[at:]))
+            self.assertEqual(told[at][0], "accepted")
+            fence = b"%d,0" % session
+        told, status, _ = live.end()
+        self.assertEqual((status, last_report(told)[2:4]), (0, ["serial", [1] + [0] * 23 + [1] * 23]))
+
     def test_its_reader_is_killed(self):
         """It ends with its next line, and says that a device failed; no one waits any more."""
         reader = subprocess.Popen(
