@@ -132,9 +132,9 @@ class Faults(unittest.TestCase):
         self.addCleanup(lambda: self.live.stop(1.0))
         self.live = LiveAuditor(self.auditor, seconds=0.3, tell=self.told.append)
 
-    def application(self, pace=0.0):
+    def application(self, pace=0.0, patience=SOON):
         stores = [PostgresStore(self.cluster.dsn) for _ in range(CLIENTS)]
-        sessions = [self.live.session(store, patience=SOON) for store in stores]
+        sessions = [self.live.session(store, patience=patience) for store in stores]
         for store in stores:
             self.addCleanup(store.close)
         application = Application(sessions, pace)
@@ -287,8 +287,9 @@ class Faults(unittest.TestCase):
             pass
 
     def test_postgresql_is_restarted(self):
+        """Of a commit that was on its way the server can't always say what became of it."""
         self.audit()
-        application = self.application()
+        application = self.application(patience=20.0)
         self.wait_for(self.is_audited)
         self.cluster.stop()
         time.sleep(0.5)

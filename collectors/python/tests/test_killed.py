@@ -12,6 +12,7 @@ import sys
 import tempfile
 import time
 import unittest
+from contextlib import suppress
 from unittest import mock
 
 from zanteyard import Auditor, AuditServer, LiveAuditor, Policy, Session
@@ -90,7 +91,8 @@ class Killed(unittest.TestCase):
     def end_client(client):
         client.kill()
         client.wait()
-        client.stdin.close()
+        with suppress(BrokenPipeError):
+            client.stdin.close()
         client.stdout.close()
 
     def wait_for(self, condition):
@@ -204,6 +206,8 @@ class Killed(unittest.TestCase):
             for client in doomed:
                 client.kill()
                 time.sleep(chance.choice((0.0, 0.02)))
+            for client in doomed:
+                client.wait(SOON)  # else one may still seem to live
         cuts = self.live.cuts
         self.wait_for(lambda: self.live.cuts > cuts)
         self.ended()
@@ -286,6 +290,7 @@ class KilledOverPostgres(Killed):
                     self.begun(doomed)
                     time.sleep(0.3)
                     doomed.kill()
+                    doomed.wait(SOON)
                 self.ended("violated")
 
 
