@@ -7,11 +7,12 @@ program, or with COBRA_AUDIT naming another one:
     python3 bench/worst.py [--size N] [--some WORD] [--seconds S] [--mib M] [PROGRAM]
 
 Each row begins a program, gives it what leads up to the dear line, and then that line: told are
-what it is answered, its seconds, by how many MiB the program grew while it was served, and the
-program's peak. --size says how many transactions remain (4,096); --some takes the rows alone whose
-name has the word. A line that takes longer than S seconds (120) or has the program grow past M MiB
-(4,096) is given up, and told so. Wanted is that no line takes over 2 seconds or 64 MiB, and no
-round of a budget up to 65,536 over 10 seconds or 128 MiB; a row that does is marked. --write FOLDER
+what it is answered, its seconds, those of the processor, by how many MiB the program grew while it
+was served, and the program's peak. --size says how many transactions remain (4,096); --some takes
+the rows alone whose name has the word. A line that takes longer than S seconds (120) or has the
+program grow past M MiB (4,096) is given up, and told so. Wanted is that no line takes over 2
+seconds or 64 MiB, and no round of a budget up to 65,536 over 10 seconds or 128 MiB; a row that does
+is marked, by the lower of the two times, since other programs may run beside it. --write FOLDER
 writes each row's script there in place of running it.
 """
 import argparse
@@ -20,6 +21,7 @@ import os
 import select
 import subprocess
 import time
+from functools import partial
 
 import hard
 import resume
@@ -62,7 +64,10 @@ def longest():
         "brackets": b"[" * LONGEST,
         "empty lists": (b'["offer",0,0,[' + b"[]," * (LONGEST // 3))[:LONGEST - 4] + b"[]]]",
         "transactions": b'["offer",0,0,[' + b"[[],[]]," * ((LONGEST - 24) // 8) + b"[[],[]]]]",
-        "objects in objects": b'{"":' * (LONGEST // 5),
+        "objects in objects, too deep": b'{"":' * (LONGEST // 5),
+        "objects in objects": b"[" + b",".join(
+            [b'{"":' * 100 + b"0" + b"}" * 100] * (LONGEST // 502)) + b"]",
+        "small objects": b"[" + b'{"":0},' * (LONGEST // 7 - 1) + b"0]",
         "members": b"{" + b",".join(b'"%d":{}' % at for at in range(LONGEST // 12)) + b"}",
         "a word": b'["' + b"x" * (LONGEST - 4) + b'"]',
         "escapes": b'["' + b"\\u0041" * ((LONGEST - 4) // 6) + b'"]',
@@ -154,8 +159,12 @@ def stores(size):
     for keys, blind, stale, behind in ((16, 0.9, 0.0, 0), (256, 0.9, 0.0, 0), (64, 0.5, 0.0, 0),
                                        (256, 0.9, 0.01, 20), (1024, 0.9, 0.02, 50),
                                        (64, 0.3, 0.002, 5)):
-        log = hard.store(size, 64, keys, 1, blind, stale, behind)
-        yield f"store, {keys} keys, blind {blind}, stale {stale}", log.sessions
+        yield (f"store, {keys} keys, blind {blind}, stale {stale}",
+               partial(stored, size, keys, blind, stale, behind))
+
+
+def stored(size, keys, blind, stale, behind):
+    return hard.store(size, 64, keys, 1, blind, stale, behind).sessions
 
 
 def contradictions(size):
@@ -163,39 +172,44 @@ def contradictions(size):
     for name, pairs, wrong in (("all ways of 3 pairs", 3, hard.all_ways(3)),
                                ("chain of 8 pairs", 8, hard.chain(8)),
                                ("formula of 8 pairs", 8, hard.formula(8, 13, 3, 1))):
-        log = hard.contradiction(pairs, wrong, 0)
-        hard.idle(log, (size - sum(map(len, log.sessions))) // 3)
-        if len(log.sessions) <= 64:
-            yield f"{name}, {size} transactions", log.sessions
+        yield f"{name} beside idle ones", partial(contradicted, size, pairs, wrong)
 
 
-def rounds(size):
-    """Rounds over as many transactions as may remain."""
+def contradicted(size, pairs, wrong):
+    log = hard.contradiction(pairs, wrong, 0)
+    hard.idle(log, (size - sum(map(len, log.sessions))) // 3)
+    return log.sessions
+
+
+def rounds(size, some):
+    """Rounds over as many transactions as may remain, of those whose name has the word."""
     made = {
-        "chain of 1 key": chain(size, 1),
-        "chain of 1 key, 64 sessions": chain(size, 1, 64),
-        "chain of 256 keys, half as long": chain(size // 2, MOST),
-        "chain of 256 keys": chain(size, MOST, 64),
-        "blind, 1 key": blind(size, 1),
-        "blind, 1 key, one writer read": blind(size, 1, is_one=True),
-        "blind, 16 keys": blind(size, 16),
-        "blind, 256 keys": blind(size, MOST),
-        "blind, 256 keys, an eighth as many": blind(size // 8, MOST),
-        "stale at the end of a chain": stale(size),
-        "fences": fences(size, 64),
-        "nothing but its sessions": [[[[], []]] * (size // 64) for _ in range(64)],
-        "one read, all others blind": one_reader(size),
-        "pairs that nothing orders": split_pairs(size),
+        "chain of 1 key": partial(chain, size, 1),
+        "chain of 1 key, 64 sessions": partial(chain, size, 1, 64),
+        "chain of 256 keys, half as long": partial(chain, size // 2, MOST),
+        "chain of 256 keys": partial(chain, size, MOST, 64),
+        "keys that no other writes": partial(wide_fences, size),
+        "blind, 1 key": partial(blind, size, 1),
+        "blind, 1 key, one writer read": partial(blind, size, 1, is_one=True),
+        "blind, 16 keys": partial(blind, size, 16),
+        "blind, 256 keys": partial(blind, size, MOST),
+        "blind, 256 keys, an eighth as many": partial(blind, size // 8, MOST),
+        "stale at the end of a chain": partial(stale, size),
+        "fences": partial(fences, size, 64),
+        "nothing but its sessions": lambda: [[[[], []]] * (size // 64) for _ in range(64)],
+        "one read, all others blind": partial(one_reader, size),
+        "pairs that nothing orders": partial(split_pairs, size),
         **dict(stores(size)),
         **dict(contradictions(size)),
     }
-    for what, sessions in made.items():
-        for budget in BUDGETS:
-            yield (f"round of {budget}, {what}", opened(sessions),
-                   compact(["round", budget, 0, 1]))
-    for what in ("blind, 1 key", "one read, all others blind", "pairs that nothing orders"):
-        yield (f"round of 65536, depth 6, 16 workers, {what}", opened(made[what]),
-               compact(["round", 65536, 6, 16]))
+    asked = [(f"round of {budget}, {what}", what, [budget, 0, 1])
+             for what in made for budget in BUDGETS]
+    asked += [(f"round of 65536, depth 6, 16 workers, {what}", what, [65536, 6, 16])
+              for what in ("blind, 1 key", "one read, all others blind",
+                           "pairs that nothing orders")]
+    for name, what, effort in asked:
+        if some in name:
+            yield name, opened(made[what]()), compact(["round", *effort])
 
 
 def awaited(size):
@@ -240,7 +254,7 @@ def hand_overs(size):
     yield f"rebuild, {keys:,} last writers", opened_so, b'["rebuild"]'
     yield f"round of 4096, {keys:,} last writers", opened_so, compact(["round", 4096, 0, 1])
     many, marks = [begin], compact(["marks", [2] * 64, [False] * 64])
-    writers = ",".join(f"[{key},0,0]" for key in range(1, LONGEST // 12)).encode()
+    writers = ",".join(f"[{key},0,0]" for key in range(1, LONGEST // 11)).encode()
     yield "last, the longest", [*many, marks], b'["last",[' + writers[:LONGEST - 30].rsplit(
         b",[", 1)[0] + b"]]"
     yield ("marks, the longest", many, b'["marks",[' + b"0," * ((LONGEST - 20) // 2) + b"0],[]]")
@@ -288,10 +302,16 @@ class Program:
         with open(f"/proc/{self.running.pid}/status", encoding="ascii") as status:
             return next(int(line.split()[1]) / 1024 for line in status if line.startswith(word))
 
+    def processor(self):
+        """Seconds that all its threads have had."""
+        with open(f"/proc/{self.running.pid}/stat", encoding="ascii") as stat:
+            fields = stat.read().rsplit(")", 1)[1].split()
+        return (int(fields[11]) + int(fields[12])) / os.sysconf("SC_CLK_TCK")
+
     def serve(self, line):
-        """The reply's first bytes, its seconds, by how much it grew, and its peak; a reply that
-        didn't come is None."""
-        before, begin = self.memory("VmRSS:"), time.perf_counter()
+        """The reply's first bytes, its seconds, those of the processor, by how much it grew, and
+        its peak; a reply that didn't come is None."""
+        before, used, begin = self.memory("VmRSS:"), self.processor(), time.perf_counter()
         with open(f"/proc/{self.running.pid}/clear_refs", "w", encoding="ascii") as file:
             file.write("5")  # the peak begins anew
         text = memoryview(line + b"\n")
@@ -299,16 +319,17 @@ class Program:
             text = text[self.running.stdin.write(text):]
         told, grown = b"", 0.0
         while not told.endswith(b"\n"):
-            if time.perf_counter() - begin > self.seconds or grown > self.mib:
-                return None, time.perf_counter() - begin, grown, before + grown
+            took = time.perf_counter() - begin
+            if took > self.seconds or grown > self.mib:
+                return None, took, self.processor() - used, grown, before + grown
             if select.select([self.running.stdout], [], [], 0.2)[0]:
                 piece = os.read(self.running.stdout.fileno(), 1 << 20)
                 if not piece:
-                    return None, time.perf_counter() - begin, grown, before + grown
+                    return None, took, 0.0, grown, before + grown
                 told = (told if len(told) < 99 else told[:99]) + piece
             grown = self.memory("VmRSS:") - before
         seconds, peak = time.perf_counter() - begin, self.memory("VmHWM:")
-        return told[:99], seconds, peak - before, peak
+        return told[:99], seconds, self.processor() - used, peak - before, peak
 
     def stop(self):
         self.running.kill()
@@ -329,7 +350,7 @@ def measure(path, lead, line, seconds, mib):
     try:
         for each in lead:
             if program.serve(each)[0] is None:
-                return ("given up before", 0.0, 0.0, 0.0)
+                return ("given up before", 0.0, 0.0, 0.0, 0.0)
         reply, *figures = program.serve(line)
         return (kind_of(reply), *figures)
     finally:
@@ -354,19 +375,21 @@ def main():
     asked = words.parse_args()
     path = os.path.abspath(asked.program)
     print(f"{asked.size} transactions, load {os.getloadavg()[0]:.1f}")
-    print(f"{'line':52} {'answer':>10} {'s':>8} {'MiB':>7} {'peak':>7}", flush=True)
+    print(f"{'line':58} {'answer':>10} {'s':>8} {'cpu s':>8} {'MiB':>7} {'peak':>7}", flush=True)
     for rows in (largest(), longest(), others(asked.size), joins(asked.size),
-                 awaited(asked.size), hand_overs(asked.size), rounds(asked.size)):
+                 awaited(asked.size), hand_overs(asked.size),
+                 rounds(asked.size, asked.some)):
         for name, lead, line in rows:
             if asked.some not in name:
                 continue
             if asked.write:
                 write(asked.write, name, [*lead, line])
                 continue
-            kind, seconds, grown, peak = measure(path, lead, line, asked.seconds, asked.mib)
+            kind, seconds, used, grown, peak = measure(path, lead, line, asked.seconds, asked.mib)
             wanted = ROUND if name.startswith("round") else LINE
-            mark = "  over" if seconds > wanted[0] or grown > wanted[1] else ""
-            print(f"{name:52} {kind:>10} {seconds:8.2f} {grown:7.0f} {peak:7.0f}{mark}", flush=True)
+            mark = "  over" if min(seconds, used) > wanted[0] or grown > wanted[1] else ""
+            print(f"{name:58} {kind:>10} {seconds:8.2f} {used:8.2f} {grown:7.0f} {peak:7.0f}{mark}",
+                  flush=True)
 
 
 if __name__ == "__main__":
