@@ -12,7 +12,7 @@ import unittest
 from typing import Any
 from unittest import mock
 
-from zanteyard import RATHER_WAIT, Auditor, AuditorApart, LiveAuditor, Policy
+from zanteyard import RATHER_WAIT, Auditor, AuditorApart, LiveAuditor
 
 try:
     import psycopg2
@@ -23,7 +23,7 @@ try:
 except ImportError:
     psycopg2 = None  # type: ignore[assignment]
 
-from tests.test_sql import LACKING, OverAServer
+from tests.test_sql import LACKING, OverAServer, leave_one
 from tests.waiting import begin_to_wait
 
 SCHEMA = "CREATE TABLE t (id int PRIMARY KEY, v int); INSERT INTO t VALUES (1, 10), (2, 20)"
@@ -412,9 +412,8 @@ class Sessions(Harmless):
     def test_where_none_is_left_a_connection_isnt_audited(self) -> None:
         place = self.database(SCHEMA, ["t"])
         with AuditorApart(64) as apart:
-            live = LiveAuditor(apart, policy=Policy(1.0, begins_anew=False))
-            for _ in range(63):
-                live._places.take(0.0)
+            live = LiveAuditor(apart, policy=RATHER_WAIT)
+            leave_one(live)
             clients = [psycopg2.connect(place, connection_factory=audited(live, ["t"]))
                        for _ in range(2)]
             for client in clients:

@@ -33,7 +33,7 @@ try:
 except ImportError:
     IS_THERE = False
 
-from tests.test_sql import LACKING, OverAServer
+from tests.test_sql import LACKING, OverAServer, leave_one
 from tests.waiting import SOON, wait_until, waits_for
 
 LACKS = [*LACKING, *([] if IS_THERE else ["SQLAlchemy"])]
@@ -553,8 +553,9 @@ class Connections(OverAnEngine):
         self.assertGreaterEqual(outcome.audited, 48)
 
     def test_more_connections_than_sessions(self) -> None:
-        with AuditorApart(1) as apart:
+        with AuditorApart(64) as apart:
             live = LiveAuditor(apart, policy=RATHER_WAIT)
+            leave_one(live)
             engine = self.audited(live, pool_pre_ping=True)
             with orm.Session(engine, future=True) as one, orm.Session(engine, future=True) as other:
                 for session, key in ((one, 1), (other, 2)):
