@@ -17,7 +17,7 @@ from unittest import mock
 
 from zanteyard import Auditor, AuditServer, LiveAuditor, Policy, Session
 from zanteyard.asking import find_out
-from zanteyard.auditor import PROGRAM, is_own
+from zanteyard.auditor import FENCE, MARK, PROGRAM, is_own
 from zanteyard.cluster import Cluster, program
 from zanteyard.workloads import Nothing
 
@@ -347,6 +347,22 @@ class AskedOfPostgres(unittest.TestCase):
         with self.assertRaises(psycopg2.Error):  # it fails behind its beginning
             self.store.ask(postgres_store.OVERWRITE.replace("{value}", "(1 / (now.number - 4))::text"), ("run", 1, 5, self.FLAG))
         self.assertEqual(self.asked(self.FLAG, 5), ("aborted", None))
+
+    def test_what_another_client_has_overwritten_may_have_been_there(self):
+        """Else it would be told as aborted, and the next one that joins might have its name."""
+        other = PostgresStore(self.cluster.dsn)
+        self.addCleanup(other.close)
+        for key in (FENCE, MARK):
+            for behind, found in ((0, ("committed", ())), (1, ("committed", None)), (2, ("unknown", None))):
+                with self.subTest(key=key, behind=behind):
+                    self.setUp()
+                    self.alone(key, 3)
+                    ticket = self.store.ticket((key, "run", 1, 3))
+                    for number in range(behind):
+                        other.begin_alone(5.0)
+                        other.exchange(key, "", ("run", 2, number))
+                    self.store.close()
+                    self.assertEqual(find_out(("postgres", *self.how), ticket, SOON), found)
 
     def test_where_there_was_no_row_another_statement_may_be_on_its_way(self):
         self.store.begin_alone(5.0)

@@ -15,6 +15,7 @@ from psycopg2 import errors, extensions
 
 from .asking import UNKNOWN, overwritten
 from .asking import Found as FoundOut
+from .auditor import FLAG
 from .postgres_connection import answer, connected, outcome_told
 from .records import Found, Name
 from .sessions import Aborted, NameTaken, OutcomeUnknown
@@ -380,6 +381,9 @@ def asked(
         row = asks.row(THE_ROW, (*its[1:], key))
         if row is not None and row[0]:
             return "committed", overwritten(row[1])
+        if row is not None and not key.startswith(FLAG):  # others write it, too, as who joins does
+            is_next = overwritten(row[1]) == ((run, session, number),)
+            return ("committed", None) if is_next else UNKNOWN
         # Where there was no row an `exchange` goes on with another statement.
         is_done = seen == "gone" or (seen == "changes" and row is not None)
         return ("aborted", None) if is_done else UNKNOWN
