@@ -24,7 +24,7 @@ from zanteyard.memory_store import MemoryStore
 from zanteyard.notes import Note
 from zanteyard.places import Places
 from zanteyard.records import as_bytes
-from zanteyard.sessions import Place
+from zanteyard.sessions import Place, Session
 from zanteyard.stints import Stints
 
 from zanteyard.redis_server import redis_server
@@ -668,6 +668,41 @@ class Fences(WithProgram):
                 self.assertIsNotNone(live._convener.meet(60.0, 60.0).failure)
                 self.assertIsNone(live._convener.meet(60.0, 60.0).failure)
                 self.assertEqual((self.ended(live).kind, live.cuts), ("serial", 1))
+
+    def test_what_an_ended_session_did_last_keeps_no_cut_away(self):
+        """Nobody else ever reads or overwrites it: the next meeting does, also where one failed before that."""
+        for is_there in ("aborted", "committed"):
+            with self.subTest(is_there):
+                live, store = self.live(2, every=1000), MemoryStore()
+                flags = Behaves(store.connect(), (None, is_there), key=FLAG)
+                leads, other = live.session(store.connect()), live.session(flags)
+                other.run(add_one("y")), leads.run(add_one("x"))
+                self.assertIsNotNone(live._convener.meet(60.0, 60.0).failure)
+                self.assertTrue(other.place.is_ended)
+                self.wait_until_closed(other.number)
+                with mock.patch.object(Session, "read_all", side_effect=ZeroDivisionError):
+                    self.assertIsNotNone(live._convener.meet(60.0, 60.0).failure)
+                self.assertIsNone(live._convener.meet(60.0, 60.0).failure)
+                self.assertEqual((self.ended(live).kind, live.cuts), ("serial", 1))
+
+    def test_a_flag_of_a_meeting_that_failed_keeps_no_cut_away(self):
+        """Its session ends before there is another one."""
+        live, store = self.live(2, every=1000), MemoryStore()
+        leads, other = (live.session(store.connect()) for _ in range(2))
+        other.run(add_one("y")), leads.run(add_one("x"))
+        with mock.patch.object(Session, "read_all", side_effect=ZeroDivisionError):
+            self.assertIsNotNone(live._convener.meet(60.0, 60.0).failure)
+        self.assertTrue(other.place.has_flag)
+        other.end()  # as of a process that isn't heard of any more
+        self.wait_until_closed(other.number)
+        self.assertIsNone(live._convener.meet(60.0, 60.0).failure)
+        self.assertEqual((self.ended(live).kind, live.cuts), ("serial", 1))
+
+    def wait_until_closed(self, session):
+        until = time.monotonic() + 60
+        while not self.auditor.closed[session] and time.monotonic() < until:
+            time.sleep(0.005)
+        self.assertTrue(self.auditor.closed[session])
 
     def test_it_is_a_killed_process_s(self):
         logged = as_bytes(fence((0, 3)))

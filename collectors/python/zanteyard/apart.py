@@ -222,6 +222,11 @@ class AuditorApart(Takes):
         found: List[int] = self._call("get", "vacant")
         return found
 
+    @property
+    def written_last(self) -> List[Sequence[str]]:
+        found: List[Sequence[str]] = self._call("get", "written_last")
+        return found
+
     @staticmethod
     def packed(logged: Logged) -> Any:
         """As bytes, which leave nothing to the clients' garbage collector. What can't be made such
@@ -334,6 +339,9 @@ class OfPacked(Auditor):
 
     def txn(self, packed: bytes) -> List[Any]:
         return super().txn(unpacked(packed))
+
+    def _writes(self, packed: bytes) -> Sequence[str]:  # type: ignore[override]
+        return unpacked(packed).writes
 
     def _moved(self, packed: bytes) -> Tuple[bytes, int]:
         logged, left_out = super()._moved(unpacked(packed))

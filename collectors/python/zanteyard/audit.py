@@ -153,6 +153,7 @@ class Audit:
         """Behind all that it did; an earlier process may have closed it."""
         is_there = session not in self._closed and session < self._auditor.sessions
         if is_there and not self._auditor.closed[session]:
+            self._backlog.put_ends(self._auditor.written_last[session])
             self._auditor.close(session)
         self._closed.add(session)
 

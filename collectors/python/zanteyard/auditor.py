@@ -16,7 +16,7 @@ from .journal_entries import Head
 from .outcome import RATHER_LOSE_THE_AUDIT, Policy
 from .pipes import Ended, Late, Pipes
 from .programs import PROGRAM as PROGRAM
-from .records import Cut, Report, TransactionId
+from .records import Cut, Logged, Report, TransactionId
 from .restarting import Restarting
 from .resuming import Reopened, journaled, reopened
 from .stints import Stints
@@ -296,6 +296,14 @@ class Auditor(Takes):
             except OSError as error:
                 self.script_failure = error
                 logger.error("%s lacks lines: %s", self.script.name, error)
+
+    @property
+    def written_last(self) -> List[Sequence[str]]:
+        """Of each session the keys that its last transaction wrote, if that isn't forgotten."""
+        return [self._writes(txns[-1]) if txns else () for txns in self.history]
+
+    def _writes(self, logged: Logged) -> Sequence[str]:
+        return logged.writes
 
     @property
     def vacant(self) -> List[int]:

@@ -6,6 +6,7 @@ import queue
 import threading
 from typing import Any, Dict, Iterable, List, Optional, Sequence, Set, Tuple
 
+from .auditor import FLAG, is_own
 from .records import Logged
 
 # When it came by the monotonic clock, the session, the transaction's number (None where nothing
@@ -32,6 +33,8 @@ class Backlog:
         # Keys that were written by who hadn't read them, and not read since. Changed by who has a
         # session's turn, and by a meeting that holds all.
         self._unseen: Set[str] = set()
+        # Keys that sessions wrote last which have ended. For the auditor's thread.
+        self._ends: Set[str] = set()
         self._waiting: queue.SimpleQueue[HandedIn] = queue.SimpleQueue()
         self._next_numbers: Dict[int, int] = {}
         self._taken: Dict[int, int] = {}  # of each session the number behind the last so taken
@@ -118,3 +121,14 @@ class Backlog:
     def put_unseen(self, keys: Iterable[str]) -> None:
         """Those that weren't read after all."""
         self._unseen.update(keys)
+
+    def take_ends(self) -> Set[str]:
+        """The keys that sessions wrote last which have ended; from here on they count as read."""
+        found, self._ends = self._ends, set()
+        return found
+
+    def put_ends(self, keys: Iterable[str]) -> None:
+        """As of a session that ends, or that weren't read after all. Were none of them ever read nor
+        overwritten, nothing would say where its last transaction stands, and no fence be settled.
+        Those of fences and marks are read by each meeting."""
+        self._ends.update(key for key in keys if not is_own(key) or key.startswith(FLAG))

@@ -173,11 +173,12 @@ class Convener:
         return None
 
     def _lead(self, leading: MeetingGroup, unread: Set[int], ends: float) -> None:
-        """Has the leader read what nobody has read: flags of these sessions first, with as many
-        keys as there is room for."""
-        flags = sorted(f"{FLAG}{session}" for session in unread)
-        found = self._backlog.take_unseen()
-        keys = sorted((key for key in list(found) if not is_own(key)), key=repr)
+        """Has the leader read what nobody has read: flags of these sessions, and of those that have
+        ended, first, with as many keys as there is room for."""
+        gone = self._backlog.take_ends()
+        flags = sorted({f"{FLAG}{session}" for session in unread}.union(filter(is_own, gone)))
+        found = self._backlog.take_unseen().union(gone)
+        keys = sorted((key for key in found if not is_own(key)), key=repr)
         lists = [[*flags, *keys[: READS - len(flags)]]]
         rest = keys[READS - len(flags) :]
         lists += [rest[start : start + READS] for start in range(0, len(rest), READS)]
@@ -185,4 +186,5 @@ class Convener:
             leading.begin_lead(self.meetings, [it for it in lists if it])(ends)
         except BaseException:  # they are to be read at the next meeting
             self._backlog.put_unseen(keys)
+            self._backlog.put_ends(gone)
             raise
