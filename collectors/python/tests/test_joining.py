@@ -613,14 +613,14 @@ class Fences(WithProgram):
         return [sorted(one.writes) for one in self.auditor.history[session]]
 
     def test_an_attempt_that_aborts_leaves_its_number_to_the_next(self):
-        session = self.joining(*[(Aborted("again"), None)] * 3)
+        session = self.joining(*[(Aborted("again"), None)] * 63)  # as where so many join at once
         session.run(add_one("x"))
         self.assertEqual((session.number, session.begun), (1, 2))
         self.assertEqual(self.ended(self.one).kind, "serial")
         self.assertEqual(self.done(1), [[FENCE], ["x"]])
 
     def test_where_it_always_aborts_the_client_goes_on_unaudited(self):
-        session = self.joining(*[(Aborted("again"), None)] * 20)
+        session = self.joining(*[(Aborted("again"), None)] * 200)
         session.run(add_one("x"))
         self.assertEqual((session.number, session.begun), (64, 1))
         outcome = self.one.stop()

@@ -348,21 +348,45 @@ class AskedOfPostgres(unittest.TestCase):
             self.store.ask(postgres_store.OVERWRITE.replace("{value}", "(1 / (now.number - 4))::text"), ("run", 1, 5, self.FLAG))
         self.assertEqual(self.asked(self.FLAG, 5), ("aborted", None))
 
-    def test_what_another_client_has_overwritten_may_have_been_there(self):
+    def test_what_others_have_overwritten_by_then_was_there(self):
         """Else it would be told as aborted, and the next one that joins might have its name."""
         other = PostgresStore(self.cluster.dsn)
         self.addCleanup(other.close)
+        most = postgres_store.LINES
         for key in (FENCE, MARK):
-            for behind, found in ((0, ("committed", ())), (1, ("committed", None)), (2, ("unknown", None))):
-                with self.subTest(key=key, behind=behind):
+            for before, behind in ((0, 0), (1, 0), (0, 1), (1, 1), (5, 2), (1, most - 1), (1, most), (1, most + 1)):
+                with self.subTest(key=key, before=before, behind=behind):
                     self.setUp()
+                    names = [(key, "", ("run", 2, number)) for number in range(before + behind)]
+                    for name in names[:before]:
+                        other.begin_alone(5.0), other.exchange(*name)
                     self.alone(key, 3)
                     ticket = self.store.ticket((key, "run", 1, 3))
-                    for number in range(behind):
-                        other.begin_alone(5.0)
-                        other.exchange(key, "", ("run", 2, number))
+                    for name in names[before:]:
+                        other.begin_alone(5.0), other.exchange(*name)
                     self.store.close()
+                    last = (names[before - 1][2],) if before else None if behind else ()
+                    found = ("unknown", None) if behind > most else ("committed", None if behind == most else last)
                     self.assertEqual(find_out(("postgres", *self.how), ticket, SOON), found)
+
+    def test_a_name_of_two_lines(self):
+        for number in (3, 4):
+            self.store.begin_alone(5.0)
+            self.store.exchange(self.FLAG, "", ("run\nof two", 1, number))
+        ticket = self.store.ticket((self.FLAG, "run\nof two", 1, 4))
+        self.assertEqual(find_out(("postgres", *self.how), ticket, SOON), ("unknown", None))
+
+    def test_which_was_not_there_is_not_told_as_aborted_where_others_write_it_too(self):
+        other = PostgresStore(self.cluster.dsn)
+        self.addCleanup(other.close)
+        for key, found in ((FENCE, "unknown"), (MARK, "unknown"), (self.FLAG, "aborted")):
+            with self.subTest(key=key):
+                self.setUp()
+                other.begin_alone(5.0), other.exchange(key, "", ("run", 2, 0))
+                self.store.begin_alone(5.0)
+                ticket = self.store.ticket((key, "run", 1, 3))
+                self.store.close()
+                self.assertEqual(find_out(("postgres", *self.how), ticket, SOON), (found, None))
 
     def test_where_there_was_no_row_another_statement_may_be_on_its_way(self):
         self.store.begin_alone(5.0)

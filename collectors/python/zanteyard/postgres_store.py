@@ -8,12 +8,12 @@ import re
 import socket
 import threading
 import time
-from typing import Any, Dict, Optional, Sequence, Tuple
+from typing import Any, Dict, List, Optional, Sequence, Tuple
 
 import psycopg2
 from psycopg2 import errors, extensions
 
-from .asking import UNKNOWN, overwritten
+from .asking import UNKNOWN
 from .asking import Found as FoundOut
 from .auditor import FLAG
 from .postgres_connection import answer, connected, outcome_told
@@ -37,8 +37,11 @@ OVERWRITE = f"""UPDATE {{table}} AS now SET value = {{value}}, run = %s, session
     FROM (SELECT * FROM {{table}} WHERE key = %s FOR UPDATE) AS before WHERE now.key = before.key
     {TRANSACTION}, before.value, before.run, before.session, before.number"""
 # Of the collector's own keys the value is the name that is overwritten, so that it isn't lost with
-# the answer.
-KEPT = "concat_ws(' ', before.session, before.number, before.run)"
+# the answer; and behind it, a line each, those that were overwritten before, the last first: others
+# may have come, as to join, before anybody asks.
+LINES = 32
+KEPT = f"""concat_ws(chr(10), concat_ws(' ', before.session, before.number, before.run),
+    array_to_string((string_to_array(nullif(before.value, ''), chr(10)))[1:{LINES - 1}], chr(10)))"""
 FIRST = f"""INSERT INTO {{table}} VALUES (%s, %s, %s, %s, %s) ON CONFLICT (key) DO NOTHING
     {TRANSACTION}"""
 STATUS = """SELECT pg_xact_status(%s::text::xid8), EXISTS (SELECT 1 FROM {table}
@@ -378,12 +381,14 @@ def asked(
         seen = asks.seen_last(pid, since, statements, seconds) if since is not None else None
         if seen is None:
             return UNKNOWN
+        if "\n" in run:  # a name of more lines than one isn't found among them
+            return UNKNOWN
         row = asks.row(THE_ROW, (*its[1:], key))
         if row is not None and row[0]:
-            return "committed", overwritten(row[1])
+            return "committed", overwritten(row[1])[:1]
         if row is not None and not key.startswith(FLAG):  # others write it, too, as who joins does
-            is_next = overwritten(row[1]) == ((run, session, number),)
-            return ("committed", None) if is_next else UNKNOWN
+            behind = from_name(overwritten(row[1]), (run, session, number))
+            return ("committed", behind[1:2] or None) if behind else UNKNOWN
         # Where there was no row an `exchange` goes on with another statement.
         is_done = seen == "gone" or (seen == "changes" and row is not None)
         return ("aborted", None) if is_done else UNKNOWN
@@ -393,6 +398,22 @@ def asked(
     if status == "committed" and (now == life or asks.row(ITS_ROW, its) is not None):
         return "committed", None
     return UNKNOWN
+
+
+def overwritten(value: Optional[str]) -> Sequence[Name]:
+    """The names that a row of the collector's own keeps, the last first, as far as they are any."""
+    found: List[Name] = []
+    for line in (value or "").split("\n"):
+        parts = line.split(" ", 2)
+        if len(parts) < 3 or not (parts[0].isdecimal() and parts[1].isdecimal()):
+            break
+        found.append((parts[2], int(parts[0]), int(parts[1])))
+    return tuple(found)
+
+
+def from_name(names: Sequence[Name], name: Name) -> Sequence[Name]:
+    """This name, and those that are behind it; none where it isn't among them."""
+    return names[names.index(name) :] if name in names else ()
 
 
 class Asks:

@@ -57,7 +57,9 @@ SHORTEST = 0.001  # seconds that the store is given for a transaction
 RANGES = 16  # of numbers that a place keeps
 AGAIN = 1.0  # seconds until a run's name is claimed again
 LEAST = 0.1  # seconds for an outcome, where nobody was promised any
-JOINING = 8  # attempts at the fence with which a client joins
+# Attempts at the fence with which a client joins: where the store has no `exchange`, each of 63
+# others that join with it may be before it, and meetings.
+JOINING = 72
 PLACES = 3  # that a client is given for one transaction, where it can't be known whether it joined
 logger = logging.getLogger("zanteyard")
 Result = TypeVar("Result")
