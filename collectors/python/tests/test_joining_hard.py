@@ -121,17 +121,20 @@ class Interrupted(WithProgram):
     def test_what_an_interrupt_leaves_of_a_fence_has_no_name_of_another(self):
         """It comes as the fence has its number, and nobody has the fence."""
         live, store = self.met()
-        start = Session.start
+        start, comes = Session.start, Alone(store.connect())
 
         def started(session, *arguments):
             start(session, *arguments)
             raise TimeoutError("of a handler of SIGALRM")
 
+        comes.errors, comes.begin_alone = (ZeroDivisionError,), lambda seconds: 1 / 0
+        session = live.session(comes)
+        del comes.begin_alone
         with mock.patch.object(Session, "start", started), self.assertRaises(TimeoutError):
-            live.session(Alone(store.connect()))
-        other = live.session(Alone(store.connect()))
-        other.run(add_one("x"))
-        self.assertEqual((other.number, other.begun), (2, 2))
+            session.begin()
+        self.assertEqual((session.number, session.begun), (2, 0))
+        session.run(add_one("x"))
+        self.assertEqual((session.number, session.begun), (2, 2))
         self.assertEqual(live.stop().kind, "serial")
 
 
@@ -264,6 +267,7 @@ class Harmless(WithProgram):
                 self.assertEqual(ends.number, 1 if when == "edges" else 2)
                 self.assertEqual((len(live.stop().earlier), live.failure), (1, None))
                 self.assertEqual(live.report.kind, "serial")
+                self.assertEqual(self.auditor.closed, [False, when == "reopen", False])
 
     def test_several_sessions_of_a_process_that_end_at_once_have_others(self):
         live, store = self.live(6, every=1000), MemoryStore()
@@ -309,9 +313,10 @@ class Harmless(WithProgram):
                 with mock.patch.object(live._places, "take", lambda seconds: None):
                     comes = client.session(store.connect())
                 self.assertFalse(comes.place.is_audited)
-                until = time.monotonic() + 60
+                running, until = stays.begin(), time.monotonic() + 60  # no meeting can be had
                 while not (live.earlier and comes.place.is_audited) and time.monotonic() < until:
-                    stays.run(add_one("x")), comes.run(add_one("x"))
+                    comes.run(add_one("y"))
+                running.commit()
                 self.assertEqual((stays.number, comes.number), (0, 1))
             server.close()
         outcome = live.stop()
