@@ -26,7 +26,8 @@ class Killed(KilledSql):
     def test_what_is_unclear_is_told_where_it_was_committed(self) -> None:
         for where, kind in UNCLEAR:
             with self.subTest(where=where):
-                outcome, is_there = self.ran(where, "writes unaudited alone")
+                ran = self.ran if kind == "serial" else self.ran_until_committed
+                outcome, is_there = ran(where, "writes unaudited alone")
                 self.assertEqual((outcome.kind, is_there), (kind, kind != "serial"), str(outcome))
 
 

@@ -16,7 +16,7 @@ from .test_examples import EXAMPLES
 
 FEW, MOST = 1024, 4096  # transactions
 SECONDS = 5.0
-SLOW = 6.0  # times as long, where other programs have the processors
+SLOW = 12.0  # times as long, where other programs have the processors
 
 
 def workloads():
