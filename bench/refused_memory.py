@@ -63,7 +63,9 @@ static unsigned long unused[5], *page = unused;
 static int is_refused(void) {
     unsigned long call = __atomic_add_fetch(&page[0], 1, __ATOMIC_SEQ_CST);
     unsigned long first = __atomic_load_n(&page[1], __ATOMIC_SEQ_CST);
-    return first && first <= call && call <= page[2];
+    if (!first || call < first || page[2] < call) return 0;
+    errno = ENOMEM;
+    return 1;
 }
 void *malloc(size_t size) { return is_refused() ? 0 : __libc_malloc(size); }
 void *calloc(size_t count, size_t size) { return is_refused() ? 0 : __libc_calloc(count, size); }
@@ -287,8 +289,9 @@ def judge_of(lines):
     from tests.live_runs import Judge
 
     class Pressed(Judge):
-        wanted = 0  # entries that say that memory was wanting
+        wanted = 0  # how often memory was wanting
         was_skipped = has_ended = False
+        withheld = ()  # cuts of which one was found, and there was no memory to apply it
 
         def take_all(self, told, is_whole):
             pieces = told.split(b"\n")
@@ -308,12 +311,18 @@ def judge_of(lines):
                 self.wanted += 1
                 self.was_skipped, self.cuts = True, [None]
                 return
+            if told[0] != "cut" and None not in self.cuts:
+                self.wanted, self.withheld, self.cuts = self.wanted + 1, self.cuts, [None]
             if told == ["end"]:
                 self.has_ended = True
-                if self.was_skipped and None in self.cuts:
+                if self.was_skipped:
                     return
             super().take(told)
             self.was_skipped = False
+            if told[0] == "report":
+                if told[2] in ("violated", "spent"):
+                    self.cuts = [None, *self.withheld]
+                self.withheld = ()
 
         def take_answer(self, told):
             if told[0] != "refused" or told[-1] != "NoMemory" or self.next == len(self.lines):
