@@ -6,8 +6,8 @@ program, or with COBRA_AUDIT naming another one:
 
     python3 bench/fuzz.py [--lines N] [--seed S] [--minutes M] [--only WORD] [--keep FILE] [PROGRAM]
 
-Three generators: bytes mutated, lines mutated by their grammar, and whole scripts
-(`fuzz_lines.py`). Each reply is held against the one that the plain model owes (`judge.py`), and
+Four generators: bytes mutated, lines mutated by their grammar, whole scripts, and answers that are
+handed in (`fuzz_lines.py`). Each reply is held against the one that the plain model owes (`judge.py`), and
 each program has to end with status 0 and no word more. It prints a table of what was tried by kind
 of line and by reply. At the first difference it stops, makes the script smaller while a difference
 stays, writes it to FILE (fuzz-difference.jsonl) and ends with status 1. --only takes the generators
@@ -23,13 +23,14 @@ import sys
 import time
 from collections import Counter, defaultdict
 
-from fuzz_lines import Bytes, Grammar, Longest, Scripts
+from fuzz_lines import Answers, Bytes, Grammar, Longest, Scripts
 from judge import Model, first_difference
 from plain_verdicts import Wrong
 
 PIPE = 1 << 20  # bytes that wait in a pipe before its writer has to
 SECONDS = 120.0  # for the replies to a chunk
-GENERATORS = {"bytes": (Bytes, 35), "grammar": (Grammar, 35), "scripts": (Scripts, 30)}
+GENERATORS = {"bytes": (Bytes, 30), "grammar": (Grammar, 30), "scripts": (Scripts, 25),
+              "answers": (Answers, 15)}
 EACH = 600  # lines of a script, about
 FEW = 50000  # lines for each script of the longest lines
 

@@ -28,7 +28,7 @@ NO_TEXT = (b"\xff", b"\xfe\xff", b"\xc3", b"\xc0\x80", b"\xed\xa0\x80", b"\xf4\x
            b"\x80", b"\xe2\x28\xa1", b"\xf8\x88\x80\x80\x80", b"\xef\xbb\xbf", b"\x00", b"\r",
            b"\x1b", b"\x7f", b"\xef\xbb", b"\xf0\x9f\x98")
 WORDS = ("open", "offer", "join", "close", "begin", "finish", "round", "truncate", "rebuild", "show",
-         "resume", "marks", "last", "resumed", "save", "remain")
+         "resume", "marks", "last", "resumed", "save", "remain", "answer", "order", "refuted")
 BUDGETS = (1, 1, 1, 2, 2, 3, 4, 5, 7, 8, 15, 16, 31, 32, 33, 64, 64, 128, 256)
 
 
@@ -84,6 +84,41 @@ def join(dice, parts, last_fence):
         source = last_fence
     txns = [[[[0, *source]], [0]], [[], [5]]][: dice.choice((1, 1, 1, 2))]
     return ["join", session, *([first] if first or dice.random() < 0.3 else []), txns]
+
+
+def forged(dice, model):
+    """An answer that is handed in: what a report has shown at last, mostly changed, or the other of
+    the two."""
+    word = dice.choice(("order", "refuted"))
+    given = json.loads(json.dumps(model.shown[word]))
+    for _ in range(dice.choice((0, 0, 1, 1, 1, 2, 3))):
+        given = dice.choice((odd, odd, odd, cut_off, swapped, exchanged))(dice, given)
+    if dice.random() < 0.02:
+        word = dice.choice(("order", "refuted", "serial", "Order", ""))
+    return ["answer", word, given]
+
+
+def cut_off(dice, items):
+    """The list without its end, its beginning or an item."""
+    place = dice.randrange(len(items) + 1)
+    return dice.choice((items[:place], items[place:], items[:place] + items[place + 1:]))
+
+
+def swapped(dice, items):
+    """The list with two pieces that stand side by side swapped, as the halves of a split."""
+    one, two, three = sorted(dice.randrange(len(items) + 1) for _ in range(3))
+    return items[:one] + items[two:three] + items[one:two] + items[three:]
+
+
+def exchanged(dice, items):
+    """The list with one of its parts replaced by another one of the same kind."""
+    found = places(items)
+    if not found:
+        return items
+    holder, place = dice.choice(found)
+    others = [it[at] for it, at in found if type(it[at]) is type(holder[place])]
+    holder[place] = json.loads(json.dumps(dice.choice(others)))
+    return items
 
 
 class Store:
@@ -214,6 +249,8 @@ class Scripts:
             elif dice.random() < (self.joins / 9 if self.is_open else self.joins):
                 line = self.join(model)
                 remaining += len(line[-1])
+            elif self.is_open and dice.random() < 0.3:
+                line = forged(dice, model)
             else:
                 line = self.other()
             lines.append(self.told(line))
@@ -270,7 +307,10 @@ class Scripts:
 def odd(dice, line):
     """The line with one of its parts, or a part of a part, moved by a little or to a limit."""
     line = json.loads(json.dumps(line))
-    holder, place = dice.choice(places(line))
+    found = places(line)
+    if not found:
+        return line
+    holder, place = dice.choice(found)
     old = holder[place]
     if type(old) is int:
         holder[place] = dice.choice((old + 1, abs(old - 1), dice.choice(EDGES), 0))
@@ -333,6 +373,8 @@ class Mutated:
             return ["close", dice.randrange(self.sessions)]
         if turn < 0.83:
             return join(dice, model.parts, store.last.get(0))
+        if turn < 0.84:
+            return forged(dice, model)
         if turn < 0.85:
             return save(dice, self.sessions)
         return [dice.choice(("show", "show", "show", "begin", "truncate", "rebuild"))]
@@ -345,6 +387,51 @@ class Mutated:
         for _ in range(self.count):
             lines += self.mutate(self.base(model))
         return lines
+
+
+class Answers:
+    """Orders and trees that are handed in: those of reports, forged, cut and mutated."""
+
+    def __init__(self, dice):
+        self.dice = dice
+        self.store = Store(dice, dice.choice((2, 2, 3, 4, 6, 12)))
+        if not self.store.torn:
+            self.store.lies = dice.choice((0.0, 0.0, 0.1, 0.4))
+        self.store.ahead = dice.choice((0.0, 0.0, 0.0, 0.1))
+        self.most = dice.choice((2, 4, 6, 8, 12))
+
+    def is_over(self, model):
+        return False
+
+    def chunk(self, model):
+        """While a round is open, answers to it; else more is taken in, and a round is opened on it,
+        after a report."""
+        if model.parts is None:
+            return [("answers: open", compact(["open", self.store.sessions, 4096]))]
+        if model.snapshot:
+            more = [self.told(forged(self.dice, model)) for _ in range(60)]
+            if self.dice.random() < 0.05:
+                more.append(("answers: finish", compact(["finish", 256, 0, 1])))
+            return more
+        lines = self.offers(model) + [["round", 256, 0, 1]]
+        if self.dice.random() < 0.3:
+            lines += [["truncate"], ["round", 256, 0, 1]]
+        return [(f"answers: {line[0]}", compact(line)) for line in [*lines, ["begin"]]]
+
+    def told(self, line):
+        piece = write(line).encode()
+        return f"answers: {line[1] if line[1] in ('order', 'refuted') else 'neither'}", piece
+
+    def offers(self, model):
+        """A few more, unless as much remains as may."""
+        store = self.store
+        store.go_on(model.parts.received())
+        if sum(map(len, model.parts.remaining)) >= self.most:
+            return [["open", 1, 1]] if self.dice.random() < 0.1 else []
+        for _ in range(self.dice.choice((1, 2, 4))):
+            store.execute()
+        return [["offer", session, store.first[session], txns]
+                for session, txns in enumerate(store.waiting) if txns]
 
 
 class Bytes(Mutated):
@@ -575,4 +662,11 @@ class Longest:
             lines.append((kind, dice.choice((b"x", b"[", b" ", b"\0", b'"', b"1", b"\xff")) * room))
             keys = b'["offer",1,0,[[[],[' + b"7," * (room // 2)
             lines.append((kind, keys[:room - 4] + b"]]]]"))
+        choice, end = b'["split",[0,0,5,1,0,1,1]],', b'["gone",0,0,5]'
+        deep = (LONGEST - 40) // (len(choice) + len(end) + 1)
+        tree = choice * deep + b",".join([end] * (deep + 1))  # as deep as a line can hold
+        step = b'["force",[0,0,5,1,0,1,1],1,[]],'
+        run = step * ((LONGEST - 40) // len(step)) + end
+        lines += [(kind, b'["begin"]'),
+                  *((kind, b'["answer","refuted",[' + items + b"]]") for items in (tree, run, tree[:-1]))]
         return lines + [(kind, b'["show"]')]

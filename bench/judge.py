@@ -21,7 +21,8 @@ LONGEST = 8388608  # bytes of a line, its LF left out
 WHOLE, NUMBERS = 2**64, 2**48
 DEEPEST, FARTHEST = 600, 400  # nodes that are searched here, and fronts that are tried
 NAMES = {1: "BadLine", 2: "BadSession", 3: "BadTxn", 4: "BadFence", 5: "Gap", 6: "Repeat",
-         7: "Closed", 8: "Backlog", 9: "TooLong", 10: "RoundOpen", 11: "NoRound", 13: "NoCut",
+         7: "Closed", 8: "Backlog", 9: "TooLong", 10: "RoundOpen", 11: "NoRound",
+         12: "BadCertificate", 13: "NoCut",
          14: "BadParts", 16: "NoMemory", 17: "NotAnchored"}
 REFUSALS = {number: b'["no",%d,"%s"]' % (number, name.encode()) for number, name in NAMES.items()}
 OK = b'["ok"]'
@@ -79,6 +80,66 @@ def is_writer(it):
             and is_whole(it[2]))
 
 
+def are_ids(numbers):
+    """Whether they are sessions and numbers by turns."""
+    return (all(is_whole(session, 256) for session in numbers[::2])
+            and all(map(is_whole, numbers[1::2])))
+
+
+def is_order(it):
+    return type(it) is list and all(type(id_) is list and len(id_) == 2 and are_ids(id_)
+                                    for id_ in it)
+
+
+def is_choice(it):
+    return (type(it) is list and len(it) == 7 and is_whole(it[2])
+            and are_ids(it[:2] + it[3:]))
+
+
+def is_arc(it):
+    if type(it) is not list or not it or type(it[0]) is not str:
+        return False
+    count = {"session": 5, "taken": 5, "read": 6, "base": 6}.get(it[0])
+    return len(it) == count and all(map(is_whole, it[1:])) and are_ids(it[-4:])
+
+
+def is_cycle(it):
+    return type(it) is list and all(map(is_arc, it))
+
+
+def is_reader(parts):
+    return is_whole(parts[0], 256) and all(map(is_whole, parts))
+
+
+TREE_FORMS = {  # with how many parts more wait for their end, behind it
+    ("force", 4): (lambda parts: is_choice(parts[0]) and is_whole(parts[1], 3) and parts[1] > 0
+                   and is_cycle(parts[2]), 0),
+    ("split", 2): (lambda parts: is_choice(parts[0]), 1),
+    ("cycle", 2): (lambda parts: is_cycle(parts[0]), -1),
+    ("nowrite", 4): (is_reader, -1),
+    ("gone", 4): (is_reader, -1),
+}
+
+
+def is_tree(it):
+    if type(it) is not list:
+        return False
+    waiting = 1
+    for item in it:
+        if not waiting or type(item) is not list or not item or type(item[0]) is not str:
+            return False
+        form, more = TREE_FORMS.get((item[0], len(item)), (None, 0))
+        if not form or not form(item[1:]):
+            return False
+        waiting += more
+    return not waiting
+
+
+def is_answer(parts):
+    word, given = parts
+    return word == "order" and is_order(given) or word == "refuted" and is_tree(given)
+
+
 def is_last(parts):
     return type(parts[0]) is list and all(map(is_writer, parts[0]))
 
@@ -102,6 +163,7 @@ FORMS = {
     ("marks", 3): is_marks,
     ("last", 2): is_last,
     ("resumed", 1): is_nothing,
+    ("answer", 3): is_answer,
 }
 BEGINNING = ("open", "resume")  # the words that may stand as long as no auditor is open
 HANDED = ("marks", "last", "resumed")  # and those that stand in a hand-over alone, beside offer
@@ -232,6 +294,7 @@ class Model:
         self.parts = self.limit = self.snapshot = self.held = self.handed = None
         self.rounds = 0
         self.told = {}  # of what remains now: of each budget and depth, the report without number
+        self.shown = {"order": [], "refuted": [["cycle", []]]}  # what reports have shown at last
 
     def judge(self, line, reply):
         """Raises Wrong where this isn't the reply that is owed to the line; neither has its LF."""
@@ -389,6 +452,26 @@ class Model:
         told = parts.remaining[session][first - gone:][:256]
         return text(["offer", session, first, list(map(told_txn, told))])
 
+    def answer(self, word, given):
+        parts = self.snapshot
+        if not parts:
+            return REFUSALS[11]
+        try:
+            if word == "order":
+                check_order(parts, given)
+            else:
+                check_tree(parts, given, is_handed_in=True)
+        except Wrong:
+            return REFUSALS[12]
+        kind = "violated"
+        if word == "order":
+            kind = "pending" if parts.has_pending() else "serial"
+            self.held = cut_of(parts, Relation(parts))
+        check_by_trial(parts, kind)
+        self.snapshot = None
+        self.rounds += 1
+        return text(["report", self.rounds, kind, parts.received(), given])
+
     def refused_round(self, word):
         if word == "round":
             return REFUSALS[10] if self.snapshot else None
@@ -407,8 +490,10 @@ class Model:
                 raise Wrong("the budget can't be used up here")
         elif report[2] == "violated":
             check_tree(parts, report[4])
+            self.shown["refuted"] = report[4]
         else:
             check_order(parts, report[4])
+            self.shown["order"] = report[4]
             self.held = cut_of(parts, relation)
         check_by_trial(parts, report[2])
         if command[0] == "round":  # whatever the workers, the answer is the same

@@ -4,6 +4,8 @@ Each check raises Wrong, with a sentence, where what is shown doesn't hold.
 """
 from plain_verdicts import INIT, Wrong
 
+DEEPEST = 4096  # nodes above one another in a tree: splits, and runs of forced sides
+
 
 def check_order(parts, order):
     """Every transaction that remains stands once, each session's in order; each read meets the last
@@ -26,34 +28,39 @@ def check_order(parts, order):
         raise Wrong("the order lacks a transaction")
 
 
-def check_tree(parts, items):
-    """Each split has both its parts, each part its end, and what is forced is forced by a cycle."""
+def check_tree(parts, items, is_handed_in=False):
+    """Each split has both its parts, each part its end, and what is forced is forced by a cycle. The
+    auditor's own cycles begin with the fact that is ruled out; one that is handed in needn't."""
     if not isinstance(items, list):
         raise Wrong("the tree is no list")
-    waiting = [frozenset()]
+    waiting = [(frozenset(), 0, False)]  # what is taken, how many nodes are above, whether forced
     for item in items:
         if not waiting:
             raise Wrong(f"{item} stands behind the end")
-        taken, name = waiting.pop(), named(item)
+        (taken, above, is_forced), name = waiting.pop(), named(item)
         if name == "force" and len(item) == 4:
-            waiting.append(_forced(parts, taken, *item[1:]))
+            taken = _forced(parts, taken, *item[1:], is_handed_in)
+            waiting.append((taken, above if is_forced else above + 1, True))
         elif name == "split" and len(item) == 2:
             first, second = sides(parts, item[1])
-            waiting += [taken | {second}, taken | {first}]
+            waiting += [(taken | {side}, above + 1, False) for side in (second, first)]
         else:
             _check_end(parts, taken, item, name)
+        if above > DEEPEST or waiting and waiting[-1][1] > DEEPEST:
+            raise Wrong(f"more than {DEEPEST} nodes stand above one another")
     if waiting:
         raise Wrong("a part of the argument has no end")
 
 
-def _forced(parts, taken, choice, side, cycle):
+def _forced(parts, taken, choice, side, cycle, is_handed_in):
     """What is taken behind a forced side. The fact that it rules out is the first arc of its
-    cycle."""
+    cycle, unless it is handed in."""
     both = sides(parts, choice)
     if type(side) is not int or side not in (1, 2):
         raise Wrong(f"{side} is no side")
     taken_side, ruled_out = both[side - 1], both[2 - side]
-    if not cycle or named(cycle[0]) != "taken" or ends(cycle[0]) != ruled_out:
+    begins = bool(cycle) and named(cycle[0]) == "taken" and ends(cycle[0]) == ruled_out
+    if not begins and not is_handed_in:
         raise Wrong(f"the cycle of {choice} doesn't begin with the fact that it rules out")
     check_cycle(parts, taken | {ruled_out}, cycle)
     return taken | {taken_side}

@@ -247,13 +247,14 @@ def check_run(script, replies):
             order = []  # a cut that was found is dropped
         if reply[0] not in ("report", "cut"):
             continue
+        asked = begun if command[0] in ("finish", "answer") else history
         told = f"round {reply[1]}: {reply[2]}" if reply[0] == "report" else f"cut at {reply[1][0]}.{reply[1][1]}"
         try:
             if reply[0] == "cut":
                 check_cut(history, order, reply)
                 order = []
             else:
-                check_report(begun if command[0] == "finish" else history, reply)
+                check_report(asked, reply)
                 order = reply[4] if reply[2] in ("serial", "pending") else order
             print(f"{told}, right")
         except Wrong as why:

@@ -1,5 +1,5 @@
 // Lines of scripts.
-use log_text::{Command, Wanted, read_line};
+use log_text::{Command, Shown, Wanted, read_line};
 use std::alloc::Global;
 use std::process::Abort;
 use std::test::Fail;
@@ -33,6 +33,7 @@ fn numbers_of(command: &Command) -> (&'static str, [u64; 3]) {
         Command::Last(writers) => ("last", [writers.len() as u64, 0, 0]),
         Command::Resumed => ("resumed", [0, 0, 0]),
         Command::Save(wanted) => saved_numbers(*wanted),
+        Command::Answer(shown) => shown_numbers(shown),
     }
 }
 
@@ -52,13 +53,21 @@ fn saved_numbers(wanted: Wanted) -> (&'static str, [u64; 3]) {
     }
 }
 
+// The trees that are handed in are told by `reply_texts`.
+fn shown_numbers(shown: &Shown) -> (&'static str, [u64; 3]) {
+    match shown {
+        Shown::Order(order) => ("answer order", [order.len() as u64, 0, 0]),
+        Shown::Refuted(_) => ("answer refuted", [0, 0, 0]),
+    }
+}
+
 struct Row {
     line: &'static str,
     name: &'static str,
     numbers: [u64; 3],
 }
 
-static COMMANDS: [Row; 22] = [
+static COMMANDS: [Row; 25] = [
     Row {
         line: "[\"open\",0,18446744073709551615]",
         name: "open",
@@ -169,6 +178,21 @@ static COMMANDS: [Row; 22] = [
         name: "save remain",
         numbers: [1, 4, 0],
     },
+    Row {
+        line: "[\"answer\",\"order\",[]]",
+        name: "answer order",
+        numbers: [0, 0, 0],
+    },
+    Row {
+        line: "[\"answer\",\"order\",[[255,18446744073709551615],[0,0]]]",
+        name: "answer order",
+        numbers: [2, 0, 0],
+    },
+    Row {
+        line: "[\"answer\",\"refuted\",[[\"gone\",0,0,5]]]",
+        name: "answer refuted",
+        numbers: [0, 0, 0],
+    },
 ];
 
 // What is looked up behind a call is not carried through each turn of a loop's proof.
@@ -210,7 +234,7 @@ fn offered_transactions(rt: HostRuntime) -> Result<(), Fail> {
 }
 
 // Texts that are no JSON, or no array of a known word and its parts; other parts; offers and joins with other parts.
-static BAD_LINES: [&str; 65] = [
+static BAD_LINES: [&str; 69] = [
     "",
     " ",
     "null",
@@ -276,6 +300,10 @@ static BAD_LINES: [&str; 65] = [
     "[\"last\",[[5,0]]]",
     "[\"save\"]",
     "[\"save\",\"show\"]",
+    "[\"answer\",\"order\"]",
+    "[\"answer\",\"order\",[[256,0]]]",
+    "[\"answer\",\"refuted\",[]]",
+    "[\"answer\",\"refuted\",[[\"gone\",0,0,5],[\"gone\",0,0,5]]]",
 ];
 
 fn bad_lines() -> &'static [&'static str] {

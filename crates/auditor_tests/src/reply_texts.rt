@@ -2,7 +2,7 @@
 ghost use Rattle.std.specs.Prelude.{IfOk};
 ghost use Rattle.log_text.specs.Replies.{HasKindOfOrder};
 
-use log_text::{Reply, write_reply};
+use log_text::{Command, Reply, Shown, read_line, read_shown, write_reply};
 use order_check::Kind;
 use refutation::{Leaf, Tree};
 use std::alloc::Global;
@@ -151,16 +151,21 @@ fn ordered(alloc: Global, kind: Kind) -> Result<Reply, NoMemory>
     })
 }
 
-fn violated(alloc: Global) -> Result<Reply, NoMemory>
+fn violated_by(alloc: Global, tree: Tree) -> Result<Reply, NoMemory>
     ensures { IfOk result (λ reply. HasKindOfOrder reply) }
 {
     let counts = numbers(alloc, &[2])?;
-    let tree = tree(alloc)?;
     Ok(Reply::Violated {
         round: 1,
         counts,
         tree,
     })
+}
+
+fn violated(alloc: Global) -> Result<Reply, NoMemory>
+    ensures { IfOk result (λ reply. HasKindOfOrder reply) }
+{
+    violated_by(alloc, tree(alloc)?)
 }
 
 fn spent(alloc: Global) -> Result<Reply, NoMemory>
@@ -236,5 +241,34 @@ fn replies_are_written_so(rt: HostRuntime) -> Result<(), Fail> {
         let text = text_of(rt.alloc(), *told)?;
         assert!(rt; text.as_slice() == line.as_bytes(), "at {line}");
     }
+    Ok(())
+}
+
+/// The tree that is read from a line which hands in what the violated report shows.
+fn read_in_line(alloc: Global) -> Result<Option<Shown>, Refusal> {
+    let Some(given) = VIOLATED.strip_prefix("[\"report\",1,\"violated\",[2],") else {
+        return Ok(None);
+    };
+    let line = format!(in alloc; "[\"answer\",\"refuted\",{given}")?;
+    match read_line(alloc, line.as_bytes())? {
+        Command::Answer(shown) => Ok(Some(shown)),
+        _ => Ok(None),
+    }
+}
+
+/// Whether a tree is shown that the violated report tells as its own.
+fn is_told_again(alloc: Global, shown: Option<Shown>) -> Result<bool, NoMemory> {
+    let Some(Shown::Refuted(tree)) = shown else {
+        return Ok(false);
+    };
+    let reply = violated_by(alloc, tree)?;
+    Ok(write_reply(alloc, &reply)?.as_slice() == VIOLATED.as_bytes())
+}
+
+#[test]
+fn trees_are_read_as_they_were_written(rt: HostRuntime) -> Result<(), Fail> {
+    let alloc = rt.alloc();
+    assert!(rt; is_told_again(alloc, read_in_line(alloc)?)?);
+    assert!(rt; is_told_again(alloc, read_shown(alloc, VIOLATED.as_bytes())?)?);
     Ok(())
 }

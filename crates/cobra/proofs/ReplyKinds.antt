@@ -1,16 +1,19 @@
 -- Only a report that is serial or pending is told with an order.
-use Rattle.std.proofs.Common.{◌≡◌, ℕ, List, Bool, true, false, cond, nat_lt, length, Option, Some, None, sym, subst, ⊎_elim}
+use Rattle.std.proofs.Common.{◌≡◌, ℕ, ◌+◌, List, Bool, true, false, cond, nat_lt, length, Option, Some, None, sym, subst, ⊎_elim}
 use Rattle.std.specs.Prelude.{IsSomeAnd}
 use Rattle.order_check.specs.declared.remainder.Kind.{Kind}
 use Rattle.order_check.specs.declared.remainder.Kind.TheVariants as kinds
 use Rattle.order_check.specs.declared.remainder.Parts.{Parts}
 use Rattle.log_text.specs.declared.commands.Command.{Command}
-use Rattle.log_text.specs.declared.commands.Command.TheVariants.{Start, Offer, Join, Close, Begin, Finish, Round, Truncate, Rebuild, Show, Resume, Marks, Last, Resumed, Save}
+use Rattle.log_text.specs.declared.commands.Command.TheVariants.{Start, Offer, Join, Close, Begin, Finish, Round, Truncate, Rebuild, Show, Resume, Marks, Last, Resumed, Save, Answer}
 use Rattle.log_text.specs.declared.replies.Reply.{Reply}
 use Rattle.log_text.specs.declared.replies.Reply.TheVariants as told
 use Rattle.log_text.specs.Replies.{HasKindOfOrder}
 use Rattle.round_state.specs.EngineState.{EngineState}
-use Rattle.round_state.specs.Steps.{Shows, IsRightReport, IsHeldAfter}
+use Rattle.round_state.specs.Solving.{IsRight, IsReportOn}
+use Rattle.round_state.specs.Steps.{Shows, IsRightReport, IsHeldAfter, answer_told}
+use Rattle.polygraph.specs.declared.solving.Answer as solved
+use Rattle.polygraph.specs.declared.solving.Answer.TheVariants as answers
 use Rattle.round_state.specs.declared.reports.Certificate.{Certificate}
 use Rattle.round_state.specs.declared.reports.Certificate.TheVariants.{Order, Refuted, Nothing}
 use Rattle.round_state.specs.declared.reports.Report.{Report}
@@ -30,7 +33,7 @@ use Rattle.cobra.specs.declared.handing.Handing.{Handing}
 use Rattle.cobra.specs.declared.stages.Stage.{Stage}
 use Rattle.cobra.specs.declared.stages.Stage.TheVariants as stage
 use Rattle.cobra.specs.Scripts.{IsBadLine, Goes, EndsRound, IsRound, AnswersOpen, Opens, Resumes, AnswersFirst, BeginsAnew, HandsMarks, AnswersResuming, HandsWriters, HandsOffer, EndsHandOver, AnswersHanding, Answers}
-use Rattle.cobra.specs.StepReplies.{certified, report_of, reply_of}
+use Rattle.cobra.specs.StepReplies.{certificate_of, certified, report_of, reply_of}
 
 -- what a certificate shows is told by its own kind
 certified_kind : (round : ℕ) (counts : List ℕ) (parts : Parts) (budget depth : ℕ) (kind : Kind) (certificate : Certificate) → Shows parts budget depth kind certificate → HasKindOfOrder (certified (record { round = round; kind = kind; counts = counts; certificate = certificate }) certificate)
@@ -45,11 +48,26 @@ reported_kind : (old : EngineState) (held : Option Cut) (asked : Option Parts) (
 reported_kind old held None budget depth report right = absurd right
 reported_kind old held (Some parts) budget depth report right = certified_kind report.round report.counts parts budget depth report.kind report.certificate right.0.shown
 
+-- A report's kind that is judged right has its certificate.
+judged_certified : (parts : Parts) (answer : solved.Answer) (round : ℕ) (counts : List ℕ) (kind : Kind) (certificate : Certificate) → IsRight parts answer kind certificate → HasKindOfOrder (certified (record { round = round; kind = kind; counts = counts; certificate = certificate }) certificate)
+judged_certified parts (answers.Yes order) round counts kinds.Serial (Order shown) right = tt
+judged_certified parts (answers.Yes order) round counts kinds.Pending (Order shown) right = tt
+judged_certified parts (answers.Yes order) round counts kinds.Violated (Order shown) right = absurd (right.2 (order, right.1))
+judged_certified parts (answers.Yes order) round counts kinds.Spent (Order shown) right = absurd right.2
+judged_certified parts answer round counts kind (Refuted shown) right = tt
+judged_certified parts answer round counts kind Nothing right = tt
+judged_certified parts answer round counts kind certificate right = absurd right
+
+pub judged_kind : (rounds : ℕ) (before held : Option Cut) (asked : Option Parts) (answer : solved.Answer) (report : Report) → IsSomeAnd asked (λ parts. IsReportOn parts rounds answer report × IsHeldAfter parts report.kind before held) → HasKindOfOrder (report_of report)
+judged_kind rounds before held None answer report right = absurd right
+judged_kind rounds before held (Some parts) answer report right = judged_certified parts answer report.round report.counts report.kind report.certificate right.0.right
+
 step_kind : (old new : EngineState) (asked : Step) (said : StepReply) → Goes old asked said new → HasKindOfOrder (reply_of said)
 step_kind old new asked reply.Done legal = tt
 step_kind old new asked (reply.Refused refusal) legal = tt
 step_kind old new asked (reply.Cut cut) legal = tt
 step_kind old new (step.Finish budget depth workers) (reply.Report report) legal = reported_kind old new.held old.asked budget depth report legal.right.0
+step_kind old new (step.Judge certificate) (reply.Report report) legal = judged_kind (old.rounds + 1) old.held new.held old.asked (answer_told certificate) report legal.right.0
 step_kind old new asked (reply.Report report) legal = absurd legal.right
 
 told_kind : (said : StepReply) (answer : Reply) → answer ≡ reply_of said → HasKindOfOrder (reply_of said) → HasKindOfOrder answer
@@ -83,6 +101,7 @@ open_kind old new (Join fragment) answer is = told_kind is.0 answer is.2 (step_k
 open_kind old new Begin answer is = told_kind is.0 answer is.2 (step_kind old new step.Begin is.0 is.1)
 open_kind old new (Finish budget depth workers) answer is = told_kind is.0 answer is.2 (step_kind old new (step.Finish budget depth workers) is.0 is.1)
 open_kind old new (Round budget depth workers) answer is = told_kind is.0 answer is.2 (round_kind old new budget depth workers is.0 is.1)
+open_kind old new (Answer shown) answer is = told_kind is.0 answer is.2 (step_kind old new (step.Judge (certificate_of shown)) is.0 is.1)
 open_kind old new Truncate answer is = told_kind is.0 answer is.2 (step_kind old new step.Truncate is.0 is.1)
 open_kind old new Rebuild answer is = told_kind is.0 answer is.2 (step_kind old new step.Rebuild is.0 is.1)
 open_kind old new Show answer is = subst HasKindOfOrder (sym is.0) tt

@@ -10,7 +10,7 @@ use Rattle.order_check.specs.declared.remainder.Parts.{Parts}
 use Rattle.order_check.specs.Based.{received_counts}
 use Rattle.order_check.specs.StandsFor.{StandsFor}
 use Rattle.log_text.specs.declared.commands.Command.{Command}
-use Rattle.log_text.specs.declared.commands.Command.TheVariants.{Start, Offer, Join, Close, Begin, Finish, Round, Truncate, Rebuild, Show, Resume, Marks, Last, Resumed, Save}
+use Rattle.log_text.specs.declared.commands.Command.TheVariants.{Start, Offer, Join, Close, Begin, Finish, Round, Truncate, Rebuild, Show, Resume, Marks, Last, Resumed, Save, Answer}
 use Rattle.log_text.specs.declared.replies.Reply.{Reply}
 use Rattle.log_text.specs.declared.replies.Reply.TheVariants as told
 use Rattle.round_state.specs.EngineState.{EngineState, engine_over}
@@ -24,7 +24,7 @@ use Rattle.round_state.specs.declared.steps.StepReply.{StepReply}
 use Rattle.round_state.specs.declared.steps.StepReply.TheVariants as reply
 use Rattle.cobra.specs.HandOver.{AreOfSessions, AreGoodParts, IsHandRefusal, IsMarksRefusal, IsNextOffer, IsResumedRefusal, handed_first, handed_offer, handed_parts, handed_writers}
 use Rattle.cobra.specs.Saving.{saved_told}
-use Rattle.cobra.specs.StepReplies.{reply_of}
+use Rattle.cobra.specs.StepReplies.{certificate_of, reply_of}
 use Rattle.cobra.specs.declared.handing.Handing.{Handing}
 use Rattle.cobra.specs.declared.stages.Stage.{Stage}
 use Rattle.cobra.specs.declared.stages.Stage.TheVariants as stage
@@ -68,6 +68,7 @@ AnswersOpen old (Close session) answer new = IsStep old (step.Close session) ans
 AnswersOpen old Begin answer new = IsStep old step.Begin answer new
 AnswersOpen old (Finish budget depth workers) answer new = IsStep old (step.Finish budget depth workers) answer new
 AnswersOpen old (Round budget depth workers) answer new = (said : StepReply) × IsRound old budget depth workers said new × (answer ≡ reply_of said)
+AnswersOpen old (Answer shown) answer new = IsStep old (step.Judge (certificate_of shown)) answer new
 AnswersOpen old Truncate answer new = IsStep old step.Truncate answer new
 AnswersOpen old Rebuild answer new = IsStep old step.Rebuild answer new
 AnswersOpen old Show answer new = (answer ≡ state_told old) × (new ≡ old)

@@ -2,12 +2,19 @@
 use Rattle.std.specs.FinMap as map
 use Rattle.log_text.specs.declared.replies.Reply.{Reply}
 use Rattle.log_text.specs.declared.replies.Reply.TheVariants as told
+use Rattle.log_text.specs.declared.shown.Shown.{Shown}
+use Rattle.log_text.specs.declared.shown.Shown.TheVariants as shown
 use Rattle.round_state.specs.declared.reports.Certificate.{Certificate}
 use Rattle.round_state.specs.declared.reports.Certificate.TheVariants.{Order, Refuted, Nothing}
 use Rattle.round_state.specs.declared.reports.Report.{Report}
 use Rattle.round_state.specs.declared.steps.StepReply.{StepReply}
 use Rattle.round_state.specs.declared.steps.StepReply.TheVariants as reply
 use Rattle.settle.specs.declared.cuts.Cut.{Cut}
+
+-- what a line shows, as a certificate
+abbrev pub certificate_of : Shown → Certificate
+certificate_of (shown.Order order) = Order order
+certificate_of (shown.Refuted tree) = Refuted tree
 
 -- a report with this certificate
 abbrev pub certified : Report → Certificate → Reply

@@ -17,7 +17,7 @@ pub use byte_lines::{
 };
 pub use handing::Handing;
 pub use programs::{Asked, Exit, asked_of, exit_of};
-pub use replies::{cut_of, reply_of, report_of};
+pub use replies::{certificate_of, cut_of, reply_of, report_of};
 pub use saving::{given_out_is_taken, saved_told};
 pub use scripts::command_in;
 pub use serving::serve;

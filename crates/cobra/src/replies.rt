@@ -1,11 +1,21 @@
 ghost use Rattle.std.specs.Prelude.{◌≡◌, IfOk};
-ghost use Rattle.cobra.specs.StepReplies.{report_of, cut_of, reply_of};
+ghost use Rattle.cobra.specs.StepReplies.{certificate_of, report_of, cut_of, reply_of};
 
-use log_text::Reply;
+use log_text::{Reply, Shown};
 use round_state::{Certificate, Report, StepReply};
 use settle::Cut;
 use std::alloc::Global;
 use txn::NoMemory;
+
+/// What a line shows, as the engine judges it.
+pub fn certificate_of(shown: Shown) -> Certificate
+    ensures { result ≡ certificate_of shown }
+{
+    match shown {
+        Shown::Order(order) => Certificate::Order(order),
+        Shown::Refuted(tree) => Certificate::Refuted(tree),
+    }
+}
 
 /// How a report is told.
 pub fn report_of(report: Report) -> Reply

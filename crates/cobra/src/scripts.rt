@@ -8,7 +8,7 @@ ghost use Rattle.cobra.specs.declared.stages.Stage.{Stage};
 
 use crate::handing::Handing;
 use crate::open_engine::OpenEngine;
-use crate::replies::reply_of;
+use crate::replies::{certificate_of, reply_of};
 use crate::saving::saved_told;
 use crate::showing::state_told;
 use crate::stages::Stage;
@@ -117,6 +117,10 @@ fn answer_open<S: Solver>(
             workers,
         } => {
             let said = make_round(engine, alloc, budget, depth, workers, solver);
+            reply_of(alloc, said)
+        }
+        Command::Answer(shown) => {
+            let said = engine.step(alloc, Step::Judge(certificate_of(shown)), solver);
             reply_of(alloc, said)
         }
         Command::Truncate => {

@@ -5,7 +5,7 @@ use round_state::Engine;
 use std::alloc::Global;
 use std::process::Abort;
 use std::test::*;
-use txn::Refusal::{self, Gap, NoCut, Repeat, RoundOpen};
+use txn::Refusal::{self, BadCertificate, Gap, NoCut, NoRound, Repeat, RoundOpen};
 use txn::Source::{By, Init};
 
 pub const WRITES_5: Content = (&[], &[5]);
@@ -48,7 +48,7 @@ pub struct History {
     pub left: usize,
 }
 
-static HISTORIES: [History; 13] = [
+static HISTORIES: [History; 14] = [
     History {
         name: "first cut",
         sessions: 2,
@@ -64,6 +64,29 @@ static HISTORIES: [History; 13] = [
             ),
             (Act::Truncate, FIRST_CUT),
             (Act::Truncate, Want::No(NoCut)),
+        ],
+        left: 1,
+    },
+    // An order that is handed in is judged, and finds the cut as that of a search does.
+    History {
+        name: "first cut, by an order from elsewhere",
+        sessions: 2,
+        row: &[
+            (Act::Offer(0, 0, WRITES_5), Want::Done),
+            (Act::Offer(0, 1, FENCE_INIT), Want::Done),
+            (Act::Offer(1, 0, FENCE_0_1), Want::Done),
+            (Act::Judge(&[ID_0_0, ID_0_1, ID_1_0]), Want::No(NoRound)),
+            (Act::Begin, Want::Done),
+            (
+                Act::Judge(&[ID_0_1, ID_0_0, ID_1_0]),
+                Want::No(BadCertificate),
+            ),
+            (Act::Truncate, Want::No(RoundOpen)),
+            (
+                Act::Judge(&[ID_0_0, ID_0_1, ID_1_0]),
+                Want::Report(1, Serial, &[2, 1], &[ID_0_0, ID_0_1, ID_1_0]),
+            ),
+            (Act::Truncate, FIRST_CUT),
         ],
         left: 1,
     },

@@ -54,6 +54,8 @@ pub enum Act {
     Close(u8),
     Begin,
     Finish,
+    /// Hands an order in.
+    Judge(&'static [TxnId]),
     Abandon,
     Truncate,
     Rebuild,
@@ -111,6 +113,10 @@ fn step_of(alloc: Global, act: Act) -> Result<Step, NoMemory>
             depth: 0,
             workers: 1,
         }),
+        Act::Judge(order) => {
+            let order = Sequence::new(order.to_vec(alloc)?);
+            Ok(Step::Judge(Certificate::Order(order)))
+        }
         Act::Abandon => Ok(Step::Abandon),
         Act::Truncate => Ok(Step::Truncate),
         Act::Rebuild => Ok(Step::Rebuild),

@@ -1,8 +1,11 @@
 -- Lines that are read and handed in, one after the other.
-use Rattle.std.proofs.Common.{◌≡◌, ◌≢◌, ℕ, ◌+◌, ◌<◌, ◌≤◌, List, [], ◌∷◌, ◌++◌, length, Option, Some, None, IfSome, Result, Ok, Err, refl, sym, ap, ◌∙◌, subst, append_assoc, append-nil, length-append, arith}
+use Rattle.std.proofs.Common.{◌≡◌, ◌≢◌, ℕ, ◌+◌, ◌<◌, ◌≤◌, List, [], ◌∷◌, ◌++◌, length, Option, Some, None, IfSome, Result, Ok, Err, inl, inr, refl, sym, ap, ◌∙◌, subst, append_assoc, append-nil, length-append, arith}
 use Rattle.std.specs.Prelude.{OnOk, IfNone, MatchOption}
+use Rattle.serde_json.specs.Data.{Data}
 use Rattle.log_text.specs.declared.commands.Command.{Command}
-use Rattle.log_text.specs.Commands.{command_of}
+use Rattle.log_text.specs.declared.commands.Command.TheVariants as command
+use Rattle.log_text.specs.declared.shown.Shown.{Shown}
+use Rattle.log_text.specs.Commands as text
 use Rattle.byte_lines.specs.declared.lines.Next.{Next}
 use Rattle.byte_lines.specs.declared.lines.Next.TheVariants.{Line, TooLong, End}
 use Rattle.byte_lines.specs.LineReaders.{IsNextOf}
@@ -18,13 +21,29 @@ use Rattle.live_lines.specs.declared.notes.Note.TheVariants as note
 use Rattle.live_lines.specs.Inputs.{AsksFor, Says, AreHandedIn, start, said, bad_line, AreAllHandedIn}
 use Rattle.live_lines.specs.Notes.{about_of}
 use Rattle.live_lines.specs.Threads.{HandsOn}
+use Rattle.live_lines.proofs.OtherCommands.{hands_only}
 
--- a line is one command
-asks_one : (line : List ℕ) (a b : Command) → Asks line a → Asks line b → a ≡ b
-asks_one line a b x y =
+-- an answer is no item
+no_item : (shown : Shown) (given : Item) → ¬ AsksFor (command.Answer shown) given
+no_item shown (item.Fragment fragment) asks = cc
+no_item shown (item.Join fragment) asks = cc
+no_item shown (item.Close session) asks = cc
+no_item shown item.End asks = asks
+
+-- what one command asks for that a line is, each one asks for
+data_ask_same : (it : Data) (a b : Command) (given : Item) → text.Says it a → text.Says it b → AsksFor a given → AsksFor b given
+data_ask_same it a b given (inl x) (inl y) asks =
+    let both : Some a ≡ Some b = sym x ∙ y in
+    let same : a ≡ b = cc in subst (λ (c : Command). AsksFor c given) same asks
+data_ask_same it a b given (inl x) (inr y) asks =
+    let none : Some a ≡ None = sym x ∙ hands_only it y.0 y.1 in
+    absurd (let no : ⊥ = cc in no)
+data_ask_same it a b given (inr x) y asks = absurd (no_item x.0 given (subst (λ (c : Command). AsksFor c given) x.2 asks))
+
+asks_same : (line : List ℕ) (a b : Command) (given : Item) → Asks line a → Asks line b → AsksFor a given → AsksFor b given
+asks_same line a b given x y asks =
     let read : Some x.is.said ≡ Some y.is.said = sym x.is.reads ∙ y.is.reads in
-    let same : x.is.said ≡ y.is.said = cc in
-    let both : Some a ≡ Some b = sym x.is.is ∙ ap command_of same ∙ y.is.is in cc
+    let same : x.is.said ≡ y.is.said = cc in data_ask_same x.is.said a b given x.is.is (subst (λ (d : Data). text.Says d b) (sym same) y.is.is) asks
 
 -- what a command asks for that the next line is
 pub found_item : (next : Next) (asked : Command) (found : Option Item) → ((line : List ℕ) → IsTold line next → Asks line asked) → MatchOption found ((given : Item) → ¬ AsksFor asked given) (AsksFor asked) → IfSome found (λ given. (line : List ℕ) → IsTold line next → Says line given)
@@ -32,7 +51,7 @@ found_item next asked None asks is = tt
 found_item next asked (Some given) asks is = λ line told. (asked, asks line told, is)
 
 pub found_none : (next : Next) (asked : Command) (found : Option Item) → ((line : List ℕ) → IsTold line next → Asks line asked) → MatchOption found ((given : Item) → ¬ AsksFor asked given) (AsksFor asked) → IfNone found ((line : List ℕ) → IsTold line next → (given : Item) → ¬ Says line given)
-found_none next asked None asks is = λ line told given says. is given (subst (λ (c : Command). AsksFor c given) (asks_one line says.0 asked says.1 (asks line told)) says.2)
+found_none next asked None asks is = λ line told given says. is given (asks_same line says.0 asked given says.1 (asks line told) says.2)
 found_none next asked (Some given) asks is = tt
 
 pub says_none : (next : Next) → ((line : List ℕ) → IsTold line next → (asked : Command) → ¬ Asks line asked) → (line : List ℕ) → IsTold line next → (given : Item) → ¬ Says line given

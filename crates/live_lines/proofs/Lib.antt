@@ -3,6 +3,7 @@ pub mod Audits
 pub mod HandedLines
 pub mod NotedItems
 pub mod OpenedLines
+pub mod OtherCommands
 pub mod Sending
 pub mod ToldLines
 pub mod WholeRuns

@@ -5,6 +5,9 @@ use Rattle.serde_json.specs.View.{items_view}
 use Rattle.serde_json.specs.declared.value.Value.{Value}
 use Rattle.log_text.specs.Items.{alone, one_item, two_items, three_items}
 use Rattle.log_text.specs.Commands.{source_in, join_from, join_in}
+use Rattle.log_text.specs.Refutations.{choice_in, ends_in}
+use Rattle.log_text.specs.Shown.{HandsIn}
+use Rattle.log_text.specs.declared.shown.Shown.{Shown}
 
 pub alone_none : {X : Type 0} (given : X) (vs : List Value) → length vs ≢ 0 → None ≡ alone given (items_view vs)
 alone_none given [] h = absurd (omega (arith, h))
@@ -41,3 +44,31 @@ source_none [] one two = refl
 source_none (a ∷ []) one two = absurd (omega (arith, one))
 source_none (a ∷ b ∷ []) one two = absurd (omega (arith, two))
 source_none (a ∷ b ∷ c ∷ vs) one two = refl
+
+-- a choice has seven numbers, and the ends of an arc have four
+pub choice_none : (vs : List Value) → length vs ≢ 7 → None ≡ choice_in (items_view vs)
+choice_none [] h = refl
+choice_none (a ∷ []) h = refl
+choice_none (a ∷ b ∷ []) h = refl
+choice_none (a ∷ b ∷ c ∷ []) h = refl
+choice_none (a ∷ b ∷ c ∷ d ∷ []) h = refl
+choice_none (a ∷ b ∷ c ∷ d ∷ e ∷ []) h = refl
+choice_none (a ∷ b ∷ c ∷ d ∷ e ∷ f ∷ []) h = refl
+choice_none (a ∷ b ∷ c ∷ d ∷ e ∷ f ∷ g ∷ []) h = absurd (omega (arith, h))
+choice_none (a ∷ b ∷ c ∷ d ∷ e ∷ f ∷ g ∷ i ∷ vs) h = refl
+
+pub ends_none : (vs : List Value) → length vs ≢ 4 → None ≡ ends_in (items_view vs)
+ends_none [] h = refl
+ends_none (a ∷ []) h = refl
+ends_none (a ∷ b ∷ []) h = refl
+ends_none (a ∷ b ∷ c ∷ []) h = refl
+ends_none (a ∷ b ∷ c ∷ d ∷ []) h = absurd (omega (arith, h))
+ends_none (a ∷ b ∷ c ∷ d ∷ e ∷ vs) h = refl
+
+-- a line that hands an answer in has three
+pub hands_none : (vs : List Value) → length vs ≢ 3 → (shown : Shown) → ¬ HandsIn (items_view vs) shown
+hands_none [] other shown hands = hands
+hands_none (a ∷ []) other shown hands = hands
+hands_none (a ∷ b ∷ []) other shown hands = hands
+hands_none (a ∷ b ∷ c ∷ []) other shown hands = absurd (omega (arith, other))
+hands_none (a ∷ b ∷ c ∷ d ∷ vs) other shown hands = hands

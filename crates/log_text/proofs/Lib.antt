@@ -1,6 +1,8 @@
 pub mod Arity
+pub mod BuiltTrees
 pub mod EachItem
 pub mod GainedTexts
+pub mod HandedAnswers
 pub mod SavedData
 pub mod SavedRead
 pub mod ValueTexts

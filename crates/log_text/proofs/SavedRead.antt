@@ -1,5 +1,5 @@
 -- The data of what is given out are those of a line of a hand-over.
-use Rattle.std.proofs.Common.{◌≡◌, ℕ, ◌≤◌, List, [], ◌∷◌, Bool, true, map, nat_le, Option, Some, ◌+◌, refl, sym, ap, subst, ◌∙◌, arith}
+use Rattle.std.proofs.Common.{◌≡◌, inl, ℕ, ◌≤◌, List, [], ◌∷◌, Bool, true, map, nat_le, Option, Some, ◌+◌, refl, sym, ap, subst, ◌∙◌, arith}
 use Rattle.std.specs.Prelude.{All, IsUtf8, ⊤}
 use Rattle.std.proofs.lemmas.List.Elements.{All-head, All-tail}
 use Rattle.std.proofs.lemmas.Bool.Decides.{nat_tests}
@@ -12,9 +12,9 @@ use Rattle.txn.specs.declared.transactions.Source.TheVariants.{Init, By}
 use Rattle.txn.specs.declared.transactions.Txn.{Txn}
 use Rattle.log_text.specs.declared.saved.Saved.{Saved}
 use Rattle.log_text.specs.declared.saved.Saved.TheVariants.{Marks, Last, Offer}
-use Rattle.log_text.specs.Commands.{IsCommand, session_of, flag_of, writer_of, read_of, txn_of, command_of}
+use Rattle.log_text.specs.Commands.{IsCommand, flag_of, writer_of, read_of, txn_of, command_of}
 use Rattle.log_text.specs.Items.{each_of}
-use Rattle.log_text.specs.Numbers.{whole_number}
+use Rattle.log_text.specs.Numbers.{whole_number, session_of}
 use Rattle.log_text.specs.Saved.{number_data, list_data, writer_data, read_data, txn_data, saved_data, handed_by, IsReadable, NamesSessions}
 
 -- each of a list is read as what it was
@@ -91,4 +91,4 @@ saved_depth (Offer fragment) = omega (arith, list_depth txn_data 3 txn_depth fra
 
 pub saved_is_command : (d : Data) (bytes : List ℕ) (saved : Saved) → d ≡ array (items_of (saved_data saved)) → IsUtf8 bytes → (depth d ≤ max_depth → read bytes ≡ Some d) → NamesSessions saved → IsCommand bytes (handed_by saved)
 saved_is_command d bytes saved is utf8 reads names =
-    record { utf8 = utf8; said = d; reads = reads (subst (λ e. depth e ≤ 127) (sym is) (saved_depth saved)); is = ap command_of is ∙ saved_read saved names }
+    record { utf8 = utf8; said = d; reads = reads (subst (λ e. depth e ≤ 127) (sym is) (saved_depth saved)); is = inl (ap command_of is ∙ saved_read saved names) }

@@ -1,5 +1,5 @@
 -- Which lines of a script are commands: each is a JSON array, of a word and the command's parts.
-use Rattle.std.specs.Prelude.{◌≡◌, ℕ, ◌^◌, ⊤, Bool, List, Option, Some, None, IsUtf8, bytes_eq, codes, option_map, if◌then◌else◌}
+use Rattle.std.specs.Prelude.{◌≡◌, ℕ, ◌^◌, ◌⊎◌, ⊤, Bool, List, Option, Some, None, IsUtf8, bytes_eq, codes, option_map, if◌then◌else◌}
 use Rattle.serde_json.specs.Data.{Data, boolean, string, Items, no_items, item}
 use Rattle.serde_json.specs.Read.{read}
 use Rattle.txn.specs.declared.transactions.Source.{Source}
@@ -9,14 +9,12 @@ use Rattle.txn.specs.declared.transactions.TxnId.{TxnId}
 use Rattle.order_check.specs.Effort.{IsEffort}
 use Rattle.log_text.specs.declared.commands.Command.{Command}
 use Rattle.log_text.specs.declared.commands.Effort.{Effort}
-use Rattle.log_text.specs.declared.commands.Command.TheVariants.{Start, Offer, Join, Close, Begin, Finish, Round, Truncate, Rebuild, Show, Resume, Marks, Last, Resumed, Save}
+use Rattle.log_text.specs.declared.commands.Command.TheVariants.{Start, Offer, Join, Close, Begin, Finish, Round, Truncate, Rebuild, Show, Resume, Marks, Last, Resumed, Save, Answer}
 use Rattle.log_text.specs.declared.commands.Wanted.TheVariants as wanted
 use Rattle.log_text.specs.Items.{array_of, list_of, with_both, with_three, alone, one_item, two_items, three_items}
-use Rattle.log_text.specs.Numbers.{whole_number, number_within}
-
--- the lines of a script name sessions up to 255
-abbrev pub session_of : Data → Option ℕ
-session_of = number_within 0 255
+use Rattle.log_text.specs.Numbers.{whole_number, number_within, session_of}
+use Rattle.log_text.specs.Shown.{IsAnswer}
+use Rattle.log_text.specs.declared.shown.Shown.{Shown}
 
 -- "init"
 abbrev pub init_of : Data → Option Source
@@ -151,9 +149,13 @@ HasLimits (Finish budget depth workers) = IsEffort budget depth workers
 HasLimits (Round budget depth workers) = IsEffort budget depth workers
 HasLimits command = ⊤
 
+-- the data are this command: one that hands an answer in, or another one
+abbrev pub Says : Data → Command → Type 0
+Says said command = (command_of said ≡ Some command) ⊎ ((shown : Shown) × IsAnswer said shown × (command ≡ Answer shown))
+
 -- the line is UTF-8, `serde_json` reads it as some data, and these are this command
 pub record IsCommand (line : List ℕ) (command : Command) : Type 0 where
   pub utf8 : IsUtf8 line
   pub said : Data
   pub reads : read line ≡ Some said
-  pub is : command_of said ≡ Some command
+  pub is : Says said command

@@ -26,6 +26,11 @@ abbrev pub with_three : {A B C X : Type 0} → (A → B → C → X) → Option 
 with_three make (Some a) (Some b) (Some c) = Some (make a b c)
 with_three make a b c = None
 
+-- made of the four, where all are there
+abbrev pub with_four : {A B C D X : Type 0} → (A → B → C → D → X) → Option A → Option B → Option C → Option D → Option X
+with_four make (Some a) (Some b) (Some c) (Some d) = Some (make a b c d)
+with_four make a b c d = None
+
 -- what is given, where there are no items
 abbrev pub alone : {X : Type 0} → X → Items → Option X
 alone given no_items = Some given

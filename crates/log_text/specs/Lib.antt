@@ -1,9 +1,12 @@
+pub mod Building
 pub mod Commands
 pub mod Items
 pub mod Lists
 pub mod Numbers
+pub mod Refutations
 pub mod Replies
 pub mod Saved
+pub mod Shown
 pub mod Texts
 pub mod Trees
 pub mod Waiting

@@ -14,3 +14,7 @@ if_within least most n = if nat_le least n && nat_le n most then Some n else Non
 -- a whole number within the bounds
 abbrev pub number_within : ℕ → ℕ → Data → Option ℕ
 number_within least most given = option_and_then (if_within least most) (whole_number given)
+
+-- the lines of a script name sessions up to 255
+abbrev pub session_of : Data → Option ℕ
+session_of = number_within 0 255

@@ -3,12 +3,13 @@ ghost use Rattle.serde_json.specs.View.{view, items_view};
 ghost use Rattle.order_check.specs.Effort.{IsEffort};
 ghost use Rattle.log_text.specs.declared.commands.Command.{Command};
 ghost use Rattle.log_text.specs.Items.{alone, list_of, one_item, two_items};
-ghost use Rattle.log_text.specs.Numbers.{whole_number};
-ghost use Rattle.log_text.specs.Commands.{session_of, start_in, offer_in, join_at, join_from, join_in, txn_of, close_in, effort_in, finish_in, round_in, resume_in, marks_in, last_in, save_named, save_in, command_named, command_in, command_of, IsCommand, HasLimits};
+ghost use Rattle.log_text.specs.Numbers.{whole_number, session_of};
+ghost use Rattle.log_text.specs.Commands.{start_in, offer_in, join_at, join_from, join_in, txn_of, close_in, effort_in, finish_in, round_in, resume_in, marks_in, last_in, save_named, save_in, command_named, command_in, command_of, IsCommand, HasLimits};
 
 use crate::fragments::txns_of;
 use crate::handed::{flags_of, marks_of, writers_of};
 use crate::numbers::{number_within, session_of, whole_number};
+use crate::shown::{Shown, answer_of};
 use serde_json::Value;
 use std::alloc::Global;
 use txn::{Fragment, NoMemory, Refusal, Sequence, TxnId};
@@ -69,6 +70,8 @@ pub enum Command {
     Resumed,
     /// To give parts out.
     Save(Wanted),
+    /// To finish the round that is open by what is shown, which is judged.
+    Answer(Shown),
 }
 
 /// Which parts are to be given out.
@@ -396,8 +399,11 @@ pub fn read_line(alloc: Global, line: &[u8]) -> Result<Command, Refusal>
         Err(error) if error.is_memory() => return Err(Refusal::NoMemory),
         Err(_) => return Err(Refusal::BadLine),
     };
-    match command_of(alloc, &value)? {
-        Some(command) => Ok(command),
+    if let Some(command) = command_of(alloc, &value)? {
+        return Ok(command);
+    }
+    match answer_of(alloc, &value)? {
+        Some(shown) => Ok(Command::Answer(shown)),
         None => Err(Refusal::BadLine),
     }
 }

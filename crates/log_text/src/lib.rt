@@ -1,6 +1,7 @@
 //! The text of a script's lines and of the replies to them, as JSON.
 #![tactic(auto)]
 
+mod building;
 mod commands;
 mod fragments;
 mod handed;
@@ -8,8 +9,11 @@ mod lists;
 mod numbers;
 mod replies;
 mod saved;
+mod shown;
+mod tree_items;
 mod trees;
 
 pub use commands::{Command, Wanted, read_line};
 pub use replies::{Reply, write_reply};
 pub use saved::Saved;
+pub use shown::{Shown, read_shown};

@@ -1,7 +1,6 @@
 ghost use Rattle.std.specs.Prelude.{◌≡◌, ◌≤◌, IfSome};
 ghost use Rattle.serde_json.specs.View.{view};
-ghost use Rattle.log_text.specs.Numbers.{whole_number, number_within};
-ghost use Rattle.log_text.specs.Commands.{session_of};
+ghost use Rattle.log_text.specs.Numbers.{whole_number, number_within, session_of};
 
 use serde_json::Value;
 

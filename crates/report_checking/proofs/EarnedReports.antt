@@ -25,7 +25,8 @@ use Rattle.round_state.specs.Steps.{IsKindOf, IsFinished, IsHeldAfter}
 use Rattle.round_state.specs.declared.reports.Certificate.{Certificate}
 use Rattle.round_state.specs.declared.reports.Certificate.TheVariants.{Order, Refuted, Nothing}
 use Rattle.round_state.specs.declared.reports.Report.{Report}
-use Rattle.cobra.specs.StepReplies.{certified, report_of}
+use Rattle.cobra.specs.StepReplies.{report_of}
+use Rattle.cobra.proofs.ReplyKinds.{judged_kind}
 use Rattle.report_checking.specs.Owing.{IsEarned, IsOwedReport}
 use Rattle.report_checking.specs.Reading.{Leads}
 
@@ -102,21 +103,8 @@ owed_report old new report law refuted good earned before holds =
     )
 
 -- An earned report's kind has its certificate.
-certified_kind : (parts : Parts) (answer : Answer) (round : ℕ) (counts : List ℕ) (kind : Kind) (certificate : Certificate) → IsRight parts answer kind certificate → HasKindOfOrder (certified (record { round = round; kind = kind; counts = counts; certificate = certificate }) certificate)
-certified_kind parts (answers.Yes order) round counts kinds.Serial (Order shown) right = tt
-certified_kind parts (answers.Yes order) round counts kinds.Pending (Order shown) right = tt
-certified_kind parts (answers.Yes order) round counts kinds.Violated (Order shown) right = absurd (right.2 (order, right.1))
-certified_kind parts (answers.Yes order) round counts kinds.Spent (Order shown) right = absurd right.2
-certified_kind parts answer round counts kind (Refuted shown) right = tt
-certified_kind parts answer round counts kind Nothing right = tt
-certified_kind parts answer round counts kind certificate right = absurd right
-
-reported_kind : (old new : EngineState) (asked : Option Parts) (answer : Answer) (report : Report) → IsSomeAnd asked (λ p. IsReportOn p (old.rounds + 1) answer report × IsHeldAfter p report.kind old.held new.held) → HasKindOfOrder (report_of report)
-reported_kind old new None answer report said = absurd said
-reported_kind old new (Some parts) answer report said = certified_kind parts answer report.round report.counts report.kind report.certificate said.0.right
-
 pub earned_kind : (old new : EngineState) (report : Report) → IsEarned old report new → HasKindOfOrder (report_of report)
-earned_kind old new report earned = reported_kind old new old.asked earned.answer report earned.reported
+earned_kind old new report earned = judged_kind (old.rounds + 1) old.held new.held old.asked earned.answer report earned.reported
 
 -- what a finish has ensured
 pub earned_by : (old new : EngineState) (answer : Answer) (report : Report) → IsSomeAnd old.asked (λ parts. IsReportOn parts (old.rounds + 1) answer report × IsHeldAfter parts report.kind old.held new.held) × IsFinished old new → IsEarned old report new

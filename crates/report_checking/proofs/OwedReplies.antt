@@ -1,5 +1,5 @@
 -- What is owed to steps and commands.
-use Rattle.std.proofs.Common.{◌≡◌, ◌≢◌, Some, None, refl, sym, subst, inl, inr}
+use Rattle.std.proofs.Common.{◌≡◌, ◌≢◌, ◌+◌, Some, None, refl, sym, subst, inl, inr}
 use Rattle.txn.specs.declared.refusals.Refusal.TheVariants.{BadLine, NoRound}
 use Rattle.log_text.specs.declared.commands.Command.{Command}
 use Rattle.log_text.specs.declared.commands.Wanted.{Wanted}
@@ -8,7 +8,7 @@ use Rattle.log_text.specs.declared.replies.Reply.TheVariants as told
 use Rattle.log_text.specs.Replies.{HasKindOfOrder}
 use Rattle.round_state.specs.EngineState.{EngineState}
 use Rattle.round_state.specs.Runs.{HasLimits, Holds, StepsLegally}
-use Rattle.round_state.specs.Steps.{StepsTo}
+use Rattle.round_state.specs.Steps.{StepsTo, answer_told}
 use Rattle.round_state.specs.declared.reports.Report.{Report}
 use Rattle.round_state.specs.declared.steps.Step.{Step}
 use Rattle.round_state.specs.declared.steps.Step.TheVariants as step
@@ -17,7 +17,7 @@ use Rattle.round_state.specs.declared.steps.StepReply.TheVariants as reply
 use Rattle.cobra.specs.Saving.{saved_told}
 use Rattle.cobra.specs.Scripts.{IsBadLine, state_told}
 use Rattle.cobra.specs.StepReplies.{reply_of, report_of}
-use Rattle.cobra.proofs.ReplyKinds.{saved_kind}
+use Rattle.cobra.proofs.ReplyKinds.{judged_kind, saved_kind}
 use Rattle.report_checking.specs.Owing.{IsOwedReport, IsStep, OwesFinish, OwesRound, OwesOpen, Owes, IsPlain}
 use Rattle.report_checking.specs.Reading.{Leads, LeadsScript, IsOwedBy}
 use Rattle.report_checking.specs.declared.findings.Owed.{Owed}
@@ -29,16 +29,18 @@ plain_limits (step.Offer fragment) is = tt
 plain_limits (step.Join fragment) is = tt
 plain_limits (step.Close session) is = tt
 plain_limits step.Begin is = tt
+plain_limits (step.Judge certificate) is = tt
 plain_limits step.Abandon is = tt
 plain_limits step.Truncate is = tt
 plain_limits step.Rebuild is = tt
 
--- a step that isn't a finish reports nothing
+-- a step that isn't a finish reports nothing, or what was judged
 pub plain_kind : (old new : EngineState) (asked : Step) (said : StepReply) → IsPlain asked → StepsTo old asked said new → HasKindOfOrder (reply_of said)
 plain_kind old new asked reply.Done is right = tt
 plain_kind old new asked (reply.Refused refusal) is right = tt
 plain_kind old new asked (reply.Cut cut) is right = tt
 plain_kind old new (step.Finish budget depth workers) (reply.Report report) is right = absurd is
+plain_kind old new (step.Judge certificate) (reply.Report report) is right = judged_kind (old.rounds + 1) old.held new.held old.asked (answer_told certificate) report right.0
 plain_kind old new asked (reply.Report report) is right = absurd right
 
 -- a step is told

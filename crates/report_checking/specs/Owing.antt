@@ -2,9 +2,9 @@
 use Rattle.std.specs.Prelude.{◌≡◌, ℕ, ◌+◌, ◌⊎◌, ⊤, List, Option, Some, None, IsSomeAnd}
 use Rattle.txn.specs.declared.refusals.Refusal.{Refusal}
 use Rattle.txn.specs.declared.refusals.Refusal.TheVariants.{NoRound}
-use Rattle.polygraph.specs.declared.solving.Answer.{Answer}
+use Rattle.polygraph.specs.declared.solving.Answer as solved
 use Rattle.log_text.specs.declared.commands.Command.{Command}
-use Rattle.log_text.specs.declared.commands.Command.TheVariants.{Start, Offer, Join, Close, Begin, Finish, Round, Truncate, Rebuild, Show, Resume, Save}
+use Rattle.log_text.specs.declared.commands.Command.TheVariants.{Start, Offer, Join, Close, Begin, Finish, Round, Truncate, Rebuild, Show, Resume, Save, Answer}
 use Rattle.log_text.specs.declared.replies.Reply.{Reply}
 use Rattle.log_text.specs.declared.replies.Reply.TheVariants as told
 use Rattle.round_state.specs.EngineState.{EngineState}
@@ -20,12 +20,12 @@ use Rattle.round_state.specs.declared.steps.StepReply.TheVariants as reply
 use Rattle.cobra.specs.Outputs.{Asks}
 use Rattle.cobra.specs.Saving.{saved_told}
 use Rattle.cobra.specs.Scripts.{IsBadLine, state_told}
-use Rattle.cobra.specs.StepReplies.{reply_of, report_of}
+use Rattle.cobra.specs.StepReplies.{certificate_of, reply_of, report_of}
 
 -- The open round's report, by the engine alone: some answer about its snapshot earns it. An order was seen to explain the snapshot, or a
 -- tree to refute it; or the report is spent, which claims nothing.
 pub record IsEarned (old : EngineState) (report : Report) (new : EngineState) : Type 0 where
-  pub answer : Answer
+  pub answer : solved.Answer
   pub reported : IsSomeAnd old.asked (λ parts. IsReportOn parts (old.rounds + 1) answer report × IsHeldAfter parts report.kind old.held new.held)
   pub finished : IsFinished old new
 
@@ -61,6 +61,7 @@ OwesOpen old (Close session) answer new = IsStep old (step.Close session) answer
 OwesOpen old Begin answer new = IsStep old step.Begin answer new
 OwesOpen old (Finish budget depth workers) answer new = OwesFinish old answer new
 OwesOpen old (Round budget depth workers) answer new = OwesRound old answer new
+OwesOpen old (Answer shown) answer new = IsStep old (step.Judge (certificate_of shown)) answer new
 OwesOpen old Truncate answer new = IsStep old step.Truncate answer new
 OwesOpen old Rebuild answer new = IsStep old step.Rebuild answer new
 OwesOpen old Show answer new = (answer ≡ state_told old.engine) × (new ≡ old)

@@ -7,7 +7,6 @@ mod checking;
 mod findings;
 mod owed;
 mod pairs;
-mod refutations;
 mod replayed;
 mod texts;
 

@@ -8,7 +8,7 @@ ghost use Rattle.report_checking.specs.Reading.{Leads, IsOwedBy};
 use crate::certificates::answer_told;
 use crate::findings::{Owed, Unshown};
 use crate::replayed::Replayed;
-use cobra::{reply_of, report_of, saved_told, state_told};
+use cobra::{certificate_of, reply_of, report_of, saved_told, state_told};
 use log_text::{Command, Reply};
 use polygraph::Answer;
 use round_state::{Step, StepReply};
@@ -71,6 +71,7 @@ pub(crate) fn owed_open(
         Command::Begin => owed_step(engine, alloc, Step::Begin),
         Command::Finish { .. } => owed_finish(engine, alloc, stored),
         Command::Round { .. } => owed_round(engine, alloc, stored),
+        Command::Answer(shown) => owed_step(engine, alloc, Step::Judge(certificate_of(shown))),
         Command::Truncate => owed_step(engine, alloc, Step::Truncate),
         Command::Rebuild => owed_step(engine, alloc, Step::Rebuild),
         Command::Show => Ok(Owed::Reply(state_told(alloc, engine.engine())?)),

@@ -36,7 +36,7 @@ use Rattle.round_state.specs.declared.reports.Certificate.{Certificate}
 use Rattle.round_state.specs.declared.reports.Certificate.TheVariants.{Order, Refuted, Nothing}
 use Rattle.round_state.specs.declared.reports.Report.{Report}
 use Rattle.round_state.specs.declared.steps.Step.{Step}
-use Rattle.round_state.specs.declared.steps.Step.TheVariants.{Offer, Join, Close, Begin, Finish, Abandon, Truncate, Rebuild}
+use Rattle.round_state.specs.declared.steps.Step.TheVariants.{Offer, Join, Close, Begin, Finish, Judge, Abandon, Truncate, Rebuild}
 use Rattle.round_state.specs.declared.steps.StepReply.{StepReply}
 use Rattle.round_state.specs.declared.steps.StepReply.TheVariants as reply
 use Rattle.round_state.proofs.Counts.{counts_of}
@@ -124,6 +124,26 @@ tells_of old new (Some parts) whole budget depth report law fits right =
       kind = true_kind parts whole report.kind (λ k h. (law parts whole k stands).1 h) right.0.kind;
     }
 
+-- what a right answer earns is the verdict
+kind_right : (parts : Parts) (answer : Answer) (kind : Kind) (certificate : Certificate) → RefutedHasNoOrder → IsGood parts → IsRight parts answer kind certificate → IsKindOf parts kind
+kind_right parts (answers.Yes order) kinds.Serial (Order shown) law good right = right.2
+kind_right parts (answers.Yes order) kinds.Pending (Order shown) law good right = right.2
+kind_right parts (answers.Yes order) kinds.Violated (Order shown) law good right = absurd (right.2 (order, right.1))
+kind_right parts (answers.Yes order) kinds.Spent (Order shown) law good right = absurd right.2
+kind_right parts (answers.No tree) kind (Refuted shown) law good right = subst (IsKindOf parts) (sym right.1) (law parts tree good right.2)
+kind_right parts answers.Spent kind Nothing law good right = subst (IsKindOf parts) (sym right) tt
+kind_right parts answer kind certificate law good right = absurd right
+
+-- and a report that it earns tells of the whole history
+tells_judged : (old new : EngineState) (asked : Option Parts) (whole : History) (answer : Answer) (report : Report) → SameVerdictAsStoodFor → RefutedHasNoOrder → ((parts : Parts) → asked ≡ Some parts → IsGood parts × StandsFor parts whole) → IsSomeAnd asked (λ p. IsReportOn p (old.rounds + 1) answer report × IsHeldAfter p report.kind old.held new.held) → TellsOf whole report
+tells_judged old new None whole answer report law refuted fits said = absurd said
+tells_judged old new (Some parts) whole answer report law refuted fits said =
+    let good = (fits parts refl).0 in
+    let stands = (fits parts refl).1 in record {
+      counts = said.0.counts ∙ counts_of parts whole good stands.sessions stands.received;
+      kind = true_kind parts whole report.kind (λ k h. (law parts whole k stands).1 h) (kind_right parts answer report.kind report.certificate refuted good said.0.right);
+    }
+
 -- what an engine's laws and its snapshot give
 pub record Grounds (engine : EngineState) : Type 0 where
   pub offers : OfferKeepsStandsFor
@@ -131,6 +151,7 @@ pub record Grounds (engine : EngineState) : Type 0 where
   pub returns : ReturnKeepsStandsFor
   pub closes : CloseKeepsStandsFor
   pub verdicts : SameVerdictAsStoodFor
+  pub refuted : RefutedHasNoOrder
   pub snapshot : (parts : Parts) → engine.asked ≡ Some parts → IsGood parts
   pub cut : (cut : Cut) → engine.held ≡ Some cut → IsFitting engine.parts cut
 
@@ -207,6 +228,13 @@ legal_of old new (Finish budget depth workers) (reply.Report report) grounds rig
     (λ parts h. absurd (none_or_some parts (sym right.1.none_open ∙ h)))
 legal_of old new (Finish budget depth workers) (reply.Refused refusal) grounds right before holds =
     legal_by old new (Finish budget depth workers) (reply.Refused refusal) before holds right tt (parts_along new old _ right.1 holds.parts) (asked_along new old _ right.1 holds.asked)
+legal_of old new (Judge certificate) (reply.Report report) grounds right before holds =
+    legal_by old new (Judge certificate) (reply.Report report) before holds right
+    (tells_judged old new old.asked before.asked (answer_told certificate) report grounds.verdicts grounds.refuted (λ parts e. (grounds.snapshot parts e, holds.asked parts e)) right.0)
+    (subst (λ (p : Parts). StandsFor p before.whole) (sym right.1.parts) holds.parts)
+    (λ parts h. absurd (none_or_some parts (sym right.1.none_open ∙ h)))
+legal_of old new (Judge certificate) (reply.Refused refusal) grounds right before holds =
+    legal_by old new (Judge certificate) (reply.Refused refusal) before holds right tt (parts_along new old _ right.1 holds.parts) (asked_along new old _ right.1 holds.asked)
 legal_of old new Abandon reply.Done grounds right before holds =
     legal_by old new Abandon reply.Done before holds right tt (parts_along new _ _ right.1 holds.parts)
     (asked_along new _ _ right.1 (λ parts h. absurd (none_or_some parts h)))

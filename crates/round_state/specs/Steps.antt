@@ -20,12 +20,12 @@ use Rattle.polygraph.specs.declared.solving.Answer.TheVariants as answers
 use Rattle.settle.specs.Found.{IsFound}
 use Rattle.settle.specs.declared.cuts.Cut.{Cut}
 use Rattle.round_state.specs.EngineState.{EngineState, engine_over}
-use Rattle.round_state.specs.Solving.{IsWrong}
+use Rattle.round_state.specs.Solving.{IsReportOn, IsWrong}
 use Rattle.round_state.specs.declared.reports.Certificate.{Certificate}
 use Rattle.round_state.specs.declared.reports.Certificate.TheVariants.{Order, Refuted, Nothing}
 use Rattle.round_state.specs.declared.reports.Report.{Report}
 use Rattle.round_state.specs.declared.steps.Step.{Step}
-use Rattle.round_state.specs.declared.steps.Step.TheVariants.{Offer, Join, Close, Begin, Finish, Abandon, Truncate, Rebuild}
+use Rattle.round_state.specs.declared.steps.Step.TheVariants.{Offer, Join, Close, Begin, Finish, Judge, Abandon, Truncate, Rebuild}
 use Rattle.round_state.specs.declared.steps.StepReply.{StepReply}
 use Rattle.round_state.specs.declared.steps.StepReply.TheVariants as reply
 
@@ -219,6 +219,8 @@ StepsTo old Begin reply.Done new = MayBegin old × (new ≡ engine_begun old)
 StepsTo old Begin (reply.Refused refusal) new = IsBeginRefusal old refusal × (new ≡ old)
 StepsTo old (Finish budget depth workers) (reply.Report report) new = IsSomeAnd old.asked (λ parts. IsRightReport old parts budget depth report × IsHeldAfter parts report.kind old.held new.held) × IsFinished old new
 StepsTo old (Finish budget depth workers) (reply.Refused refusal) new = IsSolvedRefusal old refusal × (new ≡ old)
+StepsTo old (Judge certificate) (reply.Report report) new = IsSomeAnd old.asked (λ parts. IsReportOn parts (old.rounds + 1) (answer_told certificate) report × IsHeldAfter parts report.kind old.held new.held) × IsFinished old new
+StepsTo old (Judge certificate) (reply.Refused refusal) new = IsFinishRefusal old (answer_told certificate) refusal × (new ≡ old)
 StepsTo old Abandon reply.Done new = IsSome old.asked × (new ≡ engine_abandoned old)
 StepsTo old Abandon (reply.Refused refusal) new = IsAbandonRefusal old refusal × (new ≡ old)
 StepsTo old Truncate (reply.Cut cut) new = IsTruncated old cut new

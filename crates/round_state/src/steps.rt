@@ -3,9 +3,9 @@ ghost use Rattle.order_check.specs.Effort.{IsEffort};
 ghost use Rattle.polygraph.specs.Solving.{IsLawful};
 ghost use Rattle.round_state.specs.EngineState.{EngineState, parts_asked};
 ghost use Rattle.round_state.specs.Runs.{HasLimits, StepsLegally, RunsLegally};
-ghost use Rattle.round_state.specs.Steps.{StepsTo, RunsTo};
+ghost use Rattle.round_state.specs.Steps.{StepsTo, RunsTo, answer_told};
 
-use crate::reports::Report;
+use crate::reports::{Certificate, Report};
 use crate::state::Engine;
 use order_check::{
     close_keeps_stands_for, join_keeps_stands_for, offer_keeps_stands_for, return_keeps_stands_for,
@@ -32,6 +32,9 @@ pub enum Step {
         depth: u64,
         workers: u64,
     },
+    /// Finishes the open round by what a certificate shows, where that is right. It may come from anywhere. One that shows nothing ends the
+    /// round as spent.
+    Judge(Certificate),
     Abandon,
     /// Applies the held cut.
     Truncate,
@@ -47,6 +50,17 @@ pub enum StepReply {
     Report(Report),
     /// The cut that was applied.
     Cut(Cut),
+}
+
+/// The answer of a search that such a certificate tells.
+fn answer_told(certificate: Certificate) -> Answer
+    ensures { result ≡ answer_told certificate }
+{
+    match certificate {
+        Certificate::Order(order) => Answer::Yes(order),
+        Certificate::Refuted(tree) => Answer::No(tree),
+        Certificate::Nothing => Answer::Spent,
+    }
 }
 
 /// Puts the reply at the end, where there is room for it.
@@ -142,6 +156,26 @@ impl Engine {
         self.finish(alloc, answer)
     }
 
+    /// The certificate is judged as a search's answer is, and nothing is believed of it.
+    fn reply_to_judge(
+        &mut self,
+        alloc: Global,
+        certificate: Certificate,
+        kept: &mut Option<Problem>,
+    ) -> StepReply
+        requires { parts_asked kept.old ≡ self.old.asked }
+        ensures right { StepsTo self.old (Step.Judge certificate) result self.new }
+        ensures kept { parts_asked kept.new ≡ self.new.asked }
+    {
+        match self.finish(alloc, answer_told(certificate)) {
+            Ok(report) => {
+                *kept = None;
+                StepReply::Report(report)
+            }
+            Err(refusal) => StepReply::Refused(refusal),
+        }
+    }
+
     fn reply_to_abandon(&mut self, kept: &mut Option<Problem>) -> StepReply
         requires { parts_asked kept.old ≡ self.old.asked }
         ensures right { StepsTo self.old Step.Abandon result self.new }
@@ -186,6 +220,7 @@ impl Engine {
         return_keeps_stands_for();
         close_keeps_stands_for();
         verdict_as_stood_for();
+        refuted_has_no_order();
         self.has_good_snapshot();
         self.has_fitting_cut();
     }
@@ -217,6 +252,7 @@ impl Engine {
                 depth,
                 workers,
             } => self.reply_to_finish(alloc, budget, depth, workers, kept, solver),
+            Step::Judge(certificate) => self.reply_to_judge(alloc, certificate, kept),
             Step::Abandon => self.reply_to_abandon(kept),
             Step::Truncate => self.reply_to_truncate(alloc),
             Step::Rebuild => self.reply_to_rebuild(alloc),

@@ -19,6 +19,9 @@ returns-in-Finish c = rw c.in-Finish.is c.owed_finish.ensures
 pub returns-in-Round : goal.returns-in-Round
 returns-in-Round c = rw c.in-Round.is c.owed_round.ensures
 
+pub returns-in-Answer : goal.returns-in-Answer
+returns-in-Answer c = rw (c.in-Answer.is, ← c.certificate_of.ensures) c.owed_step-in-Answer.ensures
+
 pub returns-in-Truncate : goal.returns-in-Truncate
 returns-in-Truncate c = rw c.in-Truncate.is c.owed_step-in-Truncate.ensures
 

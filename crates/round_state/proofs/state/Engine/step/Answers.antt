@@ -24,6 +24,12 @@ returns-in-Finish-clause-right g c = rw c.in-Finish.is c.reply_to_finish.ensures
 pub returns-in-Finish-clause-legal : goal.returns-in-Finish-clause-legal
 returns-in-Finish-clause-legal g c = c.right_is_legal.ensures c.args.step c.reply_to_finish.result c.reply_to_finish.new.self (rw c.in-Finish.is c.reply_to_finish.ensures.right)
 
+pub returns-in-Judge-clause-right : goal.returns-in-Judge-clause-right
+returns-in-Judge-clause-right g c = rw c.in-Judge.is c.reply_to_judge.ensures.right
+
+pub returns-in-Judge-clause-legal : goal.returns-in-Judge-clause-legal
+returns-in-Judge-clause-legal g c = c.right_is_legal.ensures c.args.step c.reply_to_judge.result c.reply_to_judge.new.self (rw c.in-Judge.is c.reply_to_judge.ensures.right)
+
 pub returns-in-Abandon-clause-right : goal.returns-in-Abandon-clause-right
 returns-in-Abandon-clause-right g c = rw c.in-Abandon.is c.reply_to_abandon.ensures.right
 

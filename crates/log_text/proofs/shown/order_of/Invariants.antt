@@ -1,0 +1,8 @@
+use Rattle.std.proofs.Common.{◌≡◌, Some, take}
+use Rattle.serde_json.specs.View.{items_view}
+use Rattle.log_text.specs.Items.{each_of}
+use Rattle.log_text.specs.Shown.{id_of}
+use Rattle.log_text.proofs.shown.order_of.Given as goal
+
+abbrev pub invariant-loop-item : goal.invariant-loop-item
+invariant-loop-item l = each_of id_of (items_view (take l.item-index l.item-items)) ≡ Some l.order.items

@@ -1,0 +1,164 @@
+//! What is handed in to be judged: an order, or a tree that refutes.
+ghost use Rattle.std.specs.Prelude.{◌≡◌, IfOk, MatchOption, codes};
+ghost use Rattle.serde_json.specs.Data.{string};
+ghost use Rattle.serde_json.specs.View.{view, items_view};
+ghost use Rattle.refutation.specs.declared.trees.Tree.{Tree};
+ghost use Rattle.log_text.specs.Items.{list_of};
+ghost use Rattle.log_text.specs.Refutations.{IsTree};
+ghost use Rattle.log_text.specs.Shown.{id_in, id_of, Shows, HandsIn, HandsInBy, IsAnswer};
+ghost use Rattle.log_text.specs.declared.shown.Shown.{Shown};
+
+use crate::building::tree_of_items;
+use crate::numbers::{session_of, whole_number};
+use crate::tree_items::nodes_of;
+use refutation::Tree;
+use serde_json::Value;
+use std::alloc::{AllocError, Global};
+use txn::{NoMemory, Sequence, TxnId};
+
+/// What a certificate shows. Nothing is known of it before it is judged.
+#[derive(Drop, Debug)]
+pub enum Shown {
+    /// An order that is to explain the history.
+    Order(Sequence<TxnId>),
+    /// A tree that is to show that no order explains it.
+    Refuted(Tree),
+}
+
+#[tactic(auto, using(crate::proofs::Arity::two_items_none))]
+fn id_in(items: &[Value]) -> Option<TxnId>
+    ensures { result ≡ id_in (items_view items.now) }
+{
+    match items {
+        [session, number] => Some(TxnId {
+            session: session_of(session)?,
+            number: whole_number(number)?,
+        }),
+        _ => None,
+    }
+}
+
+fn id_of(value: &Value) -> Option<TxnId>
+    ensures { result ≡ id_of (view value.now) }
+{
+    id_in(value.as_array()?.as_slice())
+}
+
+fn order_of(alloc: Global, value: &Value) -> Result<Option<Sequence<TxnId>>, NoMemory>
+    ensures { IfOk result (λ order. order ≡ list_of id_of (view value.now)) }
+{
+    let Some(items) = value.as_array() else {
+        return Ok(None);
+    };
+    let mut order = Vec::with_capacity(alloc, items.len())?;
+    for item in items {
+        match id_of(item) {
+            Some(id) => order.push(id)?,
+            None => return Ok(None),
+        }
+    }
+    Ok(Some(Sequence::new(order)))
+}
+
+fn tree_of(alloc: Global, value: &Value) -> Result<Option<Tree>, NoMemory>
+    ensures { IfOk result (λ found. MatchOption found ((tree : Tree) → ¬ IsTree (view value.now) tree) (IsTree (view value.now))) }
+{
+    match nodes_of(alloc, value)? {
+        Some(nodes) => tree_of_items(alloc, nodes.into_vec()),
+        None => Ok(None),
+    }
+}
+
+fn order_shown(alloc: Global, given: &Value) -> Result<Option<Shown>, NoMemory>
+    ensures { IfOk result (λ found. MatchOption found ((shown : Shown) → ¬ Shows (string (codes "order")) (view given.now) shown) (Shows (string (codes "order")) (view given.now))) }
+{
+    match order_of(alloc, given)? {
+        Some(order) => Ok(Some(Shown::Order(order))),
+        None => Ok(None),
+    }
+}
+
+fn tree_shown(alloc: Global, given: &Value) -> Result<Option<Shown>, NoMemory>
+    ensures { IfOk result (λ found. MatchOption found ((shown : Shown) → ¬ Shows (string (codes "refuted")) (view given.now) shown) (Shows (string (codes "refuted")) (view given.now))) }
+{
+    match tree_of(alloc, given)? {
+        Some(tree) => Ok(Some(Shown::Refuted(tree))),
+        None => Ok(None),
+    }
+}
+
+/// What is shown behind this word.
+fn shown_as(alloc: Global, word: &str, given: &Value) -> Result<Option<Shown>, NoMemory>
+    ensures { IfOk result (λ found. MatchOption found ((shown : Shown) → ¬ Shows (string word.now) (view given.now) shown) (Shows (string word.now) (view given.now))) }
+{
+    match word {
+        "order" => order_shown(alloc, given),
+        "refuted" => tree_shown(alloc, given),
+        _ => Ok(None),
+    }
+}
+
+fn handed_in(
+    alloc: Global,
+    name: &Value,
+    word: &Value,
+    given: &Value,
+) -> Result<Option<Shown>, NoMemory>
+    ensures { IfOk result (λ found. MatchOption found ((shown : Shown) → ¬ HandsInBy (view name.now) (view word.now) (view given.now) shown) (HandsInBy (view name.now) (view word.now) (view given.now))) }
+{
+    let Some(name) = name.as_str() else {
+        return Ok(None);
+    };
+    let Some(word) = word.as_str() else {
+        return Ok(None);
+    };
+    if name != "answer" {
+        return Ok(None);
+    }
+    shown_as(alloc, word, given)
+}
+
+#[tactic(auto, using(crate::proofs::Arity::hands_none))]
+fn answer_in(alloc: Global, items: &[Value]) -> Result<Option<Shown>, NoMemory>
+    ensures { IfOk result (λ found. MatchOption found ((shown : Shown) → ¬ HandsIn (items_view items.now) shown) (HandsIn (items_view items.now))) }
+{
+    match items {
+        [name, word, given] => handed_in(alloc, name, word, given),
+        _ => Ok(None),
+    }
+}
+
+/// What is handed in by a line, where it is one that hands an answer in.
+pub(crate) fn answer_of(alloc: Global, value: &Value) -> Result<Option<Shown>, NoMemory>
+    ensures { IfOk result (λ found. MatchOption found ((shown : Shown) → ¬ IsAnswer (view value.now) shown) (IsAnswer (view value.now))) }
+{
+    match value.as_array() {
+        Some(items) => answer_in(alloc, items.as_slice()),
+        None => Ok(None),
+    }
+}
+
+/// What the report in a reply shows, where it shows something: nothing is promised of it but that it comes from the reply's text.
+pub fn read_shown(alloc: Global, reply: &[u8]) -> Result<Option<Shown>, NoMemory> {
+    let Ok(text) = std::str::from_utf8(reply) else {
+        return Ok(None);
+    };
+    match Value::from_str(alloc, text) {
+        Ok(value) => shown_in(alloc, &value),
+        Err(error) if error.is_memory() => Err(AllocError),
+        Err(_) => Ok(None),
+    }
+}
+
+fn shown_in(alloc: Global, value: &Value) -> Result<Option<Shown>, NoMemory> {
+    let Some(items) = value.as_array() else {
+        return Ok(None);
+    };
+    let [_, _, kind, _, given] = items.as_slice() else {
+        return Ok(None);
+    };
+    match kind.as_str() {
+        Some("violated") => tree_shown(alloc, given),
+        _ => order_shown(alloc, given),
+    }
+}
