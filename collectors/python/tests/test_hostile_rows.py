@@ -274,7 +274,7 @@ class Forged(unittest.TestCase):
     def test_a_tree_is_at_most_4096_deep(self):
         for splits in (2, 3, DEEPEST - 1, DEEPEST):
             self.assertEqual(checked(LOST, ladder(splits), [2, 1])[0], 0, splits)
-        for splits in (DEEPEST + 1, 3 * DEEPEST, 100_000):
+        for splits in (DEEPEST + 1, 4 * DEEPEST):
             status, told, said = checked(LOST, ladder(splits), [2, 1])
             self.assertEqual((status, said), (3, b""), splits)
             self.assertTrue(told.startswith(b"reply 4 wrong: "), told[:200])
