@@ -15,6 +15,7 @@ its own text. It says nothing on standard error. It prints a table of what was t
 difference it stops, writes the input to FILE (fuzz-check-difference.txt), and ends with status 1.
 """
 import argparse
+import copy
 import os
 import random
 import re
@@ -26,14 +27,16 @@ from collections import Counter
 HERE = os.path.dirname(os.path.abspath(__file__))
 sys.path.insert(0, HERE)
 from fuzz_lines import Bytes, NO_TEXT  # noqa: E402
-from judge import REFUSALS, command_of, first_difference  # noqa: E402
+from judge import REFUSALS, Model, command_of  # noqa: E402
+from plain_verdicts import Wrong  # noqa: E402
 
 DATA = os.path.join(HERE, "../crates/cobra_examples/data")
 SECONDS = 60.0
+PROGRAM = None  # its path, where a caller knows better
 
 
 def path_of():
-    return os.environ.get("COBRA_CHECK") or "crates/cobra_check/out/cobra_check"
+    return PROGRAM or os.environ.get("COBRA_CHECK") or "crates/cobra_check/out/cobra_check"
 
 
 def worked():
@@ -87,20 +90,26 @@ class Mutation:
 
 
 def owed_by_model(lines, replies):
-    """The place of the first reply that isn't owed, or None. A reply that says that memory was
-    wanting is passed over where it may be given, and its line with it."""
-    given, told = [], []
-    places = []
+    """The place of the first reply that isn't owed, or None. That memory was wanting is taken as
+    told where the command may stand there and may want memory; then nothing has changed."""
+    model = Model()
     for place, (line, reply) in enumerate(zip(lines, replies)):
-        command = command_of(line)
-        if reply == REFUSALS[16] and command and command[0] in MAY_WANT:
-            continue
-        given.append(line)
-        told.append(reply)
-        places.append(place)
-    found = first_difference(b"".join(line + b"\n" for line in given),
-                             b"".join(reply + b"\n" for reply in told))
-    return None if found is None else places[found[0]] if found[0] < len(places) else len(lines)
+        if reply == REFUSALS[16]:
+            command = command_of(line)
+            may_want = command is not None and command[0] in MAY_WANT
+            if not may_want or is_owed(copy.deepcopy(model), line, REFUSALS[1]):
+                return place
+        elif not is_owed(model, line, reply):
+            return place
+    return None
+
+
+def is_owed(model, line, reply):
+    try:
+        model.judge(line, reply)
+        return True
+    except Wrong:
+        return False
 
 
 MAY_WANT = ("open", "offer", "join", "begin", "finish", "round", "truncate", "rebuild")

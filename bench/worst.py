@@ -181,6 +181,20 @@ def contradicted(size, pairs, wrong):
     return log.sessions
 
 
+def refuted_stores(size):
+    """Stores whose blind writes leave much open, beside three pairs of writers whose every way is
+    ruled out: a search that begins with the store finds it out again and again."""
+    for keys, blind in ((512, 0.9), (64, 0.5)):
+        yield (f"store, {keys} keys, blind {blind}, beside a contradiction",
+               partial(refuted_store, size, keys, blind))
+
+
+def refuted_store(size, keys, blind):
+    log = hard.store(size - 30, 20, keys, 1, blind)
+    hard.hide(log, 3, hard.all_ways(3))
+    return log.sessions
+
+
 def rounds(size, some):
     """Rounds over as many transactions as may remain, of those whose name has the word."""
     made = {
@@ -201,6 +215,7 @@ def rounds(size, some):
         "pairs that nothing orders": partial(split_pairs, size),
         **dict(stores(size)),
         **dict(contradictions(size)),
+        **dict(refuted_stores(size)),
     }
     asked = [(f"round of {budget}, {what}", what, [budget, 0, 1])
              for what in made for budget in BUDGETS]

@@ -8,8 +8,11 @@ import unittest
 from .built import TOP, by_turns, path_of
 
 sys.path.append(os.path.join(TOP, "bench"))
-from judge import Model, first_difference  # noqa: E402
-from plain_verdicts import SPENT, Relation, cubes, scan  # noqa: E402
+import fuzz_check  # noqa: E402
+import worst  # noqa: E402
+from judge import Model, first_difference, txn_of  # noqa: E402
+from plain_proofs import check_order  # noqa: E402
+from plain_verdicts import SPENT, Parts, Relation, cubes, scan  # noqa: E402
 
 SECONDS = 60.0
 OK = b'["ok"]'
@@ -103,6 +106,7 @@ LOST = [["open", 2, 8], ["offer", 0, 0, [[[], [5]], [[[5, 0, 0]], [5]]]],
         ["offer", 1, 0, [[[[5, 0, 0]], [5]]]], ["round", 32, 0, 1]]
 EARLIER, LATER = [0, 1, 5, 0, 0, 1, 0], [1, 0, 5, 0, 0, 0, 1]
 DEEPEST = 4096  # levels of a tree that is looked at
+LEVELS = 2000  # of a search, each of which takes a side of a choice that no other one decides
 
 
 def compact(told):
@@ -217,6 +221,37 @@ class Audited(unittest.TestCase):
                          ["spent", "spent", "violated"])
 
 
+class Deep(unittest.TestCase):
+    """One read of a key, and 2,000 others that write it, before or after: two workers take a side
+    of each, one below the other, in threads of their own."""
+
+    def setUp(self):
+        self.sessions = worst.one_reader(LEVELS + 2)
+        self.counts = list(map(len, self.sessions))
+        self.offers = worst.opened(self.sessions)[1:]
+        self.effort = [8 * LEVELS, 1, 2]
+
+    def check(self, report):
+        """It is serial, by an order that is right."""
+        self.assertEqual(report[2:4], ["serial", self.counts])
+        txns = [list(map(txn_of, its)) for its in self.sessions]
+        check_order(Parts([0] * 64, txns, [False] * 64), report[4])
+
+    @unittest.skipUnless(path_of("cobra_audit"), "cobra_audit is not built")
+    def test_of_a_script(self):
+        asked = compact(["round", *self.effort])
+        *told, report = replies_to(b'["open",64,4096]', *self.offers, asked)
+        self.assertEqual(set(told), {OK})
+        self.check(json.loads(report))
+
+    @unittest.skipUnless(path_of("cobra_live"), "cobra_live is not built")
+    def test_of_the_running_auditor(self):
+        lines = [compact(["open", 64, 4096, *self.effort]), *self.offers]
+        status, told, said = ended("cobra_live", b"".join(line + b"\n" for line in lines))
+        self.assertEqual((status, said), (0, b""))
+        self.check([it for it in map(json.loads, told.splitlines()) if it[0] == "report"][-1])
+
+
 @unittest.skipUnless(path_of("cobra_check"), "cobra_check is not built")
 class Forged(unittest.TestCase):
     def test_forged_trees_refute_nothing(self):
@@ -229,10 +264,17 @@ class Forged(unittest.TestCase):
         self.assertEqual(right[:2], (0, b"reply 4 violated, right\nright: replies 4 reports 1 "
                                         b"spent 0 not-checked 0\n"))
 
+    def test_mutated_bytes_of_stored_replies(self):
+        """As bench/fuzz_check.py has them: told right where the plain model finds them so."""
+        fuzz_check.PROGRAM = path_of("cobra_check")
+        tried = fuzz_check.fuzz("rows", 150)
+        self.assertGreater(sum(count for (_, told), count in tried.items() if told == "wrong"), 50)
+        self.assertGreater(sum(count for (_, told), count in tried.items() if told == "right"), 20)
+
     def test_a_tree_is_at_most_4096_deep(self):
         for splits in (2, 3, DEEPEST - 1, DEEPEST):
             self.assertEqual(checked(LOST, ladder(splits), [2, 1])[0], 0, splits)
-        for splits in (DEEPEST + 1, 3 * DEEPEST, 100_000):
+        for splits in (DEEPEST + 1, 4 * DEEPEST):
             status, told, said = checked(LOST, ladder(splits), [2, 1])
             self.assertEqual((status, said), (3, b""), splits)
             self.assertTrue(told.startswith(b"reply 4 wrong: "), told[:200])

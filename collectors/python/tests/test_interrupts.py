@@ -185,12 +185,13 @@ class Interrupts(unittest.TestCase):
             self.assertEqual(auditor.round().kind, "serial")
 
     def test_who_is_interrupted_as_it_leaves(self):
-        """No meeting waits for it any more, and it can leave again."""
+        """No meeting waits for its turn for ever, and it can leave again."""
         with Auditor(1) as auditor:
             live = LiveAuditor(auditor, policy=Policy(60.0, False))
             session = live.session(MemoryStore().connect())
             self.interrupted_as_a_lock_is_taken(session.close)
             self.assertFalse(session.turn.locked())
+            self.assertEqual(live._group.numbers(), [0])  # meetings have it still
             session.run(add_one("x"))
             session.close()
             self.assertEqual((live._places.taken, live._group.numbers()), (0, []))

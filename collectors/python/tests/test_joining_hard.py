@@ -8,6 +8,7 @@ import unittest
 from unittest import mock
 
 from zanteyard import FENCE, AuditClient, AuditServer, Logged, OutcomeUnknown, Policy
+from zanteyard.auditor import FLAG
 from zanteyard.backlog import Backlog
 from zanteyard.errors import AuditLostError
 from zanteyard.killed import Killed
@@ -394,6 +395,18 @@ class UsedAgain(WithProgram):
                 killed = Killed({4: [(note, None) for note in notes]}, "run", Backlog(8))
                 self.assertEqual(killed.told(place), ())
             self.assertEqual((place.begun, place.must_join, place.is_ended), (begun, True, is_ended))
+
+    def test_a_flag_of_a_killed_process_that_nobody_reads_any_more_is_not_in_the_log(self):
+        """Though the store knows it: nothing would say where it stands, and no fence be settled."""
+        flag, done = Logged([(f"{FLAG}4", "init")], [f"{FLAG}4"]), Logged([("x", (0, 1))], ["x"])
+        for outcome in ("committed", "aborted", "unknown"):
+            told = lambda how, ticket, *_: ("committed", None) if ticket == "its" else (outcome, [("run", 4, 1)])
+            notes = [Note(4, 7, None, as_bytes(done), "its"), Note(4, 8, None, as_bytes(flag._replace(reads=[])), "flag", False)]
+            with mock.patch("zanteyard.killed.find_out", told):
+                place = Place(4, 7)
+                killed = Killed({4: [(note, None) for note in notes]}, "run", Backlog(8), is_dead=False)
+                self.assertEqual([number for number, _ in killed.told(place)], [7])
+            self.assertTrue(place.is_ended)
 
     def test_a_client_that_comes_as_its_process_leaves(self):
         live, store = self.live(1, every=1000), MemoryStore()

@@ -23,6 +23,7 @@ from zanteyard.workloads import ClientProcesses
 
 from .killing import PLAIN, Log
 from .owed import Heard, are_right, log_in, log_of, verdicts
+from .plain_sql import run_sql
 from .test_restarting import PROGRAM, WithJournal, log_with
 from .test_restarting_processes import FEEDER, child_of
 from .waiting import wait_until
@@ -301,6 +302,10 @@ class Postgres(Fed):
                     session.store.close()
                 self.check(log.entries, dice, wanted)
 
+    def have_begun(self):
+        """Whether any of the clients has committed something."""
+        return run_sql(self.dsn, "SELECT EXISTS (SELECT FROM zanteyard WHERE key ~ '^(count|left|right) ')") == [(True,)]
+
     def test_eight_processes(self):
         """The auditor of clients that run is killed again and again; they go on, in one audit. Beside them two sessions write in
         lockstep what the other one has read: at the level where both may, that is the violation, and nothing else can be one."""
@@ -316,9 +321,9 @@ class Postgres(Fed):
                 auditor.last_round = lambda *asked: rounds.append(last(*asked)) or rounds[-1]
                 with AuditServer(live, os.path.join(self.folder, f"audit {wanted}")) as server:
                     with Killing(lambda: child_of(auditor.process.pid, 0.5), lambda: live.taken_in + live.rounds, dice, (0.2, 1.0)) as killing:
-                        pair = Lockstep(live, lambda level=level: PostgresStore(self.dsn, level), killing)
+                        pair = Lockstep(live, lambda level=level: PostgresStore(self.dsn, level), killing, self.have_begun)
                         # a violation that is found ends it
-                        seconds = 4.0 * TIMES if wanted == "serial" else ENOUGH
+                        seconds = 4.0 * TIMES if wanted == "serial" else 3 * ENOUGH
                         with pair:
                             make = MakeStore("postgres", self.dsn, level)
                             clients = ClientProcesses(server.path, make, 8, workload, seconds, 100.0)
@@ -327,7 +332,7 @@ class Postgres(Fed):
                 # at the highest level the store may also abort both, for what it takes others to have read
                 self.assertIn(pair.committed, (2,) if wanted == "violated" else (0, 1))
                 self.assertEqual((outcome.kind, outcome.earlier), (wanted, ()), str(outcome))
-                self.assertGreaterEqual(killing.kills, KILLS)
+                self.assertGreaterEqual(pair.kills, KILLS)
                 self.assertGreater(clients.committed, 0)
                 auditor.end()
                 with open(script, "rb") as file:
@@ -338,18 +343,19 @@ class Postgres(Fed):
 
 
 class Lockstep(threading.Thread):
-    """Once the auditor has been killed a few times, while clients run, each of two sessions reads two keys and then writes one of
-    them, before the other has ended: it is told how many of the two transactions the store has committed."""
+    """Once clients have begun, and the auditor has been killed a few times since, each of two sessions reads two keys and then
+    writes one of them, before the other has ended: it is told how many of the two transactions the store has committed."""
 
-    def __init__(self, live, connect, killing):
+    def __init__(self, live, connect, killing, have_begun):
         super().__init__(daemon=True)
-        self.live, self.connect, self.killing = live, connect, killing
-        self.committed, self.failure = 0, None
+        self.live, self.connect, self.killing, self.have_begun = live, connect, killing, have_begun
+        self.committed, self.kills, self.failure = 0, 0, None
 
     def run(self):
         try:
             stores = [self.connect(), self.connect()]
             sessions = [self.live.session(store) for store in stores]
+            wait_until(self.have_begun)
             self.wait_for_kills(sessions[0])
             with suppress(Aborted), sessions[0].transaction() as one:
                 self.read(one)
@@ -368,11 +374,12 @@ class Lockstep(threading.Thread):
 
     def wait_for_kills(self, session):
         """It is killed only where something is done meanwhile."""
-        until = time.monotonic() + ENOUGH / 2
-        while self.killing.kills < KILLS and time.monotonic() < until:
+        until, before = time.monotonic() + ENOUGH, self.killing.kills
+        while self.kills < KILLS and time.monotonic() < until:
             with suppress(Aborted):
                 session.run(lambda transaction: transaction.put("while it is killed", "1"))
             time.sleep(0.05)
+            self.kills = self.killing.kills - before
 
     def read(self, transaction):
         for key in ("this side", "that side"):

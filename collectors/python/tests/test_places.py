@@ -3,6 +3,7 @@ import os
 import threading
 import unittest
 from contextlib import suppress
+from dataclasses import fields
 
 from zanteyard import Aborted, Auditor, LiveAuditor
 from zanteyard.auditor import PROGRAM
@@ -12,6 +13,7 @@ from zanteyard.memory_store import MemoryStore
 from zanteyard.places import Places
 from zanteyard.remote_group import RemoteGroup
 from zanteyard.sessions import Place
+from zanteyard.version import FORM
 
 from .test_live import add_one
 
@@ -23,6 +25,13 @@ class Nowhere:
 
     def tell(self, *_, **__):
         return True
+
+
+class Told(unittest.TestCase):
+    def test_what_processes_tell_of_a_place(self):
+        """Who changes that gives its form another number, too: a process of before wouldn't understand it."""
+        names = "number begun is_due has_flag is_audited is_ended is_lent unknown must_join client"
+        self.assertEqual((FORM, [field.name for field in fields(Place)]), (2, names.split()))
 
 
 class LentPlaces(unittest.TestCase):

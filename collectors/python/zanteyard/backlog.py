@@ -128,7 +128,7 @@ class Backlog:
         return found
 
     def put_ends(self, keys: Iterable[str]) -> None:
-        """As of a session that ends, or that weren't read after all. Were none of them ever read nor
-        overwritten, nothing would say where its last transaction stands, and no fence be settled.
-        Those of fences and marks are read by each meeting."""
+        """As of a session that ends, or that weren't read after all. If nobody read nor overwrote
+        them, nothing would say where its last transaction stands, and no fence be settled. Those of
+        fences and marks are read by each meeting."""
         self._ends.update(key for key in keys if not is_own(key) or key.startswith(FLAG))

@@ -179,12 +179,16 @@ def in_files(asks: Dict[str, Any]) -> Noted:
 
 def without_end(found: List[Tuple[int, Logged]]) -> List[Tuple[int, Logged]]:
     """Where the session is closed behind these: what did nothing, or flags that nobody reads any
-    more, would say no more by being there, and nothing would say where they stand."""
-    while found and all(key.startswith(FLAG) for key in found[-1][1].writes):
-        if found[-1][1].reads:
-            break
+    more, would say no more by being there, and nothing would say where they stand. Of a flag that
+    is known to be there no more is known: what it has read is the flag before it."""
+    while found and is_without_use(found[-1][1]):
         found.pop()
     return found
+
+
+def is_without_use(logged: Logged) -> bool:
+    its = (*logged.writes, *(key for key, _ in logged.reads))
+    return all(key.startswith(FLAG) for key in its)
 
 
 def writes_alone(logged: Logged) -> Logged:

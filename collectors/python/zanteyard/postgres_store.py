@@ -41,7 +41,8 @@ OVERWRITE = f"""UPDATE {{table}} AS now SET value = {{value}}, run = %s, session
 # may have come, as to join, before anybody asks.
 LINES = 32
 KEPT = f"""concat_ws(chr(10), concat_ws(' ', before.session, before.number, before.run),
-    array_to_string((string_to_array(nullif(before.value, ''), chr(10)))[1:{LINES - 1}], chr(10)))"""
+    array_to_string((string_to_array(nullif(before.value, ''), chr(10)))[1:{LINES - 1}],
+    chr(10)))"""
 FIRST = f"""INSERT INTO {{table}} VALUES (%s, %s, %s, %s, %s) ON CONFLICT (key) DO NOTHING
     {TRANSACTION}"""
 STATUS = """SELECT pg_xact_status(%s::text::xid8), EXISTS (SELECT 1 FROM {table}

@@ -41,7 +41,8 @@ class SessionsHere:
                 self._forget(notes)
         finally:
             if taken and taken[-1]:
-                self._group.remove(session)
+                if session.place is None:  # else it came before anything, and it can leave again
+                    self._group.remove(session)
                 session.is_changing = False
             give_back(session.turn, taken)
 
