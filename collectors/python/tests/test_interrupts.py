@@ -197,6 +197,20 @@ class Interrupts(unittest.TestCase):
             self.assertEqual((live._places.taken, live._group.numbers()), (0, []))
             self.assertEqual(live.stop().kind, "serial")
 
+    def test_who_is_interrupted_as_it_is_to_join(self):
+        """It is told of that, and another client has its place."""
+        with Auditor(1) as auditor:
+            live, store = LiveAuditor(auditor, policy=Policy(2.0, False)), MemoryStore()
+            stays = live.session(store.connect())
+            stays.run(add_one("x"))
+            self.assertIsNone(live._convener.meet(60.0, 60.0).failure)
+            self.interrupted_as_a_lock_is_taken(lambda: live.session(store.connect()))
+            self.assertEqual((live._places.taken, live._group.numbers()), (1, [0]))
+            other = live.session(store.connect())
+            other.run(add_one("x"))
+            self.assertEqual((other.number, other.begun), (1, 2))
+            self.assertEqual(live.stop().kind, "serial")
+
     def test_who_is_interrupted_as_it_asks_for_a_session(self):
         """Nobody else of its process waits for it."""
         requests = PlaceRequests(None)
