@@ -5,6 +5,7 @@ import logging
 import os
 import sys
 import unittest
+from unittest import mock
 
 from zanteyard import AuditLostError, Auditor, AuditorApart, LiveAuditor, Policy, Report, Session
 from zanteyard.auditor import PROGRAM
@@ -206,9 +207,13 @@ class Interrupts(unittest.TestCase):
             self.assertIsNone(live._convener.meet(60.0, 60.0).failure)
             self.interrupted_as_a_lock_is_taken(lambda: live.session(store.connect()))
             self.assertEqual((live._places.taken, live._group.numbers()), (1, [0]))
+            with mock.patch("zanteyard.sessions.give_back", side_effect=KeyboardInterrupt):
+                with self.assertRaises(KeyboardInterrupt):  # just before it is given back
+                    live.session(store.connect())
+            self.assertEqual((live._places.taken, live._group.numbers()), (1, [0]))
             other = live.session(store.connect())
             other.run(add_one("x"))
-            self.assertEqual((other.number, other.begun), (1, 2))
+            self.assertEqual(other.number, 2)  # the fence of the second is there
             self.assertEqual(live.stop().kind, "serial")
 
     def test_who_is_interrupted_as_it_asks_for_a_session(self):
