@@ -5,6 +5,7 @@ import logging
 import os
 import sys
 import unittest
+from unittest import mock
 
 from zanteyard import AuditLostError, Auditor, AuditorApart, LiveAuditor, Policy, Report, Session
 from zanteyard.auditor import PROGRAM
@@ -195,6 +196,24 @@ class Interrupts(unittest.TestCase):
             session.run(add_one("x"))
             session.close()
             self.assertEqual((live._places.taken, live._group.numbers()), (0, []))
+            self.assertEqual(live.stop().kind, "serial")
+
+    def test_who_is_interrupted_as_it_is_to_join(self):
+        """It is told of that, and another client has its place."""
+        with Auditor(1) as auditor:
+            live, store = LiveAuditor(auditor, policy=Policy(2.0, False)), MemoryStore()
+            stays = live.session(store.connect())
+            stays.run(add_one("x"))
+            self.assertIsNone(live._convener.meet(60.0, 60.0).failure)
+            self.interrupted_as_a_lock_is_taken(lambda: live.session(store.connect()))
+            self.assertEqual((live._places.taken, live._group.numbers()), (1, [0]))
+            with mock.patch("zanteyard.sessions.give_back", side_effect=KeyboardInterrupt):
+                with self.assertRaises(KeyboardInterrupt):  # just before it is given back
+                    live.session(store.connect())
+            self.assertEqual((live._places.taken, live._group.numbers()), (1, [0]))
+            other = live.session(store.connect())
+            other.run(add_one("x"))
+            self.assertEqual(other.number, 2)  # the fence of the second is there
             self.assertEqual(live.stop().kind, "serial")
 
     def test_who_is_interrupted_as_it_asks_for_a_session(self):

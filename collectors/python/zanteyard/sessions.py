@@ -242,8 +242,8 @@ class Session:
         what isn't the store's word on it."""
         place, self.is_changing = self.place, True
         try:
-            self.take_turn()
             try:
+                self.take_turn()
                 if self.has_to_join:  # else its process has left
                     self.claim_name()
                     self.fence_first()

@@ -57,6 +57,7 @@ class SessionsHere:
         try:
             has_joined = not place.must_join or made.join_now()
         except BaseException:
+            give_back(made.turn, made.has_turn)  # an interrupt may have come just before that
             self.leave_session(made)
             raise
         if not has_joined:
