@@ -2,12 +2,12 @@
 
 At a meeting each session is held as its transaction ends. It then writes its flag, a key of its
 own, while one of them, the leader, writes the mark over; the leader reads all flags, and with them
-the keys that were written unseen; it runs a fence, and writes the mark again, which all others read
-before they go on. So every transaction of before comes before the fence, every one of later after
-it, and of each key it is known who wrote it last. A session that has done nothing since it read the
-mark needs no flag: whoever overwrites what it read comes after it. Flags are written side by side,
-and marks are read so: what is done one after another is five statements, however many sessions
-there are.
+the keys that were written unseen, or last by a session that has ended; it runs a fence, and writes
+the mark again, which all others read before they go on. So every transaction of before comes before
+the fence, every one of later after it, and of each key it is known who wrote it last. A session
+that has done nothing since it read the mark needs no flag: whoever overwrites what it read comes
+after it. Flags are written side by side, and marks are read so: what is done one after another is
+five statements, however many sessions there are.
 """
 
 from __future__ import annotations
