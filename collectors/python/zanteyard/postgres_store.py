@@ -371,6 +371,8 @@ def asked(
         row = asks.row(THE_ROW, (*its[1:], key))
         if row is not None and row[0]:
             return "committed", overwritten(row[1])
+        if row is not None and (run, session, number) in overwritten(row[1]):
+            return "committed", None  # and it was overwritten since, as others' marks do
         # Where there was no row an `exchange` goes on with another statement.
         is_done = seen == "gone" or (seen == "changes" and row is not None)
         return ("aborted", None) if is_done else UNKNOWN
