@@ -16,7 +16,7 @@ from .waiting import wait_until
 try:
     import psycopg2
 
-    from zanteyard.postgres_store import PostgresStore, prepare
+    from zanteyard.postgres_store import PostgresStore, asked, prepare
 except ImportError:
     psycopg2 = None
 
@@ -330,6 +330,18 @@ class Postgres(unittest.TestCase):
         self.assertEqual(self.auditor.history[1], [])  # a fence of which nobody knows what it read
         outcome = self.auditor.outcome()
         self.assertEqual((outcome.kind, outcome.pending), ("pending", (((2, 1), FENCE, (1, 0)),)))
+
+    def test_what_others_have_overwritten_of_a_killed_process_was_done(self):
+        """Of a row that is everybody's, as a mark is: its own name isn't there any more."""
+        a, b = PostgresStore(self.dsn), PostgresStore(self.dsn)
+        _, *how = a.asks()
+        for store, name in ((b, ("run", 1, 0)), (a, ("run", 0, 0)), (b, ("run", 1, 1))):
+            store.begin_alone(60.0)
+            store.exchange("mark", "", name)
+        done, never = (a.ticket(("mark", "run", 0, number)) for number in (0, 1))
+        a.close(), b.close()
+        self.assertEqual(asked(*how, ticket=done, seconds=60.0), ("committed", None))
+        self.assertEqual(asked(*how, ticket=never, seconds=60.0)[0], "aborted")
 
     def test_the_answer_to_a_fence_is_lost(self):
         a = self.sessions(store=Lossy)[0]

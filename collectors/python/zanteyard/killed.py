@@ -40,8 +40,8 @@ class Killed:
         self, notes: Noted, run_name: str, backlog: Backlog, is_dead: bool = True
     ) -> None:
         self.notes, self.run_name, self.backlog, self.is_dead = notes, run_name, backlog, is_dead
-        # Sessions and numbers of attempts to join that weren't answered, behind one that was.
-        self._again: Set[Tuple[int, int]] = set()
+        # Sessions and numbers of what was noted before it was sent, and wasn't answered.
+        self._unanswered: Set[Tuple[int, int]] = set()
 
     def told(self, place: Place) -> Sequence[Tuple[int, Logged]]:
         """What the session did, which nobody has handed in: numbers, and what is to be logged. The
@@ -55,9 +55,9 @@ class Killed:
             return found
         if self.is_dead and not place.is_ended:  # what is aborted has left nothing
             place.begun = max(begun, found[0][0]) if found else begun
-            # The store may have been asked of the one before, which has the same name: this one may
-            # be on its way.
-            if (place.number, place.begun) in self._again:
+            # Where no answer was noted nobody else has this name: the store may have been asked of
+            # an attempt before, and a fence may be overwritten by others by then.
+            if (place.number, place.begun) in self._unanswered:
                 place.leave_open(place.begun)
                 place.begun, place.is_ended = place.begun + 1, True
         place.is_due = False
@@ -107,11 +107,11 @@ class Killed:
             its = (session, note.number)
             if note.outcome is None:
                 before[note.number] = (note, how)
-                if answered.pop(note.number, None) is not None:  # of an attempt to join before
-                    self._again.add(its)
+                answered.pop(note.number, None)  # of an attempt to join before
+                self._unanswered.add(its)
             else:
                 answered[note.number] = note
-                self._again.discard(its)
+                self._unanswered.discard(its)
         return before, answered
 
     def logged(
