@@ -11,7 +11,7 @@ import tempfile
 import time
 import unittest
 
-from zanteyard.auditor import PROGRAM
+from zanteyard.auditor import FLAG, PROGRAM
 from zanteyard.cluster import Cluster, program
 from zanteyard.redis_server import redis_server
 
@@ -213,7 +213,8 @@ class Machines(unittest.TestCase):
         there = {(session, number, key) for key, session, number in self.sql(text)}
         logged = {(*id, names[key]) for id, txn in self.txns.items() for key in txn[1]}
         self.assertGreater(len(there), 0)
-        self.missed = {it for it in there if it not in logged}
+        # A flag of a killed client that nobody reads any more is in no log (`killed.without_end`).
+        self.missed = {it for it in there if it not in logged and not it[2].startswith(FLAG)}
         if is_whole:
             self.assertEqual(self.missed, set())
             rows = {it for it in logged if it[2].startswith("row ")}
