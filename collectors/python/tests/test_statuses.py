@@ -49,9 +49,9 @@ ROWS = [
     ("cobra_demo", b"none 1", 0, HONEST, b""),
     ("cobra_demo", b"lost-update 1\n", 0, HONEST.replace(b"none", b"lost-update").replace(
         b"serial", b"violated"), b""),
-    ("cobra_demo", b"", 2, b"", b"usage: "),
-    ("cobra_demo", b"none 0\n", 2, b"", b"usage: "),
-    ("cobra_demo", b"None 16\n", 2, b"", b"usage: "),
+    ("cobra_demo", b"", 2, b"", b"usage\n"),
+    ("cobra_demo", b"none 0\n", 2, b"", b"usage\n"),
+    ("cobra_demo", b"None 16\n", 2, b"", b"usage\n"),
 ]
 UNKNOWN = (["script.jsonl"], ["--help", "--version"], ["--version", "--version"], [""], ["--Help"],
            ["-h"], ["--"], ["--help "], ["--version=1"], [b"\xff"], ["--help", b"\xff"],
@@ -106,10 +106,7 @@ class Statuses(unittest.TestCase):
                 self.assertEqual(told[0], status)
                 if written is not None:
                     self.assertEqual(told[1], written)
-                if said == b"usage: ":  # and then what it reads
-                    self.assertTrue(told[2].startswith(said) and told[2].count(b"\n") == 1, told)
-                else:
-                    self.assertEqual(told[2], said)
+                self.assertEqual(told[2], said)
 
     def test_an_input_that_fails(self):
         folder = os.open(TOP, os.O_RDONLY)
