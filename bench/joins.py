@@ -124,7 +124,7 @@ class Foreseen(Model):
     """Says what will be answered, as far as a run has to know it: of a report whether it finds an
     order, and so a cut."""
 
-    def answer(self, command):
+    def foresee(self, command):
         word, *rest = command
         if word not in ("round", "finish"):
             return json.loads(getattr(self, word)(*rest))
@@ -152,7 +152,7 @@ class Run:
     def ask(self, *told):
         """What will be answered."""
         line = compact(told)
-        reply = self.model.answer(command_of(line))
+        reply = self.model.foresee(command_of(line))
         if reply == ["ok"]:
             self.accepted(command_of(line))
         if reply == ["report"]:

@@ -223,6 +223,13 @@ def check_cut(history, order, reply):
     history.cut(front, writers)
 
 
+def check_handed_in(command, reply):
+    """A report that was handed in is told as it was."""
+    _, word, given = command
+    if (reply[2] == "violated") != (word == "refuted") or reply[2] == "spent" or reply[4] != given:
+        raise Wrong("it isn't what was handed in")
+
+
 def check_run(script, replies):
     """Prints a line for each report and each cut; answers how many are wrong."""
     history, begun, order, wrong = None, None, [], 0
@@ -254,6 +261,8 @@ def check_run(script, replies):
                 check_cut(history, order, reply)
                 order = []
             else:
+                if command[0] == "answer":
+                    check_handed_in(command, reply)
                 check_report(asked, reply)
                 order = reply[4] if reply[2] in ("serial", "pending") else order
             print(f"{told}, right")

@@ -21,7 +21,7 @@ class Plain(Model):
         """As it stands."""
         return copy.deepcopy(self)
 
-    def answer(self, line):
+    def reply_to(self, line):
         command = command_of(line)
         owed = self.owed(command)
         return self.report(command[1]) if owed is None else owed
@@ -65,7 +65,7 @@ def solve(relation, nodes):
 def main():
     plain = Plain()
     for line in sys.stdin.buffer:
-        sys.stdout.buffer.write(plain.answer(line.rstrip(b"\n")) + b"\n")
+        sys.stdout.buffer.write(plain.reply_to(line.rstrip(b"\n")) + b"\n")
         sys.stdout.buffer.flush()
 
 

@@ -341,7 +341,8 @@ class Postgres(unittest.TestCase):
         done, never = (a.ticket(("mark", "run", 0, number)) for number in (0, 1))
         a.close(), b.close()
         self.assertEqual(asked(*how, ticket=done, seconds=60.0), ("committed", (("run", 1, 0),)))
-        self.assertEqual(asked(*how, ticket=never, seconds=60.0)[0], "aborted")
+        # Of one that isn't among the last names nobody knows.
+        self.assertEqual(asked(*how, ticket=never, seconds=60.0)[0], "unknown")
 
     def test_the_answer_to_a_fence_is_lost(self):
         a = self.sessions(store=Lossy)[0]

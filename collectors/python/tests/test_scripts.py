@@ -67,7 +67,7 @@ def generated(seed):
             before = plain
             if word in ("round", "finish"):
                 line, before = json.dumps([word, 256, 0, 1]).encode(), plain.copy()
-            reply = json.loads(plain.answer(line))
+            reply = json.loads(plain.reply_to(line))
             if reply[0] == "report" and reply[2] == "spent":
                 return lines, before
             if not is_refusal(reply):
@@ -137,7 +137,7 @@ class Scripts(unittest.TestCase):
             if not kinds or "spent" in kinds:
                 continue  # a spent round is given again
             lines = [line for line, _ in kept]
-            while not lines[-1].strip().startswith((b'["round"', b'["finish"')):
+            while not lines[-1].strip().startswith((b'["round"', b'["finish"', b'["answer"')):
                 lines.pop()  # so that no round is put at the end
             with self.subTest(script=name):
                 status, out = self.told(lines, "check", "0.5")

@@ -203,7 +203,8 @@ class ScriptRun:
             self._round_is_open = False
             if command[0] == "round":  # what came while a round was open isn't in its report
                 self._has_more = False
-            self.verdict = self._decided(command[1], reply, number)
+            nodes = 0 if command[0] == "answer" else command[1]  # handed in, without a search
+            self.verdict = self._decided(nodes, reply, number)
             yield self.verdict
 
     def _decided(self, nodes: int, reply: List[Any], number: int) -> Verdict:
