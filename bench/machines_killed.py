@@ -32,8 +32,6 @@ from tests.owed import are_right  # noqa: E402
 from tests.test_restarting_processes import child_of  # noqa: E402
 
 TURNS = ("auditor", "daemon", "client", "redis")
-ROUND = ["round", 65536, 4, 2]
-BETWEEN_ROUNDS = 400  # transactions, where the log is given whole
 
 
 class LongRun(Machines):
@@ -194,47 +192,8 @@ class LongRun(Machines):
         super().each_commit_is_in_the_log(False)
         self.assertEqual(self.missed, set())  # nor of who was killed: all was noted
 
-    def log_is_whole(self):
-        """In the order in which the auditor was given it first; sessions join, and come back."""
-        self.lines, self.joins, ends = {}, set(), {}
-        for at in range(len(self.daemons)):
-            with open(f"{self.folder}/script.{at}", "rb") as script:
-                for line in map(json.loads, (it for it in script if it.endswith(b"\n"))):
-                    if line[0] in ("offer", "join"):
-                        session, first = line[1], line[2] if len(line) == 4 else 0
-                        if line[0] == "join":
-                            self.joins.add((session, first))
-                        for number, txn in enumerate(line[-1], first):
-                            self.lines["offer", session, number] = txn
-                            ends[session] = max(ends.get(session, 0), number + 1)
-                    elif line[0] == "close":
-                        its = (*line[:2], ends.get(line[1], 0))
-                        self.lines.pop(its, None)
-                        self.lines[its] = line
-        self.txns = {its[1:]: txn for its, txn in self.lines.items() if its[0] == "offer"}
-
     def verdict(self):
-        """Of the same log, given whole, with cuts; and each report and cut has to be right."""
-        lines, count = [["open", self.asked.sessions, 4096]], 0
-        for (kind, session, number), its in self.lines.items():
-            if kind == "offer" and (session, number) in self.joins:
-                if number:  # nothing remains of what it was
-                    lines += [ROUND, ["truncate"]]
-                lines.append(["join", session, number, [its]])
-            else:
-                lines.append(["offer", session, number, [its]] if kind == "offer" else its)
-            count += 1
-            if count % BETWEEN_ROUNDS == 0:
-                lines += [ROUND, ["truncate"]]
-        lines.append(ROUND)
-        text = "".join(f"{json.dumps(line)}\n" for line in lines).encode()
-        told = subprocess.run([machines.PROGRAM], input=text, stdout=subprocess.PIPE, check=True, timeout=3600)
-        replies = told.stdout.splitlines()
-        refused = [it for it in map(json.loads, replies) if it[0] == "no" and it[2] != "NoCut"]
-        self.assertEqual(refused, [])
-        self.assertTrue(are_right(lines, replies))
-        kinds = [it[2] for it in map(json.loads, replies) if it[0] == "report"]
-        return "violated" if "violated" in kinds else kinds[-1]
+        return self.verdict_with_cuts(self.asked.sessions)
 
 
 def resident(pid):

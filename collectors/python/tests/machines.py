@@ -15,6 +15,7 @@ from zanteyard.auditor import FLAG, PROGRAM
 from zanteyard.cluster import Cluster, program
 from zanteyard.redis_server import redis_server
 
+from .owed import are_right
 from .plain_sql import run_sql
 
 try:
@@ -34,6 +35,9 @@ except ImportError:
 PLACE = os.path.join(os.path.dirname(os.path.abspath(__file__)), "..")
 CLIENT = os.path.join(PLACE, "tests", "killed_client.py")
 SOON = 120.0  # seconds, where other programs have the processors
+MOST = 4096  # transactions that remain
+ROUND = ["round", 65536, 4, 2]
+BETWEEN_ROUNDS = 400  # transactions, where the log is given whole with cuts
 SEED = int(os.environ.get("ZANTEYARD_SEED", "1"))
 
 
@@ -172,20 +176,32 @@ class Machines(unittest.TestCase):
         return re.findall(r"round \d+: (\w+);", self.said())[-1]
 
     def log_is_whole(self):
-        """All that was offered to any process of the auditor's, each transaction once."""
-        self.txns = {}
+        """In the order in which the auditor was given it first; sessions join, and come back."""
+        self.lines, self.joins, ends = {}, set(), {}
         for at in range(len(self.daemons)):
-            with open(f"{self.folder}/script.{at}", encoding="utf-8") as script:
-                for line in map(json.loads, script):
-                    if line[0] in ("offer", "join"):
-                        for number, txn in enumerate(line[-1], line[2] if len(line) == 4 else 0):
-                            # What no process was answered may have other numbers for its keys there.
-                            self.txns[line[1], number] = txn
+            with open(f"{self.folder}/script.{at}", "rb") as script:
+                for line in map(json.loads, (it for it in script if it.endswith(b"\n"))):
+                    if line[0] == "open":
+                        self.opened = line[1]
+                    elif line[0] in ("offer", "join"):
+                        session, first = line[1], line[2] if len(line) == 4 else 0
+                        if line[0] == "join":
+                            self.joins.add((session, first))
+                        for number, txn in enumerate(line[-1], first):
+                            self.lines["offer", session, number] = txn
+                            ends[session] = max(ends.get(session, 0), number + 1)
+                    elif line[0] == "close":
+                        its = (*line[:2], ends.get(line[1], 0))
+                        self.lines.pop(its, None)
+                        self.lines[its] = line
+        self.txns = {its[1:]: txn for its, txn in self.lines.items() if its[0] == "offer"}
 
     def verdict(self):
-        """Of the same log, given whole."""
+        """Of the same log, given whole; where no audit holds all of it at once, with cuts."""
+        if len(self.txns) > MOST:
+            return self.verdict_with_cuts(self.opened)
         sessions = 1 + max(session for session, _ in self.txns)
-        lines = [["open", sessions, 4096]]
+        lines = [["open", sessions, MOST]]
         for session, number in sorted(self.txns):
             lines.append(["offer", session, number, [self.txns[session, number]]])
         for effort in ((4096, 0, 1), (65536, 4, 2)):
@@ -193,6 +209,29 @@ class Machines(unittest.TestCase):
             if kind != "spent":
                 break
         return kind
+
+    def verdict_with_cuts(self, sessions):
+        """The same with cuts; and each report and cut has to be right."""
+        lines, count = [["open", sessions, MOST]], 0
+        for (kind, session, number), its in self.lines.items():
+            if kind == "offer" and (session, number) in self.joins:
+                if number:  # nothing remains of what it was
+                    lines += [ROUND, ["truncate"]]
+                lines.append(["join", session, number, [its]])
+            else:
+                lines.append(["offer", session, number, [its]] if kind == "offer" else its)
+            count += 1
+            if count % BETWEEN_ROUNDS == 0:
+                lines += [ROUND, ["truncate"]]
+        lines.append(ROUND)
+        text = "".join(f"{json.dumps(line)}\n" for line in lines).encode()
+        told = subprocess.run([PROGRAM], input=text, stdout=subprocess.PIPE, check=True, timeout=3600)
+        replies = told.stdout.splitlines()
+        refused = [it for it in map(json.loads, replies) if it[0] == "no" and it[2] != "NoCut"]
+        self.assertEqual(refused, [])
+        self.assertTrue(are_right(lines, replies))
+        kinds = [it[2] for it in map(json.loads, replies) if it[0] == "report"]
+        return "violated" if "violated" in kinds else kinds[-1]
 
     def told(self, lines):
         text = "".join(f"{json.dumps(line)}\n" for line in lines)

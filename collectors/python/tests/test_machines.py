@@ -13,6 +13,9 @@ from zanteyard.live_state import StateFile
 from .machines import SOON, Machines, PostgresStore
 from .test_restarting_processes import child_of
 
+# Seconds between transactions: while a client that was killed keeps cuts away no more come than one audit holds.
+PAUSE = 0.01
+
 
 class Kills(Machines):
     def test_the_auditor_and_the_redis_are_killed_and_all_is_serial(self):
@@ -135,10 +138,10 @@ class Faults(Machines):
 
     def test_a_fault_is_found_though_the_auditor_and_a_client_are_killed(self):
         self.daemon()
-        doomed = self.client(pause=0.0, workload="skew")
+        doomed = self.client(pause=PAUSE, workload="skew")
         self.begun(doomed)
         for _ in range(2):  # who comes when the fault is found isn't let in
-            self.client(pause=0.0, workload="skew")
+            self.client(pause=PAUSE, workload="skew")
         self.run_for(1)
         self.kill_daemon()
         time.sleep(0.2)
