@@ -468,8 +468,8 @@ class Session:
 
 def is_dropped_if_unknown(key: str) -> bool:
     """Of which it isn't known whether it was written. Nothing is known of a fence without its read:
-    who reads from it waits for it then. And nobody reads a flag of a session that has ended, so
-    that nothing would say where it stands, and no fence be settled."""
+    who reads from it waits for it then. And if a flag isn't there nothing says where it stands, so
+    that no fence would be settled."""
     return key == FENCE or key.startswith(FLAG)
 
 
