@@ -292,7 +292,7 @@ def all_runs(name, program, folder, script, replies):
         for line in ([*opening, 4096, 0, 1], *offers)])
 
 
-HONEST = (b"fault none\n" + b"".join(b"collector %d submitted 9 taken 9\n" % each
+HONEST = (b"fault none\n" + b"".join(b"collector %d submitted 11 taken 11\n" % each
                                      for each in range(4)) + b"last serial\nlatest serial\n")
 
 

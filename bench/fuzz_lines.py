@@ -7,7 +7,7 @@ what was taken in so far; within a chunk it goes on as if all were accepted.
 import json
 from collections import defaultdict
 
-from judge import LONGEST, NUMBERS, WHOLE, txn_of
+from judge import ABORTED, LONGEST, NUMBERS, WHOLE, command_of, effect_of, is_aborted
 from plain_verdicts import is_fence
 
 EDGES = (0, 1, 2, 3, 5, 6, 7, 8, 15, 16, 17, 63, 64, 65, 127, 128, 255, 256, 257, 4095, 4096, 4097,
@@ -28,12 +28,19 @@ NO_TEXT = (b"\xff", b"\xfe\xff", b"\xc3", b"\xc0\x80", b"\xed\xa0\x80", b"\xf4\x
            b"\x80", b"\xe2\x28\xa1", b"\xf8\x88\x80\x80\x80", b"\xef\xbb\xbf", b"\x00", b"\r",
            b"\x1b", b"\x7f", b"\xef\xbb", b"\xf0\x9f\x98")
 WORDS = ("open", "offer", "join", "close", "begin", "finish", "round", "truncate", "rebuild", "show",
-         "resume", "marks", "last", "resumed", "save", "remain", "answer", "order", "refuted")
+         "resume", "marks", "last", "resumed", "save", "remain", "answer", "order", "refuted",
+         ABORTED)
 BUDGETS = (1, 1, 1, 2, 2, 3, 4, 5, 7, 8, 15, 16, 31, 32, 33, 64, 64, 128, 256)
 
 
 class Raw(str):
     """A piece of a line that is written as it stands."""
+
+
+VERSIONS = (2, 2, 2, 1, 0, 3, 4, 256, WHOLE, "2", "", None, True, [], [2], Raw("2.0"), Raw("-2"),
+            Raw("02"), Raw("2e0"), Raw('"\\u0032"'))
+OUTCOMES = (*[ABORTED] * 4, "Aborted", "abort", "aborted ", "committed", "", None, False, 0, 2, [],
+            [ABORTED], Raw('"\\u0061borted"'), Raw('"abor\\u0074ed"'), Raw("aborted"))
 
 
 def compact(told):
@@ -51,10 +58,35 @@ def save(dice, sessions):
                                   ["remain", dice.randrange(sessions + 1), dice.randrange(9)]))]
 
 
-def handing(dice, handed, sessions, limit):
+def opening(word, sessions, limit, version):
+    """A line with which a script of this version begins."""
+    return [word, sessions, limit, *([2] if version == 2 else [])]
+
+
+def versioned(dice, line):
+    """The line with something behind what an opening, or a transaction, has in version 1: what
+    version 2 has there, or not; one more of it; or without it."""
+    line = json.loads(json.dumps(line))
+    if line[0] in ("open", "resume"):
+        line = line[:3] if dice.random() < 0.8 else line
+        holder, more = line, dice.choice(VERSIONS)
+    elif line[0] in ("offer", "join") and type(line[-1]) is list and line[-1]:
+        holder, more = dice.choice(line[-1]), dice.choice(OUTCOMES)
+    else:
+        return [*line, dice.choice((2, ABORTED))]
+    if type(holder) is not list:
+        return line
+    if holder and dice.random() < 0.2:
+        holder.pop()
+    else:
+        holder.insert(len(holder) if dice.random() < 0.9 else dice.randrange(3), more)
+    return line
+
+
+def handing(dice, handed, sessions, limit, version):
     """A line of a hand-over that may well be taken next."""
     if handed is None or dice.random() < 0.02:
-        return ["resume", sessions, limit]
+        return opening("resume", sessions, limit, version)
     if handed.parts is None:
         return ["marks", [dice.choice((0, 0, 1, 3)) for _ in range(handed.sessions)],
                 [dice.random() < 0.1 for _ in range(handed.sessions)]]
@@ -86,12 +118,12 @@ def join(dice, parts, last_fence):
     return ["join", session, *([first] if first or dice.random() < 0.3 else []), txns]
 
 
-def forged(dice, model):
-    """An answer that is handed in: what a report has shown at last, mostly changed, or the other of
-    the two."""
+def forged(dice, model, fewest=0):
+    """An answer that is handed in: what a report has shown at last, mostly changed, and by so many
+    changes at the fewest, or the other of the two."""
     word = dice.choice(("order", "refuted"))
     given = json.loads(json.dumps(model.shown[word]))
-    for _ in range(dice.choice((0, 0, 1, 1, 1, 2, 3))):
+    for _ in range(max(fewest, dice.choice((0, 0, 1, 1, 1, 2, 3)))):
         given = dice.choice((odd, odd, odd, cut_off, swapped, exchanged))(dice, given)
     if dice.random() < 0.02:
         word = dice.choice(("order", "refuted", "serial", "Order", ""))
@@ -137,6 +169,7 @@ class Store:
         self.torn = sessions > 7 and dice.random() < 0.7
         if self.torn:  # who reads doesn't write, and reads anything: what takes a search
             self.keys, self.lies = [1, 2, 3, 4][:dice.choice((2, 3, 4))], 0.5
+        self.aborts = 0.0  # attempts; a lie may be a read of what one of them wrote
         self.last, self.writers = {}, defaultdict(list)
         self.waiting = [[] for _ in range(sessions)]  # the first has the number `first`
         self.first = [0] * sessions
@@ -163,10 +196,12 @@ class Store:
         """A transaction of the session, which reads and writes these keys."""
         me = session, self.first[session] + len(self.waiting[session])
         reads = [[key, *self.source(key, me)] for key in keys]
+        is_lost = self.dice.random() < self.aborts
         for key in writes:
-            self.last[key] = me
             self.writers[key].append(me)
-        self.waiting[session].append([reads, writes])
+            if not is_lost:
+                self.last[key] = me
+        self.waiting[session].append([reads, writes, *([ABORTED] if is_lost else [])])
 
     def source(self, key, me):
         dice, found = self.dice, self.last.get(key)
@@ -176,9 +211,14 @@ class Store:
             found = dice.randrange(self.sessions + 1), dice.randrange(30)
         return ("init",) if found is None or found == me else found
 
-    def go_on(self, received):
+    def go_on(self, model):
         """What was taken in waits no more. Sessions may have joined, or another number of them may
-        have been opened."""
+        have been opened, and in version 1: then what was aborted is idle."""
+        received = model.parts.received()
+        if model.version == 1 and self.aborts:
+            self.aborts = 0.0
+            self.waiting = [[[[], []] if is_aborted(txn) else txn for txn in its]
+                            for its in self.waiting]
         joined = received[self.sessions:]
         self.waiting += [[] for _ in joined]
         self.first += joined
@@ -207,6 +247,9 @@ class Scripts:
         self.most = dice.choice((8, 12, 16, 30))  # what remains goes little above it
         if self.store.torn:
             self.most = dice.choice((12, 16))
+        self.version = dice.choice((1, 2))
+        if self.version == 2:
+            self.store.aborts = dice.choice((0.0, 0.1, 0.3))
         self.is_open, self.odd = False, dice.choice((0.0, 0.0, 0.05, 0.2))
         self.full = 0  # chunks that began with so much, one after another
         self.joins = dice.choice((0.0, 0.05, 0.2)) if self.store.meets else 0.0
@@ -214,9 +257,9 @@ class Scripts:
 
     def opening(self, model):
         """The next line of what a script begins with."""
-        line = ["open", self.sessions, self.limit]
+        line = opening("open", self.sessions, self.limit, self.version)
         if self.resumes:
-            line = handing(self.dice, model.handed, self.sessions, self.limit)
+            line = handing(self.dice, model.handed, self.sessions, self.limit, self.version)
         return [self.told(line)]
 
     def told(self, line):
@@ -224,7 +267,9 @@ class Scripts:
         kind = f"script: {line[0]}"
         if self.dice.random() < self.odd:
             line, kind = odd(self.dice, line), f"script: odd {line[0]}"
-        return kind, compact(line)
+        elif self.dice.random() < self.odd / 2:
+            line, kind = versioned(self.dice, line), f"script: another version of {line[0]}"
+        return kind, write(line).encode()
 
     def is_over(self, _):
         """Whether much remains, and nothing of it is settled."""
@@ -235,7 +280,7 @@ class Scripts:
         dice, store = self.dice, self.store
         if model.parts is None:
             return self.opening(model)
-        store.go_on(model.parts.received())
+        store.go_on(model)
         self.sessions = store.sessions
         self.is_open = model.snapshot is not None
         sent, lines = [0] * self.sessions, []
@@ -279,7 +324,7 @@ class Scripts:
         """A session joins with a fence, which the store has run where it may well be taken in."""
         line = join(self.dice, model.parts, self.store.last.get(0))
         me = line[1], line[2] if len(line) == 4 else 0
-        if not self.is_open and not model.joining_fault(*me, list(map(txn_of, line[-1]))):
+        if not self.is_open and not model.joining_fault(*me, list(map(effect_of, line[-1]))):
             self.store.last[0] = me
             self.store.writers[0].append(me)
         return line
@@ -349,6 +394,8 @@ class Mutated:
         self.sessions = dice.choice((1, 2, 3, 64))
         self.limit = dice.choice((1, 5, 10, 16))
         self.store = Store(dice, self.sessions)
+        self.version = dice.choice((1, 2))
+        self.store.aborts = 0.3 if self.version == 2 else 0.0
         self.count = dice.choice((16, 100))
 
     def is_over(self, _):
@@ -359,14 +406,17 @@ class Mutated:
         dice, store = self.dice, self.store
         turn = dice.random()
         if model.parts is None and (model.handed or turn > 0.7):
-            return handing(dice, model.handed, self.sessions, self.limit)
+            return handing(dice, model.handed, self.sessions, self.limit, self.version)
         if model.parts is None or turn < 0.05:
-            return ["open", self.sessions, self.limit]
+            return opening("open", self.sessions, self.limit, self.version)
         if turn < 0.65:
-            store.go_on(model.parts.received())
+            store.go_on(model)
             store.execute()
             session = dice.choice([at for at, its in enumerate(store.waiting) if its])
-            return ["offer", session, store.first[session], store.waiting[session][:4]]
+            *txns, last = store.waiting[session][:4]
+            if model.version == 1 and dice.random() < 0.1:  # which version 2 alone would take
+                last = [*last, ABORTED]
+            return ["offer", session, store.first[session], [*txns, last]]
         if turn < 0.8:
             return [dice.choice(("round", "finish")), *effort(dice)]
         if turn < 0.81:
@@ -379,10 +429,20 @@ class Mutated:
             return save(dice, self.sessions)
         return [dice.choice(("show", "show", "show", "begin", "truncate", "rebuild"))]
 
+    def openings_of_none(self):
+        """Some that are of no version, which have to be given before one that is."""
+        line = opening("open", self.sessions, self.limit, self.version)
+        pieces = [write(versioned(self.dice, line)).encode() for _ in range(9)]
+        return [(f"{self.name}: open in no version", piece) for piece in pieces
+                if command_of(piece) is None]
+
     def chunk(self, model):
         lines = []
+        if model.parts is None:
+            lines += self.openings_of_none()
         if model.parts is None and self.dice.random() < 0.5:
-            lines.append((f"{self.name}: open", compact(["open", self.sessions, self.limit])))
+            line = opening("open", self.sessions, self.limit, self.version)
+            lines.append((f"{self.name}: open", compact(line)))
             self.count -= 1
         for _ in range(self.count):
             lines += self.mutate(self.base(model))
@@ -399,17 +459,22 @@ class Answers:
             self.store.lies = dice.choice((0.0, 0.0, 0.1, 0.4))
         self.store.ahead = dice.choice((0.0, 0.0, 0.0, 0.1))
         self.most = dice.choice((2, 4, 6, 8, 12))
+        self.version = dice.choice((1, 2))
+        self.store.aborts = dice.choice((0.1, 0.4)) if self.version == 2 else 0.0
 
     def is_over(self, model):
         return False
 
     def chunk(self, model):
-        """While a round is open, answers to it; else more is taken in, and a round is opened on it,
-        after a report."""
+        """While a round is open, answers to it, of which only the last may be as it was shown, since a
+        right one ends the round; else more is taken in, and a round is opened on it, after a
+        report."""
         if model.parts is None:
-            return [("answers: open", compact(["open", self.store.sessions, 4096]))]
+            line = opening("open", self.store.sessions, 4096, self.version)
+            return [("answers: open", compact(line))]
         if model.snapshot:
-            more = [self.told(forged(self.dice, model)) for _ in range(60)]
+            more = [self.told(forged(self.dice, model, 1)) for _ in range(20)]
+            more.append(self.told(forged(self.dice, model)))
             if self.dice.random() < 0.05:
                 more.append(("answers: finish", compact(["finish", 256, 0, 1])))
             return more
@@ -425,7 +490,7 @@ class Answers:
     def offers(self, model):
         """A few more, unless as much remains as may."""
         store = self.store
-        store.go_on(model.parts.received())
+        store.go_on(model)
         if sum(map(len, model.parts.remaining)) >= self.most:
             return [["open", 1, 1]] if self.dice.random() < 0.1 else []
         for _ in range(self.dice.choice((1, 2, 4))):
@@ -491,7 +556,7 @@ class Grammar(Mutated):
     name = "grammar"
     kinds = ("number", "no number", "other value", "field out", "field twice", "nested",
              "flattened", "word", "escape", "white space", "no space", "no text", "comma",
-             "bracket", "two lines", "around", "odd")
+             "bracket", "two lines", "around", "odd", "version")
 
     def mutate(self, command):
         dice = self.dice
@@ -613,6 +678,9 @@ class Grammar(Mutated):
     def make_odd(self, command):
         return odd(self.dice, command)
 
+    def make_version(self, command):
+        return versioned(self.dice, command)
+
 
 def write(value):
     """Compact JSON, but for pieces that stand as they are."""
@@ -628,15 +696,16 @@ def long_offer(dice, command):
     """Fragments, reads and writes as many as are allowed, or one more."""
     session, first = command[1:3] if command[0] == "offer" else (0, 0)
     count = dice.choice((255, 256, 257))
-    turn = dice.randrange(4)
+    turn, more = dice.randrange(4), dice.choice(([], [], [ABORTED]))
     if turn == 0:
-        return ["offer", session, first, [[[], []]] * count]
+        return ["offer", session, first, [[[], [], *more]] * count]
     if turn == 1:
-        return ["offer", session, first, [[[[key, "init"] for key in range(1, count + 1)], []]]]
+        reads = [[key, "init"] for key in range(1, count + 1)]
+        return ["offer", session, first, [[reads, [], *more]]]
     if turn == 2:
-        return ["offer", session, first, [[[], list(range(1, count + 1))]]]
+        return ["offer", session, first, [[[], list(range(1, count + 1)), *more]]]
     start = NUMBERS - count + dice.randrange(3)
-    return ["offer", session, start, [[[], []]] * min(count, 256)]
+    return ["offer", session, start, [[[], [], *more]] * min(count, 256)]
 
 
 class Longest:
@@ -651,11 +720,12 @@ class Longest:
     def chunk(self, model):
         dice, kind = self.dice, "longest lines"
         self.is_done = True
-        lines = [(kind, compact(["open", 2, 16]))]
+        lines = [(kind, compact(opening("open", 2, 16, dice.choice((1, 2)))))]
         for over in (0, 1):
             room = LONGEST + over
             fill = dice.choice((b" ", b"\t", b"\r"))
-            command = dice.choice((["show"], ["offer", 0, over, [[[], [5]]]], ["begin"]))
+            command = dice.choice((["show"], ["offer", 0, over, [[[], [5]]]], ["begin"],
+                                   ["offer", 0, over, [[[], [5], ABORTED]]]))
             line = compact(command)
             place = dice.choice((0, 1, len(line)))
             lines.append((kind, line[:place] + fill * (room - len(line)) + line[place:]))

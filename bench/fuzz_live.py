@@ -24,7 +24,7 @@ from collections import Counter
 HERE = os.path.dirname(os.path.abspath(__file__))
 sys.path[:0] = [HERE, os.path.join(HERE, "../collectors/python")]
 from fuzz_lines import Bytes, Grammar, compact  # noqa: E402
-from judge import Model, command_of  # noqa: E402
+from judge import Model, command_of, tells_aborted  # noqa: E402
 from plain_verdicts import Wrong  # noqa: E402
 
 MOST = 14  # transactions of a run that may be accepted: the whole history is judged by trial
@@ -37,8 +37,9 @@ def lines_of(dice):
     generator = dice.choice((Bytes, Grammar))(dice)
     generator.limit = dice.choice((5, 16, 4096))
     model = Model()
-    model.open(generator.sessions, generator.limit)
-    found = [compact(["open", generator.sessions, generator.limit, *dice.choice(EFFORTS)])]
+    model.open(generator.sessions, generator.limit, generator.version)
+    opening = ["open", generator.sessions, generator.limit, *dice.choice(EFFORTS)]
+    found = [compact([*opening, *([2] if generator.version == 2 else [])])]
     for _ in range(dice.choice((30, 120))):
         if sum(model.parts.received()) >= MOST:
             break
@@ -54,6 +55,8 @@ def take(model, line):
     time: then it isn't given."""
     command = command_of(line)
     if command is None or command[0] not in ("offer", "join", "close"):
+        return True
+    if model.version == 1 and tells_aborted(command):
         return True
     if command[0] != "close" and sum(model.parts.received()) + len(command[-1]) > MOST + 8:
         return False

@@ -18,7 +18,7 @@ import subprocess
 import sys
 from collections import Counter, defaultdict
 
-from judge import NAMES, Model, command_of, txn_of
+from judge import ABORTED, NAMES, Model, command_of, effect_of
 from plain_verdicts import NO, SPENT, YES, Parts, Relation, Wrong, cut_of, has_order, scan
 
 FARTHEST = 20000  # nodes or fronts that are looked at over a whole history
@@ -51,6 +51,7 @@ class Clients:
         self.lies = dice.choice((0.0, 0.0, 0.0, 0.05))
         self.wrong_fences = dice.choice((0.0, 0.0, 0.05, 0.3))
         self.blind = dice.choice((0.0, 0.1))
+        self.aborts = dice.choice((0.0, 0.0, 0.1))  # attempts; a lie may be a read of one of them
         self.begun = [0] * dice.choice((1, 2, 3))
         self.waiting = [[] for _ in self.begun]  # (joins, number, transaction), or None for a close
         self.open = [True] * len(self.begun)
@@ -60,10 +61,13 @@ class Clients:
         me = (session, self.begun[session])
         self.begun[session] += 1
         reads = [[key, *self.source(key, me)] for key in keys]
+        is_lost = self.dice.random() < self.aborts
         for key in writes:
-            self.last[key] = me
             self.writers[key].append(me)
-        self.waiting[session].append((joins, me[1], [reads, writes]))
+            if not is_lost:
+                self.last[key] = me
+        self.waiting[session].append(
+            (joins, me[1], [reads, writes, *([ABORTED] if is_lost else [])]))
 
     def source(self, key, me):
         found = self.last.get(key)
@@ -168,7 +172,7 @@ class Run:
         if word == "join" and rest[0] == len(self.history):
             self.history.append([])
         if word in ("offer", "join"):
-            self.history[rest[0]] += map(txn_of, rest[-1])
+            self.history[rest[0]] += map(effect_of, rest[-1])
         if word == "begin":
             self.opens = [len(txns) for txns in self.history]
 
@@ -204,7 +208,8 @@ class Run:
 
     def go(self):
         dice, clients = self.dice, self.clients
-        self.ask("open", len(clients.begun), dice.choice((40, 4096)))
+        version = [2] if clients.aborts else []
+        self.ask("open", len(clients.begun), dice.choice((40, 4096)), *version)
         while sum(map(len, self.history)) < 40 and len(self.counts) < 10:
             turn = dice.random()
             if turn < 0.4:

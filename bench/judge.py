@@ -26,6 +26,7 @@ NAMES = {1: "BadLine", 2: "BadSession", 3: "BadTxn", 4: "BadFence", 5: "Gap", 6:
          14: "BadParts", 16: "NoMemory", 17: "NotAnchored"}
 REFUSALS = {number: b'["no",%d,"%s"]' % (number, name.encode()) for number, name in NAMES.items()}
 OK = b'["ok"]'
+ABORTED = "aborted"  # behind the lists of a transaction of which nothing was committed
 decode = json.JSONDecoder().decode
 
 
@@ -49,14 +50,26 @@ def is_read(it):
 
 
 def is_txn(it):
-    return (type(it) is list and len(it) == 2 and type(it[0]) is list and type(it[1]) is list
-            and all(map(is_read, it[0])) and all(map(is_whole, it[1])))
+    """A third entry says that it was aborted; whether that may stand there is judged by `Model`."""
+    return (type(it) is list and len(it) in (2, 3) and type(it[0]) is list and type(it[1]) is list
+            and all(map(is_read, it[0])) and all(map(is_whole, it[1]))
+            and it[2:] in ([], [ABORTED]))
+
+
+def tells_aborted(command):
+    """Whether the command has a transaction that was aborted, which version 2 alone knows."""
+    return command[0] in ("offer", "join") and any(map(is_aborted, command[-1]))
 
 
 def is_offer(parts):
     session, first, txns = parts
     return (is_whole(session, 256) and is_whole(first) and type(txns) is list
             and all(map(is_txn, txns)))
+
+
+def is_opening(parts):
+    """Two numbers, and behind them the version where that is 2: a 1 isn't said."""
+    return all(map(is_whole, parts)) and parts[2:] in ([], [2])
 
 
 def is_nothing(parts):
@@ -145,7 +158,8 @@ def is_last(parts):
 
 
 FORMS = {
-    ("open", 3): lambda parts: all(map(is_whole, parts)),
+    ("open", 3): is_opening,
+    ("open", 4): is_opening,
     ("offer", 4): is_offer,
     ("join", 3): lambda parts: is_offer([parts[0], 0, parts[1]]),
     ("join", 4): is_offer,
@@ -159,7 +173,8 @@ FORMS = {
     ("save", 2): is_save,
     ("save", 3): is_save,
     ("save", 4): is_save,
-    ("resume", 3): lambda parts: all(map(is_whole, parts)),
+    ("resume", 3): is_opening,
+    ("resume", 4): is_opening,
     ("marks", 3): is_marks,
     ("last", 2): is_last,
     ("resumed", 1): is_nothing,
@@ -184,9 +199,19 @@ def command_of(line):
     return told if form and form(told[1:]) else None
 
 
+def is_aborted(told):
+    return told[2:] == [ABORTED]
+
+
 def txn_of(told):
-    reads, writes = told
+    """Its lists, whether it was committed or not: both are judged by the same rules."""
+    reads, writes, *_ = told
     return [(read[0], INIT if len(read) == 2 else (read[1], read[2])) for read in reads], writes
+
+
+def effect_of(told):
+    """What it did: nothing, where it was aborted."""
+    return ([], []) if is_aborted(told) else txn_of(told)
 
 
 def rises(items):
@@ -247,9 +272,10 @@ class HandOver:
         self.parts, self.writers = None, []
 
     def owed(self, command):
-        """What is owed to the command; where it is done, the parts have changed."""
+        """What is owed to the command; where it is done, the parts have changed. What was aborted
+        has left nothing that would be handed over, in neither version."""
         word, *told = command
-        if word == "offer" and self.parts:
+        if word == "offer" and self.parts and not tells_aborted(command):
             return self.offer(*told)
         if word not in HANDED or (self.parts is None) != (word == "marks"):
             return REFUSALS[1]
@@ -292,6 +318,7 @@ class Model:
 
     def __init__(self):
         self.parts = self.limit = self.snapshot = self.held = self.handed = None
+        self.version = 1  # of what may be offered: what the script was opened with
         self.rounds = 0
         self.told = {}  # of what remains now: of each budget and depth, the report without number
         self.shown = {"order": [], "refuted": [["cycle", []]]}  # what reports have shown at last
@@ -314,23 +341,25 @@ class Model:
             return self.hand_over(command)
         if (self.parts is None) != (command[0] in BEGINNING) or command[0] in HANDED:
             return REFUSALS[1]
+        if self.version == 1 and tells_aborted(command):
+            return REFUSALS[1]
         if command[0] in ("round", "finish"):
             return self.refused_round(command[0])
         return getattr(self, command[0])(*command[1:])
 
-    def open(self, sessions, limit):
+    def open(self, sessions, limit, version=1):
         refused = self.refused_opening(sessions, limit)
         if refused:
             return refused
-        self.limit, self.handed = limit, None
+        self.limit, self.version, self.handed = limit, version, None
         self.parts = Parts([0] * sessions, [[] for _ in range(sessions)], [False] * sessions)
         return OK
 
-    def resume(self, sessions, limit):
+    def resume(self, sessions, limit, version=1):
         refused = self.refused_opening(sessions, limit)
         if refused:
             return refused
-        self.handed = HandOver(sessions, limit)
+        self.version, self.handed = version, HandOver(sessions, limit)
         return OK
 
     def refused_opening(self, sessions, limit):
@@ -351,16 +380,17 @@ class Model:
             fault = 8
         if fault:
             return REFUSALS[fault]
-        parts.remaining[session] += txns
+        parts.remaining[session] += map(effect_of, told)
         self.told = {}
         return OK
 
     def join(self, session, *told):
         parts, txns = self.parts, list(map(txn_of, told[-1]))
         first = told[0] if len(told) == 2 else 0
+        effects = list(map(effect_of, told[-1]))
         fault = fragment_fault(session, first, txns)
         if not fault:
-            fault = 10 if self.snapshot else self.joining_fault(session, first, txns)
+            fault = 10 if self.snapshot else self.joining_fault(session, first, effects)
         if not fault and sum(map(len, parts.remaining)) + len(txns) > self.limit:
             fault = 8
         if fault:
@@ -369,7 +399,7 @@ class Model:
             parts.gone.append(0)
             parts.remaining.append([])
             parts.closed.append(False)
-        parts.remaining[session] += txns
+        parts.remaining[session] += effects
         parts.closed[session] = False
         self.held, self.told = None, {}
         return OK

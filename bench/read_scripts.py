@@ -6,7 +6,8 @@ Run at the top of the repository, after `cd crates/cobra_audit && rt run < /dev/
     python3 bench/read_scripts.py [PROGRAM]
 
 It makes a script of 64,000 transactions in 2,000 offers (8 reads and 8 writes each), and one ten times as long. The offers
-are refused (they don't fit the limit), so that reading dominates. Times are the best of five runs.
+are refused (they don't fit the limit), so that reading dominates. A third one, of version 2, tells that every other
+transaction was aborted. Times are the best of five runs.
 """
 import json
 import os
@@ -19,22 +20,22 @@ OFFERS, TRANSACTIONS, READS, WRITES = 2000, 32, 8, 8
 RUNS = 5
 
 
-def offer(number):
-    """An offer of session 1 that names transactions of session 0 as its sources."""
+def offer(number, more=()):
+    """An offer of session 1 that names transactions of session 0 as its sources; every other one has more behind it."""
     transactions = []
     for place in range(TRANSACTIONS):
         first = 1 + 1000 * number + 16 * place
         reads = [[first + i, 0, number * TRANSACTIONS + i] for i in range(READS)]
         writes = [first + READS + i for i in range(WRITES)]
-        transactions.append([reads, writes])
+        transactions.append([reads, writes, *(more if place % 2 else ())])
     return json.dumps(["offer", 1, 0, transactions], separators=(",", ":"))
 
 
-def write_script(path, offers):
+def write_script(path, offers, version=1):
     with open(path, "w", encoding="ascii") as script:
-        script.write('["open",2,8]\n')
+        script.write('["open",2,8,2]\n' if version == 2 else '["open",2,8]\n')
         for number in range(offers):
-            script.write(offer(number % OFFERS) + "\n")
+            script.write(offer(number % OFFERS, ["aborted"] if version == 2 else ()) + "\n")
 
 
 def seconds_of_program(program, path):
@@ -69,14 +70,17 @@ def seconds_of_python(path):
 def main():
     program = sys.argv[1] if len(sys.argv) > 1 else "crates/cobra_audit/out/cobra_audit"
     with tempfile.TemporaryDirectory() as folder:
-        short, long = os.path.join(folder, "short"), os.path.join(folder, "long")
+        short, long, second = (os.path.join(folder, name) for name in ("short", "long", "second"))
         write_script(short, OFFERS)
+        write_script(second, OFFERS, version=2)
         write_script(long, 10 * OFFERS)
         ours = min(seconds_of_program(program, short) for _ in range(RUNS))
+        of_second = min(seconds_of_program(program, second) for _ in range(RUNS))
         theirs = min(seconds_of_python(short) for _ in range(RUNS))
         peak, long_peak = peak_of_program(program, short), peak_of_program(program, long)
         print(f"script                 {os.path.getsize(short) / 1e6:8.1f} MB, {OFFERS * TRANSACTIONS} transactions")
         print(f"cobra_audit            {ours:8.3f} s")
+        print(f"  the one of version 2 {of_second:8.3f} s")
         print(f"CPython's json.loads   {theirs:8.3f} s")
         print(f"ours / theirs          {ours / theirs:8.2f}")
         print(f"peak memory            {peak:8d} KiB")

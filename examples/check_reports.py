@@ -31,7 +31,9 @@ class History:
         self.known_from, self.gone, self.last = list(known_from), list(known_from), {}
 
     def offer(self, session, txns):
-        for reads, writes in txns:
+        for reads, writes, *more in txns:
+            if more == ["aborted"]:  # version 2: what it did is nothing
+                reads, writes = [], []
             sources = [(read[0], INIT if read[1] == INIT else (read[1], read[2])) for read in reads]
             self.sessions[session].append((sources, set(writes)))
 

@@ -36,7 +36,7 @@ class Auditor:
         pipes = {"stdin": subprocess.PIPE, "stdout": subprocess.PIPE}
         self.program = subprocess.Popen([PROGRAM], text=True, **pipes)
         self.numbers = {}  # of each key, in one table for all sessions
-        self.ask("open", sessions, limit)
+        self.ask("open", sessions, limit, 2)  # 2: attempts that aborted are told as such
 
     def ask(self, *line):
         print(json.dumps(line), file=self.program.stdin, flush=True)
@@ -58,6 +58,7 @@ class Session:
 
     def begin(self):
         self.id, self.reads, self.writes = (self.name, self.begun), set(), {}
+        self.tried = []  # the keys that went to the store, whatever came of it
         self.begun += 1  # an attempt that aborts keeps its number: a retry takes the next
         if FAULT != "lost-update":  # the fault: what was read may change before the commit
             self.store.execute("BEGIN")
@@ -80,20 +81,22 @@ class Session:
             if not self.store.in_transaction:
                 self.store.execute("BEGIN")
             for key, value in self.writes.items():  # beside the value the writer's name
+                self.tried.append(key)
                 row = (key, value, *self.id)
                 self.store.execute("INSERT INTO versions VALUES (?, ?, ?, ?)", row)
             is_lost = FAULT == "lost-write" and self.id == (1, 1)
             self.store.execute("ROLLBACK" if is_lost else "COMMIT")
         except sqlite3.Error as error:  # a local store leaves no doubt that nothing was committed
             self.store.execute("COMMIT" if FAULT == "dirty-read" else "ROLLBACK")
-            return self.offer([], [], f"aborted ({error})")
-        reads = sorted(self.reads, key=lambda read: (read[0], read[1] != "init", read[1:]))
-        return self.offer(reads, sorted(map(self.auditor.number, self.writes)), "committed")
+            return self.offer(self.tried, f"aborted ({error})", "aborted")
+        return self.offer(self.writes, "committed")
 
-    def offer(self, reads, writes, outcome):
+    def offer(self, keys, outcome, *aborted):
+        reads = sorted(self.reads, key=lambda read: (read[0], read[1] != "init", read[1:]))
+        writes = sorted(map(self.auditor.number, keys))
         print(f"  {self.id[0]}.{self.id[1]} {outcome}: reads {reads}, writes {writes}")
-        self.auditor.ask("offer", *self.id, [[reads, writes]])
-        return outcome == "committed"
+        self.auditor.ask("offer", *self.id, [[reads, writes, *aborted]])
+        return not aborted
 
 
 def put(client, **values):

@@ -33,6 +33,7 @@ LONG = [
     for each in (
         *("machines", "stores", "killed", "journal_kills", "streams", "sql_killed", "faults"),
         *("restarting", "postgres_live", "sql_bank", "shrinking", "examples", "live", "no_harm"),
+        "running",
     )
 ]
 ENDING = 10.0  # seconds for a process to tell where its threads stand

@@ -17,7 +17,9 @@ from zanteyard.programs import live_path
 
 sys.path.insert(0, os.path.join(os.path.dirname(os.path.abspath(__file__)), "../../../bench"))
 from fuzz_lines import Store, compact  # noqa: E402
-from judge import Model, NAMES, command_of, fragment_fault, text, txn_of  # noqa: E402
+from judge import (  # noqa: E402
+    Model, NAMES, command_of, effect_of, fragment_fault, tells_aborted, text, txn_of,
+)
 from plain_verdicts import (  # noqa: E402
     NO, SPENT, YES, Parts, Relation, Wrong, cut_of, has_order, scan,
 )
@@ -72,8 +74,10 @@ def generated(dice):
     sessions = dice.choice((1, 2, 2, 3, 3, 4))
     limit = dice.choice((12, 30, 4096, 4096, 4096))
     effort = [dice.choice((1, 64, 4096, 4096, 65536)), dice.choice((0, 0, 2)), dice.choice((1, 2))]
-    store = Store(dice, sessions)
-    chunks = [[compact(["open", sessions, limit, *effort])]]
+    store, version = Store(dice, sessions), dice.choice(([], [2]))
+    if version:
+        store.aborts = dice.choice((0.0, 0.2))
+    chunks = [[compact(["open", sessions, limit, *effort, *version])]]
     sent = [0] * sessions
     joins = dice.choice((0.0, 0.0, 0.5))
     for _ in range(dice.randrange(1, 9)):
@@ -124,6 +128,8 @@ def odd_lines(dice, sessions, sent):
         compact(["offer", 0, sent[0] + 1, [[[], [5]]]]),
         compact(["offer", 0, 0, [[[], [5, 5]]]]),
         compact(["offer", 0, max(sent[0] - 1, 0), [[[], []]] * 2]),
+        compact(["offer", 0, sent[0] + 1, [[[], [5], "aborted"]]]),
+        compact(["offer", 0, sent[0], [[[], [5], "Aborted"]]]),
         compact(["close", 70]),
     ]
     return dice.sample(odd, dice.choice((0, 0, 1, 2)))
@@ -162,9 +168,16 @@ def verdict_of(history, counts):
     return "violated" if not found else "pending" if parts.has_pending() else "serial"
 
 
+def is_taken(command, version):
+    """Whether it is one that is accepted or refused by a name."""
+    if command is None or command[0] not in ("offer", "join", "close"):
+        return False
+    return version == 2 or not tells_aborted(command)
+
+
 def met_round(command):
     """What is told of a join that is right by itself and meets an open round."""
-    if command is None or command[0] != "join":
+    if command[0] != "join":
         return None
     about = about_of(command)
     if fragment_fault(*about, list(map(txn_of, command[-1]))):
@@ -178,9 +191,9 @@ class Judge:
     def __init__(self, lines):
         opening = json.loads(lines[0])
         self.lines, self.next = lines, 1
-        self.effort = opening[3:]
+        self.effort = opening[3:6]
         self.model = Model()
-        self.model.open(*opening[1:3])
+        self.model.open(*opening[1:3], *opening[6:])
         self.history = [[] for _ in range(opening[1])]  # all that was accepted, in whole
         self.counted = [0] * opening[1]  # by the last report
         self.cuts = [None]  # of which one is owed now
@@ -216,7 +229,9 @@ class Judge:
             raise Wrong(f"{told} is about no line")
         line, self.next = self.lines[self.next], self.next + 1
         command = command_of(line)
-        if told != met_round(command):
+        if not is_taken(command, self.model.version):
+            command = None
+        if command is None or told != met_round(command):
             owed = self.owed_to(command)
             if told != owed:
                 raise Wrong(f"owed is {owed}, told is {told}")
@@ -225,7 +240,7 @@ class Judge:
         self.states.append((self.counts(), self.model.parts.copy()))
 
     def owed_to(self, command):
-        if command is None or command[0] not in ("offer", "join", "close"):
+        if command is None:
             return ["badline", self.next]
         about = about_of(command)
         reply = json.loads(getattr(self.model, command[0])(*command[1:]))
@@ -235,7 +250,7 @@ class Judge:
             return ["closed", command[1]]
         if command[1] == len(self.history):
             self.history.append([])  # a session has joined
-        self.history[command[1]] += map(txn_of, command[-1])
+        self.history[command[1]] += map(effect_of, command[-1])
         return ["accepted", *about]
 
     def take_report(self, told):

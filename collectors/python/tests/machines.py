@@ -201,7 +201,7 @@ class Machines(unittest.TestCase):
         if len(self.txns) > MOST:
             return self.verdict_with_cuts(self.opened)
         sessions = 1 + max(session for session, _ in self.txns)
-        lines = [["open", sessions, MOST]]
+        lines = [["open", sessions, MOST, 2]]
         for session, number in sorted(self.txns):
             lines.append(["offer", session, number, [self.txns[session, number]]])
         for effort in ((4096, 0, 1), (65536, 4, 2)):
@@ -212,7 +212,7 @@ class Machines(unittest.TestCase):
 
     def verdict_with_cuts(self, sessions):
         """The same with cuts; and each report and cut has to be right."""
-        lines, count = [["open", sessions, MOST]], 0
+        lines, count = [["open", sessions, MOST, 2]], 0
         for (kind, session, number), its in self.lines.items():
             if kind == "offer" and (session, number) in self.joins:
                 if number:  # nothing remains of what it was
@@ -250,7 +250,7 @@ class Machines(unittest.TestCase):
             found.journal.close()
         text = "SELECT key, session, number FROM zanteyard WHERE run = %r AND session >= 0" % run
         there = {(session, number, key) for key, session, number in self.sql(text)}
-        logged = {(*id, names[key]) for id, txn in self.txns.items() for key in txn[1]}
+        logged = {(*id, names[key]) for id, txn in self.txns.items() if not txn[2:] for key in txn[1]}
         self.assertGreater(len(there), 0)
         # A flag of a killed client that nobody reads any more is in no log (`killed.without_end`).
         self.missed = {it for it in there if it not in logged and not it[2].startswith(FLAG)}

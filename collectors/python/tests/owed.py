@@ -44,7 +44,7 @@ def log_in(script, replies=None):
 
 def verdicts(log, told, program):
     """Of a fresh program, over the same numbers of transactions; each of them is checked by who doesn't believe it."""
-    given, script = [0] * len(log), [["open", len(log), 4096]]
+    given, script = [0] * len(log), [["open", len(log), 4096, 2]]
     for counts, _ in told:
         for session, count in enumerate(counts):
             while given[session] < count:
@@ -78,7 +78,7 @@ class Heard:
 
     def __init__(self, auditor):
         program = auditor.program
-        self.lines, self.replies = [b'["open",%d,%d]' % (auditor.sessions, auditor.limit)], [b'["ok"]']
+        self.lines, self.replies = [b'["open",%d,%d,2]' % (auditor.sessions, auditor.limit)], [b'["ok"]']
         ask, answers = program.ask, program.answers
 
         def asked(lines):

@@ -285,7 +285,8 @@ def judged_script(lines):
     sessions = {}
     for line in map(json.loads, lines):
         if line[0] == "offer":
-            sessions.setdefault(line[1], []).extend(line[3])
+            did = [[[], []] if txn[2:] == ["aborted"] else txn for txn in line[3]]
+            sessions.setdefault(line[1], []).extend(did)
     its = [sessions[session] for session in sorted(sessions)]
     count = {session: len(txns) for session, txns in sessions.items()}
     waits, seen = False, set()

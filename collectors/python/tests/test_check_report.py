@@ -18,13 +18,18 @@ from .mutated_replies import mutations
 PLAIN = os.path.join(os.path.dirname(__file__), "../../../examples/check_reports.py")
 DATA = os.path.join(os.path.dirname(__file__), "../../../crates/cobra_examples/data")
 RESUMED = os.path.join(DATA, "resumed.jsonl")
-SCRIPTS = [path for path in sorted(glob.glob(os.path.join(DATA, "*.jsonl")))
-           if "resumed" not in os.path.basename(path)]
 
 
 def lines_of(path):
     with open(path, "rb") as file:
         return file.read().splitlines()
+
+
+def resumes(path):
+    return any(line.startswith(b'["resumed"') for line in lines_of(path))
+
+
+SCRIPTS = [path for path in sorted(glob.glob(os.path.join(DATA, "*.jsonl"))) if not resumes(path)]
 
 
 def checked(script, replies):

@@ -217,6 +217,12 @@ def read_as(old, new):
     return lambda line: line.replace(old, new)
 
 
+def as_version(old, new):
+    """An opening is read as one of another version."""
+    opening = re.compile(rb'(\["(?:open|resume)",\d+,\d+)' + old + rb"\]")
+    return lambda line: opening.sub(rb"\1" + new + b"]", line)
+
+
 def without_no_text(line):
     return line.decode("utf-8", errors="ignore").encode()
 
@@ -254,6 +260,10 @@ LIES = {
     "a refusal that changed the state": ("bytes", rebuilds, told_bad),
     "a place more than the limit": ("scripts", more_room, always),
     "what came after a begin is counted": ("scripts", LateBegin, None),
+    "what was aborted counts": ("scripts", read_as(b',"aborted"', b""), always),
+    "the first version has what was aborted": ("", as_version(rb"", b",2"), always),
+    "any other version is the second": ("grammar", as_version(rb",(?:0|1|3|4|256)", b",2"), always),
+    "the second version is the first": ("scripts", as_version(rb",2", b""), always),
     "minus zero is zero": ("grammar", read_as(b"-0", b"0"), always),
     "a float is a number": ("grammar", read_as(b"5.0", b"5"), always),
     "a byte order mark is skipped": ("grammar", read_as(b"\xef\xbb\xbf", b""), always),

@@ -555,6 +555,22 @@ class Limits(unittest.TestCase):
             import_text("csv", head + apart)
         self.assertEqual(json.loads(import_text("csv", head + apart, 60).lines[0])[1], 60)
 
+    def test_what_a_failed_attempt_wrote_is_in_the_script_where_it_was_read(self):
+        """With its keys, so that the read is told as what it is; else the script is of version 1."""
+        text = sample("sessions.csv")
+        imported = import_text("csv", text)
+        opened, *_, undone, reader, _ = map(json.loads, imported.lines)
+        self.assertEqual((opened, undone[3]), (["open", 3, 3, 2], [[[], [1], "aborted"]]))
+        self.assertEqual(reader[3], [[[[1, 1, 0]], []]])
+        self.assertEqual(imported.names.transactions[1][0].texts, (([1], "line 4: write rent 90"),))
+        unread = import_text("csv", text.replace("carol,0,read,rent,90", "carol,0,read,rent,100"))
+        self.assertEqual(json.loads(unread.lines[0]), ["open", 2, 2])
+        self.assertEqual(judged_script(imported.lines), "violated")
+        head = "session,number,operation,key,value\n"
+        wide = "".join(f"a,0,write,x{at},1\n" for at in range(257)) + "a,0,abort,,\nb,0,read,x7,1\n"
+        lines = import_text("csv", head + wide).lines  # more than a line may have: as ever
+        self.assertEqual(json.loads(lines[1])[3], [[[], []]])
+
     def test_many_transactions(self):
         head = "session,number,operation,key,value\n"
         many = "".join(f"a,{at},write,x,{at + 1}\n" for at in range(4097))

@@ -109,7 +109,7 @@ class File(WithFolder):
     def test_other_versions(self):
         for found, told in (
             (b"", "is no journal"),
-            (b"zanteyard journal 2\n", "version 2"),
+            (b"zanteyard journal 3\n", "version 3"),
             (b"zanteyard journal 12\nwhatever", "version 12"),
             (b'["open",2,16]\n', "is no journal"),
         ):

@@ -118,12 +118,12 @@ class Places(WithJournal):
                 self.assertEqual((auditor.audits, auditor.received), (2, [0, 1, 0]))
         with self.auditor_at_version_2() as auditor, self.assertRaises(JournalVersionError):
             auditor.start_anew()
-        self.assertEqual(self.bytes(), b"zanteyard journal 2\n")
+        self.assertEqual(self.bytes(), b"zanteyard journal 3\n")
 
     def auditor_at_version_2(self):
         os.unlink(self.path)
         auditor = self.auditor()
-        self.overwrite(b"zanteyard journal 2\n")
+        self.overwrite(b"zanteyard journal 3\n")
         return auditor
 
     def test_links_lead_to_one_lock(self):

@@ -135,9 +135,10 @@ class Killed(unittest.TestCase):
             for line in map(json.loads, script):
                 if line[0] in ("offer", "join"):
                     session, first, txns = line[1], line[2] if len(line) == 4 else 0, line[-1]
-                    for number, (_, writes) in enumerate(txns, first):
+                    for number, (_, writes, *aborted) in enumerate(txns, first):
                         self.assertNotIn((session, number), log)
-                        log[session, number] = {self.auditor.names[it] for it in writes}
+                        its = () if aborted else writes
+                        log[session, number] = {self.auditor.names[it] for it in its}
         rows = [row for row in self.rows() if row[1] == self.live.run_name and row[2] >= 0]
         self.assertGreater(len(rows), 0)
         there = {(row[2], row[3], row[0]) for row in rows}

@@ -363,9 +363,11 @@ class Meetings(WithProgram):
 
 
 class MeetingsApart(Meetings):
-    """The same over an auditor in a process of its own."""
+    """The same over an auditor in a process of its own, and over cobra_live where that is there."""
 
     AUDITOR = AuditorApart
+    # It forgets by itself, so that not all remains to be looked at.
+    test_each_session_has_a_fence_and_comes_behind_the_last = None
 
     def kill(self):
         self.auditor.process.kill()
@@ -394,6 +396,15 @@ class MeetingsApart(Meetings):
     def test_a_program_that_is_not_there(self):
         with self.assertRaisesRegex(Ended, "nowhere can't be started"):
             AuditorApart(1, program="/nowhere")
+
+
+class MeetingsApartByTurns(MeetingsApart):
+    """Over cobra_audit there, too."""
+
+    AUDITOR = staticmethod(lambda *arguments: AuditorApart(*arguments, running=""))
+    test_each_session_has_a_fence_and_comes_behind_the_last = (
+        Meetings.test_each_session_has_a_fence_and_comes_behind_the_last
+    )
 
 
 SCRIPTED = """#!{python}

@@ -145,7 +145,9 @@ class Lines(unittest.TestCase):
             b"", b"nonsense", WRITE, b'["open",2,16]', b'["open",0,16,1,0,1]',
             b'["open",65,16,1,0,1]', b'["open",1,0,1,0,1]', b'["open",1,4097,1,0,1]',
             b'["open",1,8,0,0,1]', b'["open",1,8,1,7,1]', b'["open",1,8,1,0,17]',
-            b'["open",1,8,1,0,1',
+            b'["open",1,8,1,0,1', b'["open",1,8,1,0,1,1]', b'["open",1,8,1,0,1,3]',
+            b'["open",1,8,1,0,1,"2"]', b'["open",1,8,1,0,1,2,2]', b'["open",1,8,2]',
+            b'["resume",1,8,1,0,1,2]',
         )
         for first in firsts:
             with self.subTest(first=first):
@@ -153,6 +155,14 @@ class Lines(unittest.TestCase):
                 self.assertEqual((ended.returncode, ended.stdout), (2, b""))
                 self.assertIn(b"no opening", ended.stderr)
         self.assertEqual(given().returncode, 2)
+
+    def test_what_was_aborted_is_told_by_version_2_alone(self):
+        undone, reads = b'["offer",0,0,[[[],[5],"aborted"]]]', b'["offer",1,0,[[[[5,0,0]],[]]]]'
+        self.assertEqual(told_of(OPEN, undone), [["badline", 2], ["end"]])
+        ended = given(OPEN[:-1] + b",2]", undone, reads)
+        judge([OPEN[:-1] + b",2]", undone, reads], ended.stdout)
+        *_, report, end = map(json.loads, ended.stdout.splitlines())
+        self.assertEqual((report[2:], end), (["violated", [1, 1], [["nowrite", 1, 0, 5]]], ["end"]))
 
     def test_a_refused_fragment_is_offered_again(self):
         """What came too early, or found no room, is refused by name, and taken in later."""

@@ -282,7 +282,8 @@ class Telling(WithAuditor):
         with self.assertRaises(OutcomeUnknown):
             a.run(add_one)
         aborted, unknown = self.auditor.history[0][2:]
-        self.assertEqual((aborted.statements, unknown.statements), ((), ((("x",), a.store.statement),)))
+        for one, deed in ((aborted, ("x", (0, 1))), (unknown, ("x",))):
+            self.assertEqual(one.statements, ((deed, a.store.statement),))
         self.assertEqual(self.kind(), "serial")
 
 

@@ -92,7 +92,7 @@ class Noted(unittest.TestCase):
                 self.assertEqual(len(self.failures), 1)
 
     def test_another_version_is_not_guessed_at(self):
-        with mock.patch("zanteyard.notes.VERSION", 3):
+        with mock.patch("zanteyard.notes.VERSION", 9):
             self.notes.write(0, 0, "aborted", None)
         self.assertIsNone(notes_of(self.path))
 
@@ -184,7 +184,10 @@ class Noted(unittest.TestCase):
                     self.unclear(None, did=did)
                     with mock.patch("zanteyard.killed.find_out", return_value=(became, None)):
                         if became == "aborted":
-                            self.assertEqual(self.told()[0], [(0, NOTHING), (1, NOTHING)])
+                            (first, told), rest = self.told()[0]
+                            self.assertEqual((first, rest), (0, (1, NOTHING)))
+                            self.assertEqual((told.outcome, told.reads, told.writes), ("aborted", (), ()))
+                            self.assertEqual([*map(list, told.did)], [[*did.reads], [*did.writes]])
                             continue
                         with self.assertRaisesRegex(LostError, self.UNCLEAR):
                             self.told()
@@ -192,6 +195,14 @@ class Noted(unittest.TestCase):
     def test_where_nothing_of_it_was_committed_nothing_is_unclear(self):
         self.unclear("aborted")
         self.assertEqual(self.told()[0], [(0, NOTHING), (1, NOTHING)])
+
+    def test_what_an_aborted_attempt_had_written_is_told(self):
+        """As it was noted when that was known; and not where the name is to be used again."""
+        self.before(0)
+        undone = Logged((), (), "aborted", tried_reads=[("x", (3, 4))], tried_writes=["x", "y"])
+        self.notes.write(0, 0, "aborted", as_bytes(undone))
+        self.assertEqual(self.told()[0], [(0, undone), (1, NOTHING)])
+        self.assertEqual([*self.told(Place(0, must_join=True))[0]], [])
 
     def test_what_was_told_already_is_not_unclear_once_more(self):
         self.unclear("committed")

@@ -378,6 +378,29 @@ class Postgres(unittest.TestCase):
         self.assertEqual([it.outcome for it in self.auditor.history[0]], ["committed", "aborted", "committed"])
         self.assertEqual(self.kind(), "serial")
 
+    def test_what_aborted_attempts_did_is_logged(self):
+        """Under the names that the store has seen; and the audit stays serial, since the server
+        shows nobody what it took back."""
+        a, b, c = self.sessions()
+        a.run(lambda t: (t.put("x", "1"), t.put("y", "1")))
+        one, other = a.begin(), b.begin()
+        for transaction, coin in ((one, "x"), (other, "y")):
+            transaction.get("x"), transaction.get("y")
+            transaction.put(coin, "0")
+        one.commit()
+        with self.assertRaises(Aborted):
+            other.commit()
+        with self.assertRaises(ZeroDivisionError):
+            c.run(lambda t: (t.exchange("x", "7"), 1 // 0))
+        for reader in (b, c):
+            self.assertEqual(reader.run(lambda t: (t.get("x"), t.get("y"))), ("0", "1"))
+        skewed, undone = self.auditor.history[1][0], self.auditor.history[2][0]
+        self.assertEqual((skewed.outcome, undone.outcome), ("aborted", "aborted"))
+        self.assertEqual(skewed.did, ([("x", (0, 0)), ("y", (0, 0))], ["y"]))
+        self.assertEqual(undone.did, ([("x", (0, 1))], ["x"]))
+        self.assertEqual((skewed.writes, undone.writes), ([], []))
+        self.assertEqual(self.kind(), "serial")
+
     def test_an_answer_that_is_lost(self):
         a = self.sessions(store=Lossy)[0]
         a.run(lambda t: t.put("x", "1"))

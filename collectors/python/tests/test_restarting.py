@@ -316,7 +316,7 @@ class Resumed(WithJournal):
         for found, error in (
             (whole[:middle] + b"?" + whole[middle + 1 :], JournalDamagedError),
             (whole[: len(whole) // 3], JournalDamagedError),  # in its checkpoint
-            (whole.replace(b"journal 1", b"journal 2", 1), JournalVersionError),
+            (whole.replace(b"journal 2", b"journal 3", 1), JournalVersionError),
             (b"", JournalVersionError),
         ):
             self.overwrite(found)

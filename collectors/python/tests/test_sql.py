@@ -246,7 +246,9 @@ class WhatIsSeen(OverAServer):
         self.assertEqual(self.logged(0, 1), (set(), set()))
         client.cursor().execute("UPDATE accounts SET balance = 1 WHERE id = 51")
         client.close()
-        self.assertEqual(self.auditor.history[0][2].outcome, "aborted")
+        undone, lost = self.auditor.history[0][1:]
+        self.assertEqual((undone.outcome, lost.outcome), ("aborted", "aborted"))
+        self.assertEqual((undone.did, lost.did), (([], ["accounts 51"]),) * 2)
         with self.assertRaises(psycopg2.InterfaceError):
             client.cursor()
         self.assertEqual(self.auditor.outcome().kind, "serial")

@@ -26,7 +26,7 @@ reply 4 wrong: owed is ["ok"]
 wrong: replies 4 reports 1 spent 0 not-checked 0
 """
 LIVE = b'["open",1,8,4096,0,1]\n["offer",0,0,[[[],[5]]]]\n'
-HONEST = b"".join([b"fault none\n", *(b"collector %d submitted 9 taken 9\n" % each
+HONEST = b"".join([b"fault none\n", *(b"collector %d submitted 11 taken 11\n" % each
                                       for each in range(4)), b"last serial\nlatest serial\n"])
 # What each is given where it has something to write.
 WORK = {"cobra_audit": SCRIPT, "cobra_check": by_turns(SCRIPT, REPLIES), "cobra_live": LIVE,

@@ -11,14 +11,14 @@ from .built import path_of
 from .live_runs import Live, judge
 
 SECONDS = 60.0  # for what takes some milliseconds
-FAULTS = ("none", "stale-read", "lost-update", "split-read", "session-back")
+FAULTS = ("none", "stale-read", "lost-update", "split-read", "session-back", "dirty-read")
 PLACES = (1, 2, 3, 16, 1024)  # of the desk, which four collectors fill
 OPEN = b'["open",2,4096,4096,0,1]'
 
 
 def shown(fault):
     """What the demonstration owes: all that was submitted is taken, and the fault is found."""
-    collectors = "".join(f"collector {at} submitted 9 taken 9\n" for at in range(4))
+    collectors = "".join(f"collector {at} submitted 11 taken 11\n" for at in range(4))
     kind = "serial" if fault == "none" else "violated"
     return f"fault {fault}\n{collectors}last {kind}\nlatest {kind}\n".encode()
 

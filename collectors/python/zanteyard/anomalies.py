@@ -14,7 +14,7 @@ from typing import Dict, Iterator, List, Mapping, Optional, Sequence, Set, Tuple
 from .auditor import FENCE, PLAIN_FENCE
 from .records import Logged, Names, Source, TransactionId
 from .shrinking import name as plain_name
-from .shrinking import version
+from .shrinking import told_undone, version
 
 Table = Mapping[TransactionId, Logged]
 Arc = Tuple[TransactionId, TransactionId]
@@ -30,7 +30,8 @@ class Anomaly:
 
 
 MEANINGS: Mapping[str, str] = {
-    "dirty read": "a read from an attempt that was aborted, or that never wrote what was read",
+    "dirty read": "Adya's G1a, an aborted read: of what an attempt wrote that was aborted, or "
+    "from what wrote nothing",
     "intermediate read": "a read of what its writer hadn't finished with",
     "impossible read": "a read that no order could give its reader, whatever the others did",
     "lost update": "two transactions read one version of a key, and both overwrote it",
@@ -107,12 +108,13 @@ def _dirty_reads(table: Table, _: object, name: Names) -> Iterator[Anomaly]:
     for reader, logged in table.items():
         for key, source in logged.reads:
             if source in table and key not in table[source].writes:
+                if key in table[source].tried_writes:
+                    told = told_undone(reader, _told(key), source, name)
+                    yield Anomaly("dirty read", told, (source, reader))
+                    continue
                 kind, why = _wrong_read(table[source])
-                yield Anomaly(
-                    kind,
-                    f"{name(reader)} read {_told(key)} from {name(source)}, {why}",
-                    (source, reader),
-                )
+                told = f"{name(reader)} read {_told(key)} from {name(source)}, {why}"
+                yield Anomaly(kind, told, (source, reader))
 
 
 def _wrong_read(source: Logged) -> Tuple[str, str]:

@@ -15,16 +15,18 @@ import subprocess
 import sys
 from multiprocessing.connection import Connection, Pipe
 from multiprocessing.reduction import ForkingPickler
-from typing import Any, Container, List, Optional, Sequence, Tuple
+from typing import Any, Container, List, Optional, Sequence, Tuple, Union
 
 from .auditor import FENCE, Auditor, NoCut
 from .coverage import Coverage
 from .errors import ProgramUnreachableError, RefusedError, ZanteyardError
-from .outcome import RATHER_LOSE_THE_AUDIT
+from .outcome import RATHER_LOSE_THE_AUDIT, Policy
 from .pipes import ENDING, Ended, Late
+from .programs import PROGRAM, found_live
 from .records import Cut, History, Logged, Report, as_bytes, unpacked
 from .resuming import Reopened
-from .taking import EFFORTS, SECONDS, Effort, Fragment, Full, Takes
+from .running import RunningAuditor
+from .taking import EFFORTS, LIMIT, SECONDS, Effort, Fragment, Full, Takes
 
 PLACE = os.path.dirname(os.path.dirname(os.path.abspath(__file__)))
 START = (
@@ -41,17 +43,48 @@ class AuditorApart(Takes):
     """In place of an Auditor: calls go to one in another process, and their results come from
     there. For threads. Raises Ended where that process can't be reached. With a journal another one
     is started then, where it is a call that waits for it; what goes on there are lines' logs, since
-    statements and values are in no journal."""
+    statements and values are in no journal.
+
+    `running` is the file of a cobra_live, which then makes the rounds; an empty one, as a journal,
+    is for cobra_audit alone. Where none is given it is the one that is there, if there is any and
+    `program` is the one that is used where nothing else is asked for."""
 
     process: Any = None
     _connection: Any = None
 
+    def __init__(
+        self,
+        sessions: int,
+        limit: int = LIMIT,
+        program: str = PROGRAM,
+        run_name: Optional[str] = None,
+        script: Optional[str] = None,
+        policy: Policy = RATHER_LOSE_THE_AUDIT,
+        journal: Union[str, Reopened, None] = None,
+        round_seconds: Optional[float] = None,
+        running: Optional[str] = None,
+    ) -> None:
+        self._asked_for = running
+        its = (sessions, limit, program, run_name, script, policy, journal, round_seconds)
+        super().__init__(*its)
+
     def _start(self, coverage: Optional[Coverage]) -> None:
         self.remaining, self.can_cut, self.left_out = 0, True, 0
+        self.running = self._found_running()
+        self.cuts_by_itself = bool(self.running)
         self.audits += 1
         its = (self.sessions, self.limit, self.path, self.run_name)
         files = (self.script_path, self.journal, self.round_seconds)
-        self._begin_process("open", *its, *files, self.audits, coverage, self.has_sessions)
+        more = (self.audits, coverage, self.has_sessions, self.running)
+        self._begin_process("open", *its, *files, *more)
+
+    def _found_running(self) -> str:
+        """The cobra_live that makes the rounds; an empty string where it is cobra_audit."""
+        if self.journal is not None:
+            return ""
+        if self._asked_for is not None:
+            return self._asked_for
+        return found_live() if self.path == PROGRAM else ""
 
     def _begin_process(self, name: str, *arguments: Any) -> None:
         """With this call."""
@@ -239,8 +272,16 @@ class AuditorApart(Takes):
     def close(self, session: int) -> None:
         self._call("close", session)
 
+    def begin_round(self) -> None:
+        if self.running:
+            self._call("begin_round")
+
+    def has_round(self, seconds: float) -> bool:
+        return not self.running or bool(self._call("has_round", seconds))
+
     def last_round(self, efforts: Sequence[Effort] = EFFORTS) -> Report:
-        report: Report = self._call("last_round", efforts)
+        report: Report
+        report, self.left_out, self.remaining = self._call("last_round", efforts)
         return report
 
     def truncate(self) -> Cut:
@@ -348,6 +389,14 @@ class OfPacked(Auditor):
         return as_bytes(logged), left_out
 
 
+class OfPackedRunning(OfPacked, RunningAuditor):
+    """The same over this cobra_live."""
+
+    def __init__(self, *arguments: Any, running: str, **more: Any) -> None:
+        self.running = running
+        super().__init__(*arguments, **more)
+
+
 class Telling(logging.Handler):
     """Keeps the log's lines, with their levels."""
 
@@ -384,12 +433,17 @@ class Served:
         audits: int,
         coverage: Optional[Coverage],
         has_sessions: bool,
+        running: str,
     ) -> None:
         if journal is not None:
             self._tell_log()
-        its = (sessions, limit, program, run_name, script, RATHER_LOSE_THE_AUDIT)
-        more: Any = (journal, round_seconds)
-        self.auditor = OfPacked(*its, *more, audits=audits, coverage=coverage)
+        its: Any = (sessions, limit, program, run_name, script, RATHER_LOSE_THE_AUDIT)
+        its += (journal, round_seconds)
+        more: Any = {"audits": audits, "coverage": coverage}
+        if running:
+            self.auditor = OfPackedRunning(*its, **more, running=running)
+        else:
+            self.auditor = OfPacked(*its, **more)
         if has_sessions:
             self.auditor.note_sessions()
 
@@ -407,6 +461,11 @@ class Served:
         how many transactions remain."""
         refused = {session for session, _, _ in self.auditor.offer_all(fragments, joining)}
         return refused, self.auditor.left_out, self.auditor.remaining
+
+    def last_round(self, efforts: Sequence[Effort]) -> Any:
+        """The report, how many reads were left out, and how many transactions remain."""
+        report = self.auditor.last_round(efforts)
+        return report, self.auditor.left_out, self.auditor.remaining
 
     def truncate(self) -> Any:
         """The cut, and how many transactions remain."""

@@ -20,6 +20,7 @@ from .stints import Stints
 from .taking import Fragment, Full, never_came
 
 logger = logging.getLogger("zanteyard")
+MEANWHILE = 0.04  # seconds, in which more transactions come while a round is made
 AnyAuditor = Union[Auditor, AuditorApart]
 
 
@@ -133,6 +134,13 @@ class Audit:
             self._let_join()
             self._behind = max(self._behind, time.monotonic() - found[0][0])
         return len(found)
+
+    def _take_in_what_fits(self) -> None:
+        """What waits, if there is room without a cut."""
+        held = sum(map(len, self._held.values()))
+        free = self._auditor.limit - self._auditor.remaining - self.reserve - held
+        if free > 0:
+            self.take_in(free)
 
     def _take(self, found: Sequence[HandedIn], joining: Sequence[int] = ()) -> None:
         offers = [
@@ -282,10 +290,11 @@ class Audit:
         """One comes so many seconds after the last, where anything was done."""
         return self.has_news and time.monotonic() - self._figures.told_at >= seconds
 
-    def run_round(self, no_cut: Optional[str] = None) -> None:
+    def run_round(self, no_cut: Optional[str] = None, goes_on: bool = False) -> None:
         """Over all that was taken in, with a cut behind it, but where there is a reason for none;
-        then it is told."""
-        no_cut = no_cut or self.why_no_cut
+        then it is told. It may go on with what waits while the round is made."""
+        no_cut, count = no_cut or self.why_no_cut, self.taken_in
+        wrong = self._go_on_while_it_is_made() if goes_on else None
         self.report = report = self._auditor.last_round()
         self.left_out = self._auditor.left_out
         figures = self._figures
@@ -293,23 +302,45 @@ class Audit:
         figures.kinds[report.kind] = figures.kinds.get(report.kind, 0) + 1
         if figures.awaited is not None:
             figures.awaited = self._awaited()
-        cut = f"no cut: {no_cut}" if no_cut else self._cut(report)
+        cut = self._cut_or_none(report, no_cut)
         now = time.monotonic()
-        rate = (self.taken_in - self._told_of) / max(now - figures.told_at, 0.001)
-        figures.told_at, self._told_of = now, self.taken_in
+        rate = (count - self._told_of) / max(now - figures.told_at, 0.001)
+        figures.told_at, self._told_of = now, count
         figures.lag = max(figures.lag, self._behind)
         figures.told_behind, self._behind = self._behind, 0.0
         self._tell(
-            f"round {report.number}: {report.kind}; {self.taken_in} transactions, "
+            f"round {report.number}: {report.kind}; {count} transactions, "
             f"{rate:.0f} a second, {figures.told_behind:.2f} s behind; "
             f"{self._auditor.remaining} remain; {cut}"
         )
+        if wrong is not None:
+            raise wrong
+
+    def _go_on_while_it_is_made(self) -> Optional[Exception]:
+        """Takes in what waits until the report is there. What that raises is told behind it."""
+        wrong: Optional[Exception] = None
+        self._auditor.begin_round()
+        while not self._auditor.has_round(MEANWHILE):
+            try:
+                if wrong is None:
+                    self._take_in_what_fits()
+            except Exception as error:
+                wrong = error
+        return wrong
 
     def _awaited(self) -> Dict[int, int]:
         if self.report is None or self.report.kind != PENDING:
             return {}
         reads = never_came(self._auditor.history, self._auditor.marks)
         return dict(Counter(one.source[0] for one in reads))
+
+    def _cut_or_none(self, report: Report, no_cut: Optional[str]) -> str:
+        """In words: what was forgotten, or else this, if there is such a reason for none."""
+        if no_cut and not self._auditor.cuts_by_itself:
+            return f"no cut: {no_cut}"
+        cuts = self._figures.cuts
+        told = self._cut(report)
+        return f"no cut: {no_cut}" if no_cut and self._figures.cuts == cuts else told
 
     def _cut(self, report: Report) -> str:
         """In words."""

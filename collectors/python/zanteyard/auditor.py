@@ -11,12 +11,12 @@ from typing import Any, Container, Dict, List, Mapping, Optional, Sequence, Tupl
 
 from .coverage import Coverage
 from .errors import AuditLostError, JournalError, NoCutError, NoMemoryError, NotAnchoredError
-from .errors import RefusedError, RoundTooLongError
+from .errors import ProgramTooOldError, RefusedError, RoundTooLongError
 from .journal_entries import Head
 from .outcome import RATHER_LOSE_THE_AUDIT, Policy
 from .pipes import Ended, Late, Pipes
 from .programs import PROGRAM as PROGRAM
-from .records import Cut, Logged, Report, TransactionId
+from .records import ABORTED, Cut, Logged, Report, TransactionId
 from .restarting import Restarting
 from .resuming import Reopened, journaled, reopened
 from .stints import Stints
@@ -28,6 +28,12 @@ NoMemory = NoMemoryError
 NoCut = NoCutError
 
 LONGEST = 256  # transactions of one line
+FORM = 2  # of scripts: in the first nothing tells what was aborted
+BAD_LINE = "BadLine"
+TOO_OLD = (
+    f"is an auditor of an earlier version than this package: it doesn't know scripts of version "
+    f"{FORM}, which tell what was aborted. Build it anew, or name another one"
+)
 WAITS = (0.1, 0.5)  # seconds after which a line that was answered NoMemory is given again
 FENCE = "zanteyard fence"  # the key on which sessions run fences; its number is 0
 MARK = "zanteyard mark"  # a key that a meeting writes behind its fence, for all sessions to read
@@ -109,11 +115,23 @@ class Auditor(Takes):
             if isinstance(self.journal, Reopened):
                 self._go_on_by(self.journal)
             else:
-                self.program = self._started(self.journal)
-                self.ask(["open", self.sessions, self.limit])
+                self._begin_program()
         except BaseException:
             self._end_program()
             raise
+
+    def _begin_program(self) -> None:
+        self.program = self._started(self.journal)
+        self._open()
+
+    def _open(self) -> None:
+        """Raises ProgramTooOldError where the program doesn't know of what was aborted."""
+        try:
+            self.ask(["open", self.sessions, self.limit, FORM])
+        except RefusedError as error:
+            if not str(error).endswith(BAD_LINE):
+                raise
+            raise ProgramTooOldError(f"{self.path} {TOO_OLD}") from error
 
     def _started(self, journal: Union[str, Reopened, None]) -> Union[Pipes, Restarting]:
         if journal is None:
@@ -357,14 +375,17 @@ class Auditor(Takes):
         return self.coverage.moved(logged)
 
     def txn(self, logged: Any) -> List[Any]:
-        """A transaction as lines have it."""
+        """A transaction as lines have it. What an attempt did that was aborted counts for nothing,
+        and one that did nothing is told like any other that is idle."""
+        did_read, did_write = logged.did
         reads = sorted(
             (self.key_number(key), *(() if source == "init" else source))
-            for key, source in logged.reads
+            for key, source in did_read
         )
         # "init" comes before every transaction
         texts = [read if len(read) > 1 else (*read, "init") for read in reads]
-        return [texts, sorted(map(self.key_number, logged.writes))]
+        its = [texts, sorted(map(self.key_number, did_write))]
+        return [*its, ABORTED] if logged.is_undone else its
 
     def key_number(self, key: str) -> int:
         """Which stands for the key in lines; a new one, where it has none yet."""

@@ -84,8 +84,9 @@ def caller_of(logged: Logged) -> str:
 
 def values_of(logged: Logged) -> Dict[Tuple[str, str], str]:
     """What was read from and written to each key that it still is about."""
-    found: Dict[Tuple[str, str], List[str]] = {("read", key): [] for key, _ in logged.reads}
-    found.update({("wrote", key): [] for key in logged.writes})
+    did_read, did_write = logged.did
+    found: Dict[Tuple[str, str], List[str]] = {("read", key): [] for key, _ in did_read}
+    found.update({("wrote", key): [] for key in did_write})
     for kind, key, text in logged.values:
         its = found.get((kind, key))
         if its is not None and text not in its:
@@ -97,7 +98,7 @@ def circumstances(history: History, names: Names) -> Iterator[str]:
     """A line for each transaction of which something is known."""
     for session, transactions in enumerate(history):
         for number, logged in enumerate(transactions):
-            if not (logged.reads or logged.writes):
+            if not any(logged.did):
                 continue
             began = [f"began at {clock_of(logged)}"] if logged.began else []
             came = [f"from {caller_of(logged)}"] if logged.caller else []

@@ -65,8 +65,20 @@ class Coverage:
         is_unknown = any(start <= number < end for start, end in self.unknown[session])
         return "init" if number < self.early[session] and not is_unknown else None
 
+    def _with_tried(self, logged: Logged) -> Logged:
+        if not logged.tried_reads:
+            return logged
+        moved = {
+            (key, it if isinstance(it, str) else self.source(*it)) for key, it in logged.tried_reads
+        }
+        return logged._replace(
+            tried_reads=sorted((read for read in moved if read[1] is not None), key=repr)
+        )
+
     def moved(self, logged: Logged) -> Tuple[Logged, int]:
-        """What was logged, and how many of its reads were left out."""
+        """What was logged, and how many of its reads were left out. Those of an attempt that was
+        aborted count for nothing, and so aren't counted."""
+        logged = self._with_tried(logged)
         reads = [(key, it if isinstance(it, str) else self.source(*it)) for key, it in logged.reads]
         kept = [(key, source) for key, source in reads if source is not None]
         if kept == list(logged.reads):

@@ -1,5 +1,6 @@
 """A story's transactions on a time line by session, as SVG: a lane for each session, time to the
-right, and an arc from what comes before to what comes after. Nothing in it is from outside."""
+right, and an arc from what comes before to what comes after. What was aborted is dashed, and so is
+a read of it. Nothing in it is from outside."""
 
 from __future__ import annotations
 
@@ -7,7 +8,7 @@ from dataclasses import dataclass
 from html import escape
 from typing import Dict, List, Mapping, Sequence, Tuple
 
-from .records import TransactionId
+from .records import ABORTED, TransactionId
 from .stories import IN_ONE_SESSION, Link, Step, Story
 
 WIDTH, GAP, LANE_GAP = 210.0, 130.0, 76.0  # of a box, and between boxes, in the picture's units
@@ -78,7 +79,15 @@ def boxes_of(story: Story) -> Dict[TransactionId, Box]:
 
 
 def _height(step: Step) -> float:
-    return 2 * PADDING + LINE * (1 + max(1, len(step.deeds)))
+    return 2 * PADDING + LINE * (1 + len(_told(step)))
+
+
+def _told(step: Step) -> List[str]:
+    """The lines of its box."""
+    told = [deed.text for deed in step.deeds]
+    if step.outcome == ABORTED:
+        return [*told, ABORTED]
+    return told or ["did nothing that matters here"]
 
 
 def draw_story(story: Story) -> str:
@@ -118,8 +127,13 @@ def draw_story(story: Story) -> str:
 def _reads(steps: Sequence[Step]) -> List[Link]:
     """From whom each transaction read: what is drawn where there is no one circle."""
     names = {step.id: step.name for step in steps}
+    aborted = {step.id for step in steps if step.outcome == ABORTED}
+
+    def told(one: TransactionId) -> str:
+        return f"{names[one]}, which had aborted" if one in aborted else names[one]
+
     return [
-        Link(source, step.id, f"{step.name} read from {names[source]}", False)
+        Link(source, step.id, f"{step.name} read from {told(source)}", False, source in aborted)
         for step in steps
         for source in dict.fromkeys(step.sources)
         if source in names
@@ -151,9 +165,7 @@ def _lanes(story: Story, boxes: Mapping[TransactionId, Box], right: float) -> Li
 
 
 def _box(step: Step, box: Box) -> str:
-    deeds = [deed.text for deed in step.deeds] or [
-        "aborted" if step.outcome == "aborted" else "did nothing that matters here"
-    ]
+    deeds = _told(step)
     lines = "".join(
         f'<text class="deed" x="{box.left + PADDING:.1f}" '
         f'y="{box.top + PADDING + LINE * (at + 1.7):.1f}">{escape(_short(deed))}</text>'
@@ -161,8 +173,9 @@ def _box(step: Step, box: Box) -> str:
     )
     run = [deed.statement for deed in step.deeds if deed.statement]
     more = f"{step.name}: {'; '.join(run or deeds)}"
+    dashed = " aborted" if step.outcome == ABORTED else ""
     return (
-        f'<g class="transaction"><title>{escape(more)}</title>'
+        f'<g class="transaction{dashed}"><title>{escape(more)}</title>'
         f'<rect x="{box.left:.1f}" y="{box.top:.1f}" width="{WIDTH:.0f}" '
         f'height="{box.height:.1f}" rx="6"/>'
         f'<text class="name" x="{box.left + PADDING:.1f}" '
@@ -193,6 +206,7 @@ def _arc(link: Link, boxes: Mapping[TransactionId, Box], number: int) -> Tuple[s
             first[1] / 4 + bent[1] / 2 + last[1] / 4,
         )
     kind, colour = ("circle", "red") if link.is_of_circle else ("other", "grey")
+    kind += " aborted" if link.is_of_aborted else ""
     badge = (
         f'<circle cx="{middle[0]:.1f}" cy="{middle[1]:.1f}" r="11"/>'
         f'<text class="number" x="{middle[0]:.1f}" y="{middle[1] + 4.5:.1f}">{number}</text>'

@@ -15,6 +15,11 @@ class ProgramMissingError(ZanteyardError):
     """There is no auditor to start: none was named, none came with the package, none is built."""
 
 
+class ProgramTooOldError(ZanteyardError):
+    """The program is of an earlier version, which doesn't know lines that this package writes.
+    Nothing has begun."""
+
+
 class ProgramEndedError(ZanteyardError):
     """The program ended, or can't be reached, and what it knew is gone with it."""
 

@@ -13,7 +13,7 @@ from dataclasses import dataclass
 from typing import Any, Dict, Iterable, Iterator, List, NamedTuple, Optional, Tuple
 
 from .records import History, Logged, Names, TransactionId
-from .shrinking import SECONDS, name, version
+from .shrinking import SECONDS, name, told_undone, version
 
 
 class Arc(NamedTuple):
@@ -59,6 +59,9 @@ def wrong_reads(history: History, name: Names = name) -> Iterator[str]:
     for reader, logged in txns.items():
         for key, source in logged.reads:
             if source in txns and key not in txns[source].writes:
+                if key in txns[source].tried_writes:
+                    yield told_undone(reader, key, source, name)
+                    continue
                 why = NO_WRITE.get(txns[source].outcome, "which didn't write it")
                 yield f"{name(reader)} read {key} from {name(source)}, {why}"
 

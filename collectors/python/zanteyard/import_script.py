@@ -4,12 +4,13 @@ sessions, under which numbers, and the names that they are told by."""
 from __future__ import annotations
 
 import json
-from dataclasses import dataclass, field
+from dataclasses import dataclass, field, replace
 from typing import Any, Dict, Iterator, List, Optional, Sequence, Set, Tuple, Union
 
+from .auditor import FORM
 from .errors import ImportRefusedError
 from .import_times import EVERY, Times, check_times, part_of
-from .recorded import ABORTED, COMMITTED, UNKNOWN, Attempt, Recording, counted
+from .recorded import ABORTED, APPEND, COMMITTED, UNKNOWN, WRITE, Attempt, Recording, counted
 from .records import TransactionId
 from .script_names import NamedTransaction, ScriptNames
 from .sources import DRAFT, Absent, Origin, Sources, Stub
@@ -129,7 +130,8 @@ class _ScriptMaker:
         count = sum(map(len, offered))
         if count > LIMIT and not self._pauses:
             raise ImportRefusedError(0, too_many(count))
-        yield ["open", len(offered), min(LIMIT, count)]
+        tells_aborted = any(txn[2:] for transactions in offered for txn in transactions)
+        yield ["open", len(offered), min(LIMIT, count), *([FORM] if tells_aborted else [])]
         given = [0] * len(offered)
         for pause, fences in enumerate(self._plan.fences):
             ends = {fence.session: self._places[fence][1] + 1 for fence in fences}
@@ -295,7 +297,7 @@ class _ScriptMaker:
     def _offered(self, item: Item) -> Tuple[List[Any], NamedTransaction]:
         """A transaction as a line has it, and as it is told."""
         if isinstance(item, Stub):
-            return [[], []], _named_stub(item, self._attempts)
+            return self._stub(item)
         if isinstance(item, Fence):
             return self._fence(item), NamedTransaction(item.name(), COMMITTED)
         attempt, its = self._attempts[item], self._of[item]
@@ -314,6 +316,16 @@ class _ScriptMaker:
         return offered, NamedTransaction(
             attempt.name, attempt.outcome, tuple(texts), attempt.where
         )
+
+    def _stub(self, stub: Stub) -> Tuple[List[Any], NamedTransaction]:
+        """With the keys that an attempt wrote, where it was aborted."""
+        named = _named_stub(stub, self._attempts)
+        written = _written(self._attempts[stub.owner]) if stub.kind == ABORTED else {}
+        if not written or len(written) > LONGEST:
+            return [[], []], named
+        texts = sorted((self._key(key), text) for key, text in written.items())
+        named = replace(named, texts=tuple(([key], text) for key, text in texts))
+        return [[], [key for key, _ in texts], ABORTED], named
 
     def _fence(self, fence: Fence) -> List[Any]:
         """It reads from the one before it, whoever made that."""
@@ -410,6 +422,15 @@ def _offers(session: int, first: int, transactions: List[Any]) -> Iterator[List[
     """The lines that offer a session's transactions, but for so many that were offered before."""
     for start in range(first, len(transactions), LONGEST):
         yield ["offer", session, start, transactions[start : start + LONGEST]]
+
+
+def _written(attempt: Attempt) -> Dict[str, str]:
+    """Of each key that it wrote, what the file has for that."""
+    found: Dict[str, List[str]] = {}
+    for access in attempt.accesses:
+        if access.kind in (WRITE, APPEND):
+            found.setdefault(access.key, []).append(access.text)
+    return {key: " ".join(texts) for key, texts in found.items()}
 
 
 def _named_stub(stub: Stub, attempts: Tuple[Attempt, ...]) -> NamedTransaction:

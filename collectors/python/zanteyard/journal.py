@@ -16,9 +16,10 @@ from typing import Iterable, List, NoReturn, Optional
 from .errors import JournalDamagedError, JournalError, JournalInUseError, JournalVersionError
 from .journal_records import record, records
 
-VERSION = 1
+VERSION = 2
 NAME = b"zanteyard journal "
 FIRST_LINE = NAME + b"%d\n" % VERSION
+EARLIER = NAME + b"1\n"  # in which nothing tells what was aborted; it is as long
 FLAGS = os.O_RDWR | os.O_APPEND | os.O_CLOEXEC
 logger = logging.getLogger("zanteyard")
 
@@ -59,7 +60,7 @@ class Journal:
                 found = file.read()
         except OSError as error:
             self._fail("can't be read", error)
-        if not found.startswith(FIRST_LINE):
+        if not found.startswith((FIRST_LINE, EARLIER)):
             raise JournalVersionError(f"{self.path} {_other_version(found)}")
         texts, self.size = [], len(FIRST_LINE)
         try:

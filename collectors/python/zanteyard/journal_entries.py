@@ -1,8 +1,9 @@
 """What a journal's records say: a checkpoint, and behind it what was done since.
 
 Each record is a letter and what follows it. A checkpoint is the audit's head, the names of the keys
-that aren't in front of it, the violations that were told, and the lines by which a program is
-brought where another one stood; its last record says that it is whole. Behind it come lines that
+that aren't in front of it, the violations that were told, what attempts did that were aborted, of
+which a program keeps that they are there and no more, and the lines by which a program is brought
+where another one stood; its last record says that it is whole. Behind it come lines that
 were answered ok, the names of keys in front of the first line that has them, how many rounds were
 told and the like, and what was told of a violation; and later checkpoints, each as one record, so
 that it is there whole or not at all.
@@ -20,6 +21,8 @@ from .journal_records import record, records
 
 HEAD, KEYS, SAVED, WHOLE = b"H", b"K", b"S", b"W"
 LINE, FIGURES, VIOLATED, CHECKPOINT = b"L", b"F", b"V", b"C"
+UNDONE = b"A"
+RESUME, FORM = b'["resume",', b",2]"  # in an earlier version's journals the latter is missing
 
 
 class Violation(NamedTuple):
@@ -57,6 +60,7 @@ class Kept:
     names: List[str] = field(default_factory=list)  # of keys, by their numbers
     violations: List[Violation] = field(default_factory=list)
     lines: List[bytes] = field(default_factory=list)
+    undone: List[Any] = field(default_factory=list)  # sessions and numbers, each with its form
     saved: int = 0
     is_whole: bool = False  # the checkpoint was read to its end
 
@@ -65,7 +69,9 @@ class Kept:
         if (kind == SAVED) == self.is_whole and kind in (SAVED, LINE):
             raise ValueError("a line stands where none may be")
         if kind == SAVED or kind == LINE:
-            self.lines.append(text)
+            self.lines.append(_of_this_version(text))
+        elif kind == UNDONE:
+            self.undone += json.loads(text)
         elif kind == KEYS:
             first, names = json.loads(text)
             if first != len(self.names):
@@ -115,14 +121,26 @@ def _each(texts: Iterable[bytes]) -> Iterator[bytes]:
             yield text
 
 
+def _of_this_version(line: bytes) -> bytes:
+    """So that what comes behind it may tell what was aborted."""
+    if line.startswith(RESUME) and line.count(b",") == 2:
+        return line[:-1] + FORM
+    return line
+
+
 def checkpoint(
-    head: Head, names: bytes, violations: Iterable[Violation], saved: Sequence[bytes]
+    head: Head,
+    names: bytes,
+    violations: Iterable[Violation],
+    saved: Sequence[bytes],
+    undone: Sequence[Any] = (),
 ) -> List[bytes]:
     """As records' texts; the names of those keys that are in front of it nowhere."""
     return [
         HEAD + _text(vars(head)),
         names,
         *map(violated, violations),
+        *([UNDONE + _text(undone)] if undone else []),
         *(SAVED + line for line in saved),
         WHOLE + _text(len(saved)),
     ]

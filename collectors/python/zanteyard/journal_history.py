@@ -4,10 +4,10 @@ from __future__ import annotations
 
 import json
 from dataclasses import dataclass, field
-from typing import Any, Dict, List, Sequence
+from typing import Any, Dict, Iterable, List, Sequence
 
 from .errors import JournalDamagedError
-from .records import History, Logged, TransactionId
+from .records import ABORTED, History, Logged, TransactionId
 
 Line = List[Any]
 LAST = b'["last",'
@@ -52,6 +52,12 @@ class State:
         self.closed[session] = False
         self.remaining[session] += txns
 
+    def put_undone(self, undone: Iterable[Sequence[Any]]) -> None:
+        """What attempts did that were aborted, which the lines of a checkpoint have as idle ones:
+        of each the session, the number, and its form in a line."""
+        for session, number, txn in undone:
+            self.remaining[session][number - self.gone[session]] = txn
+
     @property
     def received(self) -> List[int]:
         return [gone + len(txns) for gone, txns in zip(self.gone, self.remaining)]
@@ -80,7 +86,10 @@ def state_of(lines: Sequence[bytes], has_last: bool = True) -> State:
 
 def _logged(txn: Sequence[Any], names: Sequence[str]) -> Logged:
     reads = [(_name(key, names), it[0] if len(it) == 1 else (it[0], it[1])) for key, *it in txn[0]]
-    return Logged(reads, [_name(key, names) for key in txn[1]])
+    writes = [_name(key, names) for key in txn[1]]
+    if txn[2:] == [ABORTED]:
+        return Logged((), (), ABORTED, tried_reads=reads, tried_writes=writes)
+    return Logged(reads, writes)
 
 
 def _name(key: int, names: Sequence[str]) -> str:

@@ -2,12 +2,15 @@
 
 from __future__ import annotations
 
-from typing import Any, Callable, List, Optional, Sequence, Tuple
+import json
+from typing import Any, Callable, Dict, Iterable, List, Optional, Sequence, Tuple
 
 from .journal import Journal
 from .journal_entries import Head, Kept, Violation, checkpoint, figures, kept_in, keys, later, line
 from .journal_entries import violated
+from .records import ABORTED, TransactionId
 
+TELLS_ABORTED = b'"%s"' % ABORTED.encode()
 GROWS = 1 << 20  # bytes that a file grows by, or as much as it had, before it is written anew
 
 
@@ -33,6 +36,12 @@ class Keeping:
         self._noted = len(kept.names) if kept else 0  # names that the journal has
         self._figures = self._figures_by_now()  # as the journal has them
         self.changes = len(kept.lines) - kept.saved if kept else 0  # lines behind the checkpoint
+        # What attempts did that were aborted, as lines have it: a program gives out that they are
+        # there, and no more.
+        self._undone: Dict[TransactionId, Any] = {}
+        if kept is not None:
+            self._undone.update(((its[0], its[1]), its[2]) for its in kept.undone)
+            self._note_undone(kept.lines[kept.saved :])
         self._has_begun = kept is not None  # it tells of this audit
         self._due = 0  # the file's size at which it is written anew; at first so, where it is old
 
@@ -53,6 +62,22 @@ class Keeping:
         """Lines that were answered ok."""
         self._note([*map(line, lines)])
         self.changes += len(lines)
+        self._note_undone(lines)
+
+    def _note_undone(self, lines: Iterable[bytes]) -> None:
+        for each in lines:
+            if TELLS_ABORTED in each:
+                _, session, *more = json.loads(each)
+                first, txns = more if len(more) == 2 else (0, more[0])
+                its = ((number, txn) for number, txn in enumerate(txns, first) if txn[2:])
+                self._undone.update(((session, number), txn) for number, txn in its)
+
+    def _undone_of(self, saved: Sequence[bytes]) -> List[Any]:
+        """Of what remains by these."""
+        if self._undone:
+            _, gone, _ = json.loads(saved[1])
+            self._undone = {it: txn for it, txn in self._undone.items() if it[1] >= gone[it[0]]}
+        return [[*it, txn] for it, txn in self._undone.items()]
 
     def note_report(self, violation: Optional[List[Any]]) -> None:
         """One more round, which was answered so if it was violated."""
@@ -78,18 +103,21 @@ class Keeping:
         of use. What is flushed to the disk is dear."""
         head, count, its = self._head(), len(self._names), self._figures_by_now()
         head.rounds, head.left_out, head.is_of_sessions = its
-        if not self._append_checkpoint(head, count, saved):
+        its_undone = self._undone_of(saved)
+        if not self._append_checkpoint(head, count, saved, its_undone):
             names = keys(0, self._names[:count])
-            self.journal.begin_anew(checkpoint(head, names, self.violations, saved))
+            self.journal.begin_anew(checkpoint(head, names, self.violations, saved, its_undone))
             self._due = self.journal.size + max(GROWS, self.journal.size)
         self._noted, self._has_begun, self._figures, self.changes = count, True, its, 0
 
-    def _append_checkpoint(self, head: Head, count: int, saved: Sequence[bytes]) -> bool:
+    def _append_checkpoint(
+        self, head: Head, count: int, saved: Sequence[bytes], its_undone: Sequence[Any]
+    ) -> bool:
         """Whether there is room for it behind what is there."""
         if not self._has_begun:
             return False
         names = keys(self._noted, self._names[self._noted : count])
-        behind = later(checkpoint(head, names, self.violations, saved))
+        behind = later(checkpoint(head, names, self.violations, saved, its_undone))
         has_room = self.journal.size + len(behind) <= self._due
         if has_room:
             self.journal.append([behind])

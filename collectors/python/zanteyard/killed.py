@@ -18,7 +18,7 @@ from .asking import find_out
 from .auditor import FENCE, FLAG
 from .backlog import Backlog, keys_written_unseen
 from .notes import Note, notes_of
-from .records import Logged, as_bytes, unpacked
+from .records import Logged, TransactionId, as_bytes, undone, unpacked
 from .sessions import Place
 
 SECONDS = 5.0  # in which the store is asked for one outcome
@@ -127,6 +127,8 @@ class Killed:
             if not packed:
                 raise LostError("its notes lack what it did")
             return unpacked(packed)
+        if answered.outcome == "aborted" and answered.packed:
+            return unpacked(answered.packed)
         if answered.outcome == "aborted" or not answered.is_last:
             return NOTHING
         if before is None or not before[0].packed:
@@ -143,7 +145,7 @@ class Killed:
         told = f"{note.session}.{note.number} of a killed process"
         logger.info("%s is %s by the store's word", told, outcome)
         if outcome == "aborted":
-            return NOTHING
+            return undone_alone((note.session, note.number), logged)
         if note.unclear is not None:
             raise LostError(note.unclear)
         if outcome == "committed" and note.has_reads:
@@ -189,6 +191,16 @@ def without_end(found: List[Tuple[int, Logged]]) -> List[Tuple[int, Logged]]:
 def is_without_use(logged: Logged) -> bool:
     its = (*logged.writes, *(key for key, _ in logged.reads))
     return all(key.startswith(FLAG) for key in its)
+
+
+def undone_alone(id: TransactionId, logged: Logged) -> Logged:
+    """What was noted, where nothing of it was committed."""
+    reads, writes = undone(id, logged.reads, logged.writes, FENCE)
+    if not (reads or writes):
+        return NOTHING
+    return logged._replace(
+        reads=(), writes=(), outcome="aborted", tried_reads=reads, tried_writes=writes
+    )
 
 
 def writes_alone(logged: Logged) -> Logged:

@@ -387,7 +387,7 @@ class LiveAuditor(SessionsHere):
         if self._is_meeting_due():
             self._meet()
         elif audit.is_round_due(self._pace.seconds):
-            audit.run_round("no meeting yet")
+            audit.run_round("no meeting yet", goes_on=True)
         if self.cuts > self._cuts_seen:
             self._cuts_seen = self.cuts
             self._places.come_back(audit.vacant())
@@ -412,7 +412,7 @@ class LiveAuditor(SessionsHere):
         if audit.is_violated:  # by a round that was to make room
             return
         before = self.cuts
-        audit.run_round()
+        audit.run_round(goes_on=True)
         if self.cuts > cuts:
             self._in_vain, self._may_meet_at = 0, time.monotonic() + SOON_AGAIN
         if self.cuts == before and audit.why_no_cut is None:

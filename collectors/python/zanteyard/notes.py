@@ -16,7 +16,7 @@ import struct
 import zlib
 from typing import Any, Callable, Dict, Iterator, List, NamedTuple, Optional
 
-VERSION = 2
+VERSION = 3
 HEAD = struct.Struct("<II")
 ROOM = 1 << 16  # bytes of a file, asked for as it is made: they are there on a full disk, too
 TURN = 3 << 14  # bytes, behind which the other file is used, if it may be
@@ -28,9 +28,10 @@ logger = logging.getLogger("zanteyard")
 class Note(NamedTuple):
     """Of a transaction: `outcome` is None before its commit is sent, and then what was logged;
     `packed` is what is to be logged where it was committed, None where another note has it, or
-    there is none; `ticket` is by what the store is asked for it; `has_reads` tells whether what it
-    reads is known, as it is of all but statements that are committed by themselves; `is_last` is
-    that of its session's end; `unclear` says why what it did isn't known, if that is so."""
+    there is none, or what an attempt that was aborted had done; `ticket` is by what the store
+    is asked for it; `has_reads` tells whether what it reads is known, as it is of all but
+    statements that are committed by themselves; `is_last` is that of its session's end;
+    `unclear` says why what it did isn't known, if that is so."""
 
     session: int
     number: int

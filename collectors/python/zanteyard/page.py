@@ -9,6 +9,7 @@ from typing import Iterable, List, Sequence
 from .anomalies import MEANINGS
 from .charts import RoundSeen, draw_rounds
 from .drawing import draw_story
+from .records import ABORTED
 from .stories import SHOWN, Step, Story
 from .version import VERSION
 
@@ -37,7 +38,9 @@ svg .name { font-weight: 700; } svg .session, svg .tick { fill: var(--soft); fon
 svg .label { font-weight: 600; } svg .end { text-anchor: end; }
 svg .lane { stroke: var(--line); stroke-width: 2; stroke-dasharray: 3 4; }
 svg .transaction rect { fill: var(--box); stroke: #9aa7b6; stroke-width: 1.2; }
+svg .transaction.aborted rect { stroke-dasharray: 7 5; }
 svg .arc path { fill: none; stroke-width: 2.2; }
+svg .arc.aborted path { stroke-dasharray: 7 5; }
 svg .arc.circle path { stroke: var(--red); } svg .arc.other path { stroke: #8491a1; }
 svg .arc circle { stroke: #fff; stroke-width: 1.5; }
 svg .arc.circle circle { fill: var(--red); } svg .arc.other circle { fill: #5d6a7a; }
@@ -153,6 +156,8 @@ def _picture(story: Story) -> Iterable[str]:
         )
     else:
         caption += "A grey arrow leads from a writer to who read from it."
+    if any(step.outcome == ABORTED for step in story.steps):
+        caption += " What was aborted is dashed."
     yield f"<figcaption>{caption}</figcaption></figure>"
 
 

@@ -4,10 +4,10 @@ from __future__ import annotations
 
 import shutil
 import subprocess
-from typing import List, Optional, Sequence
+from typing import Iterator, List, Optional, Sequence, Tuple
 
-from .explain import Arc, below, explain_history
-from .records import History, Names
+from .explain import Arc, below, explain_history, table
+from .records import ABORTED, History, Names, TransactionId
 from .shrinking import deeds, name, statements_of
 
 DRAWING = 20.0  # seconds for `dot`
@@ -23,7 +23,8 @@ def dot_text(
 ) -> str:
     """Each transaction with what it did, a column for each session. The arcs are an explanation's,
     which is made where none are given. They are bold and red, those from which they follow are
-    grey; an arc goes from what comes before to what comes after."""
+    grey; an arc goes from what comes before to what comes after. What was aborted is dashed, and so
+    is a read of it."""
     around = explain_history(history, name).arcs if arcs is None else arcs
     lines = [
         "digraph violation {",
@@ -36,12 +37,27 @@ def dot_text(
                 label = quoted(its, *deeds(logged, name))
                 run = [*statements_of(logged)]  # seen in the SVG where the pointer rests on it
                 more = f", tooltip={quoted(*run)}" if run else ""
+                more += ", style=dashed" if logged.outcome == ABORTED else ""
                 lines.append(f"  {quoted(its)} [label={label}, group=session{session}{more}];")
+    for reader, key, source in _reads_of_aborted(history):
+        ends = f"{quoted(name(source))} -> {quoted(name(reader))}"
+        lines.append(f"  {ends} [label={quoted(f'read {key}')}, style=dashed];")
     for arc in below(around):
         style = "color=red, penwidth=2" if arc in around else "color=grey, fontcolor=grey40"
         ends = f"{quoted(name(arc.start))} -> {quoted(name(arc.end))}"
         lines.append(f"  {ends} [label={quoted(arc.why)}, {style}];")
     return "\n".join([*lines, "}", ""])
+
+
+def _reads_of_aborted(
+    history: History,
+) -> Iterator[Tuple[TransactionId, str, TransactionId]]:
+    """Who read which key from whom."""
+    txns = table(history)
+    for reader, logged in txns.items():
+        for key, source in logged.reads:
+            if source in txns and txns[source].outcome == ABORTED:
+                yield reader, key, source
 
 
 def draw(

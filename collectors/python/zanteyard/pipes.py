@@ -22,6 +22,8 @@ class Pipes:
     """For one thread at a time. What an interrupt leaves half done may have an answer be read for
     another line: from then on, and once it was killed, every call raises Ended."""
 
+    program = "cobra_audit"  # how it is told
+
     def __init__(self, path: str) -> None:
         pipe = subprocess.PIPE
         try:
@@ -72,7 +74,7 @@ class Pipes:
         except BrokenPipeError:
             self.tell_end()
         except (OSError, ValueError) as error:
-            raise Ended(f"cobra_audit can't be reached: {error}") from error
+            raise Ended(f"{self.program} can't be reached: {error}") from error
 
     def write(self, until: float) -> None:
         """What the program takes, unless answers have to be read first."""
@@ -83,13 +85,13 @@ class Pipes:
         except BlockingIOError:
             self.is_in_step = True
             if not self.waits.poll(0) and not self.takes.poll(self.left(until)):
-                raise Late("cobra_audit hasn't answered in time") from None
+                raise Late(f"{self.program} hasn't answered in time") from None
 
     def read(self, until: float, is_blocking: bool) -> None:
         left = self.left(until) if is_blocking else 0
         if not self.waits.poll(left):
             if is_blocking:
-                raise Late("cobra_audit hasn't answered in time")
+                raise Late(f"{self.program} hasn't answered in time")
             return
         self.is_in_step = False
         got = os.read(self.output.fileno(), 1 << 20)
@@ -105,7 +107,7 @@ class Pipes:
 
     def tell_end(self) -> NoReturn:
         status, error = self.end(), self.error
-        raise Ended(f"cobra_audit ended with status {status}: {error}")
+        raise Ended(f"{self.program} ended with status {status}: {error}")
 
     error = ""  # what it told as it ended
 

@@ -67,6 +67,15 @@ def live_path(environment: Mapping[str, str] = os.environ) -> str:
     return _path(environment, LIVE_ENVIRONMENT, LIVE, LIVE_BUILT)
 
 
+def found_live(environment: Mapping[str, str] = os.environ) -> str:
+    """The running auditor, if it is there and can be started; else an empty string. Where the
+    environment names an auditor and no running one, it is one beside that."""
+    path = live_path(environment)
+    if environment.get(ENVIRONMENT) and not environment.get(LIVE_ENVIRONMENT):
+        path = os.path.join(os.path.dirname(environment[ENVIRONMENT]), LIVE)
+    return path if os.path.isfile(path) and os.access(path, os.X_OK) else ""
+
+
 def _path(environment: Mapping[str, str], name: str, program: str, built: str) -> str:
     named = environment.get(name)
     if named:

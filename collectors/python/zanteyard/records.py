@@ -3,7 +3,8 @@
 from __future__ import annotations
 
 import marshal
-from typing import Any, Callable, List, NamedTuple, Optional, Protocol, Sequence, Tuple, Union
+from typing import Any, Callable, Iterable, List, NamedTuple, Optional, Protocol, Sequence
+from typing import Tuple, Union
 
 TransactionId = Tuple[int, int]  # session and number
 Source = (
@@ -14,11 +15,17 @@ Deed = Union[Read, Tuple[str]]  # a read, or (key,) for a write
 Name = Tuple[str, int, int]  # beside a value: the run, the session, the number
 Found = Tuple[Any, Name]  # a value, and the name beside it
 Names = Callable[[TransactionId], str]  # how a transaction is told
+ABORTED = "aborted"  # an outcome, and what lines have behind what such an attempt did
+MOST = 256  # reads, or writes, that a line may have of a transaction
+SESSIONS, NUMBERS = 64, 1 << 48  # what names a transaction in a line is below these
 
 
 class Logged(NamedTuple):
     """What one transaction did. `outcome` is "committed", "aborted" or "unknown"; "forgotten" of
     what stands for transactions that the auditor has forgotten.
+
+    What an attempt that was aborted has done counts for nothing: it isn't in `reads` and `writes`,
+    but in `tried_reads` and `tried_writes`, as far as it is known.
 
     The rest is for who is told of a violation. `statements` are pairs of a deed and what was run
     for it; `values` are triples of "read" or "wrote", a key, and what was read or written, as a
@@ -32,6 +39,43 @@ class Logged(NamedTuple):
     values: Sequence[Tuple[str, str, str]] = ()
     began: float = 0.0
     caller: str = ""
+    tried_reads: Sequence[Read] = ()
+    tried_writes: Sequence[str] = ()
+
+    @property
+    def is_undone(self) -> bool:
+        """Whether it is an attempt that was aborted, and that had done something."""
+        return self.outcome == ABORTED and bool(self.tried_reads or self.tried_writes)
+
+    @property
+    def did(self) -> Tuple[Sequence[Read], Sequence[str]]:
+        """What it read and what it wrote, whether that counts or not."""
+        if self.is_undone:
+            return self.tried_reads, self.tried_writes
+        return self.reads, self.writes
+
+
+def undone(
+    id: TransactionId, reads: Iterable[Read], writes: Iterable[str], fence: str
+) -> Tuple[List[Read], List[str]]:
+    """Of what an attempt with this name did, which was aborted, what a line may have: since it
+    counts for nothing, the rest is left out. What only looks like a fence, the key of which this
+    is, can't be told."""
+    told = sorted({read for read in reads if _may_be_told(id, read[1])}, key=repr)[:MOST]
+    keys = sorted({*writes})
+    keys = keys if len(keys) <= MOST else []
+    is_fence = keys == [fence] and [key for key, _ in told] == [fence]
+    if not is_fence:
+        told = [read for read in told if read[0] != fence]
+        keys = [key for key in keys if key != fence]
+    return told, keys
+
+
+def _may_be_told(id: TransactionId, source: Source) -> bool:
+    if source == "init":
+        return True
+    is_named = 0 <= source[0] < SESSIONS and 0 <= source[1] < NUMBERS
+    return is_named and tuple(source) != id
 
 
 def as_bytes(logged: Logged) -> bytes:

@@ -41,10 +41,20 @@ def reopened(path: str) -> Reopened:
         if not journal.is_there:
             raise JournalError(f"{path}: there is no journal")
         kept = kept_in(journal)
-        return Reopened(journal, kept, state_of(kept.lines))
+        return Reopened(journal, kept, _state_of(kept, path))
     except BaseException:
         journal.close()
         raise
+
+
+def _state_of(kept: Kept, path: str) -> State:
+    state = state_of(kept.lines)
+    try:
+        state.put_undone(kept.undone)
+    except (ValueError, TypeError, IndexError) as error:
+        told = f"{path}: what was aborted in it isn't what remains: {error!r}"
+        raise JournalDamagedError(told) from error
+    return state
 
 
 def journaled(

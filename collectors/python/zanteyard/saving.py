@@ -12,6 +12,7 @@ Answers = Generator[List[bytes], List[bytes], List[bytes]]  # gives lines, and i
 
 OK, RESUMED = b'["ok"]', b'["resumed"]'
 REFUSED, NO_MEMORY = b'["no",', b'["no",16,'
+BAD_LINE = b'["no",1,"BadLine"]'
 EMPTY = b",[]]"  # what an answer without any ends with
 MARKS, LAST = b'["save","marks"]', b'["last",'
 KEYS = 1 << 64  # below this
@@ -37,7 +38,7 @@ def saved_lines(limit: int) -> Answers:
             ends_at[part] = _end_of(answer)
             if ends_at[part] == KEYS:
                 del ends_at[part]
-    return [b'["resume",%d,%d]' % (sessions, limit), marks, *last, *remaining, RESUMED]
+    return [b'["resume",%d,%d,2]' % (sessions, limit), marks, *last, *remaining, RESUMED]
 
 
 def _part(session: int, at: int) -> bytes:
@@ -86,4 +87,6 @@ def why_not_resumed(answer: bytes, path: str) -> ZanteyardError:
     if answer.startswith(NO_MEMORY):
         return Ended("cobra_audit has no memory for what it is to begin with")
     told = answer.decode(errors="replace")
+    if answer == BAD_LINE:
+        told += ", as one of an earlier version than this package does"
     return JournalError(f"{path}: cobra_audit doesn't begin with what it has: it answers {told}")

@@ -4,15 +4,16 @@ from __future__ import annotations
 
 import json
 import os
+import re
 import subprocess
 import time
 from collections import Counter
 from dataclasses import dataclass, field
 from typing import Any, Callable, Dict, Iterable, Iterator, List, Mapping, Optional, Sequence
 
-from .auditor import FENCE
-from .errors import ProgramEndedError, ScriptMistakeError
-from .records import Logged, Pending, TransactionId
+from .auditor import FENCE, TOO_OLD
+from .errors import ProgramEndedError, ProgramTooOldError, ScriptMistakeError
+from .records import ABORTED, Logged, Pending, TransactionId
 from .script_names import NamedTransaction, ScriptNames
 from .stints import Stints
 from .taking import never_came
@@ -21,6 +22,7 @@ from .taking import never_came
 WORKERS = max(1, min(16, os.cpu_count() or 1))
 MORE = tuple((nodes, 4, WORKERS) for nodes in (1 << 16, 1 << 20, 1 << 24))
 WAITS = (0.1, 0.5)  # seconds after which a line that was answered NoMemory is given again
+OPENS_FORM = re.compile(rb'\["(open|resume)",\d+,\d+,2\]$')  # as a script of version 2 does
 MOST_OPEN = "a script has 1 to 64 sessions, and at most 4,096 transactions remain at a time"
 
 # What to do about a refusal, where it isn't plain from its name.
@@ -84,10 +86,12 @@ class ScriptHistory:
 
     def take_in(self, session: int, transactions: Iterable[Any]) -> None:
         """What an accepted `offer` has said."""
-        for reads, keys in transactions:
+        for reads, keys, *more in transactions:
             number = self.marks[session] + len(self.history[session])
             named = self.names.transaction(session, number)
-            self.history[session].append(logged_of(reads, keys, self.key_name, named))
+            is_undone = more == [ABORTED]
+            logged = logged_of(reads, keys, self.key_name, named, is_undone)
+            self.history[session].append(logged)
 
     def called(self, id: TransactionId) -> str:
         """How the transaction is told: with its client's first, where its session had others."""
@@ -120,9 +124,10 @@ def logged_of(
     keys: Iterable[int],
     key_name: Callable[[int], str],
     named: Optional[NamedTransaction] = None,
+    is_undone: bool = False,
 ) -> Logged:
-    """A transaction of a script. One that did nothing may be an attempt that was aborted, which its
-    names tell where it has some."""
+    """A transaction of a script, or what an attempt did that was aborted, as version 2 has it. One
+    that did nothing may be such an attempt, which its names tell where it has some."""
 
     def deed_of(key: int, *source: Any) -> Any:
         if not source:
@@ -131,10 +136,13 @@ def logged_of(
 
     sources = [deed_of(*read) for read in reads]
     written_keys = tuple(map(key_name, keys))
-    if named is None:
-        return Logged(sources, written_keys)
-    texts = [(deed_of(*deed), text) for deed, text in named.texts]
-    return Logged(sources, written_keys, named.outcome, texts, caller=named.where)
+    outcome, texts, where = "committed", [], ""
+    if named is not None:
+        outcome, where = named.outcome, named.where
+        texts = [(deed_of(*deed), text) for deed, text in named.texts]
+    if is_undone:
+        return Logged((), (), ABORTED, texts, (), 0.0, where, sources, written_keys)
+    return Logged(sources, written_keys, outcome, texts, caller=where)
 
 
 class ScriptRun:
@@ -153,6 +161,7 @@ class ScriptRun:
         self._is_open = False
         self._round_is_open = False
         self._has_more = False  # something was accepted since the last verdict
+        self.path = program
         self._program = subprocess.Popen(
             [program], stdin=subprocess.PIPE, stdout=subprocess.PIPE, stderr=subprocess.PIPE
         )
@@ -229,6 +238,8 @@ class ScriptRun:
             reply = self._reply_to(text)
             if reply[0] != "no" or reply[2] == "NoCut":
                 return reply
+            if reply[2] == "BadLine" and OPENS_FORM.match(text):
+                raise ProgramTooOldError(f"{self.path} {TOO_OLD}")
             if reply[2] != "NoMemory":
                 raise ScriptMistakeError(number, reply[2], ADVICE.get(reply[2], ""))
             if wait:

@@ -21,10 +21,11 @@ with this token, and OutcomeUnknown where it hasn't said so after so many second
 committed, and nobody has to ask. `look_up(transaction)` comes before a client's commit is noted and
 sent, and raises Aborted alone: a store whose clients don't read and write by a Transaction says
 there what they did, or, as its `unclear`, why that isn't known. `statement` is what it has run
-last, as who is told of a violation should see it. `errors` are the classes of what its driver
-raises: a client joins by a statement of the collector's own, in the application's thread, and what
-comes of that is kept from the application, unless it is of none of these, nor of this package's, as
-what a handler of SIGALRM raises.
+last, as who is told of a violation should see it. `tried` gives the keys that a client has written
+by statements of its own, for an attempt that was aborted. `errors` are the classes of what its
+driver raises: a client joins by a statement of the collector's own, in the application's thread,
+and what comes of that is kept from the application, unless it is of none of these, nor of this
+package's, as what a handler of SIGALRM raises.
 """
 
 from __future__ import annotations
@@ -33,7 +34,7 @@ import logging
 import math
 import threading
 import time
-from contextlib import contextmanager
+from contextlib import contextmanager, suppress
 from dataclasses import dataclass
 from typing import Any, Callable, Dict, Iterable, Iterator, List, Optional, Sequence, Set
 from typing import Tuple, TypeVar
@@ -46,7 +47,7 @@ from .errors import StoreLateError, ZanteyardError
 from .forks import UNAUDITED, keep
 from .locks import give_back, take
 from .notes import Notes
-from .records import Deed, Found, Logged, Name, Read, Source, Store, as_bytes
+from .records import Deed, Found, Logged, Name, Read, Source, Store, as_bytes, undone
 
 # The same errors under shorter names.
 Aborted = AbortedError
@@ -520,10 +521,12 @@ class Transaction:
         self.written: Dict[str, Any] = {}
         self.is_over = False
         self.is_committing = not holds  # from here on the store may have what it writes
+        self.is_in_doubt = False  # its commit was sent, and what came of that isn't known
         # For who is told of a violation; the collector's own transactions have none of it.
         self.values: List[Tuple[str, str, str]] = []
         self.began, self.caller = (time.time(), caller()) if holds else (0.0, "")
         self.sent: Tuple[str, ...] = ()  # keys that were written and needn't be at the commit
+        self.tried: List[str] = []  # keys of which a write went to the store, whatever came of it
         self.statements: Dict[Deed, str] = {}  # of each deed, as Logged has them
         self.prepared: Any = None  # what is logged where it is committed, and the same as bytes
         self.unclear: Optional[Exception] = None  # why what it did isn't known, if that is so
@@ -593,6 +596,7 @@ class Transaction:
         self.is_committing = True
         self.written[key] = value
         self.sent = (*self.sent, key)
+        self.tried.append(key)
         if self.session.notes is not None and (not self.holds or self.writes_at_once):
             self.note_before(key, has_reads=False)
         self.was_read(key, both(key, value, self.name))
@@ -605,7 +609,7 @@ class Transaction:
 
     def commit(self) -> None:
         self.still_open()
-        self.is_committing, is_sent = True, False
+        self.is_committing = True
         is_late = False  # it is noted when it is known by what the store is asked for it
         try:
             look_up = getattr(self.store, "look_up", None) if self.holds else None
@@ -618,21 +622,25 @@ class Transaction:
                     self.note_before(max(self.written, default=""))
             for key in sorted(self.written):
                 if key not in self.sent:
+                    self.tried.append(key)
                     self.store.write(key, self.written[key], self.name)
                     self.was_run((key,))
             if is_late:
                 self.note_before(max(self.written, default=""))
-            is_sent = True
+            self.is_in_doubt = bool(self.written) or self.unclear is not None
             self.store.commit()
             self.log(self.reads, self.written, "committed")
         except OutcomeUnknown:
             self.find_out()
         except Aborted:
+            self.is_in_doubt = False
             self.rollback()
             raise
         except Exception as error:
-            if is_sent and self.written and not (self.is_over or self.was_answered(error)):
-                self.find_out_behind()
+            if self.is_in_doubt and not self.is_over:
+                self.is_in_doubt = not self.was_answered(error)
+                if self.is_in_doubt:
+                    self.find_out_behind()
             self.rollback()
             raise
         except BaseException:  # as Ctrl-C: the store may have committed
@@ -666,7 +674,7 @@ class Transaction:
         """What is known by now, before it is handed in."""
         notes, packed = self.session.notes, None
         if notes is not None:
-            if self.prepared is None and logged.outcome == "committed":
+            if (self.prepared is None and logged.outcome == "committed") or logged.is_undone:
                 try:
                     packed = as_bytes(logged)
                 except ValueError as error:
@@ -690,7 +698,11 @@ class Transaction:
                 self.give_up()
 
     def give_up(self) -> None:
-        self.log((), (), "aborted")
+        """Nothing is called aborted whose commit was sent, before the store has said so."""
+        if self.is_in_doubt:
+            self.log((), self.written, "unknown", is_last=bool(self.written))
+        else:
+            self.log((), (), "aborted")
 
     def was_answered(self, error: Exception) -> bool:
         has_answered = getattr(self.store, "has_answered", None)
@@ -699,11 +711,12 @@ class Transaction:
     def find_out_behind(self) -> None:
         """Something else was raised than stores do, as by a handler of SIGALRM: it may have come
         behind the store's answer."""
-        try:
-            self.store.rollback()
+        with suppress(Aborted, OutcomeUnknown):
+            try:
+                self.store.rollback()
+            except Exception as error:  # it says nothing of the commit
+                logger.info("a rollback behind a commit failed: %r", error)
             self.find_out()
-        except (Aborted, OutcomeUnknown):
-            pass
 
     def find_out_alone(self, error: BaseException) -> None:
         """Where this came behind a statement of the collector's own that is a transaction by
@@ -726,6 +739,7 @@ class Transaction:
                 if outcome == "committed":
                     return self.log(self.reads, self.written, "committed")
                 if outcome == "aborted":
+                    self.is_in_doubt = False
                     self.give_up()
                     raise Aborted("the commit was not answered, and the store says that it aborted")
                 if time.monotonic() >= until:
@@ -781,8 +795,8 @@ class Transaction:
 
     def give_back_number(self) -> None:
         """What a client joins with is a fence that is there: an attempt at one that was aborted has
-        left nothing, and the next one has its number."""
-        self.note_answer(self.logged((), (), "aborted"), False)
+        left nothing, and the next one has its number: so nothing is said of what this one wrote."""
+        self.note_answer(Logged((), (), "aborted"), False)
         self.session.place.begun = self.number
 
     def hand_in(
@@ -799,9 +813,11 @@ class Transaction:
             auditor.take(number, self.number, logged)
 
     def logged(self, reads: Iterable[Read], writes: Iterable[str], outcome: str) -> Logged:
+        tried_reads, tried_writes = self.undone() if outcome == "aborted" else ([], [])
         statements = tuple(self.statements.items())
         if outcome != "committed":
-            deeds = {*reads, *((key,) for key in writes)}
+            deeds: Set[Deed] = {*reads, *tried_reads}
+            deeds.update((key,) for key in (*writes, *tried_writes))
             statements = tuple(it for it in statements if it[0] in deeds)
         reads = [*reads]
         if len(reads) > 1:
@@ -809,7 +825,16 @@ class Transaction:
         writes = sorted(writes)
         values = tuple(self.values)
         if self.holds:
-            values += tuple(("wrote", key, brief(self.written.get(key))) for key in writes)
-        if not reads:  # it isn't known, or doesn't matter, what was read
+            its = (*writes, *(key for key in tried_writes if key in self.written))
+            values += tuple(("wrote", key, brief(self.written.get(key))) for key in its)
+        if not (reads or tried_reads):  # it isn't known, or doesn't matter, what was read
             values = tuple(it for it in values if it[0] == "wrote")
-        return Logged(reads, writes, outcome, statements, values, self.began, self.caller)
+        more = (statements, values, self.began, self.caller)
+        return Logged(reads, writes, outcome, *more, tried_reads, tried_writes)
+
+    def undone(self) -> Tuple[List[Read], List[str]]:
+        """What this has read, and what it wrote under its name, where it was aborted. What was only
+        to be written at the commit, and never went to the store, isn't among it."""
+        tried = getattr(self.store, "tried", None) if self.holds else None
+        writes = [*self.tried, *(tried() if tried is not None else ())]
+        return undone((self.session.number or 0, self.number), self.reads, writes, FENCE)

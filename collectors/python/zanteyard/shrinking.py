@@ -10,7 +10,7 @@ from itertools import islice
 from typing import Any, Callable, Container, Dict, Iterable, Iterator, List, Mapping
 from typing import Optional, Set, Tuple
 
-from .auditor import FENCE, LONGEST, PLAIN_FENCE, Auditor, is_own, written
+from .auditor import FENCE, FORM, LONGEST, PLAIN_FENCE, Auditor, is_own, written
 from .outcome import VIOLATED
 from .programs import PROGRAM
 from .records import History, Logged, Names, Report, Source, TransactionId
@@ -25,7 +25,8 @@ def audited(history: History, program: str = PROGRAM) -> Tuple[Report, str]:
     """The report of an auditor of its own, and the script that gives it."""
     limit = max(1, sum(map(len, history)))
     with Auditor(len(history), limit, program) as auditor:
-        script: List[Any] = [["open", len(history), limit]]
+        more = [FORM] if any(logged.is_undone for txns in history for logged in txns) else []
+        script: List[Any] = [["open", len(history), limit, *more]]
         fragments: List[Tuple[int, int, List[Logged]]] = []
         for session, txns in enumerate(history):
             for first in range(0, len(txns), LONGEST):
@@ -72,6 +73,8 @@ def from_start(auditor: Any) -> Tuple[History, Names]:
             reads=[plain_deed(*read) for read in one.reads],
             writes=[*map(plain, one.writes)],
             statements=[(plain_deed(*deed), statement) for deed, statement in one.statements],
+            tried_reads=sorted({plain_deed(*read) for read in one.tried_reads}, key=repr),
+            tried_writes=[*map(plain, one.tried_writes)],
         )
 
     history = [[without_cut(one) for one in txns] for txns in history]
@@ -202,7 +205,7 @@ class Part:
             for key, source in logged.reads
             if source == "init" or source in new
         ]
-        return logged._replace(reads=reads, statements=())
+        return logged._replace(reads=reads, statements=(), tried_reads=(), tried_writes=())
 
     def lesser(self) -> Iterator[Tuple[Any, Part]]:
         """The same without some transactions, the last first, and fewer and fewer; then without one
@@ -229,7 +232,12 @@ class Part:
     def history(self, sessions: int) -> History:
         """With all in their places, and nothing done in between."""
         found: History = [[] for _ in range(sessions)]
-        for (session, number), logged in sorted(self.txns.items(), key=lambda it: it[0]):
+        read = {(source, key) for logged in self.txns.values() for key, source in logged.reads}
+        for id, logged in sorted(self.txns.items(), key=lambda it: it[0]):
+            session, number = id
+            if logged.is_undone:  # of what it did there is left what somebody has read
+                its = [key for key in logged.tried_writes if (id, key) in read]
+                logged = logged._replace(tried_reads=(), tried_writes=its)
             found[session] += [Logged((), ())] * (number - len(found[session])) + [logged]
         return found
 
@@ -319,19 +327,25 @@ def version(key: str, source: Source, name: Names) -> str:
     return getattr(name, "older", {}).get(key, "as it was at first")
 
 
+def told_undone(reader: TransactionId, key: str, source: TransactionId, name: Names) -> str:
+    """Of a read of what an attempt wrote that was aborted."""
+    return f"of {key}, {name(reader)} read what {name(source)} wrote, which had aborted"
+
+
 def deeds(logged: Logged, name: Names) -> List[str]:
     """What a transaction did."""
-    if logged.outcome == "aborted":
-        return ["aborted"]
-    reads = [f"read {key} {version(key, source, name)}" for key, source in logged.reads]
-    return reads + [f"wrote {key}" for key in logged.writes]
+    did_read, did_write = logged.did
+    told = [f"read {key} {version(key, source, name)}" for key, source in did_read]
+    told += [f"wrote {key}" for key in did_write]
+    return [*told, "aborted"] if logged.outcome == "aborted" else told
 
 
 def statements_of(logged: Logged) -> Iterator[str]:
     """Lines that tell what was run for what the transaction did, where that is known."""
     left: Dict[Any, str] = dict(logged.statements)
     told: Dict[str, List[str]] = {}
-    for deed in (*logged.reads, *((key,) for key in logged.writes)):
+    did_read, did_write = logged.did
+    for deed in (*did_read, *((key,) for key in did_write)):
         if deed in left:
             did = ("wrote" if len(deed) == 1 else "read") + f" {deed[0]}"
             told.setdefault(" ".join(left[deed].split()), []).append(did)

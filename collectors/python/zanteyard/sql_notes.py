@@ -234,6 +234,11 @@ class Notes:
         return [*dict.fromkeys([*(it.row.key for it in self.seen.values()), *self.changed])]
 
     @property
+    def written(self) -> List[str]:
+        """The rows that are written, by their keys' names."""
+        return [it.row.name for it in self.changed.values() if it.is_write]
+
+    @property
     def overwritten(self) -> List[Row]:
         """Rows whose version from before this transaction isn't known."""
         return [it.row for it in self.changed.values() if it.was_there]

@@ -126,6 +126,12 @@ class SqlStore:
         if its is not None:
             its.roll_back()
 
+    def tried(self) -> Sequence[str]:
+        """The rows that the application's transaction has written."""
+        its = self._connection()
+        written: Sequence[str] = its.notes.written if its is not None else ()
+        return written
+
     def outcome(self) -> str:
         return self.outcome_within(self.beside.patience)
 

@@ -61,6 +61,7 @@ class Link:
     end: TransactionId
     why: str
     is_of_circle: bool
+    is_of_aborted: bool = False  # the first was aborted, and has been read all the same
 
 
 @dataclass(frozen=True)
@@ -165,10 +166,11 @@ def _steps(history: History, names: Names, told: Iterable[TransactionId]) -> Ite
 def _deeds(logged: Logged, names: Names) -> Iterator[Deed]:
     statements: Dict[Any, str] = dict(logged.statements)
     values = values_of(logged)
-    for key, source in logged.reads:
+    did_read, did_write = logged.did
+    for key, source in did_read:
         text = f"read {key} {version_text(key, source, names)}"
         yield Deed(text, statements.get((key, source), ""), values.get(("read", key), ""))
-    for key in logged.writes:
+    for key in did_write:
         yield Deed(f"wrote {key}", statements.get((key,), ""), values.get(("wrote", key), ""))
 
 

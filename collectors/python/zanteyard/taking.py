@@ -45,6 +45,7 @@ class Takes:
 
     history: History  # of each session what was taken in and isn't forgotten
     has_sessions = False  # which hand in to it
+    cuts_by_itself = False  # behind any round; `truncate` then tells of it
     live_called: Optional[Names] = None  # how a live audit tells transactions
 
     def __init__(
@@ -137,6 +138,14 @@ class Takes:
         """As `round`, over what was taken in by now, whatever was lost."""
         raise NotImplementedError
 
+    def begin_round(self) -> None:
+        """Before the `last_round` that tells of it: what is offered in between isn't in it. Nothing
+        is begun where nothing can be taken in meanwhile."""
+
+    def has_round(self, seconds: float) -> bool:
+        """Whether nobody has to wait for its report, after so many seconds at most."""
+        return True
+
     def note_sessions(self) -> None:
         """In the journal, if there is one: where this process ends, nobody knows what they did
         last. Raises JournalError."""
@@ -166,6 +175,7 @@ class Takes:
         return self.live_called(id) if self.live_called else f"{id[0]}.{id[1]}"
 
     received: Any  # how many transactions of each session were taken in, forgotten ones too
+    marks: Any  # how many of each session are forgotten
 
     @property
     def violation(self) -> Optional[Report]:
@@ -344,7 +354,8 @@ class Takes:
         if report is None or report.kind != VIOLATED:
             report = self.violation or report
         is_whole = self.taken_in >= self.handed_in
-        pending = tuple(never_came(self.history)) if report and report.kind == "pending" else ()
+        is_pending = report is not None and report.kind == "pending"
+        pending = tuple(never_came(self.history, self.marks)) if is_pending else ()
         kind = kind_of(report, self.failure, is_whole)
         handed_in = max(self.handed_in, self.taken_in)
         return Outcome(kind, self.taken_in, handed_in, self.failure, pending, report, self.run_name)

@@ -1,16 +1,21 @@
 // Lines of scripts.
-use log_text::{Command, Shown, Wanted, read_line};
+use log_text::{Command, Shown, Version, Wanted, read_line};
+use logged_fragments::LoggedFragment;
 use std::alloc::Global;
 use std::process::Abort;
 use std::test::Fail;
-use txn::{Fragment, Refusal, Source, TxnId};
+use txn::{Refusal, Source, TxnId};
 
 // What a command says, for comparison; the transactions of an offer and of a join are counted.
 fn numbers_of(command: &Command) -> (&'static str, [u64; 3]) {
     match command {
-        Command::Start { sessions, limit } => ("open", [*sessions, *limit, 0]),
-        Command::Offer(fragment) => ("offer", fragment_numbers(fragment)),
-        Command::Join(fragment) => ("join", fragment_numbers(fragment)),
+        Command::Start {
+            sessions,
+            limit,
+            version,
+        } => ("open", [*sessions, *limit, version_number(*version)]),
+        Command::Offer(logged) => ("offer", fragment_numbers(logged)),
+        Command::Join(logged) => ("join", fragment_numbers(logged)),
         Command::Close(session) => ("close", [u64::from(*session), 0, 0]),
         Command::Begin => ("begin", [0, 0, 0]),
         Command::Finish {
@@ -26,7 +31,11 @@ fn numbers_of(command: &Command) -> (&'static str, [u64; 3]) {
         Command::Truncate => ("truncate", [0, 0, 0]),
         Command::Rebuild => ("rebuild", [0, 0, 0]),
         Command::Show => ("show", [0, 0, 0]),
-        Command::Resume { sessions, limit } => ("resume", [*sessions, *limit, 0]),
+        Command::Resume {
+            sessions,
+            limit,
+            version,
+        } => ("resume", [*sessions, *limit, version_number(*version)]),
         Command::Marks { marks, closed } => {
             ("marks", [marks.len() as u64, closed.len() as u64, 0])
         }
@@ -37,11 +46,18 @@ fn numbers_of(command: &Command) -> (&'static str, [u64; 3]) {
     }
 }
 
-fn fragment_numbers(fragment: &Fragment) -> [u64; 3] {
+fn version_number(version: Version) -> u64 {
+    match version {
+        Version::One => 1,
+        Version::Two => 2,
+    }
+}
+
+fn fragment_numbers(logged: &LoggedFragment) -> [u64; 3] {
     [
-        u64::from(fragment.session),
-        fragment.first,
-        fragment.txns.len() as u64,
+        u64::from(logged.fragment.session),
+        logged.fragment.first,
+        logged.fragment.txns.len() as u64,
     ]
 }
 
@@ -67,21 +83,36 @@ struct Row {
     numbers: [u64; 3],
 }
 
-static COMMANDS: [Row; 25] = [
+static COMMANDS: [Row; 28] = [
     Row {
         line: "[\"open\",0,18446744073709551615]",
         name: "open",
-        numbers: [0, u64::MAX, 0],
+        numbers: [0, u64::MAX, 1],
     },
     Row {
         line: " [ \"open\" ,\t2 , 16 ] ",
         name: "open",
-        numbers: [2, 16, 0],
+        numbers: [2, 16, 1],
     },
     Row {
         line: "[\"open\",2,16]\r",
         name: "open",
-        numbers: [2, 16, 0],
+        numbers: [2, 16, 1],
+    },
+    Row {
+        line: "[\"open\",2,16,2]",
+        name: "open",
+        numbers: [2, 16, 2],
+    },
+    Row {
+        line: "[\"resume\",2,16,2]",
+        name: "resume",
+        numbers: [2, 16, 2],
+    },
+    Row {
+        line: "[\"join\",1,[[[],[],\"\\u0061borted\"]]]",
+        name: "join",
+        numbers: [1, 0, 1],
     },
     Row {
         line: "[\"offer\",0,0,[]]",
@@ -146,7 +177,7 @@ static COMMANDS: [Row; 25] = [
     Row {
         line: "[\"resume\",2,16]",
         name: "resume",
-        numbers: [2, 16, 0],
+        numbers: [2, 16, 1],
     },
     Row {
         line: "[\"marks\",[3,0,0],[true,false]]",
@@ -217,9 +248,10 @@ fn lines_that_are_commands(rt: HostRuntime) -> Result<(), Fail> {
 fn offered_transactions(rt: HostRuntime) -> Result<(), Fail> {
     let line =
         b"[\"offer\",3,4,[[[[0,\"init\"],[9,255,18446744073709551615]],[5,6]],[[[7,\"\\u0069nit\"]],[]]]]";
-    let Command::Offer(fragment) = read_line(rt.alloc(), line)? else {
+    let Command::Offer(logged) = read_line(rt.alloc(), line)? else {
         return Err(Fail::from("no offer"));
     };
+    let fragment = &logged.fragment;
     let by = Source::By(TxnId {
         session: 255,
         number: u64::MAX,
@@ -230,11 +262,26 @@ fn offered_transactions(rt: HostRuntime) -> Result<(), Fail> {
     assert!(rt; txns[0].writes.as_slice() == [5, 6].as_slice());
     assert!(rt; txns[1].reads.as_slice() == [(7, Source::Init)].as_slice());
     assert!(rt; txns[1].writes.is_empty());
+    assert!(rt; logged.aborted.as_slice() == [false, false].as_slice());
+    Ok(())
+}
+
+#[test]
+fn aborted_transactions(rt: HostRuntime) -> Result<(), Fail> {
+    let line = b"[\"offer\",0,7,[[[],[5]],[[[5,\"init\"]],[6],\"aborted\"],[[],[]]]]";
+    let Command::Offer(logged) = read_line(rt.alloc(), line)? else {
+        return Err(Fail::from("no offer"));
+    };
+    assert!(rt; logged.aborted.as_slice() == [false, true, false].as_slice());
+    assert!(rt; Version::Two.has_form(&logged) && !Version::One.has_form(&logged));
+    let txns = logged.fragment.txns.as_slice();
+    assert!(rt; txns.len() == 3 && txns[1].reads.as_slice() == [(5, Source::Init)].as_slice());
+    assert!(rt; txns[1].writes.as_slice() == [6].as_slice());
     Ok(())
 }
 
 // Texts that are no JSON, or no array of a known word and its parts; other parts; offers and joins with other parts.
-static BAD_LINES: [&str; 69] = [
+static BAD_LINES: [&str; 82] = [
     "",
     " ",
     "null",
@@ -264,6 +311,13 @@ static BAD_LINES: [&str; 69] = [
     "[\"close\",-1]",
     "[\"open\",2]",
     "[\"open\",2,16,1]",
+    "[\"open\",2,16,3]",
+    "[\"open\",2,16,\"2\"]",
+    "[\"open\",2,16,2.0]",
+    "[\"open\",2,16,null]",
+    "[\"open\",2,16,[2]]",
+    "[\"open\",2,16,2,2]",
+    "[\"resume\",2,16,1]",
     "[\"open\",-0,16]",
     "[\"open\",1.0,16]",
     "[\"open\",1e0,16]",
@@ -281,6 +335,12 @@ static BAD_LINES: [&str; 69] = [
     "[\"offer\",256,0,[]]",
     "[\"offer\",0,0,[[]]]",
     "[\"offer\",0,0,[[[],[],[]]]]",
+    "[\"offer\",0,0,[[[],[],\"Aborted\"]]]",
+    "[\"offer\",0,0,[[[],[],null]]]",
+    "[\"offer\",0,0,[[[],[],true]]]",
+    "[\"offer\",0,0,[[[],[],\"aborted\",0]]]",
+    "[\"offer\",0,0,[[[],\"aborted\"]]]",
+    "[\"offer\",0,0,[[\"aborted\",[],[]]]]",
     "[\"offer\",0,0,[[[],[5,null]]]]",
     "[\"offer\",0,0,[[[[5]],[]]]]",
     "[\"offer\",0,0,[[[[5,\"Init\"]],[]]]]",

@@ -1,9 +1,9 @@
 -- What is told of parts is taken where it is handed over, line after line.
-use Rattle.std.proofs.Common.{◌≡◌, ℕ, suc, ◌+◌, ◌-◌, ◌<◌, ◌≤◌, true, false, cond, List, [], ◌∷◌, ◌++◌, length, take, drop, refl, sym, ap, subst, ◌∙◌, append_assoc, arith, length-append, length-drop, ⊎_elim}
+use Rattle.std.proofs.Common.{◌≡◌, ℕ, suc, ◌+◌, ◌-◌, ◌<◌, ◌≤◌, true, false, not, inl, cond, List, [], ◌∷◌, ◌++◌, length, take, drop, refl, sym, ap, subst, ◌∙◌, append_assoc, arith, length-append, length-drop, ⊎_elim}
 use Rattle.std.specs.Prelude.{map, slice_set, replicate, nat_lt}
 use Rattle.std.specs.FinMap as finite
 use Rattle.std.specs.FinMap.{entries_sorted}
-use Rattle.std.specs.List.{flat_map}
+use Rattle.std.specs.List.{flat_map, list_any}
 use Rattle.std.proofs.lemmas.Bool.{lt-ltb}
 use Rattle.std.proofs.lemmas.Bool.Decides.{leb_tells}
 use Rattle.std.proofs.lemmas.List.{append-nil, length-take, length-take-le}
@@ -21,6 +21,10 @@ use Rattle.log_text.specs.declared.replies.Reply.{Reply}
 use Rattle.log_text.specs.declared.replies.Reply.TheVariants as told
 use Rattle.log_text.specs.declared.saved.Saved.{Saved}
 use Rattle.log_text.specs.declared.saved.Saved.TheVariants as saved
+use Rattle.log_text.specs.declared.versions.Version.{Version}
+use Rattle.log_text.specs.declared.versions.Version.TheVariants.{One}
+use Rattle.log_text.specs.Saved.{untold}
+use Rattle.log_text.specs.Versions.{has_form}
 use Rattle.cobra.specs.HandOver.{AreGoodParts, IsNextOffer, handed_offer, handed_parts}
 use Rattle.cobra.specs.Saving.{first_told, fragment_told, handing_of, saved_told, writers_from}
 use Rattle.cobra.specs.Checkpoints.{AreSessionsTold, AreTaken, AreTxnsTold, AreWritersTold, GivenOutIsTaken, IsCheckpoint, IsLast}
@@ -46,19 +50,19 @@ abbrev last_in : Reply → List (ℕ × TxnId)
 last_in (told.Saved (saved.Last last)) = last
 last_in answer = []
 
-writers_taken : (parts : Parts) (key : ℕ) (pages : List (List (ℕ × TxnId))) (before : List (ℕ × TxnId)) (remain : List (List Txn)) → AreWritersTold parts key pages → AreTaken (stage.Handing (hand parts before remain)) (map saved.Last pages) (stage.Handing (hand parts (before ++ writers_from parts key) remain))
-writers_taken parts key [] before remain so =
+writers_taken : (version : Version) (parts : Parts) (key : ℕ) (pages : List (List (ℕ × TxnId))) (before : List (ℕ × TxnId)) (remain : List (List Txn)) → AreWritersTold parts key pages → AreTaken (stage.Handing (hand parts before remain) version) (map saved.Last pages) (stage.Handing (hand parts (before ++ writers_from parts key) remain) version)
+writers_taken version parts key [] before remain so =
     let none : writers_from parts key ≡ [] = none_left 16384 (writers_from parts key) (omega arith) (ap last_in so) in
-    ap (λ (ws : List (ℕ × TxnId)). stage.Handing (hand parts ws remain)) (ap (λ (ws : List (ℕ × TxnId)). before ++ ws) none ∙ append-nil before)
-writers_taken parts key (page ∷ more) before remain so =
+    ap (λ (ws : List (ℕ × TxnId)). stage.Handing (hand parts ws remain) version) (ap (λ (ws : List (ℕ × TxnId)). before ++ ws) none ∙ append-nil before)
+writers_taken version parts key (page ∷ more) before remain so =
     let is : take 16384 (writers_from parts key) ≡ page = ap last_in so.0 in
     let behind : List (ℕ × TxnId) = writers_from parts (so.1.0 + 1) in
     let all : page ++ behind ≡ writers_from parts key =
     ap (λ (ws : List (ℕ × TxnId)). ws ++ behind) (sym is) ∙ page_and_rest (finite.entries parts.base.last) key 16384 so.1 (entries_sorted parts.base.last) (subst (λ (ws : List (ℕ × TxnId)). IsLast ws so.1) (sym is) so.2) in (
-      stage.Handing (hand parts (before ++ page) remain),
+      stage.Handing (hand parts (before ++ page) remain) version,
       refl,
-      subst (λ (ws : List (ℕ × TxnId)). AreTaken (stage.Handing (hand parts (before ++ page) remain)) (map saved.Last more) (stage.Handing (hand parts ws remain)))
-          (append_assoc before page behind ∙ ap (λ (ws : List (ℕ × TxnId)). before ++ ws) all) (writers_taken parts (so.1.0 + 1) more (before ++ page) remain so.3),
+      subst (λ (ws : List (ℕ × TxnId)). AreTaken (stage.Handing (hand parts (before ++ page) remain) version) (map saved.Last more) (stage.Handing (hand parts ws remain) version))
+          (append_assoc before page behind ∙ ap (λ (ws : List (ℕ × TxnId)). before ++ ws) all) (writers_taken version parts (so.1.0 + 1) more (before ++ page) remain so.3),
     )
 
 -- the session at a seam
@@ -113,15 +117,23 @@ remain_more parts done empties txns j =
     ∙ set-append_seam done (take j txns) empties (take j txns ++ take 256 (drop j txns))
     ∙ ap (λ (ts : List Txn). done ++ ts ∷ empties) (taken_more j 256 txns)
 
+-- none of them is told to have aborted
+none_flagged : (txns : List Txn) → list_any (λ aborted. aborted) (map (λ (txn : Txn). false) txns) ≡ false
+none_flagged [] = refl
+none_flagged (txn ∷ txns) = none_flagged txns
+
+none_told : (fragment : Fragment) → has_form One (untold fragment) ≡ true
+none_told fragment = ap not (none_flagged fragment.txns)
+
 -- those of a session, of which so many were handed over
-txns_taken : (parts : Parts) (last : List (ℕ × TxnId)) (done rest empties : List (List Txn)) (txns : List Txn) (n j : ℕ) (fragments : List Fragment) → parts.remain ≡ done ++ txns ∷ rest → first_told parts (length done) n ≡ mark_of parts (length done) + j → j ≤ length txns → AreTxnsTold parts (length done) n fragments → AreTaken (stage.Handing (hand parts last (done ++ take j txns ∷ empties))) (map saved.Offer fragments) (stage.Handing (hand parts last (done ++ txns ∷ empties)))
-txns_taken parts last done rest empties txns n j [] is at within so =
+txns_taken : (version : Version) (parts : Parts) (last : List (ℕ × TxnId)) (done rest empties : List (List Txn)) (txns : List Txn) (n j : ℕ) (fragments : List Fragment) → parts.remain ≡ done ++ txns ∷ rest → first_told parts (length done) n ≡ mark_of parts (length done) + j → j ≤ length txns → AreTxnsTold parts (length done) n fragments → AreTaken (stage.Handing (hand parts last (done ++ take j txns ∷ empties)) version) (map saved.Offer fragments) (stage.Handing (hand parts last (done ++ txns ∷ empties)) version)
+txns_taken version parts last done rest empties txns n j [] is at within so =
     let rem : remaining_of parts (length done) ≡ txns = ap (λ (h : List (List Txn)). session_of h (length done)) is ∙ seam_at done txns rest in
     let there : length done < length parts.remain = subst (λ (h : List (List Txn)). length done < length h) (sym is) (within_seam done txns rest) in
     let end : told_from parts (length done) j txns ≡ so.0 = sym (told_is parts (length done) n j txns at rem) ∙ ap offer_in (sym (remain_told parts (length done) n there) ∙ so.1) in
     let none : drop j txns ≡ [] = none_left 256 (drop j txns) (omega arith) (ap (λ (f : Fragment). f.txns) end ∙ so.2) in
-    ap (λ (ts : List Txn). stage.Handing (hand parts last (done ++ ts ∷ empties))) (sym (taken_all j txns none))
-txns_taken parts last done rest empties txns n j (fragment ∷ more) is at within so =
+    ap (λ (ts : List Txn). stage.Handing (hand parts last (done ++ ts ∷ empties)) version) (sym (taken_all j txns none))
+txns_taken version parts last done rest empties txns n j (fragment ∷ more) is at within so =
     let rem : remaining_of parts (length done) ≡ txns = ap (λ (h : List (List Txn)). session_of h (length done)) is ∙ seam_at done txns rest in
     let there : length done < length parts.remain = subst (λ (h : List (List Txn)). length done < length h) (sym is) (within_seam done txns rest) in
     let same : told_from parts (length done) j txns ≡ fragment = sym (told_is parts (length done) n j txns at rem) ∙ ap offer_in (sym (remain_told parts (length done) n there) ∙ so.0) in
@@ -129,12 +141,12 @@ txns_taken parts last done rest empties txns n j (fragment ∷ more) is at withi
     let number : mark_of parts (length done) + j + k ≡ mark_of parts (length done) + (j + k) = omega arith in
     let so_more : AreTxnsTold parts (length done) (mark_of parts (length done) + (j + k)) more =
     subst (λ (m : ℕ). AreTxnsTold parts (length done) m more) number (subst (λ (f : Fragment). AreTxnsTold parts (length done) (f.first + length f.txns) more) (sym same) so.1) in
-    let others = txns_taken parts last done rest empties txns (mark_of parts (length done) + (j + k)) (j + k) more is (first_more parts (length done) (j + k) txns rem (more_within j txns within)) (more_within j txns within) so_more in
-    let end : Stage = stage.Handing (hand parts last (done ++ txns ∷ empties)) in
-    subst (λ (f : Fragment). AreTaken (stage.Handing (hand parts last (done ++ take j txns ∷ empties))) (saved.Offer f ∷ map saved.Offer more) end) same (
-      stage.Handing (handed_offer (hand parts last (done ++ take j txns ∷ empties)) (told_from parts (length done) j txns)),
-      (next_offer parts last done empties txns j within, refl),
-      subst (λ (h : List (List Txn)). AreTaken (stage.Handing (hand parts last h)) (map saved.Offer more) end) (sym (remain_more parts done empties txns j)) others,
+    let others = txns_taken version parts last done rest empties txns (mark_of parts (length done) + (j + k)) (j + k) more is (first_more parts (length done) (j + k) txns rem (more_within j txns within)) (more_within j txns within) so_more in
+    let end : Stage = stage.Handing (hand parts last (done ++ txns ∷ empties)) version in
+    subst (λ (f : Fragment). AreTaken (stage.Handing (hand parts last (done ++ take j txns ∷ empties)) version) (saved.Offer f ∷ map saved.Offer more) end) same (
+      stage.Handing (handed_offer (hand parts last (done ++ take j txns ∷ empties)) (told_from parts (length done) j txns)) version,
+      inl (none_told (told_from parts (length done) j txns), (next_offer parts last done empties txns j within, refl)),
+      subst (λ (h : List (List Txn)). AreTaken (stage.Handing (hand parts last h) version) (map saved.Offer more) end) (sym (remain_more parts done empties txns j)) others,
     )
 
 no_session : (parts : Parts) (s : ℕ) (fragments : List Fragment) → length parts.remain ≤ s → AreTxnsTold parts s 0 fragments → ⊥
@@ -142,42 +154,42 @@ no_session parts s [] above so = let no : told.No BadSession ≡ told.Saved (sav
 no_session parts s (fragment ∷ more) above so = let no : told.No BadSession ≡ told.Saved (saved.Offer fragment) = sym (remain_none parts s 0 above) ∙ so.0 in cc
 
 -- those of the sessions that are left, of which nothing was handed over
-sessions_taken : (parts : Parts) (last : List (ℕ × TxnId)) (done left : List (List Txn)) (all : List (List Fragment)) → parts.remain ≡ done ++ left → AreSessionsTold parts (length done) all → AreTaken (stage.Handing (hand parts last (done ++ replicate (length left) []))) (flat_map (map saved.Offer) all) (stage.Handing (hand parts last (done ++ left)))
-sessions_taken parts last done [] [] is so = refl
-sessions_taken parts last done (txns ∷ left) [] is so =
+sessions_taken : (version : Version) (parts : Parts) (last : List (ℕ × TxnId)) (done left : List (List Txn)) (all : List (List Fragment)) → parts.remain ≡ done ++ left → AreSessionsTold parts (length done) all → AreTaken (stage.Handing (hand parts last (done ++ replicate (length left) [])) version) (flat_map (map saved.Offer) all) (stage.Handing (hand parts last (done ++ left)) version)
+sessions_taken version parts last done [] [] is so = refl
+sessions_taken version parts last done (txns ∷ left) [] is so =
     absurd (omega (arith, so, ap (λ (h : List (List Txn)). length h) is, length-append done (txns ∷ left)))
-sessions_taken parts last done [] (fragments ∷ more) is so =
+sessions_taken version parts last done [] (fragments ∷ more) is so =
     absurd (no_session parts (length done) fragments (omega (arith, ap (λ (h : List (List Txn)). length h) is, length-append done [])) so.0)
-sessions_taken parts last done (txns ∷ left) (fragments ∷ more) is so =
+sessions_taken version parts last done (txns ∷ left) (fragments ∷ more) is so =
     let empties : List (List Txn) = replicate (length left) [] in
     let on : List (List Txn) = done ++ txns ∷ [] in
-    let one = txns_taken parts last done left empties txns 0 0 fragments is (omega arith) (omega arith) so.0 in
+    let one = txns_taken version parts last done left empties txns 0 0 fragments is (omega arith) (omega arith) so.0 in
     let many : length on ≡ length done + 1 = length-append done (txns ∷ []) in
-    let others = sessions_taken parts last on left more (is ∙ sym (append_assoc done (txns ∷ []) left)) (subst (λ (s : ℕ). AreSessionsTold parts s more) (sym many) so.1) in
-    let from_there = subst (λ (h : List (List Txn)). AreTaken (stage.Handing (hand parts last h)) (flat_map (map saved.Offer) more) (stage.Handing (hand parts last (on ++ left)))) (append_assoc done (txns ∷ []) empties) others in
-    let to_there = subst (λ (h : List (List Txn)). AreTaken (stage.Handing (hand parts last (done ++ txns ∷ empties))) (flat_map (map saved.Offer) more) (stage.Handing (hand parts last h))) (append_assoc done (txns ∷ []) left) from_there in
-    taken_append (stage.Handing (hand parts last (done ++ [] ∷ empties))) (stage.Handing (hand parts last (done ++ txns ∷ empties))) (stage.Handing (hand parts last (done ++ txns ∷ left))) (map saved.Offer fragments) (flat_map (map saved.Offer) more) one to_there
+    let others = sessions_taken version parts last on left more (is ∙ sym (append_assoc done (txns ∷ []) left)) (subst (λ (s : ℕ). AreSessionsTold parts s more) (sym many) so.1) in
+    let from_there = subst (λ (h : List (List Txn)). AreTaken (stage.Handing (hand parts last h) version) (flat_map (map saved.Offer) more) (stage.Handing (hand parts last (on ++ left)) version)) (append_assoc done (txns ∷ []) empties) others in
+    let to_there = subst (λ (h : List (List Txn)). AreTaken (stage.Handing (hand parts last (done ++ txns ∷ empties)) version) (flat_map (map saved.Offer) more) (stage.Handing (hand parts last h) version)) (append_assoc done (txns ∷ []) left) from_there in
+    taken_append (stage.Handing (hand parts last (done ++ [] ∷ empties)) version) (stage.Handing (hand parts last (done ++ txns ∷ empties)) version) (stage.Handing (hand parts last (done ++ txns ∷ left)) version) (map saved.Offer fragments) (flat_map (map saved.Offer) more) one to_there
 
 -- writers, and what remains of the sessions
-rest_taken : (parts : Parts) (writers : List (List (ℕ × TxnId))) (remain : List (List Fragment)) → AreWritersTold parts 0 writers → AreSessionsTold parts 0 remain → AreTaken (stage.Handing (hand parts [] (replicate (length parts.remain) []))) (map saved.Last writers ++ flat_map (map saved.Offer) remain) (stage.Handing (handing_of parts))
-rest_taken parts writers remain told_writers told_remain =
+rest_taken : (version : Version) (parts : Parts) (writers : List (List (ℕ × TxnId))) (remain : List (List Fragment)) → AreWritersTold parts 0 writers → AreSessionsTold parts 0 remain → AreTaken (stage.Handing (hand parts [] (replicate (length parts.remain) [])) version) (map saved.Last writers ++ flat_map (map saved.Offer) remain) (stage.Handing (handing_of parts) version)
+rest_taken version parts writers remain told_writers told_remain =
     let entries : List (ℕ × TxnId) = finite.entries parts.base.last in
     let none : List (List Txn) = replicate (length parts.remain) [] in
-    let one = subst (λ (ws : List (ℕ × TxnId)). AreTaken (stage.Handing (hand parts [] none)) (map saved.Last writers) (stage.Handing (hand parts ws none))) (from_zero entries) (writers_taken parts 0 writers [] none told_writers) in
-    taken_append (stage.Handing (hand parts [] none)) (stage.Handing (hand parts entries none)) (stage.Handing (handing_of parts)) (map saved.Last writers) (flat_map (map saved.Offer) remain) one (sessions_taken parts entries [] parts.remain remain refl told_remain)
+    let one = subst (λ (ws : List (ℕ × TxnId)). AreTaken (stage.Handing (hand parts [] none) version) (map saved.Last writers) (stage.Handing (hand parts ws none) version)) (from_zero entries) (writers_taken version parts 0 writers [] none told_writers) in
+    taken_append (stage.Handing (hand parts [] none) version) (stage.Handing (hand parts entries none) version) (stage.Handing (handing_of parts) version) (map saved.Last writers) (flat_map (map saved.Offer) remain) one (sessions_taken version parts entries [] parts.remain remain refl told_remain)
 
-checkpoint_taken : (parts : Parts) (given : List Saved) → IsGood parts → IsCheckpoint parts given → AreTaken (stage.Resuming (length parts.remain) parts.limit) given (stage.Handing (handing_of parts))
-checkpoint_taken parts given good is =
-    subst (λ (all : List Saved). AreTaken (stage.Resuming (length parts.remain) parts.limit) all (stage.Handing (handing_of parts))) (sym is.given_is) (
-      stage.Handing (hand parts [] (replicate (length parts.base.marks) [])),
+checkpoint_taken : (parts : Parts) (version : Version) (given : List Saved) → IsGood parts → IsCheckpoint parts given → AreTaken (stage.Resuming (length parts.remain) parts.limit version) given (stage.Handing (handing_of parts) version)
+checkpoint_taken parts version given good is =
+    subst (λ (all : List Saved). AreTaken (stage.Resuming (length parts.remain) parts.limit version) all (stage.Handing (handing_of parts) version)) (sym is.given_is) (
+      stage.Handing (hand parts [] (replicate (length parts.base.marks) [])) version,
       ((good.marks, good.closed), refl),
-      subst (λ (n : ℕ). AreTaken (stage.Handing (hand parts [] (replicate n []))) (map saved.Last is.writers ++ flat_map (map saved.Offer) is.remain) (stage.Handing (handing_of parts))) (sym good.marks) (rest_taken parts is.writers is.remain is.writers_told is.remain_told),
+      subst (λ (n : ℕ). AreTaken (stage.Handing (hand parts [] (replicate n [])) version) (map saved.Last is.writers ++ flat_map (map saved.Offer) is.remain) (stage.Handing (handing_of parts) version)) (sym good.marks) (rest_taken version parts is.writers is.remain is.writers_told is.remain_told),
     )
 
 pub given_out_is_taken : GivenOutIsTaken
-given_out_is_taken parts given good is = record {
+given_out_is_taken parts version given good is = record {
   resumes = ((good.some_sessions, good.few_sessions), (good.some_limit, good.low_limit), refl);
-  taken = checkpoint_taken parts given good is;
+  taken = checkpoint_taken parts version given good is;
   good = good_again parts good;
   same = parts_again parts;
 }

@@ -1,10 +1,11 @@
 -- A command that isn't one of a stage's own is answered as where a script begins.
 use Rattle.std.proofs.Common.{◌≡◌, ◌≢◌, ℕ, Bool, List, Option, Some, None, refl, sym, ap}
 use Rattle.txn.specs.declared.transactions.TxnId.{TxnId}
-use Rattle.txn.specs.declared.transactions.Fragment.{Fragment}
+use Rattle.logged_fragments.specs.declared.logged.LoggedFragment.{LoggedFragment}
 use Rattle.log_text.specs.declared.commands.Command.{Command}
 use Rattle.log_text.specs.declared.commands.Command.TheVariants.{Offer, Marks, Last, Resumed}
 use Rattle.log_text.specs.declared.replies.Reply.{Reply}
+use Rattle.log_text.specs.declared.versions.Version.{Version}
 use Rattle.cobra.specs.Scripts.{AnswersFirst, BeginsAnew, AnswersResuming, AnswersHanding, stage_after}
 use Rattle.cobra.specs.declared.handing.Handing.{Handing}
 use Rattle.cobra.specs.declared.stages.Stage.{Stage}
@@ -18,12 +19,12 @@ anew_some old command answer begun new first is = (begun, first, sym (ap (stage_
 pub anew_none : (old : Stage) (command : Command) (answer : Reply) (begun : Option Stage) → AnswersFirst command answer begun → begun ≡ None → BeginsAnew old command answer old
 anew_none old command answer begun first is = (begun, first, sym (ap (stage_after old) is))
 
-pub first_resuming : (sessions limit : ℕ) (command : Command) (answer : Reply) (new : Stage) → ((marks : List ℕ) (closed : List Bool) → command ≢ Marks marks closed) → BeginsAnew (stage.Resuming sessions limit) command answer new → AnswersResuming sessions limit command answer new
-first_resuming sessions limit (Marks marks closed) answer new no_marks is = absurd (no_marks marks closed refl)
-first_resuming sessions limit command answer new no_marks is = is
+pub first_resuming : (sessions limit : ℕ) (version : Version) (command : Command) (answer : Reply) (new : Stage) → ((marks : List ℕ) (closed : List Bool) → command ≢ Marks marks closed) → BeginsAnew (stage.Resuming sessions limit version) command answer new → AnswersResuming sessions limit version command answer new
+first_resuming sessions limit version (Marks marks closed) answer new no_marks is = absurd (no_marks marks closed refl)
+first_resuming sessions limit version command answer new no_marks is = is
 
-pub first_handing : (handed : Handing) (command : Command) (answer : Reply) (new : Stage) → ((more : List (ℕ × TxnId)) → command ≢ Last more) → ((fragment : Fragment) → command ≢ Offer fragment) → command ≢ Resumed → BeginsAnew (stage.Handing handed) command answer new → AnswersHanding handed command answer new
-first_handing handed (Last more) answer new no_last no_offer not_resumed is = absurd (no_last more refl)
-first_handing handed (Offer fragment) answer new no_last no_offer not_resumed is = absurd (no_offer fragment refl)
-first_handing handed Resumed answer new no_last no_offer not_resumed is = absurd (not_resumed refl)
-first_handing handed command answer new no_last no_offer not_resumed is = is
+pub first_handing : (handed : Handing) (version : Version) (command : Command) (answer : Reply) (new : Stage) → ((more : List (ℕ × TxnId)) → command ≢ Last more) → ((logged : LoggedFragment) → command ≢ Offer logged) → command ≢ Resumed → BeginsAnew (stage.Handing handed version) command answer new → AnswersHanding handed version command answer new
+first_handing handed version (Last more) answer new no_last no_offer not_resumed is = absurd (no_last more refl)
+first_handing handed version (Offer logged) answer new no_last no_offer not_resumed is = absurd (no_offer logged refl)
+first_handing handed version Resumed answer new no_last no_offer not_resumed is = absurd (not_resumed refl)
+first_handing handed version command answer new no_last no_offer not_resumed is = is

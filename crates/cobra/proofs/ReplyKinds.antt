@@ -29,10 +29,13 @@ use Rattle.txn.specs.declared.transactions.TxnId.{TxnId}
 use Rattle.txn.specs.declared.transactions.Fragment.{Fragment}
 use Rattle.cobra.specs.Saving.{saved_told, fragment_told}
 use Rattle.log_text.specs.declared.saved.Saved.TheVariants as saved
+use Rattle.log_text.specs.declared.versions.Version.{Version}
+use Rattle.log_text.specs.declared.versions.Version.TheVariants.{One}
+use Rattle.logged_fragments.specs.declared.logged.LoggedFragment.{LoggedFragment}
 use Rattle.cobra.specs.declared.handing.Handing.{Handing}
 use Rattle.cobra.specs.declared.stages.Stage.{Stage}
 use Rattle.cobra.specs.declared.stages.Stage.TheVariants as stage
-use Rattle.cobra.specs.Scripts.{IsBadLine, Goes, EndsRound, IsRound, AnswersOpen, Opens, Resumes, AnswersFirst, BeginsAnew, HandsMarks, AnswersResuming, HandsWriters, HandsOffer, EndsHandOver, AnswersHanding, Answers}
+use Rattle.cobra.specs.Scripts.{IsBadLine, Goes, EndsRound, IsRound, IsStep, IsTakenIn, AnswersOpen, Opens, Resumes, AnswersFirst, BeginsAnew, HandsMarks, AnswersResuming, HandsWriters, HandsOffer, EndsHandOver, AnswersHanding, Answers}
 use Rattle.cobra.specs.StepReplies.{certificate_of, certified, report_of, reply_of}
 
 -- what a certificate shows is told by its own kind
@@ -95,74 +98,77 @@ saved_kind parts wanted.Marks = tt
 saved_kind parts (wanted.Last key) = tt
 saved_kind parts (wanted.Remain s n) = told_or_not (nat_lt s (length parts.remain)) (fragment_told parts s n)
 
-open_kind : (old new : EngineState) (command : Command) (answer : Reply) → AnswersOpen old command answer new → HasKindOfOrder answer
-open_kind old new (Offer fragment) answer is = told_kind is.0 answer is.2 (step_kind old new (step.Offer fragment) is.0 is.1)
-open_kind old new (Join fragment) answer is = told_kind is.0 answer is.2 (step_kind old new (step.Join fragment) is.0 is.1)
-open_kind old new Begin answer is = told_kind is.0 answer is.2 (step_kind old new step.Begin is.0 is.1)
-open_kind old new (Finish budget depth workers) answer is = told_kind is.0 answer is.2 (step_kind old new (step.Finish budget depth workers) is.0 is.1)
-open_kind old new (Round budget depth workers) answer is = told_kind is.0 answer is.2 (round_kind old new budget depth workers is.0 is.1)
-open_kind old new (Answer shown) answer is = told_kind is.0 answer is.2 (step_kind old new (step.Judge (certificate_of shown)) is.0 is.1)
-open_kind old new Truncate answer is = told_kind is.0 answer is.2 (step_kind old new step.Truncate is.0 is.1)
-open_kind old new Rebuild answer is = told_kind is.0 answer is.2 (step_kind old new step.Rebuild is.0 is.1)
-open_kind old new Show answer is = subst HasKindOfOrder (sym is.0) tt
-open_kind old new (Close session) answer is = told_kind is.0 answer is.2 (step_kind old new (step.Close session) is.0 is.1)
-open_kind old new (Save wanted) answer is = subst HasKindOfOrder (sym is.0) (saved_kind old.parts wanted)
-open_kind old new (Start sessions limit) answer is = bad_line_kind old new answer is
-open_kind old new (Resume sessions limit) answer is = bad_line_kind old new answer is
-open_kind old new (Marks marks closed) answer is = bad_line_kind old new answer is
-open_kind old new (Last last) answer is = bad_line_kind old new answer is
-open_kind old new Resumed answer is = bad_line_kind old new answer is
+taken_kind : {X : Type 0} (version : Version) (logged : LoggedFragment) (old new : X) (answer : Reply) (Taken : Type 0) → (Taken → HasKindOfOrder answer) → IsTakenIn version logged old answer new Taken → HasKindOfOrder answer
+taken_kind version logged old new answer Taken kind is = ⊎_elim (λ taken. kind taken.1) (λ bad. subst HasKindOfOrder (sym bad.1.0) tt) is
 
-opens_kind : (sessions limit : ℕ) (answer : Reply) (begun : Option Stage) → Opens sessions limit answer begun → HasKindOfOrder answer
-opens_kind sessions limit told.Done begun is = tt
-opens_kind sessions limit (told.No refusal) begun is = tt
-opens_kind sessions limit answer begun is = absurd is
+open_kind : (version : Version) (old new : EngineState) (command : Command) (answer : Reply) → AnswersOpen version old command answer new → HasKindOfOrder answer
+open_kind version old new (Offer logged) answer is = taken_kind version logged old new answer (IsStep old (step.Offer logged) answer new) (λ taken. told_kind taken.0 answer taken.2 (step_kind old new (step.Offer logged) taken.0 taken.1)) is
+open_kind version old new (Join logged) answer is = taken_kind version logged old new answer (IsStep old (step.Join logged) answer new) (λ taken. told_kind taken.0 answer taken.2 (step_kind old new (step.Join logged) taken.0 taken.1)) is
+open_kind version old new Begin answer is = told_kind is.0 answer is.2 (step_kind old new step.Begin is.0 is.1)
+open_kind version old new (Finish budget depth workers) answer is = told_kind is.0 answer is.2 (step_kind old new (step.Finish budget depth workers) is.0 is.1)
+open_kind version old new (Round budget depth workers) answer is = told_kind is.0 answer is.2 (round_kind old new budget depth workers is.0 is.1)
+open_kind version old new (Answer shown) answer is = told_kind is.0 answer is.2 (step_kind old new (step.Judge (certificate_of shown)) is.0 is.1)
+open_kind version old new Truncate answer is = told_kind is.0 answer is.2 (step_kind old new step.Truncate is.0 is.1)
+open_kind version old new Rebuild answer is = told_kind is.0 answer is.2 (step_kind old new step.Rebuild is.0 is.1)
+open_kind version old new Show answer is = subst HasKindOfOrder (sym is.0) tt
+open_kind version old new (Close session) answer is = told_kind is.0 answer is.2 (step_kind old new (step.Close session) is.0 is.1)
+open_kind version old new (Save wanted) answer is = subst HasKindOfOrder (sym is.0) (saved_kind old.parts wanted)
+open_kind version old new (Start sessions limit begun) answer is = bad_line_kind old new answer is
+open_kind version old new (Resume sessions limit begun) answer is = bad_line_kind old new answer is
+open_kind version old new (Marks marks closed) answer is = bad_line_kind old new answer is
+open_kind version old new (Last last) answer is = bad_line_kind old new answer is
+open_kind version old new Resumed answer is = bad_line_kind old new answer is
 
-resumes_kind : (sessions limit : ℕ) (answer : Reply) (begun : Option Stage) → Resumes sessions limit answer begun → HasKindOfOrder answer
-resumes_kind sessions limit told.Done begun is = tt
-resumes_kind sessions limit (told.No refusal) begun is = tt
-resumes_kind sessions limit answer begun is = absurd is
+opens_kind : (sessions limit : ℕ) (version : Version) (answer : Reply) (begun : Option Stage) → Opens sessions limit version answer begun → HasKindOfOrder answer
+opens_kind sessions limit version told.Done begun is = tt
+opens_kind sessions limit version (told.No refusal) begun is = tt
+opens_kind sessions limit version answer begun is = absurd is
+
+resumes_kind : (sessions limit : ℕ) (version : Version) (answer : Reply) (begun : Option Stage) → Resumes sessions limit version answer begun → HasKindOfOrder answer
+resumes_kind sessions limit version told.Done begun is = tt
+resumes_kind sessions limit version (told.No refusal) begun is = tt
+resumes_kind sessions limit version answer begun is = absurd is
 
 first_kind : (command : Command) (answer : Reply) (begun : Option Stage) → AnswersFirst command answer begun → HasKindOfOrder answer
-first_kind (Start sessions limit) answer begun is = opens_kind sessions limit answer begun is
-first_kind (Resume sessions limit) answer begun is = resumes_kind sessions limit answer begun is
+first_kind (Start sessions limit version) answer begun is = opens_kind sessions limit version answer begun is
+first_kind (Resume sessions limit version) answer begun is = resumes_kind sessions limit version answer begun is
 first_kind command answer begun is = subst HasKindOfOrder (sym is.0) tt
 
 anew_kind : (old : Stage) (command : Command) (answer : Reply) (new : Stage) → BeginsAnew old command answer new → HasKindOfOrder answer
 anew_kind old command answer new is = first_kind command answer is.0 is.1
 
-marks_kind : (sessions limit : ℕ) (marks : List ℕ) (closed : List Bool) (answer : Reply) (new : Stage) → HandsMarks sessions limit marks closed answer new → HasKindOfOrder answer
-marks_kind sessions limit marks closed told.Done new is = tt
-marks_kind sessions limit marks closed (told.No refusal) new is = tt
-marks_kind sessions limit marks closed answer new is = absurd is
+marks_kind : (sessions limit : ℕ) (version : Version) (marks : List ℕ) (closed : List Bool) (answer : Reply) (new : Stage) → HandsMarks sessions limit version marks closed answer new → HasKindOfOrder answer
+marks_kind sessions limit version marks closed told.Done new is = tt
+marks_kind sessions limit version marks closed (told.No refusal) new is = tt
+marks_kind sessions limit version marks closed answer new is = absurd is
 
-resuming_kind : (sessions limit : ℕ) (command : Command) (answer : Reply) (new : Stage) → AnswersResuming sessions limit command answer new → HasKindOfOrder answer
-resuming_kind sessions limit (Marks marks closed) answer new is = marks_kind sessions limit marks closed answer new is
-resuming_kind sessions limit command answer new is = anew_kind (stage.Resuming sessions limit) command answer new is
+resuming_kind : (sessions limit : ℕ) (version : Version) (command : Command) (answer : Reply) (new : Stage) → AnswersResuming sessions limit version command answer new → HasKindOfOrder answer
+resuming_kind sessions limit version (Marks marks closed) answer new is = marks_kind sessions limit version marks closed answer new is
+resuming_kind sessions limit version command answer new is = anew_kind (stage.Resuming sessions limit version) command answer new is
 
-writers_kind : (handed : Handing) (more : List (ℕ × TxnId)) (answer : Reply) (new : Stage) → HandsWriters handed more answer new → HasKindOfOrder answer
-writers_kind handed more told.Done new is = tt
-writers_kind handed more (told.No refusal) new is = tt
-writers_kind handed more answer new is = absurd is
+writers_kind : (handed : Handing) (version : Version) (more : List (ℕ × TxnId)) (answer : Reply) (new : Stage) → HandsWriters handed version more answer new → HasKindOfOrder answer
+writers_kind handed version more told.Done new is = tt
+writers_kind handed version more (told.No refusal) new is = tt
+writers_kind handed version more answer new is = absurd is
 
-offer_kind : (handed : Handing) (fragment : Fragment) (answer : Reply) (new : Stage) → HandsOffer handed fragment answer new → HasKindOfOrder answer
-offer_kind handed fragment told.Done new is = tt
-offer_kind handed fragment (told.No refusal) new is = tt
-offer_kind handed fragment answer new is = absurd is
+offer_kind : (handed : Handing) (version : Version) (fragment : Fragment) (answer : Reply) (new : Stage) → HandsOffer handed version fragment answer new → HasKindOfOrder answer
+offer_kind handed version fragment told.Done new is = tt
+offer_kind handed version fragment (told.No refusal) new is = tt
+offer_kind handed version fragment answer new is = absurd is
 
-end_kind : (handed : Handing) (answer : Reply) (new : Stage) → EndsHandOver handed answer new → HasKindOfOrder answer
-end_kind handed told.Done new is = tt
-end_kind handed (told.No refusal) new is = tt
-end_kind handed answer new is = absurd is
+end_kind : (handed : Handing) (version : Version) (answer : Reply) (new : Stage) → EndsHandOver handed version answer new → HasKindOfOrder answer
+end_kind handed version told.Done new is = tt
+end_kind handed version (told.No refusal) new is = tt
+end_kind handed version answer new is = absurd is
 
-handing_kind : (handed : Handing) (command : Command) (answer : Reply) (new : Stage) → AnswersHanding handed command answer new → HasKindOfOrder answer
-handing_kind handed (Last more) answer new is = writers_kind handed more answer new is
-handing_kind handed (Offer fragment) answer new is = offer_kind handed fragment answer new is
-handing_kind handed Resumed answer new is = end_kind handed answer new is
-handing_kind handed command answer new is = anew_kind (stage.Handing handed) command answer new is
+handing_kind : (handed : Handing) (version : Version) (command : Command) (answer : Reply) (new : Stage) → AnswersHanding handed version command answer new → HasKindOfOrder answer
+handing_kind handed version (Last more) answer new is = writers_kind handed version more answer new is
+handing_kind handed version (Offer logged) answer new is = taken_kind One logged (stage.Handing handed version) new answer (HandsOffer handed version logged.fragment answer new) (λ taken. offer_kind handed version logged.fragment answer new taken) is
+handing_kind handed version Resumed answer new is = end_kind handed version answer new is
+handing_kind handed version command answer new is = anew_kind (stage.Handing handed version) command answer new is
 
 pub answer_kind : (old : Stage) (command : Command) (answer : Reply) (new : Stage) → Answers old command answer new → HasKindOfOrder answer
 answer_kind stage.Nothing command answer new is = anew_kind stage.Nothing command answer new is
-answer_kind (stage.Resuming sessions limit) command answer new is = resuming_kind sessions limit command answer new is
-answer_kind (stage.Handing handed) command answer new is = handing_kind handed command answer new is
-answer_kind (stage.Open old) command answer new is = open_kind old is.0 command answer is.1
+answer_kind (stage.Resuming sessions limit version) command answer new is = resuming_kind sessions limit version command answer new is
+answer_kind (stage.Handing handed version) command answer new is = handing_kind handed version command answer new is
+answer_kind (stage.Open old version) command answer new is = open_kind version old is.0 command answer is.1

@@ -9,6 +9,7 @@ use Rattle.log_text.specs.declared.commands.Wanted.TheVariants as wanted
 use Rattle.log_text.specs.declared.replies.Reply.TheVariants as told
 use Rattle.log_text.specs.declared.saved.Saved.{Saved}
 use Rattle.log_text.specs.declared.saved.Saved.TheVariants as saved
+use Rattle.log_text.specs.declared.versions.Version.{Version}
 use Rattle.log_text.specs.Saved.{handed_by}
 use Rattle.cobra.specs.HandOver.{AreGoodParts, handed_parts}
 use Rattle.cobra.specs.Saving.{handing_of, saved_told}
@@ -52,14 +53,14 @@ abbrev pub AreTaken : Stage → List Saved → Stage → Type 0
 AreTaken old [] new = new ≡ old
 AreTaken old (given ∷ more) new = (between : Stage) × Answers old (handed_by given) told.Done between × AreTaken between more new
 
--- A resume of as many sessions as there are now, joined ones included, is done, under the same limit; all that was given out is taken
--- behind it; and the parts that were handed over are these.
-pub record IsResumed (parts : Parts) (given : List Saved) : Type 0 where
-  pub resumes : Resumes (length parts.remain) parts.limit told.Done (Some (stage.Resuming (length parts.remain) parts.limit))
-  pub taken : AreTaken (stage.Resuming (length parts.remain) parts.limit) given (stage.Handing (handing_of parts))
+-- A resume of as many sessions as there are now, joined ones included, is done, under the same limit and for lines of either version; all
+-- that was given out is taken behind it; and the parts that were handed over are these.
+pub record IsResumed (parts : Parts) (version : Version) (given : List Saved) : Type 0 where
+  pub resumes : Resumes (length parts.remain) parts.limit version told.Done (Some (stage.Resuming (length parts.remain) parts.limit version))
+  pub taken : AreTaken (stage.Resuming (length parts.remain) parts.limit version) given (stage.Handing (handing_of parts) version)
   pub good : AreGoodParts (handing_of parts)
   pub same : handed_parts (handing_of parts) ≡ parts
 
 -- Whatever good parts give out is taken where it is handed over, and comes to these very parts.
 abbrev pub GivenOutIsTaken : Type 0
-GivenOutIsTaken = (parts : Parts) (given : List Saved) → IsGood parts → IsCheckpoint parts given → IsResumed parts given
+GivenOutIsTaken = (parts : Parts) (version : Version) (given : List Saved) → IsGood parts → IsCheckpoint parts given → IsResumed parts version given

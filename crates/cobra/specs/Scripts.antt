@@ -1,5 +1,5 @@
 -- What the commands of a script are answered, and what they lead to.
-use Rattle.std.specs.Prelude.{◌≡◌, ℕ, ◌⊎◌, Bool, List, length, sum_by, Option, Some, None}
+use Rattle.std.specs.Prelude.{◌≡◌, ℕ, ◌⊎◌, Bool, true, false, List, length, sum_by, Option, Some, None}
 use Rattle.std.specs.FinMap as map
 use Rattle.txn.specs.declared.transactions.TxnId.{TxnId}
 use Rattle.txn.specs.declared.transactions.Fragment.{Fragment}
@@ -13,6 +13,10 @@ use Rattle.log_text.specs.declared.commands.Command.{Command}
 use Rattle.log_text.specs.declared.commands.Command.TheVariants.{Start, Offer, Join, Close, Begin, Finish, Round, Truncate, Rebuild, Show, Resume, Marks, Last, Resumed, Save, Answer}
 use Rattle.log_text.specs.declared.replies.Reply.{Reply}
 use Rattle.log_text.specs.declared.replies.Reply.TheVariants as told
+use Rattle.log_text.specs.declared.versions.Version.{Version}
+use Rattle.log_text.specs.declared.versions.Version.TheVariants.{One}
+use Rattle.log_text.specs.Versions.{has_form}
+use Rattle.logged_fragments.specs.declared.logged.LoggedFragment.{LoggedFragment}
 use Rattle.round_state.specs.EngineState.{EngineState, engine_over}
 use Rattle.round_state.specs.Opening.{IsSessions, IsLimit, IsOpenRefusal, fresh, fresh_state}
 use Rattle.round_state.specs.Legal.{State}
@@ -32,6 +36,12 @@ use Rattle.cobra.specs.declared.stages.Stage.TheVariants as stage
 -- A command that may not stand where it does is answered BadLine, and changes nothing.
 abbrev pub IsBadLine : {X : Type 0} → X → Reply → X → Type 0
 IsBadLine old answer new = (answer ≡ told.No BadLine) × (new ≡ old)
+
+-- A fragment for which the version has no form is answered so; one for which it has is taken as this says.
+abbrev pub IsTakenIn : {X : Type 0} → Version → LoggedFragment → X → Reply → X → Type 0 → Type 0
+IsTakenIn version logged old answer new Taken =
+    ((has_form version logged ≡ true) × Taken)
+    ⊎ ((has_form version logged ≡ false) × IsBadLine old answer new)
 
 -- The reply to a step is right by the engine alone, and legal for each whole history that the engine stood for: a report on it is
 -- true, and the engine after it stands for what the history has become.
@@ -60,37 +70,37 @@ IsRound old budget depth workers said new =
 abbrev pub state_told : EngineState → Reply
 state_told engine = told.Show engine.parts.base.marks (received_counts engine.parts) engine.parts.closed (map.entries engine.parts.base.last) (sum_by length engine.parts.remain)
 
--- the reply to a command, where an engine is open
-abbrev pub AnswersOpen : EngineState → Command → Reply → EngineState → Type 0
-AnswersOpen old (Offer fragment) answer new = IsStep old (step.Offer fragment) answer new
-AnswersOpen old (Join fragment) answer new = IsStep old (step.Join fragment) answer new
-AnswersOpen old (Close session) answer new = IsStep old (step.Close session) answer new
-AnswersOpen old Begin answer new = IsStep old step.Begin answer new
-AnswersOpen old (Finish budget depth workers) answer new = IsStep old (step.Finish budget depth workers) answer new
-AnswersOpen old (Round budget depth workers) answer new = (said : StepReply) × IsRound old budget depth workers said new × (answer ≡ reply_of said)
-AnswersOpen old (Answer shown) answer new = IsStep old (step.Judge (certificate_of shown)) answer new
-AnswersOpen old Truncate answer new = IsStep old step.Truncate answer new
-AnswersOpen old Rebuild answer new = IsStep old step.Rebuild answer new
-AnswersOpen old Show answer new = (answer ≡ state_told old) × (new ≡ old)
-AnswersOpen old (Save wanted) answer new = (answer ≡ saved_told old.parts wanted) × (new ≡ old)
-AnswersOpen old command answer new = IsBadLine old answer new
+-- the reply to a command, where an engine is open, for lines of this version
+abbrev pub AnswersOpen : Version → EngineState → Command → Reply → EngineState → Type 0
+AnswersOpen version old (Offer logged) answer new = IsTakenIn version logged old answer new (IsStep old (step.Offer logged) answer new)
+AnswersOpen version old (Join logged) answer new = IsTakenIn version logged old answer new (IsStep old (step.Join logged) answer new)
+AnswersOpen version old (Close session) answer new = IsStep old (step.Close session) answer new
+AnswersOpen version old Begin answer new = IsStep old step.Begin answer new
+AnswersOpen version old (Finish budget depth workers) answer new = IsStep old (step.Finish budget depth workers) answer new
+AnswersOpen version old (Round budget depth workers) answer new = (said : StepReply) × IsRound old budget depth workers said new × (answer ≡ reply_of said)
+AnswersOpen version old (Answer shown) answer new = IsStep old (step.Judge (certificate_of shown)) answer new
+AnswersOpen version old Truncate answer new = IsStep old step.Truncate answer new
+AnswersOpen version old Rebuild answer new = IsStep old step.Rebuild answer new
+AnswersOpen version old Show answer new = (answer ≡ state_told old) × (new ≡ old)
+AnswersOpen version old (Save wanted) answer new = (answer ≡ saved_told old.parts wanted) × (new ≡ old)
+AnswersOpen version old command answer new = IsBadLine old answer new
 
 -- An engine is opened: it is a fresh one, which stands for the history in which nothing was received. Where it isn't, no stage begins.
-abbrev pub Opens : ℕ → ℕ → Reply → Option Stage → Type 0
-Opens sessions limit told.Done begun = IsSessions sessions × IsLimit limit × (begun ≡ Some (stage.Open (fresh sessions limit))) × Holds (fresh sessions limit) (fresh_state sessions limit)
-Opens sessions limit (told.No refusal) begun = IsOpenRefusal sessions limit refusal × (begun ≡ None)
-Opens sessions limit answer begun = ⊥
+abbrev pub Opens : ℕ → ℕ → Version → Reply → Option Stage → Type 0
+Opens sessions limit version told.Done begun = IsSessions sessions × IsLimit limit × (begun ≡ Some (stage.Open (fresh sessions limit) version)) × Holds (fresh sessions limit) (fresh_state sessions limit)
+Opens sessions limit version (told.No refusal) begun = IsOpenRefusal sessions limit refusal × (begun ≡ None)
+Opens sessions limit version answer begun = ⊥
 
 -- A hand-over begins, where an engine may be opened.
-abbrev pub Resumes : ℕ → ℕ → Reply → Option Stage → Type 0
-Resumes sessions limit told.Done begun = IsSessions sessions × IsLimit limit × (begun ≡ Some (stage.Resuming sessions limit))
-Resumes sessions limit (told.No refusal) begun = IsOpenRefusal sessions limit refusal × (begun ≡ None)
-Resumes sessions limit answer begun = ⊥
+abbrev pub Resumes : ℕ → ℕ → Version → Reply → Option Stage → Type 0
+Resumes sessions limit version told.Done begun = IsSessions sessions × IsLimit limit × (begun ≡ Some (stage.Resuming sessions limit version))
+Resumes sessions limit version (told.No refusal) begun = IsOpenRefusal sessions limit refusal × (begun ≡ None)
+Resumes sessions limit version answer begun = ⊥
 
 -- the reply to a command with which a script begins, and the stage that begins, where one does
 abbrev pub AnswersFirst : Command → Reply → Option Stage → Type 0
-AnswersFirst (Start sessions limit) answer begun = Opens sessions limit answer begun
-AnswersFirst (Resume sessions limit) answer begun = Resumes sessions limit answer begun
+AnswersFirst (Start sessions limit version) answer begun = Opens sessions limit version answer begun
+AnswersFirst (Resume sessions limit version) answer begun = Resumes sessions limit version answer begun
 AnswersFirst command answer begun = (answer ≡ told.No BadLine) × (begun ≡ None)
 
 -- the stage that has begun, and where none has, the old one
@@ -104,27 +114,27 @@ abbrev pub BeginsAnew : Stage → Command → Reply → Stage → Type 0
 BeginsAnew old command answer new = (begun : Option Stage) × AnswersFirst command answer begun × (new ≡ stage_after old begun)
 
 -- marks and flags are handed over
-abbrev pub HandsMarks : ℕ → ℕ → List ℕ → List Bool → Reply → Stage → Type 0
-HandsMarks sessions limit marks closed told.Done new = AreOfSessions sessions marks closed × (new ≡ stage.Handing (handed_first limit marks closed))
-HandsMarks sessions limit marks closed (told.No refusal) new = IsMarksRefusal sessions marks closed refusal × (new ≡ stage.Resuming sessions limit)
-HandsMarks sessions limit marks closed answer new = ⊥
+abbrev pub HandsMarks : ℕ → ℕ → Version → List ℕ → List Bool → Reply → Stage → Type 0
+HandsMarks sessions limit version marks closed told.Done new = AreOfSessions sessions marks closed × (new ≡ stage.Handing (handed_first limit marks closed) version)
+HandsMarks sessions limit version marks closed (told.No refusal) new = IsMarksRefusal sessions marks closed refusal × (new ≡ stage.Resuming sessions limit version)
+HandsMarks sessions limit version marks closed answer new = ⊥
 
 -- the reply to a command, where a hand-over has begun: marks come first
-abbrev pub AnswersResuming : ℕ → ℕ → Command → Reply → Stage → Type 0
-AnswersResuming sessions limit (Marks marks closed) answer new = HandsMarks sessions limit marks closed answer new
-AnswersResuming sessions limit command answer new = BeginsAnew (stage.Resuming sessions limit) command answer new
+abbrev pub AnswersResuming : ℕ → ℕ → Version → Command → Reply → Stage → Type 0
+AnswersResuming sessions limit version (Marks marks closed) answer new = HandsMarks sessions limit version marks closed answer new
+AnswersResuming sessions limit version command answer new = BeginsAnew (stage.Resuming sessions limit version) command answer new
 
 -- last writers are handed over; memory may be wanting
-abbrev pub HandsWriters : Handing → List (ℕ × TxnId) → Reply → Stage → Type 0
-HandsWriters handed more told.Done new = new ≡ stage.Handing (handed_writers handed more)
-HandsWriters handed more (told.No NoMemory) new = new ≡ stage.Handing handed
-HandsWriters handed more answer new = ⊥
+abbrev pub HandsWriters : Handing → Version → List (ℕ × TxnId) → Reply → Stage → Type 0
+HandsWriters handed version more told.Done new = new ≡ stage.Handing (handed_writers handed more) version
+HandsWriters handed version more (told.No NoMemory) new = new ≡ stage.Handing handed version
+HandsWriters handed version more answer new = ⊥
 
 -- something of what remains is handed over
-abbrev pub HandsOffer : Handing → Fragment → Reply → Stage → Type 0
-HandsOffer handed fragment told.Done new = IsNextOffer handed fragment × (new ≡ stage.Handing (handed_offer handed fragment))
-HandsOffer handed fragment (told.No refusal) new = IsHandRefusal handed fragment refusal × (new ≡ stage.Handing handed)
-HandsOffer handed fragment answer new = ⊥
+abbrev pub HandsOffer : Handing → Version → Fragment → Reply → Stage → Type 0
+HandsOffer handed version fragment told.Done new = IsNextOffer handed fragment × (new ≡ stage.Handing (handed_offer handed fragment) version)
+HandsOffer handed version fragment (told.No refusal) new = IsHandRefusal handed fragment refusal × (new ≡ stage.Handing handed version)
+HandsOffer handed version fragment answer new = ⊥
 
 -- the state of an engine that has these parts and nothing else, where this is the whole history
 abbrev pub state_over : Parts → History → State
@@ -135,21 +145,21 @@ abbrev pub HoldsAll : Parts → Type 0
 HoldsAll parts = (whole : History) → StandsFor parts whole → Holds (engine_over parts) (state_over parts whole)
 
 -- The hand-over ends: the parts that were handed over are good, and the engine has these and nothing else.
-abbrev pub EndsHandOver : Handing → Reply → Stage → Type 0
-EndsHandOver handed told.Done new = AreGoodParts handed × (new ≡ stage.Open (engine_over (handed_parts handed))) × HoldsAll (handed_parts handed)
-EndsHandOver handed (told.No refusal) new = IsResumedRefusal handed refusal × (new ≡ stage.Handing handed)
-EndsHandOver handed answer new = ⊥
+abbrev pub EndsHandOver : Handing → Version → Reply → Stage → Type 0
+EndsHandOver handed version told.Done new = AreGoodParts handed × (new ≡ stage.Open (engine_over (handed_parts handed)) version) × HoldsAll (handed_parts handed)
+EndsHandOver handed version (told.No refusal) new = IsResumedRefusal handed refusal × (new ≡ stage.Handing handed version)
+EndsHandOver handed version answer new = ⊥
 
--- the reply to a command, while parts are handed over
-abbrev pub AnswersHanding : Handing → Command → Reply → Stage → Type 0
-AnswersHanding handed (Last more) answer new = HandsWriters handed more answer new
-AnswersHanding handed (Offer fragment) answer new = HandsOffer handed fragment answer new
-AnswersHanding handed Resumed answer new = EndsHandOver handed answer new
-AnswersHanding handed command answer new = BeginsAnew (stage.Handing handed) command answer new
+-- The reply to a command, while parts are handed over. What remains is what transactions did: in either version none is told to have aborted.
+abbrev pub AnswersHanding : Handing → Version → Command → Reply → Stage → Type 0
+AnswersHanding handed version (Last more) answer new = HandsWriters handed version more answer new
+AnswersHanding handed version (Offer logged) answer new = IsTakenIn One logged (stage.Handing handed version) answer new (HandsOffer handed version logged.fragment answer new)
+AnswersHanding handed version Resumed answer new = EndsHandOver handed version answer new
+AnswersHanding handed version command answer new = BeginsAnew (stage.Handing handed version) command answer new
 
--- The reply to a command, and what it leads to. Once an engine is open, one stays open.
+-- The reply to a command, and what it leads to. Once an engine is open, one stays open, for lines of the same version.
 abbrev pub Answers : Stage → Command → Reply → Stage → Type 0
 Answers stage.Nothing command answer new = BeginsAnew stage.Nothing command answer new
-Answers (stage.Resuming sessions limit) command answer new = AnswersResuming sessions limit command answer new
-Answers (stage.Handing handed) command answer new = AnswersHanding handed command answer new
-Answers (stage.Open old) command answer new = (engine : EngineState) × AnswersOpen old command answer engine × (new ≡ stage.Open engine)
+Answers (stage.Resuming sessions limit version) command answer new = AnswersResuming sessions limit version command answer new
+Answers (stage.Handing handed version) command answer new = AnswersHanding handed version command answer new
+Answers (stage.Open old version) command answer new = (engine : EngineState) × AnswersOpen version old command answer engine × (new ≡ stage.Open engine version)

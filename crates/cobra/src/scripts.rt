@@ -3,8 +3,9 @@ ghost use Rattle.log_text.specs.Commands.{HasLimits};
 ghost use Rattle.log_text.specs.Replies.{HasKindOfOrder};
 ghost use Rattle.order_check.specs.Effort.{IsEffort};
 ghost use Rattle.cobra.specs.Outputs.{Asks, IsTold, AnswersNext, RepliesTo};
-ghost use Rattle.cobra.specs.Scripts.{EndsRound, IsRound, AnswersOpen, Opens, Resumes, AnswersFirst, BeginsAnew, AnswersResuming, AnswersHanding, HandsMarks, HandsWriters, HandsOffer, EndsHandOver, Answers};
+ghost use Rattle.cobra.specs.Scripts.{EndsRound, IsRound, IsStep, IsTakenIn, AnswersOpen, Opens, Resumes, AnswersFirst, BeginsAnew, AnswersResuming, AnswersHanding, HandsMarks, HandsWriters, HandsOffer, EndsHandOver, Answers};
 ghost use Rattle.cobra.specs.declared.stages.Stage.{Stage};
+ghost use Rattle.log_text.specs.declared.versions.Version.{Version};
 
 use crate::handing::Handing;
 use crate::open_engine::OpenEngine;
@@ -13,7 +14,8 @@ use crate::saving::saved_told;
 use crate::showing::state_told;
 use crate::stages::Stage;
 use byte_lines::Next;
-use log_text::{Command, Reply, read_line, write_reply};
+use log_text::{Command, Reply, Version, read_line, write_reply};
+use logged_fragments::LoggedFragment;
 use polygraph::Solver;
 use round_state::{Step, StepReply, is_limit, is_sessions};
 use std::alloc::{AllocError, Global};
@@ -71,25 +73,58 @@ fn make_round<S: Solver>(
     }
 }
 
+/// Takes an offer, where the script's version has a form for it.
+fn answer_offer<S: Solver>(
+    engine: &mut OpenEngine,
+    alloc: Global,
+    version: Version,
+    logged: LoggedFragment,
+    solver: &S,
+) -> Result<Reply, NoMemory>
+    requires { S.ready }
+    ensures { IfOk result (λ answer. IsTakenIn version logged engine.old answer engine.new (IsStep engine.old (Step.Offer logged) answer engine.new)) }
+{
+    if version.has_form(&logged) {
+        let said = engine.step(alloc, Step::Offer(logged), solver);
+        reply_of(alloc, said)
+    } else {
+        Ok(Reply::No(Refusal::BadLine))
+    }
+}
+
+/// The same of a join.
+fn answer_join<S: Solver>(
+    engine: &mut OpenEngine,
+    alloc: Global,
+    version: Version,
+    logged: LoggedFragment,
+    solver: &S,
+) -> Result<Reply, NoMemory>
+    requires { S.ready }
+    ensures { IfOk result (λ answer. IsTakenIn version logged engine.old answer engine.new (IsStep engine.old (Step.Join logged) answer engine.new)) }
+{
+    if version.has_form(&logged) {
+        let said = engine.step(alloc, Step::Join(logged), solver);
+        reply_of(alloc, said)
+    } else {
+        Ok(Reply::No(Refusal::BadLine))
+    }
+}
+
 fn answer_open<S: Solver>(
     engine: &mut OpenEngine,
     alloc: Global,
+    version: Version,
     command: Command,
     solver: &S,
 ) -> Result<Reply, NoMemory>
     requires ready { S.ready }
     requires limits { HasLimits command }
-    ensures { IfOk result (λ answer. AnswersOpen engine.old command answer engine.new) }
+    ensures { IfOk result (λ answer. AnswersOpen version engine.old command answer engine.new) }
 {
     match command {
-        Command::Offer(fragment) => {
-            let said = engine.step(alloc, Step::Offer(fragment), solver);
-            reply_of(alloc, said)
-        }
-        Command::Join(fragment) => {
-            let said = engine.step(alloc, Step::Join(fragment), solver);
-            reply_of(alloc, said)
-        }
+        Command::Offer(logged) => answer_offer(engine, alloc, version, logged, solver),
+        Command::Join(logged) => answer_join(engine, alloc, version, logged, solver),
         Command::Close(session) => {
             let said = engine.step(alloc, Step::Close(session), solver);
             reply_of(alloc, said)
@@ -141,17 +176,17 @@ fn answer_open<S: Solver>(
     }
 }
 
-fn open(alloc: Global, sessions: u64, limit: u64) -> (Reply, Option<Stage>)
-    ensures { Opens sessions limit result.0 result.1 }
+fn open(alloc: Global, sessions: u64, limit: u64, version: Version) -> (Reply, Option<Stage>)
+    ensures { Opens sessions limit version result.0 result.1 }
 {
     match OpenEngine::open(alloc, sessions, limit) {
-        Ok(engine) => (Reply::Done, Some(Stage::Open(engine))),
+        Ok(engine) => (Reply::Done, Some(Stage::Open { engine, version })),
         Err(refusal) => (Reply::No(refusal), None),
     }
 }
 
-fn begin_hand_over(sessions: u64, limit: u64) -> (Reply, Option<Stage>)
-    ensures { Resumes sessions limit result.0 result.1 }
+fn begin_hand_over(sessions: u64, limit: u64, version: Version) -> (Reply, Option<Stage>)
+    ensures { Resumes sessions limit version result.0 result.1 }
 {
     if !is_sessions(sessions) {
         return (Reply::No(Refusal::BadSession), None);
@@ -159,7 +194,12 @@ fn begin_hand_over(sessions: u64, limit: u64) -> (Reply, Option<Stage>)
     if !is_limit(limit) {
         return (Reply::No(Refusal::TooLong), None);
     }
-    (Reply::Done, Some(Stage::Resuming { sessions, limit }))
+    let begun = Stage::Resuming {
+        sessions,
+        limit,
+        version,
+    };
+    (Reply::Done, Some(begun))
 }
 
 /// The reply where no engine is open, and the stage that begins, where one does.
@@ -167,8 +207,16 @@ fn answer_first(alloc: Global, command: Command) -> (Reply, Option<Stage>)
     ensures { AnswersFirst command result.0 result.1 }
 {
     match command {
-        Command::Start { sessions, limit } => open(alloc, sessions, limit),
-        Command::Resume { sessions, limit } => begin_hand_over(sessions, limit),
+        Command::Start {
+            sessions,
+            limit,
+            version,
+        } => open(alloc, sessions, limit, version),
+        Command::Resume {
+            sessions,
+            limit,
+            version,
+        } => begin_hand_over(sessions, limit, version),
         _ => (Reply::No(Refusal::BadLine), None),
     }
 }
@@ -185,23 +233,41 @@ fn begin(alloc: Global, command: Command) -> (Reply, Stage)
     }
 }
 
-fn leave_resuming(alloc: Global, sessions: u64, limit: u64, command: Command) -> (Reply, Stage)
-    ensures { BeginsAnew (Stage.Resuming sessions limit) command result.0 result.1 }
+fn leave_resuming(
+    alloc: Global,
+    sessions: u64,
+    limit: u64,
+    version: Version,
+    command: Command,
+) -> (Reply, Stage)
+    ensures { BeginsAnew (Stage.Resuming sessions limit version) command result.0 result.1 }
 {
     let (reply, begun) = answer_first(alloc, command);
     match begun {
         Some(stage) => (reply, stage),
-        None => (reply, Stage::Resuming { sessions, limit }),
+        None => {
+            let stage = Stage::Resuming {
+                sessions,
+                limit,
+                version,
+            };
+            (reply, stage)
+        }
     }
 }
 
-fn leave_handing(alloc: Global, handed: Handing, command: Command) -> (Reply, Stage)
-    ensures { BeginsAnew (Stage.Handing handed) command result.0 result.1 }
+fn leave_handing(
+    alloc: Global,
+    handed: Handing,
+    version: Version,
+    command: Command,
+) -> (Reply, Stage)
+    ensures { BeginsAnew (Stage.Handing handed version) command result.0 result.1 }
 {
     let (reply, begun) = answer_first(alloc, command);
     match begun {
         Some(stage) => (reply, stage),
-        None => (reply, Stage::Handing(handed)),
+        None => (reply, Stage::Handing { handed, version }),
     }
 }
 
@@ -209,63 +275,102 @@ fn hand_marks(
     alloc: Global,
     sessions: u64,
     limit: u64,
+    version: Version,
     marks: Sequence<u64>,
     closed: Sequence<bool>,
 ) -> (Reply, Stage)
-    ensures { HandsMarks sessions limit marks closed result.0 result.1 }
+    ensures { HandsMarks sessions limit version marks closed result.0 result.1 }
 {
     match Handing::new(alloc, sessions, limit, marks, closed) {
-        Ok(handed) => (Reply::Done, Stage::Handing(handed)),
-        Err(refusal) => (Reply::No(refusal), Stage::Resuming { sessions, limit }),
+        Ok(handed) => (Reply::Done, Stage::Handing { handed, version }),
+        Err(refusal) => {
+            let stage = Stage::Resuming {
+                sessions,
+                limit,
+                version,
+            };
+            (Reply::No(refusal), stage)
+        }
     }
 }
 
-fn answer_resuming(alloc: Global, sessions: u64, limit: u64, command: Command) -> (Reply, Stage)
-    ensures { AnswersResuming sessions limit command result.0 result.1 }
+fn answer_resuming(
+    alloc: Global,
+    sessions: u64,
+    limit: u64,
+    version: Version,
+    command: Command,
+) -> (Reply, Stage)
+    ensures { AnswersResuming sessions limit version command result.0 result.1 }
 {
     match command {
-        Command::Marks { marks, closed } => hand_marks(alloc, sessions, limit, marks, closed),
-        _ => leave_resuming(alloc, sessions, limit, command),
+        Command::Marks { marks, closed } => {
+            hand_marks(alloc, sessions, limit, version, marks, closed)
+        }
+        _ => leave_resuming(alloc, sessions, limit, version, command),
     }
 }
 
-fn hand_writers(handed: Handing, more: Sequence<(u64, TxnId)>) -> (Reply, Stage)
-    ensures { HandsWriters handed more result.0 result.1 }
+fn hand_writers(handed: Handing, version: Version, more: Sequence<(u64, TxnId)>) -> (Reply, Stage)
+    ensures { HandsWriters handed version more result.0 result.1 }
 {
     let mut handed = handed;
     match handed.take_writers(more) {
-        Ok(()) => (Reply::Done, Stage::Handing(handed)),
-        Err(_) => (Reply::No(Refusal::NoMemory), Stage::Handing(handed)),
+        Ok(()) => (Reply::Done, Stage::Handing { handed, version }),
+        Err(_) => {
+            let refused = Reply::No(Refusal::NoMemory);
+            (refused, Stage::Handing { handed, version })
+        }
     }
 }
 
-fn hand_offer(handed: Handing, fragment: Fragment) -> (Reply, Stage)
-    ensures { HandsOffer handed fragment result.0 result.1 }
+fn hand_fragment(handed: Handing, version: Version, fragment: Fragment) -> (Reply, Stage)
+    ensures { HandsOffer handed version fragment result.0 result.1 }
 {
     let mut handed = handed;
     match handed.take_offer(fragment) {
-        Ok(()) => (Reply::Done, Stage::Handing(handed)),
-        Err(refusal) => (Reply::No(refusal), Stage::Handing(handed)),
+        Ok(()) => (Reply::Done, Stage::Handing { handed, version }),
+        Err(refusal) => (Reply::No(refusal), Stage::Handing { handed, version }),
     }
 }
 
-fn end_hand_over(alloc: Global, handed: Handing) -> (Reply, Stage)
-    ensures { EndsHandOver handed result.0 result.1 }
+/// What is handed over is what transactions did, in either version: none is told to have aborted.
+fn hand_offer(handed: Handing, version: Version, logged: LoggedFragment) -> (Reply, Stage)
+    ensures { IsTakenIn Version.One logged (Stage.Handing handed version) result.0 result.1 (HandsOffer handed version logged.fragment result.0 result.1) }
+{
+    if !Version::One.has_form(&logged) {
+        let refused = Reply::No(Refusal::BadLine);
+        return (refused, Stage::Handing { handed, version });
+    }
+    let LoggedFragment {
+        fragment,
+        aborted: _,
+    } = logged;
+    hand_fragment(handed, version, fragment)
+}
+
+fn end_hand_over(alloc: Global, handed: Handing, version: Version) -> (Reply, Stage)
+    ensures { EndsHandOver handed version result.0 result.1 }
 {
     match handed.resume(alloc) {
-        Ok(engine) => (Reply::Done, Stage::Open(engine)),
-        Err((handed, refusal)) => (Reply::No(refusal), Stage::Handing(handed)),
+        Ok(engine) => (Reply::Done, Stage::Open { engine, version }),
+        Err((handed, refusal)) => (Reply::No(refusal), Stage::Handing { handed, version }),
     }
 }
 
-fn answer_handing(alloc: Global, handed: Handing, command: Command) -> (Reply, Stage)
-    ensures { AnswersHanding handed command result.0 result.1 }
+fn answer_handing(
+    alloc: Global,
+    handed: Handing,
+    version: Version,
+    command: Command,
+) -> (Reply, Stage)
+    ensures { AnswersHanding handed version command result.0 result.1 }
 {
     match command {
-        Command::Last(more) => hand_writers(handed, more),
-        Command::Offer(fragment) => hand_offer(handed, fragment),
-        Command::Resumed => end_hand_over(alloc, handed),
-        _ => leave_handing(alloc, handed, command),
+        Command::Last(more) => hand_writers(handed, version, more),
+        Command::Offer(logged) => hand_offer(handed, version, logged),
+        Command::Resumed => end_hand_over(alloc, handed, version),
+        _ => leave_handing(alloc, handed, version, command),
     }
 }
 
@@ -282,14 +387,18 @@ fn answered<S: Solver>(
 {
     match stage {
         Stage::Nothing => Ok(begin(alloc, command)),
-        Stage::Resuming { sessions, limit } => {
-            Ok(answer_resuming(alloc, sessions, limit, command))
+        Stage::Resuming {
+            sessions,
+            limit,
+            version,
+        } => Ok(answer_resuming(alloc, sessions, limit, version, command)),
+        Stage::Handing { handed, version } => {
+            Ok(answer_handing(alloc, handed, version, command))
         }
-        Stage::Handing(handed) => Ok(answer_handing(alloc, handed, command)),
-        Stage::Open(engine) => {
+        Stage::Open { engine, version } => {
             let mut engine = engine;
-            let reply = answer_open(&mut engine, alloc, command, solver)?;
-            Ok((reply, Stage::Open(engine)))
+            let reply = answer_open(&mut engine, alloc, version, command, solver)?;
+            Ok((reply, Stage::Open { engine, version }))
         }
     }
 }

@@ -1,5 +1,6 @@
 use crate::handing::Handing;
 use crate::open_engine::OpenEngine;
+use log_text::Version;
 
 /// How far a script is.
 #[derive(Drop)]
@@ -7,9 +8,19 @@ pub(crate) enum Stage {
     /// Nothing has begun.
     Nothing,
     /// Parts are to be handed over, of so many sessions, under this limit: marks come next.
-    Resuming { sessions: u64, limit: u64 },
-    /// Parts are handed over.
-    Handing(Handing),
-    /// An engine is open.
-    Open(OpenEngine),
+    Resuming {
+        sessions: u64,
+        limit: u64,
+        version: Version,
+    },
+    /// Parts are handed over, to go on by lines of this version.
+    Handing {
+        handed: Handing,
+        version: Version,
+    },
+    /// An engine is open, for lines of this version.
+    Open {
+        engine: OpenEngine,
+        version: Version,
+    },
 }

@@ -40,6 +40,9 @@ Other lines end a session (close), begin a round and finish it later (begin, fin
 settled (truncate), have all made anew of what is kept (rebuild), tell the state (show), give out what
 is kept (save), and begin with what another run gave out (resume).
 
+A script that begins with ["open",1,8,2] is of version 2: in it a transaction that aborted is offered
+with what it tried, as [[],[5],"aborted"], and whoever has read from it is told.
+
 The exit status is 0 at the end of the script, whatever was reported; 1 where a device failed or
 memory was wanting, which standard error then tells; 2 for other arguments.
 

@@ -35,6 +35,9 @@ What comes of it. Reports come whenever no line waits, and at the end, so there 
   ["report",1,"serial",[1],[[0,0]]]
   ["end"]
 
+A first line that ends with 2, ["open",1,8,4096,0,1,2], begins lines of version 2: in them a
+transaction that aborted is offered with what it tried, as [[],[5],"aborted"].
+
 Read what it writes while you write lines: it waits for its reader, and drops nothing.
 
 The exit status is 0 where all lines were read and all that came of them was written, whatever was

@@ -80,7 +80,8 @@ none_writes history (e ∷ es) key at none =
     (ap (λ t. writes_key t key) (All-head (λ x. txn_at history x.id ≡ Some x.txn) e es at) ∙ All-head (λ x. writes_key (Some x.txn) key ≡ false) e es none)
     (none_writes history es key (All-tail (λ x. txn_at history x.id ≡ Some x.txn) e es at) (All-tail (λ x. writes_key (Some x.txn) key ≡ false) e es none))
 
-All-back : {X : Type 0} (P : X → Type 0) (xs ys : List X) → All P (xs ++ ys) → All P ys
+-- what holds of all of a list holds of what is behind a front
+pub All-back : {X : Type 0} (P : X → Type 0) (xs ys : List X) → All P (xs ++ ys) → All P ys
 All-back P [] ys h = h
 All-back P (x ∷ xs) ys h = All-back P xs ys (All-tail P x (xs ++ ys) h)
 
@@ -138,8 +139,5 @@ numbers_more old slice new e session grown same id h =
     ap (λ (x : TxnId). x.number) id ∙ ap (λ l. length (of_session session l)) same ∙ ap (λ s. length (of_session s old)) (sym (ap (λ (x : TxnId). x.session) id)) in
     subst (Follows HasNextNumber []) (sym grown) (follows_more HasNextNumber [] old e h next)
 
-pub answers_more : (old slice new : List Executed) (e : Executed) (txn : Txn) → new ≡ old ++ e ∷ [] → slice ≡ old → e.txn ≡ txn → All (λ (read : ℕ × Source). IsSourceIn slice read.0 read.1) txn.reads → Follows IsAnswered [] old → Follows IsAnswered [] new
-answers_more old slice new e txn grown same own told h =
-    let answered : IsAnswered old e =
-    subst (λ (t : Txn). All (λ (read : ℕ × Source). IsSourceIn old read.0 read.1) t.reads) (sym own) (subst (λ l. All (λ (read : ℕ × Source). IsSourceIn l read.0 read.1) txn.reads) same told) in
-    subst (Follows IsAnswered []) (sym grown) (follows_more IsAnswered [] old e h answered)
+pub answers_more : (old slice new : List Executed) (e : Executed) → new ≡ old ++ e ∷ [] → slice ≡ old → IsAnswered slice e → Follows IsAnswered [] old → Follows IsAnswered [] new
+answers_more old slice new e grown same answered h = subst (Follows IsAnswered []) (sym grown) (follows_more IsAnswered [] old e h (subst (λ before. IsAnswered before e) same answered))

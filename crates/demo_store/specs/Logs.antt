@@ -1,11 +1,12 @@
 -- Logs of executed transactions: what each session did in them, which writer of a key is the last, and which history
 -- an order of execution explains.
-use Rattle.std.specs.Prelude.{◌≡◌, ℕ, Bool, true, false, List, [], ◌∷◌, ◌++◌, length, map, filter, All, Option, Some, None, ⊤}
+use Rattle.std.specs.Prelude.{◌≡◌, ◌<◌, ℕ, Bool, true, false, List, [], ◌∷◌, ◌++◌, length, map, filter, All, Contains, Option, Some, None, if◌then◌else◌, ⊤}
 use Rattle.txn.specs.declared.transactions.TxnId.{TxnId}
 use Rattle.txn.specs.declared.transactions.Source.{Source}
 use Rattle.txn.specs.declared.transactions.Source.TheVariants.{Init, By}
 use Rattle.txn.specs.declared.transactions.Txn.{Txn}
 use Rattle.txn.specs.History.{History, session_of, in_session, writes_key}
+use Rattle.logged_fragments.specs.Effects.{idle}
 use Rattle.order_check.specs.Whole.{ExplainsWhole}
 use Rattle.demo_store.specs.declared.requests.Request.{Request}
 use Rattle.demo_store.specs.declared.requests.Fault.{Fault}
@@ -47,6 +48,11 @@ abbrev pub IsLastPlace : List Executed → ℕ → Option ℕ → Type 0
 IsLastPlace log key None = NoneWrote log key
 IsLastPlace log key (Some place) = (older newer : List Executed) × (e : Executed) × (log ≡ older ++ e ∷ newer) × (length older ≡ place) × (writes_key (Some e.txn) key ≡ true) × NoneWrote newer key
 
+-- the last of the aborted transactions that wrote the key, where there is one
+abbrev pub IsLastLost : List Executed → ℕ → Option TxnId → Type 0
+IsLastLost log key None = All (λ e. ¬ Contains e.lost key) log
+IsLastLost log key (Some id) = (older newer : List Executed) × (e : Executed) × (log ≡ older ++ e ∷ newer) × (e.id ≡ id) × Contains e.lost key × All (λ x. ¬ Contains x.lost key) newer
+
 -- the reads are of these keys, in order
 abbrev pub AreOfKeys : List ℕ → List (ℕ × Source) → Type 0
 AreOfKeys keys reads = map (λ read. read.0) reads ≡ keys
@@ -56,11 +62,19 @@ pub record Answers (log : List Executed) (keys : List ℕ) (reads : List (ℕ ×
   pub keys_are : AreOfKeys keys reads
   pub sources_are : All (λ read. IsSourceIn log read.0 read.1) reads
 
--- The transaction has the keys of the request, and goes to the end of the log as the next one of its session.
+-- what goes to the log as the next transaction of its session: where it aborts, it did nothing, and the keys that it wrote are lost
+abbrev pub entry_of : Request → List Executed → Txn → Executed
+entry_of request old txn = record {
+  id = record { session = request.session; number = length (of_session request.session old) };
+  txn = if request.abort then idle else txn;
+  lost = if request.abort then request.writes else [];
+}
+
+-- The transaction has the keys of the request, and goes to the end of the log.
 pub record IsExecuted (request : Request) (old : List Executed) (txn : Txn) (new : List Executed) : Type 0 where
   pub reads : AreOfKeys request.reads txn.reads
   pub writes : txn.writes ≡ request.writes
-  pub logged : new ≡ old ++ record { id = record { session = request.session; number = length (of_session request.session old) }; txn = txn } ∷ []
+  pub logged : new ≡ old ++ entry_of request old txn ∷ []
 
 -- The words below are of the store's invariant and of private functions.
 
@@ -74,3 +88,12 @@ HasNextNumber before e = e.id.number ≡ length (of_session e.id.session before)
 
 abbrev pub IsAnswered : List Executed → Executed → Type 0
 IsAnswered before e = All (λ read. IsSourceIn before read.0 read.1) e.txn.reads
+
+-- the source is the initial state, or a transaction that was executed
+abbrev pub HasRun : List Executed → Source → Type 0
+HasRun log Init = ⊤
+HasRun log (By id) = id.number < length (of_session id.session log)
+
+-- it read what had run, and did nothing where it wrote in vain
+abbrev pub ReadsRun : List Executed → Executed → Type 0
+ReadsRun before e = All (λ read. HasRun before read.1) e.txn.reads × ((key : ℕ) → Contains e.lost key → e.txn ≡ idle)

@@ -1,11 +1,11 @@
 ghost use Rattle.std.specs.Prelude.{◌≡◌, ◌≢◌, ◌<◌, ◌↔◌, ℕ, length, take, Any, Contains, IsNone, IsTrue, MatchOption, Some};
 ghost use Rattle.txn.specs.declared.transactions.Source.{Source};
-ghost use Rattle.txn.specs.declared.transactions.Source.TheVariants.{Init};
-ghost use Rattle.demo_store.specs.declared.requests.Fault.TheVariants.{None, StaleRead, LostUpdate, SplitRead, SessionBack};
-ghost use Rattle.demo_store.specs.Faults.{HasWritten, IsFirstOf, IsLie, IsLost, IsSplit, IsStale};
-ghost use Rattle.demo_store.specs.Logs.{IsLastPlace, NoneWrote};
+ghost use Rattle.txn.specs.declared.transactions.Source.TheVariants.{Init, By};
+ghost use Rattle.demo_store.specs.declared.requests.Fault.TheVariants.{None, StaleRead, LostUpdate, SplitRead, SessionBack, DirtyRead};
+ghost use Rattle.demo_store.specs.Faults.{HasWritten, IsDirty, IsFirstOf, IsLie, IsLost, IsSplit, IsStale};
+ghost use Rattle.demo_store.specs.Logs.{IsLastLost, IsLastPlace, NoneWrote};
 
-use crate::lookups::{last_place, source_of, writes};
+use crate::lookups::{last_lost, last_place, source_of, writes};
 use crate::requests::{Executed, Fault, Request};
 use txn::{EPOCH, Source, Txn};
 
@@ -27,6 +27,7 @@ pub fn lie_of(fault: Fault, log: &[Executed], request: &Request) -> Option<Lie>
         Fault::LostUpdate => lost_update(log, request),
         Fault::SplitRead => split_read(log, request),
         Fault::SessionBack => session_back(log, request),
+        Fault::DirtyRead => dirty_read(log, request),
     }
 }
 
@@ -152,4 +153,29 @@ fn has_written(log: &[Executed], session: u8, key: u64) -> bool
         }
     }
     false
+}
+
+fn dirty_read(log: &[Executed], request: &Request) -> Option<Lie>
+    ensures { MatchOption result ((key : ℕ) (source : Source) → ¬ IsLie DirtyRead log.now request.now key source) (λ lie. IsLie DirtyRead log.now request.now lie.key lie.source) }
+{
+    for key in request.reads.as_slice() {
+        if let Some(lie) = dirty_key(log, *key) {
+            return Some(lie);
+        }
+    }
+    None
+}
+
+/// The last aborted writer of the key.
+fn dirty_key(log: &[Executed], key: u64) -> Option<Lie>
+    ensures { MatchOption result (key ≢ EPOCH → (source : Source) → ¬ IsDirty log.now key source) (λ lie. (lie.key ≡ key) × (key ≢ EPOCH) × IsDirty log.now key lie.source) }
+{
+    if key == EPOCH {
+        return None;
+    }
+    let id = last_lost(log, key)?;
+    Some(Lie {
+        key,
+        source: Source::By(id),
+    })
 }

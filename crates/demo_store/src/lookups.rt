@@ -1,9 +1,9 @@
-ghost use Rattle.std.specs.Prelude.{◌≡◌, ◌<◌, length, IfSome, Some};
+ghost use Rattle.std.specs.Prelude.{◌≡◌, ◌<◌, ◌↔◌, length, Contains, IfSome, IsTrue, Some};
 ghost use Rattle.txn.specs.History.{writes_key};
-ghost use Rattle.demo_store.specs.Logs.{of_session, IsLastPlace, IsSourceIn};
+ghost use Rattle.demo_store.specs.Logs.{of_session, IsLastLost, IsLastPlace, IsSourceIn};
 
 use crate::requests::Executed;
-use txn::Source;
+use txn::{Source, TxnId};
 
 pub fn writes(executed: &Executed, key: u64) -> bool
     ensures { result ≡ writes_key (Some executed.now.txn) key }
@@ -33,6 +33,27 @@ pub fn source_of(log: &[Executed], key: u64) -> Source
         Some(place) => Source::By(log[place].id),
         None => Source::Init,
     }
+}
+
+/// Whether it wrote the key in vain.
+fn lost(executed: &Executed, key: u64) -> bool
+    ensures { IsTrue result ↔ Contains executed.now.lost key }
+{
+    executed.lost.as_slice().contains(&key)
+}
+
+/// The last of the aborted transactions that wrote the key.
+pub fn last_lost(log: &[Executed], key: u64) -> Option<TxnId>
+    ensures { IsLastLost log.now key result }
+{
+    let mut last = None;
+    for place in 0..log.len() {
+        let executed = &log[place];
+        if lost(executed, key) {
+            last = Some(executed.id);
+        }
+    }
+    last
 }
 
 /// How many transactions of the session were executed.

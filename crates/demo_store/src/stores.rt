@@ -1,9 +1,10 @@
-ghost use Rattle.std.specs.Prelude.{◌≡◌, ◌<◌, ◌^◌, ◌||◌, ℕ, [], length, All, IfOk, OnOk, OnErr, IsNone, IsSome, MatchOption, true, false};
+ghost use Rattle.std.specs.Prelude.{◌≡◌, ◌<◌, ◌^◌, ◌||◌, if◌then◌else◌, ℕ, [], length, All, Any, IfOk, OnOk, OnErr, IsNone, IsSome, MatchOption, true, false};
 ghost use Rattle.std.specs.Option.{ForSome};
 ghost use Rattle.txn.specs.declared.transactions.Source.{Source};
 ghost use Rattle.demo_store.specs.declared.requests.Fault.TheVariants.{None};
 ghost use Rattle.demo_store.specs.Faults.{AnswersBut, IsLie, IsToldBut};
-ghost use Rattle.demo_store.specs.Logs.{of_session, Answers, IsSourceIn, AreOfKeys, IsExecuted, IsExplained};
+ghost use Rattle.demo_store.specs.Logs.{of_session, entry_of, Answers, IsSourceIn, AreOfKeys, IsExecuted, IsExplained};
+ghost use Rattle.logged_fragments.specs.Effects.{idle};
 
 use crate::faults::{Lie, lie_of};
 use crate::lookups::{count_of, source_of};
@@ -23,13 +24,13 @@ pub struct Store {
 impl Model for Store {
     ghost use Rattle.std.specs.Prelude.{[], ◌≡◌, false};
     ghost use Rattle.demo_store.specs.declared.requests.Fault.TheVariants.{None};
-    ghost use Rattle.demo_store.specs.Logs.{StoreState, Follows, HasNextNumber, IsAnswered};
+    ghost use Rattle.demo_store.specs.Logs.{StoreState, Follows, HasNextNumber, IsAnswered, ReadsRun};
 
     ghost Value = { StoreState };
 
     ghost view = { λ s. record { fault = s.fault; acted = s.acted; log = s.log } };
 
-    ghost invariant = { λ s. Follows HasNextNumber [] s.log × (s.fault ≡ None → (s.acted ≡ false) × Follows IsAnswered [] s.log) };
+    ghost invariant = { λ s. Follows HasNextNumber [] s.log × (s.fault ≡ None → (s.acted ≡ false) × Follows IsAnswered [] s.log) × Follows ReadsRun [] s.log };
 }
 
 impl Store {
@@ -57,8 +58,10 @@ impl Store {
         count_of(self.log.as_slice(), session)
     }
 
-    /// Executes a request as its session's next transaction: each read is answered with the last writer of the key. At the
-    /// first request to which the fault applies, one key that isn't key 0 is answered as the fault has it. Where memory is refused nothing changed. It takes time of the log's length for each read.
+    /// Executes a request as its session's next transaction, and gives what it read and wrote: each read is answered with the
+    /// last writer of the key. One that aborts did nothing in the end. At the first request to which the fault applies, one key
+    /// that isn't key 0 is answered as the fault has it. Where memory is refused nothing changed. It takes time of the log's
+    /// length for each read.
     pub fn exec(&mut self, alloc: Global, request: Request) -> Result<Txn, NoMemory>
         requires session { request.session < 64 }
         requires room { length (of_session request.session self.old.log) < 2 ^ 48 }
@@ -67,6 +70,7 @@ impl Store {
         ensures once { OnOk result (self.old.acted ≡ true → self.new.acted ≡ true) }
         ensures lies { IfOk result (λ txn. self.old.acted ≡ false → self.new.acted ≡ true
             → (key : ℕ) × (source : Source) × IsLie self.old.fault self.old.log request key source × AnswersBut self.old.log request.reads key source txn.reads) }
+        ensures untrue { IfOk result (λ txn. self.old.acted ≡ false → self.new.acted ≡ true → Any (λ read. ¬ IsSourceIn self.old.log read.0 read.1) txn.reads) }
         ensures acts { OnOk result ((key : ℕ) (source : Source) → IsLie self.old.fault self.old.log request key source → self.new.acted ≡ true) }
         ensures honest { OnOk result (self.old.fault ≡ None → (self.new.acted ≡ false) × IsExplained self.new.log) }
         ensures fault { self.new.fault ≡ self.old.fault }
@@ -108,8 +112,8 @@ fn executed(
     lie: Option<Lie>,
 ) -> Result<(Executed, Txn), NoMemory>
     requires { length (of_session request.session log.now) < 2 ^ 48 }
+    ensures entry { IfOk result (λ r. r.0 ≡ entry_of request log.now r.1) }
     ensures id { IfOk result (λ r. r.0.id ≡ record { session = request.session; number = length (of_session request.session log.now) }) }
-    ensures same { IfOk result (λ r. r.0.txn ≡ r.1) }
     ensures writes { IfOk result (λ r. r.1.writes ≡ request.writes) }
     ensures reads { IfOk result (λ r. AreOfKeys request.reads r.1.reads) }
     ensures sources { IfOk result (λ r. IsNone lie → All (λ read. IsSourceIn log.now read.0 read.1) r.1.reads) }
@@ -120,10 +124,38 @@ fn executed(
         session: request.session,
         number: count_of(log, request.session),
     };
+    let abort = request.abort;
     let writes = request.writes;
     let txn = Txn { reads, writes };
     let copy = txn.clone()?;
-    Ok((Executed { id, txn: copy }, txn))
+    let entry = entry(alloc, id, copy, abort);
+    Ok((entry, txn))
+}
+
+/// A transaction for the log, as what it did: nothing, where it aborted.
+fn entry(alloc: Global, id: TxnId, txn: Txn, abort: bool) -> Executed
+    ensures id { result.id ≡ id }
+    ensures txn { result.txn ≡ (if abort then idle else txn) }
+    ensures lost { result.lost ≡ (if abort then txn.writes else []) }
+{
+    let none = Sequence::new(Vec::new(alloc));
+    if !abort {
+        return Executed {
+            id,
+            txn,
+            lost: none,
+        };
+    }
+    let Txn { writes, .. } = txn;
+    let idle = Txn {
+        reads: Sequence::new(Vec::new(alloc)),
+        writes: Sequence::new(Vec::new(alloc)),
+    };
+    Executed {
+        id,
+        txn: idle,
+        lost: writes,
+    }
 }
 
 /// What is told of the key: its last writer, or the lie if that is about it.

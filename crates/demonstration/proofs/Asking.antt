@@ -19,6 +19,7 @@ short_name fault.StaleRead = omega arith
 short_name fault.LostUpdate = omega arith
 short_name fault.SplitRead = omega arith
 short_name fault.SessionBack = omega arith
+short_name fault.DirtyRead = omega arith
 
 short : (command : Command) → IsAllowed command → length (line_of command) ≤ 17
 short command allowed = omega (

@@ -2,5 +2,5 @@ mod Asking
 mod Audits
 mod LastKinds
 mod Lines
-mod Sending
+pub mod Sending
 mod Spaces

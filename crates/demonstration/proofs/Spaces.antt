@@ -26,6 +26,7 @@ spaceless fault.StaleRead = (omega arith, (omega arith, (omega arith, (omega ari
 spaceless fault.LostUpdate = (omega arith, (omega arith, (omega arith, (omega arith, (omega arith, (omega arith, (omega arith, (omega arith, (omega arith, (omega arith, (omega arith, tt)))))))))))
 spaceless fault.SplitRead = (omega arith, (omega arith, (omega arith, (omega arith, (omega arith, (omega arith, (omega arith, (omega arith, (omega arith, (omega arith, tt))))))))))
 spaceless fault.SessionBack = (omega arith, (omega arith, (omega arith, (omega arith, (omega arith, (omega arith, (omega arith, (omega arith, (omega arith, (omega arith, (omega arith, (omega arith, tt))))))))))))
+spaceless fault.DirtyRead = (omega arith, (omega arith, (omega arith, (omega arith, (omega arith, (omega arith, (omega arith, (omega arith, (omega arith, (omega arith, tt))))))))))
 
 pub no_space : (fault : Fault) (i : ℕ) → i < length (fault_name fault) → get_or (fault_name fault) i 0 ≢ 32
 no_space fault = none_at (fault_name fault) (spaceless fault)
@@ -37,6 +38,7 @@ name_is_text fault.StaleRead = (codes "stale-read", (refl, refl))
 name_is_text fault.LostUpdate = (codes "lost-update", (refl, refl))
 name_is_text fault.SplitRead = (codes "split-read", (refl, refl))
 name_is_text fault.SessionBack = (codes "session-back", (refl, refl))
+name_is_text fault.DirtyRead = (codes "dirty-read", (refl, refl))
 
 pub line_is_text : (command : Command) → IsAllowed command → IsUtf8 (line_of command)
 unfolding lib.Utf8.encode

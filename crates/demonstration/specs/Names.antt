@@ -11,6 +11,7 @@ fault_name fault.StaleRead = codes "stale-read"
 fault_name fault.LostUpdate = codes "lost-update"
 fault_name fault.SplitRead = codes "split-read"
 fault_name fault.SessionBack = codes "session-back"
+fault_name fault.DirtyRead = codes "dirty-read"
 
 -- a kind's name, and "none" where there is no report
 abbrev pub kind_name : Option Kind → List ℕ

@@ -26,11 +26,11 @@ pub record HasAudited (taken : List Parcel) (sent : List Entry) : Type 0 where
   pub reports : All (IsTrueEntry (accepted_history 4 taken sent)) sent
   pub last : IsLastCount (map length (accepted_history 4 taken sent)) sent
 
--- What is shown of a run whose auditor sent these entries: each collector submitted its 9 items, of which so many were taken; the auditor audited
+-- What is shown of a run whose auditor sent these entries: each collector submitted its 11 items, of which so many were taken; the auditor audited
 -- these; the last of its reports has this kind.
 pub record IsRunOf (sent : List Entry) (shown : Shown) : Type 0 where
   pub taken : List Parcel
-  pub submitted : shown.tally.submitted ≡ 9 ∷ 9 ∷ 9 ∷ 9 ∷ []
+  pub submitted : shown.tally.submitted ≡ 11 ∷ 11 ∷ 11 ∷ 11 ∷ []
   pub counts : Counts shown.tally.taken taken
   pub audited : HasAudited taken sent
   pub last : shown.last ≡ last_kind sent
@@ -41,9 +41,9 @@ IsRun shown = (sent : List Entry) × IsRunOf sent shown
 
 -- For private clauses.
 
--- the pass is the collector's again, and where it is done 9 items were submitted
+-- the pass is the collector's again, and where it is done 11 items were submitted
 abbrev pub HasCollected : Collector → Collected → Type 0
-HasCollected pass collected = (collected.pass.0 ≡ pass.0) × (collected.pass.1 ≡ pass.1) × (collected.is_done ≡ true → length collected.pass.2 ≡ 9)
+HasCollected pass collected = (collected.pass.0 ≡ pass.0) × (collected.pass.1 ≡ pass.1) × (collected.is_done ≡ true → length collected.pass.2 ≡ 11)
 
 -- the side is the auditor's again
 abbrev pub IsSameSide : AuditorSide → AuditorSide → Type 0
@@ -65,9 +65,9 @@ pub record IsFreshSide (hall : Hall) (side : AuditorSide) : Type 0 where
   pub sent : side.sender.sent ≡ []
   pub published : side.seat.published ≡ []
 
--- the pass is the collector's again, by which 9 items were submitted
+-- the pass is the collector's again, by which 11 items were submitted
 abbrev pub IsDone : Collector → Collector → Type 0
-IsDone old new = (new.0 ≡ old.0) × (new.1 ≡ old.1) × (length new.2 ≡ 9)
+IsDone old new = (new.0 ≡ old.0) × (new.1 ≡ old.1) × (length new.2 ≡ 11)
 
 -- all came back, and did all of their work; the reader tells what it has received, and the kind of the last report among that
 pub record HasReturned (passes : Collector × Collector × Collector × Collector) (side : AuditorSide) (reader : Receiving) (returned : Returned) : Type 0 where
@@ -87,6 +87,6 @@ pub record IsOfHall (hall : Hall) (returned : Returned) : Type 0 where
   pub auditor : returned.side.pass.0 ≡ hall.desk.0
   pub ring : returned.reader.ring ≡ returned.side.sender.ring
 
--- each collector's pass has submitted its 9 items
+-- each collector's pass has submitted its 11 items
 abbrev pub HaveSubmitted : Collector × Collector × Collector × Collector → Type 0
-HaveSubmitted passes = (length passes.0.2 ≡ 9) × (length passes.1.2 ≡ 9) × (length passes.2.2 ≡ 9) × (length passes.3.2 ≡ 9)
+HaveSubmitted passes = (length passes.0.2 ≡ 11) × (length passes.1.2 ≡ 11) × (length passes.2.2 ≡ 11) × (length passes.3.2 ≡ 11)

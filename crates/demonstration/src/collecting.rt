@@ -5,6 +5,7 @@ use crate::halls::Hall;
 use crate::work::{STEPS, request_of};
 use demo_store::{Request, Store};
 use fragment_intake::{CollectorPass, Desk, Item};
+use logged_fragments::LoggedFragment;
 use std::alloc::{AllocError, Global};
 use std::snapshot::Snapshot;
 use std::sync::{Mutex, Wait};
@@ -44,24 +45,29 @@ fn execute(alloc: Global, store: &mut Store, request: Request) -> Result<(u64, T
     Ok((number, txn))
 }
 
-/// Has the store execute the request of this step, and makes a fragment of it.
+/// Has the store execute the request of this step, and makes a fragment of it, which says whether it aborted.
 fn fragment<R: Wait>(
     rt: &R,
     alloc: Global,
     store: &Mutex<Store>,
     session: u8,
     step: u64,
-) -> Result<Fragment, NoMemory>
-    requires { (session < 4) × (step < 7) }
+) -> Result<LoggedFragment, NoMemory>
+    requires { (session < 4) × (step < 9) }
 {
     let request = request_of(alloc, session, step)?;
+    let aborted = vec![in alloc; request.abort]?;
     let mut txns = Vec::with_capacity(alloc, 1)?;
     let (first, txn) = execute(alloc, &mut *store.lock(rt), request)?;
     txns.push(txn)?;
-    Ok(Fragment {
+    let fragment = Fragment {
         session,
         first,
         txns: Sequence::new(txns),
+    };
+    Ok(LoggedFragment {
+        fragment,
+        aborted: Sequence::new(aborted),
     })
 }
 
@@ -95,8 +101,8 @@ fn work<R: Wait>(
     requires desk { pass.old.0 ≡ hall.now.desk.0 }
     requires fresh { pass.old.2 ≡ [] }
     ensures same { (pass.new.0 ≡ pass.old.0) × (pass.new.1 ≡ pass.old.1) }
-    ensures few { length pass.new.2 < 8 }
-    ensures all { OnOk result (length pass.new.2 ≡ 7) }
+    ensures few { length pass.new.2 < 10 }
+    ensures all { OnOk result (length pass.new.2 ≡ 9) }
 {
     for step in 0..STEPS {
         let fragment = fragment(rt, alloc, &hall.store, session, step)?;

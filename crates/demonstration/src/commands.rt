@@ -31,6 +31,7 @@ fn fault_named(name: &str) -> Option<Fault>
         "lost-update" => Some(Fault::LostUpdate),
         "split-read" => Some(Fault::SplitRead),
         "session-back" => Some(Fault::SessionBack),
+        "dirty-read" => Some(Fault::DirtyRead),
         _ => None,
     }
 }

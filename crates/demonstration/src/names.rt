@@ -14,6 +14,7 @@ pub fn fault_name(fault: Fault) -> &'static str
         Fault::LostUpdate => "lost-update",
         Fault::SplitRead => "split-read",
         Fault::SessionBack => "session-back",
+        Fault::DirtyRead => "dirty-read",
     }
 }
 

@@ -1,10 +1,11 @@
-//! Four collectors with 2,000 items each, in threads of their own, over a desk with three places and a ring with one.
+//! Four collectors with 2,000 items each, in threads of their own, over a desk with three places and a ring with one, whose reader starts late.
 ghost use Rattle.std.specs.Prelude.{◌≡◌, ◌+◌, ◌<◌, ◌^◌, None, [], IfOk, length};
 ghost use Rattle.fragment_intake.specs.Collectors.{AreCollectorsOf};
 ghost use Rattle.demonstration_tests.specs.Crowds.{AreFresh, IsFreshSide};
 
 use fragment_intake::{CollectorPass, CollectorPasses, Desk, Item, Tally};
 use live_audit::{AuditorSide, Effort, audit_live};
+use logged_fragments::LoggedFragment;
 use order_check::Kind;
 use polygraph::Single;
 use report_queue::{Entry, Latest, ReportReader, ring};
@@ -95,14 +96,15 @@ fn txn_of(alloc: Global, session: u8, number: u64) -> Result<Txn, NoMemory> {
 }
 
 /// A fragment of one transaction.
-fn fragment_of(alloc: Global, session: u8, number: u64) -> Result<Fragment, NoMemory> {
+fn fragment_of(alloc: Global, session: u8, number: u64) -> Result<LoggedFragment, NoMemory> {
     let txn = txn_of(alloc, session, number)?;
     let txns = vec![in alloc; txn]?;
-    Ok(Fragment {
+    let fragment = Fragment {
         session,
         first: number,
         txns: Sequence::new(txns),
-    })
+    };
+    Ok(LoggedFragment::committed(alloc, fragment))
 }
 
 /// A collector's item at this place; an end in the place of what there is no memory for.
@@ -117,7 +119,7 @@ fn item_of(alloc: Global, session: u8, place: u64) -> Item {
 }
 
 /// Submits the item, once there is room for it.
-fn submit<R: Wait>(rt: &R, desk: &Desk, pass: &mut CollectorPass, item: Item)
+pub fn submit<R: Wait>(rt: &R, desk: &Desk, pass: &mut CollectorPass, item: Item)
     requires desk { pass.old.0 ≡ desk.now.0 }
     requires few { length pass.old.2 < 2 ^ 48 }
     ensures same { (pass.new.0 ≡ pass.old.0) × (pass.new.1 ≡ pass.old.1) }
@@ -134,11 +136,13 @@ fn submit<R: Wait>(rt: &R, desk: &Desk, pass: &mut CollectorPass, item: Item)
     unreachable!()
 }
 
-/// What the threads share: whether they are to work, how many fences were submitted, the desk, and the word.
+/// What the threads share: whether they are to work, how many fences were submitted, whether a collector has found the desk full (1), the desk, and
+/// the word.
 #[derive(Drop)]
 struct Hall {
     start: OnceLock<bool>,
     fences: AtomicU64,
+    full: AtomicU64,
     desk: Desk,
     latest: Latest,
 }
@@ -147,6 +151,33 @@ struct Hall {
 fn wait_turn<R: Wait>(rt: &R, hall: &Hall, turn: u64) {
     for _ in rt.forever() {
         if turn <= hall.fences.load(Ordering::SeqCst) {
+            return;
+        }
+        thread::yield_now();
+    }
+    unreachable!()
+}
+
+/// Submits the item once there is room for it, and notes where there is none at first.
+fn submit_noting<R: Wait>(rt: &R, hall: &Hall, pass: &mut CollectorPass, item: Item)
+    requires desk { pass.old.0 ≡ hall.now.desk.0 }
+    requires few { length pass.old.2 < 2 ^ 48 }
+    ensures same { (pass.new.0 ≡ pass.old.0) × (pass.new.1 ≡ pass.old.1) }
+    ensures one { length pass.new.2 ≡ length pass.old.2 + 1 }
+{
+    match hall.desk.submit(rt, pass, item) {
+        Ok(()) => {}
+        Err(back) => {
+            hall.full.store(1, Ordering::SeqCst);
+            submit(rt, &hall.desk, pass, back);
+        }
+    }
+}
+
+/// Waits until a collector has found the desk full.
+fn wait_until_full<R: Wait>(rt: &R, hall: &Hall) {
+    for _ in rt.forever() {
+        if hall.full.load(Ordering::SeqCst) == 1 {
             return;
         }
         thread::yield_now();
@@ -172,10 +203,10 @@ fn submit_in_turn<R: Wait>(
     if is_fence(place) {
         let turn = turn_of(session, place);
         wait_turn(rt, hall, turn);
-        submit(rt, &hall.desk, pass, item);
+        submit_noting(rt, hall, pass, item);
         hall.fences.store(turn.saturating_add(1), Ordering::SeqCst);
     } else {
-        submit(rt, &hall.desk, pass, item);
+        submit_noting(rt, hall, pass, item);
     }
 }
 
@@ -225,7 +256,7 @@ struct Heard {
     accepted: [u64; 4],
     refused: u64,
     cuts: u64,
-    /// Reports of another kind than serial and pending, and rounds and cuts that were skipped.
+    /// Reports of another kind than serial and pending, rounds and cuts that were skipped, and transactions that weren't the next of their session.
     wrong: u64,
     /// The last report's kind and counts.
     last: Option<Kind>,
@@ -255,6 +286,9 @@ impl Heard {
     fn note_accepted(&mut self, collector: u64, place: u64) {
         if collector < 4 && place < TXNS {
             let count = self.accepted[collector as usize];
+            if place != count {
+                self.wrong = self.wrong.saturating_add(1);
+            }
             self.accepted[collector as usize] = count.saturating_add(1);
         }
     }
@@ -292,10 +326,11 @@ fn hear<R: Wait>(rt: &R, reader: &mut ReportReader) -> Heard {
     unreachable!()
 }
 
-/// The reader's whole work, once it is called.
+/// The reader's whole work, once it is called: it begins only when the desk is full.
 fn listen<R: Wait>(rt: &R, hall: &Hall, reader: ReportReader) -> Heard {
     let mut reader = reader;
     if *hall.start.wait(rt) {
+        wait_until_full(rt, hall);
         hear(rt, &mut reader)
     } else {
         Heard::nothing()
@@ -452,6 +487,7 @@ fn crowd_of<R: Wait>(rt: &R, hall: Hall, returned: Returned) -> Crowd
     let Hall {
         start: _,
         fences: _,
+        full: _,
         desk,
         latest: _,
     } = hall;
@@ -495,6 +531,7 @@ fn run_crowd<R: Threads + Wait + Sync>(rt: &R, alloc: Global) -> Result<Crowd, N
             let hall = Hall {
                 start,
                 fences: AtomicU64::new(0),
+                full: AtomicU64::new(0),
                 desk,
                 latest,
             };
@@ -508,8 +545,8 @@ fn run_crowd<R: Threads + Wait + Sync>(rt: &R, alloc: Global) -> Result<Crowd, N
     }
 }
 
-/// Each collector's items are taken, none is refused, no report is wrong, and the last one counts all that was accepted, and is serial. What isn't
-/// serial before is pending: a parcel may be taken before that of another collector which it has read from.
+/// Each collector's items are taken and told in order, none is refused, no report is wrong, and the last one counts all that was accepted, and is
+/// serial. What isn't serial before is pending: a parcel may be taken before that of another collector which it has read from.
 #[test]
 fn four_threads_with_2000_items_each(rt: HostRuntime) -> Result<(), Fail> {
     let crowd = run_crowd(&rt, rt.alloc())?;

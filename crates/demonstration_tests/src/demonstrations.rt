@@ -25,8 +25,8 @@ fn wanted(fault: Fault) -> Shown {
     Shown {
         fault,
         tally: Tally {
-            submitted: [9; 4],
-            taken: [9; 4],
+            submitted: [11; 4],
+            taken: [11; 4],
             left: [0; 4],
         },
         last: Some(kind),
@@ -42,14 +42,14 @@ fn judge_outcome(
     outcome: &Outcome,
 ) -> Result<(), NoMemory> {
     assert_eq!(rt; outcome.shown, wanted(fault));
-    assert_eq!(rt; outcome.executed.len(), 28);
+    assert_eq!(rt; outcome.executed.len(), 36);
     let told = judge(
         rt,
         alloc,
         outcome.executed.as_slice(),
         outcome.entries.as_slice(),
     )?;
-    assert_eq!(rt; told.counts, [7; 4]);
+    assert_eq!(rt; told.counts, [9; 4]);
     assert_eq!(rt; told.kind, outcome.shown.last);
     Ok(())
 }
@@ -69,12 +69,13 @@ fn judge_run<R: Threads + Wait + Sync + Abort>(
 }
 
 /// The faults of a store.
-const FAULTS: [Fault; 5] = [
+const FAULTS: [Fault; 6] = [
     Fault::None,
     Fault::StaleRead,
     Fault::LostUpdate,
     Fault::SplitRead,
     Fault::SessionBack,
+    Fault::DirtyRead,
 ];
 
 #[test]
@@ -104,11 +105,11 @@ fn sink(alloc: Global) -> MemorySink {
 
 /// What an honest store's run writes.
 const HONEST: &str =
-    "fault none\ncollector 0 submitted 9 taken 9\ncollector 1 submitted 9 taken 9\ncollector 2 submitted 9 taken 9\ncollector 3 submitted 9 taken 9\nlast serial\nlatest serial\n";
+    "fault none\ncollector 0 submitted 11 taken 11\ncollector 1 submitted 11 taken 11\ncollector 2 submitted 11 taken 11\ncollector 3 submitted 11 taken 11\nlast serial\nlatest serial\n";
 
 /// What a run with a lost update writes.
 const LOST: &str =
-    "fault lost-update\ncollector 0 submitted 9 taken 9\ncollector 1 submitted 9 taken 9\ncollector 2 submitted 9 taken 9\ncollector 3 submitted 9 taken 9\nlast violated\nlatest violated\n";
+    "fault lost-update\ncollector 0 submitted 11 taken 11\ncollector 1 submitted 11 taken 11\ncollector 2 submitted 11 taken 11\ncollector 3 submitted 11 taken 11\nlast violated\nlatest violated\n";
 
 /// What becomes of a command, and what is then written.
 fn told<R: Threads + Wait + Sync>(
@@ -157,7 +158,7 @@ const NO_COMMANDS: [&str; 18] = [
     "None 1",
     "stale read 1",
     "lost-update 1\r",
-    "dirty-read 1",
+    "dirty read 1",
     "session-back 10000",
     "session-back 1\u{e9}",
 ];

@@ -10,7 +10,7 @@ use std::process::Abort;
 use txn::{NoMemory, Sequence, Txn, TxnId};
 
 /// How many transactions a collector of the demonstration submits, each in a fragment of its own.
-const TXNS: u64 = 7;
+const TXNS: u64 = 9;
 
 /// What was told so far: how many transactions of each session were accepted, how many of these are gone, the last writers that went, and the last
 /// report's counts and kind.

@@ -6,4 +6,8 @@ mod crowds;
 #[cfg(test)]
 mod demonstrations;
 #[cfg(test)]
+mod held_search;
+#[cfg(test)]
+mod holding;
+#[cfg(test)]
 mod judging;

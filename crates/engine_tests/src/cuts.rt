@@ -14,11 +14,11 @@ pub const FENCE_INIT: Content = (&[(0, Init)], &[0]);
 
 pub const FENCE_0_1: Content = (&[(0, By(ID_0_1))], &[0]);
 
-const FENCE_0_2: Content = (&[(0, By(ID_0_2))], &[0]);
+pub const FENCE_0_2: Content = (&[(0, By(ID_0_2))], &[0]);
 
 const FENCE_1_1: Content = (&[(0, By(ID_1_1))], &[0]);
 
-const READS_5_INIT: Content = (&[(5, Init)], &[]);
+pub const READS_5_INIT: Content = (&[(5, Init)], &[]);
 
 pub const READS_5_OF_0_0: Content = (&[(5, By(ID_0_0))], &[]);
 

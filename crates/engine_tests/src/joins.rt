@@ -10,7 +10,7 @@ use txn::Source::By;
 
 const FENCE_0_0: Content = (&[(0, By(ID_0_0))], &[0]);
 
-const FENCE_1_0: Content = (&[(0, By(ID_1_0))], &[0]);
+pub const FENCE_1_0: Content = (&[(0, By(ID_1_0))], &[0]);
 
 const FENCE_2_0: Content = (&[(0, By(ID_2_0))], &[0]);
 

@@ -1,8 +1,9 @@
-//! Runs of engines that are made from numbers, each beside all that it took in: whatever was cut meanwhile, and whoever joined, each report is
-//! the verdict on the whole history, which is told by trial of all orders.
+//! Runs of engines that are made from numbers, each beside all that it took in: whatever was cut meanwhile, whoever joined, and whatever aborted,
+//! each report is the verdict on the whole history, which is told by trial of all orders.
 ghost use Rattle.std.specs.Prelude.{◌<◌};
 
 use crate::stores::{Store, store_of};
+use logged_fragments::LoggedFragment;
 use order_check::Kind::{Pending, Violated};
 use order_check::{Base, Kind, LastWriters, Parts, brute};
 use polygraph::{Answer, Single, Solver};
@@ -35,6 +36,8 @@ struct Tally {
     joined: u64,
     /// Sessions that came back.
     back: u64,
+    /// Transactions that aborted.
+    aborted: u64,
 }
 
 fn none_of_both(alloc: Global) -> Result<Sequence<Sequence<Txn>>, NoMemory> {
@@ -87,11 +90,20 @@ fn next_of(whole: &Parts, session: u8) -> TxnId {
     TxnId { session, number }
 }
 
-fn fragment_of(alloc: Global, id: TxnId, txn: &Txn) -> Result<Fragment, NoMemory> {
-    Ok(Fragment {
+fn fragment_of(
+    alloc: Global,
+    id: TxnId,
+    txn: &Txn,
+    aborted: bool,
+) -> Result<LoggedFragment, NoMemory> {
+    let fragment = Fragment {
         session: id.session,
         first: id.number,
         txns: Sequence::new(vec![in alloc; txn.clone()?]?),
+    };
+    Ok(LoggedFragment {
+        fragment,
+        aborted: Sequence::new(vec![in alloc; aborted]?),
     })
 }
 
@@ -111,9 +123,33 @@ fn put(alloc: Global, whole: &mut Parts, session: u8, txn: Txn) -> Result<(), No
 
 /// Offers the transaction, and where it is taken in puts it into the whole history.
 fn offer(alloc: Global, audit: &mut Audit, id: TxnId, txn: Txn) -> Result<(), NoMemory> {
-    let fragment = fragment_of(alloc, id, &txn)?;
+    let fragment = fragment_of(alloc, id, &txn, false)?;
     if audit.engine.offer(alloc, fragment).is_ok() {
         put(alloc, &mut audit.whole, id.session, txn)?;
+    }
+    Ok(())
+}
+
+/// A transaction that did nothing.
+fn idle(alloc: Global) -> Txn {
+    Txn {
+        reads: Sequence::new(Vec::new(alloc)),
+        writes: Sequence::new(Vec::new(alloc)),
+    }
+}
+
+/// Offers the transaction as one that aborted, and where it is taken in puts one that did nothing into the whole history.
+fn offer_aborted(
+    alloc: Global,
+    audit: &mut Audit,
+    id: TxnId,
+    txn: &Txn,
+    tally: &mut Tally,
+) -> Result<(), NoMemory> {
+    let fragment = fragment_of(alloc, id, txn, true)?;
+    if audit.engine.offer(alloc, fragment).is_ok() {
+        tally.aborted = tally.aborted.wrapping_add(1);
+        put(alloc, &mut audit.whole, id.session, idle(alloc))?;
     }
     Ok(())
 }
@@ -139,6 +175,25 @@ fn offer_one(alloc: Global, audit: &mut Audit, store: &mut Store) -> Result<(), 
     let txn = store.txn(alloc)?;
     store.note(id, &txn)?;
     offer(alloc, audit, id, txn)
+}
+
+/// Lets what the store made abort. Now and then the store doesn't notice.
+fn abort_one(
+    alloc: Global,
+    audit: &mut Audit,
+    store: &mut Store,
+    tally: &mut Tally,
+) -> Result<(), NoMemory> {
+    if 8 <= count_of(&audit.whole) {
+        return Ok(());
+    }
+    let sessions = sessions_of(&audit.whole);
+    let id = next_of(&audit.whole, store.roll(sessions) as u8);
+    let txn = store.txn(alloc)?;
+    if store.roll(8) == 0 {
+        store.note(id, &txn)?;
+    }
+    offer_aborted(alloc, audit, id, &txn, tally)
 }
 
 fn note_join(tally: &mut Tally, number: u64) {
@@ -175,7 +230,7 @@ fn join_one(
     ignored(audit.engine.close(session));
     let id = next_of(&audit.whole, session);
     let txn = store.fence(alloc)?;
-    let fragment = fragment_of(alloc, id, &txn)?;
+    let fragment = fragment_of(alloc, id, &txn, false)?;
     if audit.engine.join(alloc, fragment).is_ok() {
         note_join(tally, id.number);
         store.note(id, &txn)?;
@@ -307,10 +362,12 @@ fn seldom(alloc: Global, engine: &mut Engine, way: u64) {
     }
 }
 
-/// Steps go one of these ways; with joins there are more.
+/// Steps go one of these ways; with joins there are more, and with aborts more still.
 const WAYS: u64 = 16;
 
 const WAYS_WITH_JOINS: u64 = 18;
+
+const WAYS_WITH_ABORTS: u64 = 21;
 
 fn step(
     rt: &impl Abort,
@@ -326,7 +383,8 @@ fn step(
         4..=6 => finish(rt, alloc, audit, tally)?,
         7..=9 => truncate(rt, alloc, audit, tally)?,
         10..=15 => offer_one(alloc, audit, store)?,
-        _ => join_one(alloc, audit, store, tally)?,
+        16 | 17 => join_one(alloc, audit, store, tally)?,
+        _ => abort_one(alloc, audit, store, tally)?,
     }
     Ok(())
 }
@@ -406,5 +464,17 @@ fn so_they_are_where_sessions_join_and_come_back(rt: HostRuntime) -> Result<(), 
     assert!(rt; 200 <= tally.cuts && 600 <= tally.reports_after);
     assert!(rt; 70 <= tally.pending_after && 70 <= tally.violated_after);
     assert!(rt; 60 <= tally.joined && 50 <= tally.back);
+    Ok(())
+}
+
+#[test]
+fn so_they_are_where_transactions_abort(rt: HostRuntime) -> Result<(), Fail> {
+    let mut tally = Tally::default();
+    for seed in 0..150 {
+        run(&rt, rt.alloc(), seed, &mut tally, WAYS_WITH_ABORTS)?;
+    }
+    assert!(rt; 150 <= tally.cuts && 450 <= tally.reports_after);
+    assert!(rt; 25 <= tally.pending_after && 60 <= tally.violated_after);
+    assert!(rt; 40 <= tally.joined && 20 <= tally.back && 200 <= tally.aborted);
     Ok(())
 }

@@ -1,5 +1,6 @@
 //! A round of a history that no order explains, as only a split on a choice shows. Each session has one transaction, so a session's
 //! number names it.
+use logged_fragments::LoggedFragment;
 use order_check::Kind;
 use polygraph::Answer;
 use refutation::{Leaf, Tree};
@@ -185,7 +186,7 @@ fn offer_all(alloc: Global, engine: &mut Engine) -> Result<(), Refusal> {
     for session in 0..8 {
         if let Some(content) = history().get(usize::from(session)) {
             let fragment = fragment(alloc, session, content)?;
-            engine.offer(alloc, fragment)?;
+            engine.offer(alloc, LoggedFragment::committed(alloc, fragment))?;
         }
     }
     Ok(())

@@ -2,6 +2,7 @@
 ghost use Rattle.std.specs.Prelude.{All, IfOk};
 ghost use Rattle.round_state.specs.Runs.{HasLimits};
 
+use logged_fragments::LoggedFragment;
 use order_check::Kind;
 use polygraph::Single;
 use refutation::{Leaf, Tree};
@@ -49,8 +50,12 @@ pub type Content = (&'static [(u64, Source)], &'static [u64]);
 pub enum Act {
     /// Offers one transaction of a session, with its number.
     Offer(u8, u64, Content),
+    /// Offers one that aborted.
+    OfferAborted(u8, u64, Content),
     /// Lets a session join with one transaction, with its number.
     Join(u8, u64, Content),
+    /// Lets it join with one that aborted.
+    JoinAborted(u8, u64, Content),
     Close(u8),
     Begin,
     Finish,
@@ -72,6 +77,8 @@ pub enum Want {
     Explained(u64, Kind, &'static [u64]),
     /// A report of a violation, shown by a transaction that reads a key from one that is gone and isn't the last that wrote it.
     Gone(u64, &'static [u64], TxnId, u64),
+    /// The same by one that reads a key from one that remains and doesn't write it.
+    NoWrite(u64, &'static [u64], TxnId, u64),
     /// The fence, what is gone, and the last writers of its keys.
     Cut(TxnId, &'static [TxnId], &'static [(u64, TxnId)]),
 }
@@ -79,12 +86,7 @@ pub enum Want {
 /// What an engine is asked, each step with its reply.
 pub type Row = &'static [(Act, Want)];
 
-pub fn fragment_of(
-    alloc: Global,
-    session: u8,
-    first: u64,
-    content: Content,
-) -> Result<Fragment, NoMemory> {
+fn one_of(alloc: Global, session: u8, first: u64, content: Content) -> Result<Fragment, NoMemory> {
     let txn = Txn {
         reads: Sequence::new(content.0.to_vec(alloc)?),
         writes: Sequence::new(content.1.to_vec(alloc)?),
@@ -96,6 +98,28 @@ pub fn fragment_of(
     })
 }
 
+pub fn fragment_of(
+    alloc: Global,
+    session: u8,
+    first: u64,
+    content: Content,
+) -> Result<LoggedFragment, NoMemory> {
+    let fragment = one_of(alloc, session, first, content)?;
+    Ok(LoggedFragment::committed(alloc, fragment))
+}
+
+fn aborted_of(
+    alloc: Global,
+    session: u8,
+    first: u64,
+    content: Content,
+) -> Result<LoggedFragment, NoMemory> {
+    Ok(LoggedFragment {
+        fragment: one_of(alloc, session, first, content)?,
+        aborted: Sequence::new(vec![in alloc; true]?),
+    })
+}
+
 fn step_of(alloc: Global, act: Act) -> Result<Step, NoMemory>
     ensures { IfOk result HasLimits }
 {
@@ -103,8 +127,14 @@ fn step_of(alloc: Global, act: Act) -> Result<Step, NoMemory>
         Act::Offer(session, first, content) => {
             Ok(Step::Offer(fragment_of(alloc, session, first, content)?))
         }
+        Act::OfferAborted(session, first, content) => {
+            Ok(Step::Offer(aborted_of(alloc, session, first, content)?))
+        }
         Act::Join(session, first, content) => {
             Ok(Step::Join(fragment_of(alloc, session, first, content)?))
+        }
+        Act::JoinAborted(session, first, content) => {
+            Ok(Step::Join(aborted_of(alloc, session, first, content)?))
         }
         Act::Close(session) => Ok(Step::Close(session)),
         Act::Begin => Ok(Step::Begin),
@@ -151,6 +181,13 @@ fn is_gone_read(certificate: &Certificate, reader: TxnId, key: u64) -> bool {
     }
 }
 
+fn is_unwritten_read(certificate: &Certificate, reader: TxnId, key: u64) -> bool {
+    match certificate {
+        Certificate::Refuted(Tree::Close(Leaf::NoWrite(id, of))) => *id == reader && *of == key,
+        _ => false,
+    }
+}
+
 fn is_cut(
     alloc: Global,
     cut: &Cut,
@@ -171,6 +208,10 @@ fn is_report(report: &Report, want: Want) -> bool {
         Want::Gone(round, counts, reader, key) => {
             is_about(report, round, Kind::Violated, counts)
                 && is_gone_read(&report.certificate, reader, key)
+        }
+        Want::NoWrite(round, counts, reader, key) => {
+            is_about(report, round, Kind::Violated, counts)
+                && is_unwritten_read(&report.certificate, reader, key)
         }
         _ => false,
     }

@@ -1,5 +1,5 @@
 -- Looking at reads key by key: a key at which nobody is reached by more has nothing to look at, and all keys have all reads.
-use Rattle.std.proofs.Common.{◌≡◌, ◌⊎◌, ℕ, ◌+◌, ◌<◌, Bool, true, false, List, [], ◌∷◌, ◌++◌, length, get_or, take, Option, Some, cond, ◌%◌, refl, sym, ap, ◌∙◌, inl, inr, subst, append-nil, suc, arith, Ordering, Less, Equal, Greater}
+use Rattle.std.proofs.Common.{◌≡◌, ◌⊎◌, ℕ, ◌+◌, ◌<◌, Bool, true, false, List, [], ◌∷◌, ◌++◌, length, get_or, take, Option, Some, cond, ◌%◌, refl, sym, ap, ◌∙◌, inl, inr, subst, append-nil, append_assoc, suc, arith, Ordering, Less, Equal, Greater}
 use Rattle.std.specs.Prelude.{All, Vec}
 use Rattle.std.specs.BTreeMap.{is_at}
 use Rattle.std.specs.declared.alloc.Global.{Global}
@@ -19,12 +19,12 @@ use Rattle.known_graph.specs.Bits.{HasBit}
 use Rattle.forced_choices.specs.declared.reads.Placed.{Placed}
 use Rattle.forced_choices.specs.declared.table.Table.{Table}
 use Rattle.forced_choices.specs.declared.touched.Touched.{Touched}
-use Rattle.forced_choices.specs.ByKeys.{reads_at}
+use Rattle.forced_choices.specs.ByKeys.{AreIndexed, reads_at}
 use Rattle.forced_choices.specs.Forcing.{AreAllSettledUnless, HasLooked, IsThere, Stage}
 use Rattle.forced_choices.specs.Masks.{AreColumns, AreThere, choices_in, mask_of, words_in}
 use Rattle.forced_choices.specs.Tables.{IsLookup, choices_at}
 use Rattle.forced_choices.specs.WriterPlaces.{places_at}
-use Rattle.forced_choices.proofs.Members.{In, in_either, in_flat_map, flat_map_in, map_in}
+use Rattle.forced_choices.proofs.Members.{In, in_either, in_left, in_right, in_flat_map, flat_map_in, map_in}
 use Rattle.forced_choices.proofs.TableReads.{no_read, untouched_by}
 
 -- one more place
@@ -80,7 +80,7 @@ key_untouched parts nodes arcs table since key row is settled same none = there_
         bare j bit = none j (subst (λ (xs : List ℕ). HasBit xs j) (ap (λ k. mask_of table.by_key.rows k) of_key ∙ sym same) bit)
 
 -- the choices of a read at one of the places are among those of all
-pub key_done : (parts : Parts) (ids : List TxnId) (reads : List Placed) (places : List ℕ) (k : ℕ) (choice : Choice) → In places k → In (choices_in parts ids (get_or reads k no_read).read) choice → In (choices_at parts ids (reads_at reads places)) choice
+key_done : (parts : Parts) (ids : List TxnId) (reads : List Placed) (places : List ℕ) (k : ℕ) (choice : Choice) → In places k → In (choices_in parts ids (get_or reads k no_read).read) choice → In (choices_at parts ids (reads_at reads places)) choice
 key_done parts ids reads places k choice h here = flat_map_in (λ (placed : Placed). choices_in parts ids placed.read) (reads_at reads places) (get_or reads k no_read) choice (map_in (λ place. get_or reads place no_read) places k h) here
 
 index_in : (xs : List Placed) (x : Placed) → In xs x → (k : ℕ) × (k < length xs) × (get_or xs k no_read ≡ x)
@@ -126,5 +126,26 @@ row_key key j (e ∷ es) has = by_test (is_at (nat_cmp key) e.0) refl has (row_k
     by_test false at has rest = inr (rest has)
 
 -- the keys that are left, after one more
-pub keys_left : (left new : List (ℕ × Vec ℕ Global)) (entry : ℕ × Vec ℕ Global) (key : ℕ) → left ≡ entry ∷ new → In (keys_of left) key → (entry.0 ≡ key) ⊎ In (keys_of new) key
+keys_left : (left new : List (ℕ × Vec ℕ Global)) (entry : ℕ × Vec ℕ Global) (key : ℕ) → left ≡ entry ∷ new → In (keys_of left) key → (entry.0 ≡ key) ⊎ In (keys_of new) key
 keys_left left new entry key is h = subst (λ (es : List (ℕ × Vec ℕ Global)). In (keys_of es) key) is h
+
+-- after one more key each read was looked at, or its key is left
+pub looked_or_left : (parts : Parts) (table : Table) (done : List Choice) (left new : List (ℕ × Vec ℕ Global)) (entry : ℕ × Vec ℕ Global) (k : ℕ) → AreIndexed table.reads.items table.by_key → left ≡ entry ∷ new → k < length table.reads.items →
+    ((choice : Choice) → In (choices_in parts table.ids.items (get_or table.reads.items k no_read).read) choice → In done choice) ⊎ In (keys_of left) (get_or table.reads.items k no_read).read.key →
+    ((choice : Choice) → In (choices_in parts table.ids.items (get_or table.reads.items k no_read).read) choice → In (done ++ choices_at parts table.ids.items (reads_at table.reads.items (places_at table.by_key.reads.lists entry.0))) choice) ⊎ In (keys_of new) (get_or table.reads.items k no_read).read.key
+looked_or_left parts table done left new entry k indexed is within (inl was) = inl (λ choice h. in_left done (choices_at parts table.ids.items (reads_at table.reads.items (places_at table.by_key.reads.lists entry.0))) choice (was choice h))
+looked_or_left parts table done left new entry k indexed is within (inr still) = by_key (keys_left left new entry (get_or table.reads.items k no_read).read.key is still)
+  where
+    places : List ℕ
+    places = places_at table.by_key.reads.lists entry.0
+
+    own : List Choice
+    own = choices_at parts table.ids.items (reads_at table.reads.items places)
+
+    by_key : (entry.0 ≡ (get_or table.reads.items k no_read).read.key) ⊎ In (keys_of new) (get_or table.reads.items k no_read).read.key → ((choice : Choice) → In (choices_in parts table.ids.items (get_or table.reads.items k no_read).read) choice → In (done ++ own) choice) ⊎ In (keys_of new) (get_or table.reads.items k no_read).read.key
+    by_key (inl same) = inl (λ choice h. in_right done own choice (key_done parts table.ids.items table.reads.items places k choice (subst (λ key. In (places_at table.by_key.reads.lists key) k) (sym same) (indexed.listed k no_read within)) h))
+    by_key (inr later) = inr later
+
+-- what was looked at of a key's reads, with one more
+pub looked_more : (parts : Parts) (nodes : List (Option TxnId)) (start then : Stage) (ids : List TxnId) (reads : List Placed) (places : List ℕ) (k : ℕ) (before : List Choice) → k < length places → HasLooked parts nodes start then ((before ++ choices_at parts ids (reads_at reads (take k places))) ++ choices_in parts ids (get_or reads (get_or places k 0) no_read).read) → HasLooked parts nodes start then (before ++ choices_at parts ids (reads_at reads (take (k + 1) places)))
+looked_more parts nodes start then ids reads places k before within looked = subst (λ xs. HasLooked parts nodes start then xs) (append_assoc before (choices_at parts ids (reads_at reads (take k places))) (choices_in parts ids (get_or reads (get_or places k 0) no_read).read) ∙ ap (λ xs. before ++ xs) (sym (at_key_more parts ids reads places k within))) looked

@@ -175,3 +175,7 @@ choices_places_more parts ids places read k d within =
     ap (λ xs. choices_in parts xs read) (map_more (λ place. get_or ids place no_id) places k d within)
     ∙ ap (λ xs. map (choice_of read) xs) (filter-append (is_third parts read) (those_at ids (take k places)) (get_or ids (get_or places k d) no_id ∷ []))
     ∙ map-append (choice_of read) (filter (is_third parts read) (those_at ids (take k places))) (filter (is_third parts read) (get_or ids (get_or places k d) no_id ∷ []))
+
+-- each place of a key's is one among the ids
+pub place_within : (ids : List TxnId) (places own : List ℕ) (k : ℕ) → own ≡ places → All (λ place. place < length ids) places → k < length own → get_or own k 0 < length ids
+place_within ids places own k same below within = subst (λ (xs : List ℕ). All (λ place. place < length ids) xs) (sym same) below k 0 within

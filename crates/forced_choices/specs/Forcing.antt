@@ -8,6 +8,7 @@ use Rattle.txn.specs.declared.choices.Side.{Side}
 use Rattle.txn.specs.declared.choices.ForceStep.{ForceStep}
 use Rattle.order_check.specs.declared.remainder.Parts.{Parts}
 use Rattle.order_check.specs.Known.{IsChoice}
+use Rattle.forced_choices.specs.declared.looking.Trail.{Trail}
 use Rattle.forced_choices.specs.declared.rules.Rule.{Rule}
 use Rattle.known_graph.specs.Graphs.{GraphState, HasNode, IsAt}
 use Rattle.known_graph.specs.Reach.{Reaches, IsPathOf}
@@ -61,8 +62,8 @@ pub record Stage : Type 0 where
   pub log : List ForceStep
   pub touched : Touched
 
-abbrev pub stage_of : GraphState → List ForceStep → Touched → Stage
-stage_of graph log touched = record { arcs = graph.arcs; log = log; touched = touched }
+abbrev pub stage_of : GraphState → Trail → Stage
+stage_of graph trail = record { arcs = graph.arcs; log = trail.steps.items; touched = trail.touched }
 
 -- sides were forced, and what that touched is noted
 pub record Continues (parts : Parts) (nodes : List (Option TxnId)) (start then : Stage) : Type 0 where

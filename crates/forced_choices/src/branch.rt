@@ -21,7 +21,7 @@ use crate::rules::Rule;
 use crate::saturated::Saturated;
 use crate::saturation::{Due, saturate};
 use crate::sharing::SharedTable;
-use crate::table::Table;
+use crate::table::{Lookup, Table};
 use crate::touched::{note, untouched};
 use known_graph::Graph;
 use order_check::Parts;
@@ -83,16 +83,15 @@ impl Drop for Branch {
 /// Puts one more side into the relation, and gives the steps that it forces.
 fn relation_with(
     alloc: Global,
-    parts: &Parts,
-    table: &Table,
+    lookup: &Lookup,
     graph: &mut Graph,
     rule: Rule,
 ) -> Result<Vec<ForceStep>, NoMemory>
-    requires choice { IsChoice parts.now rule.choice }
-    requires nodes { (id : TxnId) → Remains parts.now id → HasNode graph.old id }
-    requires table { IsTable parts.now graph.old.nodes table.now }
-    requires closed { IsClosed parts.now graph.old.arcs }
-    ensures relation { IfOk result (λ steps. IsMoreBy parts.now graph.old graph.new rule.choice rule.side steps.items) }
+    requires choice { IsChoice lookup.now.parts.now rule.choice }
+    requires nodes { (id : TxnId) → Remains lookup.now.parts.now id → HasNode graph.old id }
+    requires table { IsTable lookup.now.parts.now graph.old.nodes lookup.now.table.now }
+    requires closed { IsClosed lookup.now.parts.now graph.old.arcs }
+    ensures relation { IfOk result (λ steps. IsMoreBy lookup.now.parts.now graph.old graph.new rule.choice rule.side steps.items) }
     ensures nodes { OnOk result (graph.new.nodes ≡ graph.old.nodes) }
     ensures mark { last_mark graph.new ≡ last_mark graph.old }
 {
@@ -100,33 +99,31 @@ fn relation_with(
     let mut since = untouched(alloc);
     note(alloc, graph, &mut since, from, to)?;
     graph.add_arc(alloc, Arc::Taken { from, to })?;
-    let mut steps = Vec::new(alloc);
     let due = Due { all: false, since };
-    saturate(alloc, parts, table, graph, &mut steps, due)?;
+    let steps = saturate(alloc, lookup, graph, due)?;
     Ok(steps)
 }
 
 /// Puts one more side into the relation, and on top of those that are assumed.
 fn take_side(
     alloc: Global,
-    parts: &Parts,
-    table: &Table,
+    lookup: &Lookup,
     graph: &mut Graph,
     tops: &mut Vec<Top>,
     rule: Rule,
     passed: usize,
 ) -> Result<(), NoMemory>
-    requires choice { IsChoice parts.now rule.choice }
-    requires nodes { (id : TxnId) → Remains parts.now id → HasNode graph.old id }
-    requires table { IsTable parts.now graph.old.nodes table.now }
-    requires closed { IsClosed parts.now graph.old.arcs }
+    requires choice { IsChoice lookup.now.parts.now rule.choice }
+    requires nodes { (id : TxnId) → Remains lookup.now.parts.now id → HasNode graph.old id }
+    requires table { IsTable lookup.now.parts.now graph.old.nodes lookup.now.table.now }
+    requires closed { IsClosed lookup.now.parts.now graph.old.arcs }
     ensures ok { OnOk result ((steps : List ForceStep) × (tops.new.items ≡ tops.old.items ++ record { choice = rule.choice; side = rule.side; steps = steps; passed = passed } ∷ [])
-        × IsMoreBy parts.now graph.old graph.new rule.choice rule.side steps) }
+        × IsMoreBy lookup.now.parts.now graph.old graph.new rule.choice rule.side steps) }
     ensures err { OnErr result (tops.new.items ≡ tops.old.items) }
     ensures nodes { OnOk result (graph.new.nodes ≡ graph.old.nodes) }
     ensures mark { last_mark graph.new ≡ last_mark graph.old }
 {
-    let steps = relation_with(alloc, parts, table, graph, rule)?;
+    let steps = relation_with(alloc, lookup, graph, rule)?;
     tops.push(Top {
         choice: rule.choice,
         side: rule.side,
@@ -215,8 +212,11 @@ impl Branch {
             (IsFirstOpen self.now.parts (assumed self.now.levels))) }
     {
         let passed = passed_by(self.table.passed, &self.tops);
-        let table = self.table.get();
-        let first = first_open_from(alloc, &self.parts, table, &self.graph, passed)?;
+        let lookup = Lookup {
+            parts: &self.parts,
+            table: self.table.get(),
+        };
+        let first = first_open_from(alloc, &lookup, &self.graph, passed)?;
         Ok(first.choice)
     }
 
@@ -229,14 +229,16 @@ impl Branch {
         ensures err { OnErr result (self.new ≡ self.old) }
     {
         let passed = passed_by(self.table.passed, &self.tops);
-        let table = self.table.get();
-        let first = first_open_from(alloc, &self.parts, table, &self.graph, passed)?;
+        let lookup = Lookup {
+            parts: &self.parts,
+            table: self.table.get(),
+        };
+        let first = first_open_from(alloc, &lookup, &self.graph, passed)?;
         self.graph.mark()?;
         let rule = Rule { choice, side };
         match take_side(
             alloc,
-            &self.parts,
-            table,
+            &lookup,
             &mut self.graph,
             &mut self.tops,
             rule,

@@ -1,5 +1,5 @@
 // How many choices a graph leaves undecided, and the first of them: the others are counted, and not listed.
-ghost use Rattle.std.specs.Prelude.{◌≡◌, ◌+◌, ◌<◌, ◌++◌, ℕ, All, List, IfOk, IfSome, OnOk, length};
+ghost use Rattle.std.specs.Prelude.{◌≡◌, ◌+◌, ◌++◌, ℕ, List, IfOk, IfSome, OnOk};
 ghost use Rattle.txn.specs.declared.transactions.TxnId.{TxnId};
 ghost use Rattle.txn.specs.declared.transactions.Source.TheVariants.{By};
 ghost use Rattle.txn.specs.declared.choices.Choice.{Choice};
@@ -14,16 +14,14 @@ ghost use Rattle.forced_choices.specs.Listing.{all_ids, choices_of};
 ghost use Rattle.forced_choices.specs.Masks.{AreTold, choices_in};
 ghost use Rattle.forced_choices.specs.Tables.{ArePassed, IsPlaced, IsTable};
 ghost use Rattle.forced_choices.specs.Undecided.{AreCounted, AreFound, IsFrontOf};
-ghost use Rattle.forced_choices.specs.WriterPlaces.{those_at};
+ghost use Rattle.forced_choices.specs.WriterPlaces.{ArePlaces};
 
 use crate::open::{are_decided, open_columns, push_open_columns};
 use crate::reads::{Placed, Read};
-use crate::table::Table;
-use crate::writers::Writers;
+use crate::table::Lookup;
 use known_graph::{Graph, bit_count};
-use order_check::Parts;
 use std::alloc::{AllocError, Global};
-use txn::{Choice, NoMemory, Sequence, TxnId};
+use txn::{Choice, NoMemory, Sequence};
 
 /// The first of the open choices, in order of reader, key, writer, other writer, and how many there are.
 #[derive(Drop, Debug)]
@@ -37,6 +35,13 @@ pub struct OpenChoices {
 pub struct Listed {
     pub most: usize,
     pub choices: OpenChoices,
+}
+
+/// Open choices as they are counted, read by read: the first of them, and how many there are.
+#[derive(Drop)]
+pub struct Tally {
+    pub first: Vec<Choice>,
+    pub count: usize,
 }
 
 /// A whole copy.
@@ -87,94 +92,77 @@ fn added(count: usize, more: usize) -> Result<usize, NoMemory>
 fn push_open_within(
     first: &mut Vec<Choice>,
     most: usize,
-    parts: &Parts,
-    ids: &[TxnId],
-    places: &[usize],
-    writers: &Writers,
+    lookup: &Lookup,
     graph: &Graph,
-    row: &[u64],
     read: Read,
+    row: &[u64],
 ) -> Result<(), NoMemory>
-    requires places { All (λ place. place < length ids.now) places.now }
-    requires told { AreTold parts.now graph.now.arcs ids.now writers.now.columns.items row.now read }
+    requires places { ArePlaces lookup.now.parts.now lookup.now.table.now.ids.items lookup.now.table.now.places }
+    requires told { AreTold lookup.now.parts.now graph.now.arcs lookup.now.table.now.ids.items lookup.now.table.now.writers.columns.items row.now read }
     ensures { OnOk result ((front all own : List Choice) → AreFound graph.now.arcs front all → IsFrontOf most first.old.items all
-        → AreFound graph.now.arcs (choices_in parts.now (those_at ids.now places.now) read) own → IsFrontOf most first.new.items (all ++ own)) }
+        → AreFound graph.now.arcs (choices_in lookup.now.parts.now lookup.now.table.now.ids.items read) own → IsFrontOf most first.new.items (all ++ own)) }
 {
     if first.len() >= most {
         return Ok(());
     }
-    push_open_columns(first, parts, ids, places, writers, graph, row, read)?;
+    push_open_columns(first, lookup, graph, read, row)?;
     Ok(())
 }
 
 /// Counts the open choices of a read, and lists them unless so many are listed.
 fn count_open_of_read(
     alloc: Global,
-    first: &mut Vec<Choice>,
-    count: usize,
+    tally: &mut Tally,
     most: usize,
-    parts: &Parts,
-    table: &Table,
+    lookup: &Lookup,
     graph: &Graph,
     placed: Placed,
-) -> Result<usize, NoMemory>
-    requires placed { IsPlaced parts.now graph.now.nodes placed }
-    requires table { IsTable parts.now graph.now.nodes table.now }
+) -> Result<(), NoMemory>
+    requires placed { IsPlaced lookup.now.parts.now graph.now.nodes placed }
+    requires table { IsTable lookup.now.parts.now graph.now.nodes lookup.now.table.now }
     requires after { Reaches graph.now.arcs placed.read.writer placed.read.reader }
-    ensures { IfOk result (λ sum. (front : List Choice) → AreCounted graph.now.arcs front most first.old.items count
-        → AreCounted graph.now.arcs (front ++ choices_in parts.now table.now.ids.items placed.read) most first.new.items sum) }
+    ensures { OnOk result ((front : List Choice) → AreCounted graph.now.arcs front most tally.old.first.items tally.old.count
+        → AreCounted graph.now.arcs (front ++ choices_in lookup.now.parts.now lookup.now.table.now.ids.items placed.read) most tally.new.first.items tally.new.count) }
 {
-    let mask = table.writers.mask(placed.read.key);
+    let mask = lookup.table.writers.mask(placed.read.key);
     if are_decided(graph, mask, placed) {
-        return Ok(count);
+        return Ok(());
     }
     graph.one_key_each();
     let row = open_columns(alloc, graph, mask, placed)?;
     push_open_within(
-        first,
+        &mut tally.first,
         most,
-        parts,
-        table.ids.as_slice(),
-        table.places.of_key(placed.read.key),
-        &table.writers,
+        lookup,
         graph,
-        row.as_slice(),
         placed.read,
+        row.as_slice(),
     )?;
     let more = count_columns(row.as_slice())?;
-    let sum = added(count, more)?;
-    Ok(sum)
+    let sum = added(tally.count, more)?;
+    tally.count = sum;
+    Ok(())
 }
 
 /// How many choices the graph leaves undecided, and the first of them, in order of reader, key, writer, other writer: so many and more,
 /// or all. The first so many reads have none.
 pub fn count_open_in(
     alloc: Global,
-    parts: &Parts,
-    table: &Table,
+    lookup: &Lookup,
     graph: &Graph,
     most: usize,
     passed: usize,
-) -> Result<(Vec<Choice>, usize), NoMemory>
-    requires table { IsTable parts.now graph.now.nodes table.now }
-    requires passed { ArePassed parts.now graph.now.arcs table.now passed }
-    requires after { (reader writer : TxnId) (key : ℕ) → ReadsKey parts.now reader key (By writer) → WritesKey parts.now writer key → Reaches graph.now.arcs writer reader }
-    ensures { IfOk result (λ counted. AreCounted graph.now.arcs (choices_of parts.now (all_ids parts.now) (all_ids parts.now)) most counted.0.items counted.1) }
+) -> Result<Tally, NoMemory>
+    requires table { IsTable lookup.now.parts.now graph.now.nodes lookup.now.table.now }
+    requires passed { ArePassed lookup.now.parts.now graph.now.arcs lookup.now.table.now passed }
+    requires after { (reader writer : TxnId) (key : ℕ) → ReadsKey lookup.now.parts.now reader key (By writer) → WritesKey lookup.now.parts.now writer key → Reaches graph.now.arcs writer reader }
+    ensures { IfOk result (λ tally. AreCounted graph.now.arcs (choices_of lookup.now.parts.now (all_ids lookup.now.parts.now) (all_ids lookup.now.parts.now)) most tally.first.items tally.count) }
 {
-    let mut first = Vec::new(alloc);
-    let mut count = 0;
-    let reads = table.reads.as_slice();
+    let first = Vec::new(alloc);
+    let mut tally = Tally { first, count: 0 };
+    let reads = lookup.table.reads.as_slice();
     for place in passed..reads.len() {
-        count = count_open_of_read(
-            alloc,
-            &mut first,
-            count,
-            most,
-            parts,
-            table,
-            graph,
-            reads[place],
-        )?;
+        count_open_of_read(alloc, &mut tally, most, lookup, graph, reads[place])?;
     }
-    Ok((first, count))
+    Ok(tally)
 }

@@ -16,7 +16,7 @@ ghost use Rattle.forced_choices.specs.Tables.{IsLookup};
 ghost use Rattle.forced_choices.specs.Touching.{AreNoted};
 
 use crate::saturation::{Due, saturate};
-use crate::table::Table;
+use crate::table::{Lookup, Table};
 use crate::touched::{Touched, note, untouched};
 use known_graph::Graph;
 use order_check::Parts;
@@ -107,7 +107,7 @@ pub fn go_on_with(
     let mut since = untouched(alloc);
     add_all_noted(alloc, graph, &mut since, fresh)?;
     let due = Due { all: false, since };
-    let mut steps = Vec::new(alloc);
-    saturate(alloc, more, table, graph, &mut steps, due)?;
+    let lookup = Lookup { parts: more, table };
+    let steps = saturate(alloc, &lookup, graph, due)?;
     Ok(steps)
 }

@@ -1,23 +1,20 @@
 // The choices that a graph leaves undecided, found 64 transactions at a time.
-ghost use Rattle.std.specs.Prelude.{◌≡◌, ◌∷◌, [], ◌++◌, ◌↔◌, ◌<◌, ℕ, true, All, List, IfOk, OnOk, MatchOption, drop, length};
+ghost use Rattle.std.specs.Prelude.{◌≡◌, ◌∷◌, [], ◌++◌, ◌↔◌, ℕ, true, List, IfOk, OnOk, MatchOption, drop, length};
 ghost use Rattle.txn.specs.declared.transactions.TxnId.{TxnId};
 ghost use Rattle.txn.specs.declared.choices.Choice.{Choice};
 ghost use Rattle.known_graph.specs.Bits.{HasBit};
 ghost use Rattle.known_graph.specs.Graphs.{IsAt};
 ghost use Rattle.forced_choices.specs.Listing.{all_ids, choices_of};
-ghost use Rattle.forced_choices.specs.Masks.{AreTold, is_third, choice_of, choices_in};
+ghost use Rattle.forced_choices.specs.Masks.{AreTold, choice_of, choices_in};
 ghost use Rattle.forced_choices.specs.Tables.{ArePassed, IsAtColumns, IsPlaced, IsTable};
 ghost use Rattle.forced_choices.specs.Undecided.{AreFound, AreAllDecided, IsFirstFound, IsUndecided, TellsOpen};
-ghost use Rattle.forced_choices.specs.WriterPlaces.{those_at};
+ghost use Rattle.forced_choices.specs.WriterPlaces.{ArePlaces};
 
-use crate::listing::is_third;
 use crate::reads::{Placed, Read};
-use crate::table::Table;
-use crate::writers::Writers;
-use known_graph::{Graph, clear_bits, has_bit, is_covered};
-use order_check::Parts;
+use crate::table::Lookup;
+use known_graph::{Graph, clear_bits, is_covered};
 use std::alloc::Global;
-use txn::{Choice, NoMemory, TxnId};
+use txn::{Choice, NoMemory};
 
 /// Whether each column of the mask is reached by the writer or by the reader, or reaches one of them. Nearly all reads are so, and no
 /// row is made for them.
@@ -67,53 +64,24 @@ pub fn open_columns(
     Ok(open)
 }
 
-/// Adds the choice of a read with one other writer, if its column is in the row.
-fn push_open_with(
-    found: &mut Vec<Choice>,
-    parts: &Parts,
-    graph: &Graph,
-    row: &[u64],
-    column: usize,
-    read: Read,
-    other: TxnId,
-) -> Result<(), NoMemory>
-    requires { is_third parts.now read other ≡ true → TellsOpen graph.now.arcs row.now column (choice_of read other) }
-    ensures { OnOk result ((front : List Choice) → AreFound graph.now.arcs front found.old.items → AreFound graph.now.arcs (front ++ choices_in parts.now (other ∷ []) read) found.new.items) }
-{
-    if !has_bit(row, column) {
-        return Ok(());
-    }
-    if !is_third(parts, read, other) {
-        return Ok(());
-    }
-    let choice = Choice {
-        reader: read.reader,
-        key: read.key,
-        writer: read.writer,
-        other,
-    };
-    found.push(choice)?;
-    Ok(())
-}
-
-/// Adds the open choices of a read with those at the places, which are those with a column in the row.
+/// Adds the open choices of a read, which are those with a column in the row.
 pub fn push_open_columns(
     found: &mut Vec<Choice>,
-    parts: &Parts,
-    ids: &[TxnId],
-    places: &[usize],
-    writers: &Writers,
+    lookup: &Lookup,
     graph: &Graph,
-    row: &[u64],
     read: Read,
+    row: &[u64],
 ) -> Result<(), NoMemory>
-    requires places { All (λ place. place < length ids.now) places.now }
-    requires told { AreTold parts.now graph.now.arcs ids.now writers.now.columns.items row.now read }
-    ensures { OnOk result ((front : List Choice) → AreFound graph.now.arcs front found.old.items → AreFound graph.now.arcs (front ++ choices_in parts.now (those_at ids.now places.now) read) found.new.items) }
+    requires places { ArePlaces lookup.now.parts.now lookup.now.table.now.ids.items lookup.now.table.now.places }
+    requires told { AreTold lookup.now.parts.now graph.now.arcs lookup.now.table.now.ids.items lookup.now.table.now.writers.columns.items row.now read }
+    ensures { OnOk result ((front : List Choice) → AreFound graph.now.arcs front found.old.items
+        → AreFound graph.now.arcs (front ++ choices_in lookup.now.parts.now lookup.now.table.now.ids.items read) found.new.items) }
 {
-    for place in places {
-        let column = writers.column(*place);
-        push_open_with(found, parts, graph, row, column, read, ids[*place])?;
+    for place in lookup.table.places.of_key(read.key) {
+        let Some(choice) = lookup.choice_at(read, row, *place) else {
+            continue;
+        };
+        found.push(choice)?;
     }
     Ok(())
 }
@@ -122,48 +90,31 @@ pub fn push_open_columns(
 fn push_open_of_read(
     alloc: Global,
     found: &mut Vec<Choice>,
-    parts: &Parts,
-    table: &Table,
+    lookup: &Lookup,
     graph: &Graph,
     placed: Placed,
 ) -> Result<(), NoMemory>
-    requires placed { IsPlaced parts.now graph.now.nodes placed }
-    requires table { IsTable parts.now graph.now.nodes table.now }
+    requires placed { IsPlaced lookup.now.parts.now graph.now.nodes placed }
+    requires table { IsTable lookup.now.parts.now graph.now.nodes lookup.now.table.now }
     ensures { OnOk result ((front : List Choice) → AreFound graph.now.arcs front found.old.items
-        → AreFound graph.now.arcs (front ++ choices_in parts.now table.now.ids.items placed.read) found.new.items) }
+        → AreFound graph.now.arcs (front ++ choices_in lookup.now.parts.now lookup.now.table.now.ids.items placed.read) found.new.items) }
 {
-    let mask = table.writers.mask(placed.read.key);
+    let mask = lookup.table.writers.mask(placed.read.key);
     if are_decided(graph, mask, placed) {
         return Ok(());
     }
     let row = open_columns(alloc, graph, mask, placed)?;
-    let ids = table.ids.as_slice();
-    push_open_columns(
-        found,
-        parts,
-        ids,
-        table.places.of_key(placed.read.key),
-        &table.writers,
-        graph,
-        row.as_slice(),
-        placed.read,
-    )?;
-    Ok(())
+    push_open_columns(found, lookup, graph, placed.read, row.as_slice())
 }
 
 /// The choices that the graph leaves undecided, in order of reader, key, writer, other writer.
-pub fn open_in(
-    alloc: Global,
-    parts: &Parts,
-    table: &Table,
-    graph: &Graph,
-) -> Result<Vec<Choice>, NoMemory>
-    requires { IsTable parts.now graph.now.nodes table.now }
-    ensures { IfOk result (λ found. AreFound graph.now.arcs (choices_of parts.now (all_ids parts.now) (all_ids parts.now)) found.items) }
+pub fn open_in(alloc: Global, lookup: &Lookup, graph: &Graph) -> Result<Vec<Choice>, NoMemory>
+    requires { IsTable lookup.now.parts.now graph.now.nodes lookup.now.table.now }
+    ensures { IfOk result (λ found. AreFound graph.now.arcs (choices_of lookup.now.parts.now (all_ids lookup.now.parts.now) (all_ids lookup.now.parts.now)) found.items) }
 {
     let mut found = Vec::new(alloc);
-    for placed in table.reads.as_slice() {
-        push_open_of_read(alloc, &mut found, parts, table, graph, *placed)?;
+    for placed in lookup.table.reads.as_slice() {
+        push_open_of_read(alloc, &mut found, lookup, graph, *placed)?;
     }
     Ok(found)
 }
@@ -171,17 +122,16 @@ pub fn open_in(
 /// The open choices of one read.
 fn open_of_read(
     alloc: Global,
-    parts: &Parts,
-    table: &Table,
+    lookup: &Lookup,
     graph: &Graph,
     placed: Placed,
 ) -> Result<Vec<Choice>, NoMemory>
-    requires placed { IsPlaced parts.now graph.now.nodes placed }
-    requires table { IsTable parts.now graph.now.nodes table.now }
-    ensures { IfOk result (λ found. AreFound graph.now.arcs (choices_in parts.now table.now.ids.items placed.read) found.items) }
+    requires placed { IsPlaced lookup.now.parts.now graph.now.nodes placed }
+    requires table { IsTable lookup.now.parts.now graph.now.nodes lookup.now.table.now }
+    ensures { IfOk result (λ found. AreFound graph.now.arcs (choices_in lookup.now.parts.now lookup.now.table.now.ids.items placed.read) found.items) }
 {
     let mut found = Vec::new(alloc);
-    push_open_of_read(alloc, &mut found, parts, table, graph, placed)?;
+    push_open_of_read(alloc, &mut found, lookup, graph, placed)?;
     Ok(found)
 }
 
@@ -204,21 +154,20 @@ pub struct FirstOpen {
 /// The first choice that the graph leaves undecided, where the first so many reads have none. No read after it is looked at.
 pub fn first_open_from(
     alloc: Global,
-    parts: &Parts,
-    table: &Table,
+    lookup: &Lookup,
     graph: &Graph,
     passed: usize,
 ) -> Result<FirstOpen, NoMemory>
-    requires table { IsTable parts.now graph.now.nodes table.now }
-    requires passed { ArePassed parts.now graph.now.arcs table.now passed }
-    ensures passed { IfOk result (λ first. ArePassed parts.now graph.now.arcs table.now first.passed) }
+    requires table { IsTable lookup.now.parts.now graph.now.nodes lookup.now.table.now }
+    requires passed { ArePassed lookup.now.parts.now graph.now.arcs lookup.now.table.now passed }
+    ensures passed { IfOk result (λ first. ArePassed lookup.now.parts.now graph.now.arcs lookup.now.table.now first.passed) }
     ensures choice { IfOk result (λ first. MatchOption first.choice
-        (AreAllDecided graph.now.arcs (choices_of parts.now (all_ids parts.now) (all_ids parts.now)))
-        (IsFirstFound graph.now.arcs (choices_of parts.now (all_ids parts.now) (all_ids parts.now)))) }
+        (AreAllDecided graph.now.arcs (choices_of lookup.now.parts.now (all_ids lookup.now.parts.now) (all_ids lookup.now.parts.now)))
+        (IsFirstFound graph.now.arcs (choices_of lookup.now.parts.now (all_ids lookup.now.parts.now) (all_ids lookup.now.parts.now)))) }
 {
-    let reads = table.reads.as_slice();
+    let reads = lookup.table.reads.as_slice();
     for place in passed..reads.len() {
-        let found = open_of_read(alloc, parts, table, graph, reads[place])?;
+        let found = open_of_read(alloc, lookup, graph, reads[place])?;
         if let Some(choice) = first_of(&found) {
             return Ok(FirstOpen {
                 passed: place,

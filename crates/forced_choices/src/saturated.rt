@@ -18,12 +18,13 @@ ghost use Rattle.forced_choices.specs.Tables.{ArePassed, IsTable};
 ghost use Rattle.forced_choices.specs.SharedTables.{IsTableIn, table_in};
 
 use crate::catching_up::catch_up;
-use crate::counted::{Listed, OpenChoices, count_open_in, listed_for};
+use crate::counted::{Listed, OpenChoices, Tally, count_open_in, listed_for};
 use crate::cutting::{drop_gone, left_by_cut};
 use crate::kept::{KeptTable, kept_table_of};
 use crate::listing::remaining_ids_of;
 use crate::open::open_in;
 use crate::sharing::{SharedTable, kept_table, passed_in, shared_table};
+use crate::table::Lookup;
 use crate::whole::saturation_of;
 use known_graph::Graph;
 use order_check::{Parts, cut_keeps_known, cut_leaves_the_rest, cut_moves_base};
@@ -215,7 +216,11 @@ impl Saturated {
         ensures { IfOk result (AreOpenChoices self.now.parts []) }
     {
         let table = shared_table(alloc, &self.table, &self.parts, &self.graph)?;
-        let found = open_in(alloc, &self.parts, table.get(), &self.graph)?;
+        let lookup = Lookup {
+            parts: &self.parts,
+            table: table.get(),
+        };
+        let found = open_in(alloc, &lookup, &self.graph)?;
         Ok(Sequence::new(found))
     }
 
@@ -224,15 +229,12 @@ impl Saturated {
         ensures { IfOk result (AreFirstOpen self.now.parts most) }
     {
         let table = shared_table(alloc, &self.table, &self.parts, &self.graph)?;
-        let passed = table.passed;
-        let (mut first, count) = count_open_in(
-            alloc,
-            &self.parts,
-            table.get(),
-            &self.graph,
-            most,
-            passed,
-        )?;
+        let lookup = Lookup {
+            parts: &self.parts,
+            table: table.get(),
+        };
+        let tally = count_open_in(alloc, &lookup, &self.graph, most, table.passed)?;
+        let Tally { mut first, count } = tally;
         first.truncate(most);
         Ok(OpenChoices {
             first: Sequence::new(first),

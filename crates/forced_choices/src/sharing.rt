@@ -9,7 +9,7 @@ ghost use Rattle.forced_choices.specs.SharedTables.{IsTableIn, table_in};
 ghost use Rattle.forced_choices.specs.Tables.{IsTable};
 
 use crate::open::first_open_from;
-use crate::table::{Table, table_of};
+use crate::table::{Lookup, Table, table_of};
 use known_graph::Graph;
 use order_check::Parts;
 use std::alloc::Global;
@@ -98,7 +98,11 @@ pub fn passed_in(
     requires { IsTableIn parts.now graph.now kept }
     ensures { IfOk result (IsTableIn parts.now graph.now) }
 {
-    let first = first_open_from(alloc, parts, kept.get(), graph, kept.passed)?;
+    let lookup = Lookup {
+        parts,
+        table: kept.get(),
+    };
+    let first = first_open_from(alloc, &lookup, graph, kept.passed)?;
     let SharedTable { shared, passed: _ } = kept;
     Ok(SharedTable {
         shared,

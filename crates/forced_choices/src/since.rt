@@ -13,6 +13,14 @@ use crate::reads::Placed;
 use crate::touched::{Spans, Touched, meets};
 use known_graph::{Graph, Span, has_bit, meet_within_among};
 
+/// What was touched since no side was left, and where its rows have bits: the delta of a semi-naive evaluation.
+#[derive(Clone, Copy)]
+pub struct Delta<'a> {
+    pub touched: &'a Touched,
+    pub spans: Spans,
+    ghost spanned: { AreSpansOf touched.now spans },
+}
+
 /// Whether the columns of the mask that are among the few, of which none is outside of the span, lie after the reader where they lie
 /// after the writer, and before the writer where they lie before the reader, but for those two.
 fn are_settled_among(graph: &Graph, mask: &[u64], few: &[u64], span: Span, placed: Placed) -> bool
@@ -36,19 +44,13 @@ fn are_settled_among(graph: &Graph, mask: &[u64], few: &[u64], span: Span, place
 /// Whether no side of the read's choices with the columns of the mask is left, where none was before all this was touched: the
 /// writer can't have come to reach the reader, and each column is settled, or can't have come to be after the writer or before the
 /// reader.
-pub fn are_settled_since(
-    graph: &Graph,
-    touched: &Touched,
-    spans: Spans,
-    mask: &[u64],
-    placed: Placed,
-) -> bool
+pub fn are_settled_since(graph: &Graph, delta: &Delta, mask: &[u64], placed: Placed) -> bool
     requires placed { IsAtColumns graph.now.nodes placed }
-    requires spans { AreSpansOf touched.now spans }
-    ensures read { result ≡ true → ¬ MayBeJoined touched.now placed.writer_at placed.reader_at }
+    ensures read { result ≡ true → ¬ MayBeJoined delta.now.touched.now placed.writer_at placed.reader_at }
     ensures others { result ≡ true → (j : ℕ) (other : TxnId) → HasBit mask.now j → IsAt graph.now.nodes j other
-        → other ≢ placed.read.reader → other ≢ placed.read.writer → IsUntouchedAt touched.now placed j ⊎ IsSettled graph.now.arcs placed.read other }
+        → other ≢ placed.read.reader → other ≢ placed.read.writer → IsUntouchedAt delta.now.touched.now placed j ⊎ IsSettled graph.now.arcs placed.read other }
 {
+    let (touched, spans) = (delta.touched, delta.spans);
     let leads_on = has_bit(&touched.sources, placed.writer_at);
     let is_led_to = has_bit(&touched.targets, placed.reader_at);
     if leads_on && is_led_to {

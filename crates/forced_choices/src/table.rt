@@ -1,5 +1,5 @@
 // What is looked up once for parts and the keys of a graph.
-ghost use Rattle.std.specs.Prelude.{◌≡◌, ◌∷◌, [], ◌++◌, List, All, IfOk, OnOk};
+ghost use Rattle.std.specs.Prelude.{◌≡◌, ◌<◌, ◌∷◌, [], ◌++◌, ◌⊎◌, List, All, IfOk, MatchOption, OnOk, length, slice_index};
 ghost use Rattle.std.specs.List.{flat_map};
 ghost use Rattle.txn.specs.declared.transactions.TxnId.{TxnId};
 ghost use Rattle.txn.specs.declared.transactions.Source.TheVariants.{By};
@@ -7,20 +7,23 @@ ghost use Rattle.txn.specs.declared.choices.Choice.{Choice};
 ghost use Rattle.order_check.specs.Based.{Remains};
 ghost use Rattle.order_check.specs.Good.{IsGood};
 ghost use Rattle.order_check.specs.Known.{ReadsKey};
+ghost use Rattle.known_graph.specs.Bits.{HasBit};
 ghost use Rattle.known_graph.specs.Graphs.{HasNode};
 ghost use Rattle.forced_choices.specs.declared.reads.Placed.{Placed};
 ghost use Rattle.forced_choices.specs.Listing.{choices_of, choices_of_read, reads_of};
+ghost use Rattle.forced_choices.specs.Masks.{choices_in};
 ghost use Rattle.forced_choices.specs.Tables.{AreReads, IsAtColumns, IsTable};
+ghost use Rattle.forced_choices.specs.WriterPlaces.{those_at};
 
 use crate::by_key::{ByKey, by_key_of};
-use crate::listing::{reads_of, remaining_ids_of, writes};
+use crate::listing::{is_third, reads_of, remaining_ids_of, writes};
 use crate::places::{Places, places_among};
 use crate::reads::{Placed, Read};
 use crate::writers::{Writers, column_of, writers_of};
-use known_graph::Graph;
+use known_graph::{Graph, has_bit};
 use order_check::Parts;
 use std::alloc::Global;
-use txn::{NoMemory, Source, TxnId};
+use txn::{Choice, NoMemory, Source, TxnId};
 
 /// All that remains, the writers of each key, where they stand, the reads from what remains, each with its columns, and these by key.
 #[derive(Drop, Debug)]
@@ -32,6 +35,37 @@ pub struct Table {
     /// In order of reader.
     pub reads: Vec<Placed>,
     pub by_key: ByKey,
+}
+
+/// What remains, and the table in which its reads and writers are looked up.
+#[derive(Clone, Copy)]
+pub struct Lookup<'a> {
+    pub parts: &'a Parts,
+    pub table: &'a Table,
+}
+
+impl Lookup<'_> {
+    /// The choice of a read with the writer at a place, if the row has the writer's column.
+    pub fn choice_at(&self, read: Read, row: &[u64], place: usize) -> Option<Choice>
+        requires { place < length self.now.table.now.ids.items }
+        ensures { let column = slice_index self.now.table.now.writers.columns.items place in
+            let choices = choices_in self.now.parts.now (those_at self.now.table.now.ids.items (place ∷ [])) read in
+            MatchOption result ((¬ HasBit row.now column) ⊎ (choices ≡ [])) (λ choice. HasBit row.now column × (choices ≡ choice ∷ [])) }
+    {
+        if !has_bit(row, self.table.writers.column(place)) {
+            return None;
+        }
+        let other = self.table.ids[place];
+        if !is_third(self.parts, read, other) {
+            return None;
+        }
+        Some(Choice {
+            reader: read.reader,
+            key: read.key,
+            writer: read.writer,
+            other,
+        })
+    }
 }
 
 /// Puts a read at the end, with its columns.

@@ -11,7 +11,7 @@ use crate::building::{add_arcs, graph_of_nodes};
 use crate::listing::{arcs_among, remaining_ids_of};
 use crate::saturation::{Due, saturate};
 use crate::sharing::SharedTable;
-use crate::table::table_of;
+use crate::table::{Lookup, table_of};
 use crate::touched::untouched;
 use known_graph::Graph;
 use order_check::Parts;
@@ -44,12 +44,15 @@ pub fn saturation_of(
     let ids = remaining_ids_of(alloc, parts)?;
     let mut graph = plain_graph(alloc, parts, ids.as_slice())?;
     let table = table_of(alloc, parts, &graph)?;
-    let mut log = Vec::new(alloc);
     let all = Due {
         all: true,
         since: untouched(alloc),
     };
-    saturate(alloc, parts, &table, &mut graph, &mut log, all)?;
+    let lookup = Lookup {
+        parts,
+        table: &table,
+    };
+    let log = saturate(alloc, &lookup, &mut graph, all)?;
     let shared = SharedTable::new(alloc, table)?;
     Ok((graph, log, shared))
 }

@@ -1,13 +1,13 @@
 use crossbeam_queue::RuledArrayQueue;
 use crossbeam_queue::protocol::{Join, Lesson, Outcome, Protocol, Split};
+use logged_fragments::LoggedFragment;
 use std::collections::LinkedList;
-use txn::Fragment;
 
 /// What a collector hands in: a fragment, one that a session joins or comes back with, that a session is closed, or that nothing more comes.
 #[derive(Drop, Debug)]
 pub enum Item {
-    Fragment(Fragment),
-    Join(Fragment),
+    Fragment(LoggedFragment),
+    Join(LoggedFragment),
     Close(u8),
     End,
 }

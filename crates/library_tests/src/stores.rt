@@ -18,6 +18,19 @@ const ID_0_1: TxnId = TxnId {
 /// A request's session, reads and writes.
 type Asked = (u8, &'static [u64], &'static [u64]);
 
+/// The requests of session 9 abort, so that no row needs to say it.
+const ABORTING: u8 = 9;
+
+const ID_9_0: TxnId = TxnId {
+    session: ABORTING,
+    number: 0,
+};
+
+const ID_9_1: TxnId = TxnId {
+    session: ABORTING,
+    number: 1,
+};
+
 /// What a store with this fault answers to the last of these requests, and what one without answers.
 struct Row {
     fault: Fault,
@@ -27,7 +40,8 @@ struct Row {
     honest: &'static [(u64, Source)],
 }
 
-static ROWS: [Row; 8] = [
+/// Where each fault applies, and what it lies about; and requests to which it doesn't apply, or hasn't yet.
+static ROWS: [Row; 22] = [
     Row {
         fault: Fault::StaleRead,
         before: &[(0, &[], &[5]), (0, &[], &[5])],
@@ -84,6 +98,104 @@ static ROWS: [Row; 8] = [
         told: &[(5, By(ID_0_0))],
         honest: &[(5, By(ID_0_0))],
     },
+    Row {
+        fault: Fault::StaleRead,
+        before: &[(0, &[], &[5, 6]), (0, &[], &[5, 6])],
+        last: (1, &[5, 6], &[]),
+        told: &[(5, By(ID_0_0)), (6, By(ID_0_1))],
+        honest: &[(5, By(ID_0_1)), (6, By(ID_0_1))],
+    },
+    Row {
+        fault: Fault::StaleRead,
+        before: &[(0, &[], &[5]), (0, &[], &[5]), (1, &[6], &[])],
+        last: (1, &[5], &[]),
+        told: &[(5, By(ID_0_0))],
+        honest: &[(5, By(ID_0_1))],
+    },
+    Row {
+        fault: Fault::LostUpdate,
+        before: &[(0, &[5], &[5])],
+        last: (1, &[5], &[6]),
+        told: &[(5, By(ID_0_0))],
+        honest: &[(5, By(ID_0_0))],
+    },
+    Row {
+        fault: Fault::LostUpdate,
+        before: &[(0, &[0], &[0]), (0, &[5], &[5])],
+        last: (1, &[0, 5], &[0, 5]),
+        told: &[(0, By(ID_0_0)), (5, Init)],
+        honest: &[(0, By(ID_0_0)), (5, By(ID_0_1))],
+    },
+    Row {
+        fault: Fault::SplitRead,
+        before: &[(0, &[], &[0, 5])],
+        last: (1, &[0, 5], &[]),
+        told: &[(0, By(ID_0_0)), (5, By(ID_0_0))],
+        honest: &[(0, By(ID_0_0)), (5, By(ID_0_0))],
+    },
+    Row {
+        fault: Fault::SplitRead,
+        before: &[(0, &[], &[5]), (0, &[], &[6])],
+        last: (1, &[5, 6], &[]),
+        told: &[(5, By(ID_0_0)), (6, By(ID_0_1))],
+        honest: &[(5, By(ID_0_0)), (6, By(ID_0_1))],
+    },
+    Row {
+        fault: Fault::SessionBack,
+        before: &[(0, &[], &[5])],
+        last: (1, &[5], &[]),
+        told: &[(5, By(ID_0_0))],
+        honest: &[(5, By(ID_0_0))],
+    },
+    Row {
+        fault: Fault::SessionBack,
+        before: &[(0, &[], &[0]), (0, &[], &[5, 6])],
+        last: (0, &[0, 5, 6], &[]),
+        told: &[(0, By(ID_0_0)), (5, Init), (6, By(ID_0_1))],
+        honest: &[(0, By(ID_0_0)), (5, By(ID_0_1)), (6, By(ID_0_1))],
+    },
+    Row {
+        fault: Fault::DirtyRead,
+        before: &[(0, &[], &[5]), (9, &[], &[5, 6])],
+        last: (1, &[5, 6], &[]),
+        told: &[(5, By(ID_9_0)), (6, Init)],
+        honest: &[(5, By(ID_0_0)), (6, Init)],
+    },
+    Row {
+        fault: Fault::DirtyRead,
+        before: &[(9, &[], &[5]), (9, &[5], &[5])],
+        last: (1, &[5], &[]),
+        told: &[(5, Init)],
+        honest: &[(5, Init)],
+    },
+    Row {
+        fault: Fault::DirtyRead,
+        before: &[(9, &[], &[5]), (9, &[], &[5])],
+        last: (1, &[5], &[]),
+        told: &[(5, By(ID_9_1))],
+        honest: &[(5, Init)],
+    },
+    Row {
+        fault: Fault::DirtyRead,
+        before: &[(9, &[0], &[0])],
+        last: (1, &[0], &[0]),
+        told: &[(0, Init)],
+        honest: &[(0, Init)],
+    },
+    Row {
+        fault: Fault::DirtyRead,
+        before: &[(0, &[], &[5]), (9, &[5], &[])],
+        last: (1, &[5], &[]),
+        told: &[(5, By(ID_0_0))],
+        honest: &[(5, By(ID_0_0))],
+    },
+    Row {
+        fault: Fault::StaleRead,
+        before: &[(0, &[], &[5]), (9, &[], &[5])],
+        last: (1, &[5], &[]),
+        told: &[(5, Init)],
+        honest: &[(5, By(ID_0_0))],
+    },
 ];
 
 fn rows() -> &'static [Row] {
@@ -95,6 +207,7 @@ fn request(alloc: Global, asked: Asked) -> Result<Request, NoMemory> {
         session: asked.0,
         reads: Sequence::new(asked.1.to_vec(alloc)?),
         writes: Sequence::new(asked.2.to_vec(alloc)?),
+        abort: asked.0 == ABORTING,
     })
 }
 

@@ -6,6 +6,7 @@ use Rattle.std.proofs.lemmas.List.Elements.{All-weaker}
 use Rattle.std.proofs.Math.Seq.{take-length}
 use Rattle.txn.specs.declared.transactions.Txn.{Txn}
 use Rattle.txn.specs.History.{History, session_of}
+use Rattle.logged_fragments.specs.Effects.{effects}
 use Rattle.order_check.specs.StandsFor.{Arrival, More, Joins, Returns, history_after}
 use Rattle.fragment_intake.specs.declared.rules.Item.{Item}
 use Rattle.fragment_intake.specs.declared.rules.Item.TheVariants as item
@@ -48,8 +49,8 @@ firsts_after counts history (Returns fragment) enough = firsts_set counts histor
 
 -- an item that is accepted changes nothing in front of it
 firsts_with : (counts : List ℕ) (history : History) (its : Item) → map length (firsts counts history) ≡ counts → firsts counts (history_with history its) ≡ firsts counts history
-firsts_with counts history (item.Fragment fragment) enough = firsts_set counts history fragment.session fragment.txns enough
-firsts_with counts history (item.Join fragment) enough = firsts_after counts history (arrival_of (length history) fragment) enough
+firsts_with counts history (item.Fragment logged) enough = firsts_set counts history (effects logged).session (effects logged).txns enough
+firsts_with counts history (item.Join logged) enough = firsts_after counts history (arrival_of (length history) (effects logged)) enough
 firsts_with counts history (item.Close session) enough = refl
 firsts_with counts history item.End enough = refl
 

@@ -3,7 +3,9 @@ use Rattle.std.proofs.Common.{◌≡◌, ℕ, None, subst, refl}
 use Rattle.std.specs.Prelude.{Result, Ok, Err, IfErr, OnOk, IsSomeAnd, IsSome}
 use Rattle.txn.specs.declared.refusals.Refusal.{Refusal}
 use Rattle.txn.specs.declared.refusals.Refusal.TheVariants as refusals
-use Rattle.txn.specs.declared.transactions.Fragment.{Fragment}
+use Rattle.txn.specs.Transactions.{IsWellFormedFragment}
+use Rattle.logged_fragments.specs.declared.logged.LoggedFragment.{LoggedFragment}
+use Rattle.logged_fragments.specs.Effects.{effects}
 use Rattle.order_check.specs.declared.remainder.Parts.{Parts}
 use Rattle.order_check.specs.StandsFor.{IsOpenSession}
 use Rattle.fragment_intake.specs.declared.rules.Item.TheVariants as item
@@ -22,13 +24,13 @@ use Rattle.live_audit.proofs.Answering.{for_memory, none_or_some}
 abbrev pub RightIsLegal : EngineState → Type 0
 RightIsLegal old = (asked : Step) (said : StepReply) (new : EngineState) → StepsTo old asked said new → StepsLegally old asked said new
 
-pub offered : (old new : EngineState) (fragment : Fragment) (said : Result (Unit {0}) Refusal) → RightIsLegal old → OnOk said (IsAdmitted old.parts fragment × (new ≡ engine_offered old fragment)) → IfErr said (λ refusal. IsOfferRefusal old.parts fragment refusal × (new ≡ old)) → TakesIn old (item.Fragment fragment) said new
-offered old new fragment (Ok done) legal ok err = (step.Offer fragment, refl, legal (step.Offer fragment) reply.Done new ok)
-offered old new fragment (Err refusal) legal ok err = (step.Offer fragment, refl, legal (step.Offer fragment) (reply.Refused refusal) new err)
+pub offered : (old new : EngineState) (logged : LoggedFragment) (said : Result (Unit {0}) Refusal) → RightIsLegal old → OnOk said (IsWellFormedFragment logged.fragment × IsAdmitted old.parts (effects logged) × (new ≡ engine_offered old (effects logged))) → IfErr said (λ refusal. IsOfferRefusal old.parts logged refusal × (new ≡ old)) → TakesIn old (item.Fragment logged) said new
+offered old new logged (Ok done) legal ok err = (step.Offer logged, refl, legal (step.Offer logged) reply.Done new ok)
+offered old new logged (Err refusal) legal ok err = (step.Offer logged, refl, legal (step.Offer logged) (reply.Refused refusal) new err)
 
-pub joined : (old new : EngineState) (fragment : Fragment) (said : Result (Unit {0}) Refusal) → RightIsLegal old → OnOk said ((old.asked ≡ None) × IsLetIn old.parts fragment × (new ≡ engine_joined old fragment)) → IfErr said (λ refusal. IsJoinRefusal old fragment refusal × (new ≡ old)) → TakesIn old (item.Join fragment) said new
-joined old new fragment (Ok done) legal ok err = (step.Join fragment, refl, legal (step.Join fragment) reply.Done new ok)
-joined old new fragment (Err refusal) legal ok err = (step.Join fragment, refl, legal (step.Join fragment) (reply.Refused refusal) new err)
+pub joined : (old new : EngineState) (logged : LoggedFragment) (said : Result (Unit {0}) Refusal) → RightIsLegal old → OnOk said (IsWellFormedFragment logged.fragment × (old.asked ≡ None) × IsLetIn old.parts (effects logged) × (new ≡ engine_joined old (effects logged))) → IfErr said (λ refusal. IsJoinRefusal old logged refusal × (new ≡ old)) → TakesIn old (item.Join logged) said new
+joined old new logged (Ok done) legal ok err = (step.Join logged, refl, legal (step.Join logged) reply.Done new ok)
+joined old new logged (Err refusal) legal ok err = (step.Join logged, refl, legal (step.Join logged) (reply.Refused refusal) new err)
 
 pub closed : (old new : EngineState) (session : ℕ) (said : Result (Unit {0}) Refusal) → RightIsLegal old → OnOk said (IsOpenSession old.parts session × (new ≡ engine_closed old session)) → IfErr said (λ refusal. IsCloseRefusal old.parts session refusal × (new ≡ old)) → TakesIn old (item.Close session) said new
 closed old new session (Ok done) legal ok err = (step.Close session, refl, legal (step.Close session) reply.Done new ok)

@@ -20,8 +20,8 @@ use Rattle.live_audit.specs.CoreState.{Search}
 
 -- the item asks for this step
 abbrev pub Asks : Item → Step → Type 0
-Asks (item.Fragment fragment) asked = asked ≡ step.Offer fragment
-Asks (item.Join fragment) asked = asked ≡ step.Join fragment
+Asks (item.Fragment logged) asked = asked ≡ step.Offer logged
+Asks (item.Join logged) asked = asked ≡ step.Join logged
 Asks (item.Close session) asked = asked ≡ step.Close session
 Asks item.End asked = ⊥
 

@@ -1,6 +1,7 @@
 -- Reports that are true of what was accepted.
 use Rattle.std.specs.Prelude.{◌≡◌, ℕ, ⊤, Bool, true, false, List, [], ◌∷◌, take, length, map}
 use Rattle.txn.specs.History.{History}
+use Rattle.logged_fragments.specs.Effects.{effects}
 use Rattle.order_check.specs.StandsFor.{with_fragment, history_after}
 use Rattle.fragment_intake.specs.declared.rules.Item.{Item}
 use Rattle.fragment_intake.specs.declared.rules.Item.TheVariants as item
@@ -19,11 +20,11 @@ outcomes (Accepted collector place ∷ more) = true ∷ outcomes more
 outcomes (Refused collector place refusal ∷ more) = false ∷ outcomes more
 outcomes (other ∷ more) = outcomes more
 
--- A history with an item that was accepted: a fragment stands at the end of its session, and so does one that is joined with, unless its session
--- is the next new one: then it stands in a session more. A close and an end add nothing.
+-- A history with an item that was accepted: what a fragment did stands at the end of its session, and so does what one did that is joined
+-- with, unless its session is the next new one: then it stands in a session more. A close and an end add nothing.
 abbrev pub history_with : History → Item → History
-history_with history (item.Fragment fragment) = with_fragment history fragment
-history_with history (item.Join fragment) = history_after history (arrival_of (length history) fragment)
+history_with history (item.Fragment logged) = with_fragment history (effects logged)
+history_with history (item.Join logged) = history_after history (arrival_of (length history) (effects logged))
 history_with history other = history
 
 -- a history with those of the parcels that were accepted, one after another

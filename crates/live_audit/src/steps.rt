@@ -19,8 +19,8 @@ pub(crate) fn take_in(alloc: Global, engine: &mut Engine, item: Item) -> Result<
 {
     engine.right_is_legal();
     match item {
-        Item::Fragment(fragment) => engine.offer(alloc, fragment),
-        Item::Join(fragment) => engine.join(alloc, fragment),
+        Item::Fragment(logged) => engine.offer(alloc, logged),
+        Item::Join(logged) => engine.join(alloc, logged),
         Item::Close(session) => engine.close(session),
         Item::End => Ok(()),
     }

@@ -1,6 +1,7 @@
 ghost use Rattle.std.specs.Prelude.{◌<◌};
 
 use fragment_intake::Item;
+use logged_fragments::LoggedFragment;
 use std::alloc::Global;
 use txn::{EPOCH, Fragment, NoMemory, Sequence, Source, Txn, TxnId};
 
@@ -61,9 +62,10 @@ pub fn parcel_at(alloc: Global, place: u64) -> Result<Item, NoMemory>
     let mut txns = Vec::with_capacity(alloc, 1)?;
     txns.push(txn)?;
     let TxnId { session, number } = id_at(place);
-    Ok(Item::Fragment(Fragment {
+    let fragment = Fragment {
         session,
         first: number,
         txns: Sequence::new(txns),
-    }))
+    };
+    Ok(Item::Fragment(LoggedFragment::committed(alloc, fragment)))
 }

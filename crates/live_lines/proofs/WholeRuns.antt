@@ -42,7 +42,7 @@ has_run rest opening contents sink returned well well_read heard told taken done
         taken = returned.side.pass.1;
         sent = returned.side.sender.sent;
         notes = returned.read.notes.sent;
-        handed_in = subst (λ (parcels : List Parcel). IfSome rest (λ all. AreAllHandedIn all parcels returned.read.notes.sent)) (sym taken.0) (all_went_well _ returned.read.end well_read done.handed_in);
+        handed_in = subst (λ (parcels : List Parcel). IfSome rest (λ all. AreAllHandedIn opening.version all parcels returned.read.notes.sent)) (sym taken.0) (all_went_well _ returned.read.end well_read done.handed_in);
         others = subst (λ (p : List Parcel × List Parcel × List Parcel). HaveOnlyEnds p.0 p.1 p.2) (λ i. (sym taken.1 i, sym taken.2 i, sym taken.3 i)) (all_went_well _ returned.read.end well_read done.others);
         audited = done.audited;
         items = done.items ∙ ap about_each (sym taken.0);

@@ -1,11 +1,13 @@
 -- What the lines of a run's input say, and what is handed in and noted of them.
-use Rattle.std.specs.Prelude.{◌≡◌, ℕ, ◌+◌, ◌^◌, ⊤, List, [], ◌∷◌, ◌++◌, length, Option, Some, None, IsUtf8, bytes_eq, codes, if◌then◌else◌}
+use Rattle.std.specs.Prelude.{◌≡◌, ℕ, ◌+◌, ◌^◌, ⊤, true, List, [], ◌∷◌, ◌++◌, length, Option, Some, None, IsUtf8, bytes_eq, codes, if◌then◌else◌}
 use Rattle.serde_json.specs.Data.{Data, string, Items, item}
 use Rattle.serde_json.specs.Read.{read}
 use Rattle.log_text.specs.declared.commands.Command.{Command}
 use Rattle.log_text.specs.declared.commands.Command.TheVariants as command
-use Rattle.log_text.specs.Items.{array_of, with_three, three_items}
+use Rattle.log_text.specs.Items.{array_of, with_three, with_four}
 use Rattle.log_text.specs.Numbers.{whole_number, number_within}
+use Rattle.log_text.specs.Versions.{has_form, version_in}
+use Rattle.log_text.specs.declared.versions.Version.{Version}
 use Rattle.cobra.specs.Outputs.{Asks}
 use Rattle.fragment_intake.specs.Collectors.{parcel}
 use Rattle.fragment_intake.specs.declared.rules.Item.{Item}
@@ -19,18 +21,19 @@ use Rattle.live_lines.specs.declared.openings.Opening.{Opening}
 use Rattle.live_lines.specs.Notes.{about_of}
 
 -- a budget from 1 to 2^32, a depth up to 6, and 1 to 16 workers
-abbrev pub effort_in : Items → Option Effort
-effort_in = three_items (λ budget depth workers. record { budget = budget; depth = depth; workers = workers }) (number_within 1 (2 ^ 32)) (number_within 0 6) (number_within 1 16)
+abbrev pub effort_at : Data → Data → Data → Option Effort
+effort_at budget depth workers = with_three (λ b d w. record { budget = b; depth = d; workers = w }) (number_within 1 (2 ^ 32) budget) (number_within 0 6 depth) (number_within 1 16 workers)
 
--- sessions, limit, and what a round may cost
+-- sessions, limit, what a round may cost, and the version of the lines
 abbrev pub numbers_in : Items → Option Opening
-numbers_in (item sessions (item limit effort)) = with_three (λ s l e. record { sessions = s; limit = l; effort = e }) (whole_number sessions) (whole_number limit) (effort_in effort)
+numbers_in (item sessions (item limit (item budget (item depth (item workers behind))))) =
+    with_four (λ s l e v. record { sessions = s; limit = l; effort = e; version = v }) (whole_number sessions) (whole_number limit) (effort_at budget depth workers) (version_in behind)
 numbers_in items = None
 
 abbrev pub opening_named : List ℕ → Items → Option Opening
 opening_named name parts = if bytes_eq name (codes "open") then numbers_in parts else None
 
--- ["open",sessions,limit,budget,depth,workers]
+-- ["open",sessions,limit,budget,depth,workers] or ["open",sessions,limit,budget,depth,workers,2]
 abbrev pub opening_in : Items → Option Opening
 opening_in (item (string name) parts) = opening_named name parts
 opening_in items = None
@@ -50,33 +53,33 @@ abbrev pub Begins : Option (List (List ℕ)) → Opening → Option (List (List 
 Begins None opening rest = ⊤
 Begins (Some all) opening rest = (first : List ℕ) × (others : List (List ℕ)) × (all ≡ first ∷ others) × IsOpening first opening × (rest ≡ Some others)
 
--- the command is an offer of the fragment, a join with it, or a close of the session
-abbrev pub AsksFor : Command → Item → Type 0
-AsksFor asked (Fragment fragment) = asked ≡ command.Offer fragment
-AsksFor asked (Join fragment) = asked ≡ command.Join fragment
-AsksFor asked (Close session) = asked ≡ command.Close session
-AsksFor asked End = ⊥
+-- The command is an offer of the fragment, a join with it, or a close of the session; and the version has a form for the fragment.
+abbrev pub AsksFor : Version → Command → Item → Type 0
+AsksFor version asked (Fragment logged) = (asked ≡ command.Offer logged) × (has_form version logged ≡ true)
+AsksFor version asked (Join logged) = (asked ≡ command.Join logged) × (has_form version logged ≡ true)
+AsksFor version asked (Close session) = asked ≡ command.Close session
+AsksFor version asked End = ⊥
 
--- the line is a script's command that asks for this item
-abbrev pub Says : List ℕ → Item → Type 0
-Says line said = (asked : Command) × Asks line asked × AsksFor asked said
+-- the line is a command of a script of this version that asks for this item
+abbrev pub Says : Version → List ℕ → Item → Type 0
+Says version line said = (asked : Command) × Asks line asked × AsksFor version asked said
 
 -- What is handed in and noted of the lines behind the opening, each taken in its order: an item that a line says is the first collector's next
 -- parcel, and is noted; of a line that says none its number is noted, where the opening's is 1. There is nothing else.
-pub data AreHandedIn : List (List ℕ) → List Parcel → List Note → Type 0 where
-  start : AreHandedIn [] [] []
-  said : (lines : List (List ℕ)) (parcels : List Parcel) (notes : List Note) (line : List ℕ) (given : Item)
-      → AreHandedIn lines parcels notes → Says line given
-      → AreHandedIn (lines ++ line ∷ []) (parcels ++ parcel 0 (length parcels) given ∷ []) (notes ++ note.Item (about_of given) ∷ [])
-  bad_line : (lines : List (List ℕ)) (parcels : List Parcel) (notes : List Note) (line : List ℕ)
-      → AreHandedIn lines parcels notes → ((given : Item) → ¬ Says line given)
-      → AreHandedIn (lines ++ line ∷ []) parcels (notes ++ note.BadLine (length lines + 2) ∷ [])
+pub data AreHandedIn : Version → List (List ℕ) → List Parcel → List Note → Type 0 where
+  start : (version : Version) → AreHandedIn version [] [] []
+  said : (version : Version) (lines : List (List ℕ)) (parcels : List Parcel) (notes : List Note) (line : List ℕ) (given : Item)
+      → AreHandedIn version lines parcels notes → Says version line given
+      → AreHandedIn version (lines ++ line ∷ []) (parcels ++ parcel 0 (length parcels) given ∷ []) (notes ++ note.Item (about_of given) ∷ [])
+  bad_line : (version : Version) (lines : List (List ℕ)) (parcels : List Parcel) (notes : List Note) (line : List ℕ)
+      → AreHandedIn version lines parcels notes → ((given : Item) → ¬ Says version line given)
+      → AreHandedIn version (lines ++ line ∷ []) parcels (notes ++ note.BadLine (length lines + 2) ∷ [])
 
 -- all these lines were handed in, and then an end
-pub record AreAllHandedIn (lines : List (List ℕ)) (submitted : List Parcel) (notes : List Note) : Type 0 where
+pub record AreAllHandedIn (version : Version) (lines : List (List ℕ)) (submitted : List Parcel) (notes : List Note) : Type 0 where
   pub parcels : List Parcel
   pub noted : List Note
-  pub handed_in : AreHandedIn lines parcels noted
+  pub handed_in : AreHandedIn version lines parcels noted
   pub submitted_are : submitted ≡ parcels ++ parcel 0 (length parcels) End ∷ []
   pub notes_are : notes ≡ noted ++ note.Item about.End ∷ []
 

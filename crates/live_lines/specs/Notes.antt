@@ -10,8 +10,8 @@ use Rattle.live_lines.specs.declared.notes.Note.TheVariants as note
 
 -- a fragment's session and first number, a close's session, or that nothing more comes
 abbrev pub about_of : Item → About
-about_of (item.Fragment fragment) = about.Offer fragment.session fragment.first
-about_of (item.Join fragment) = about.Offer fragment.session fragment.first
+about_of (item.Fragment logged) = about.Offer logged.fragment.session logged.fragment.first
+about_of (item.Join logged) = about.Offer logged.fragment.session logged.fragment.first
 about_of (item.Close session) = about.Close session
 about_of item.End = about.End
 

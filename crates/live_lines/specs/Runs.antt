@@ -13,13 +13,13 @@ use Rattle.live_lines.specs.Notes.{items_in, about_each}
 use Rattle.live_lines.specs.Tells.{Tells}
 
 -- The text is what is written for an audit of the opening: the lines of the entries that were sent, in order, those that tell what became of an
--- item with the session and the number of that very item, as it was taken. What was taken is what these lines say, where they are told, in
--- their order, and nothing else.
+-- item with the session and the number of that very item, as it was taken. What was taken is what these lines say, where they are told, as
+-- lines of the opening's version, in their order, and nothing else.
 pub record IsAuditOf (rest : Option (List (List ℕ))) (opening : Opening) (text : List ℕ) : Type 0 where
   pub taken : List Parcel
   pub sent : List Entry
   pub notes : List Note
-  pub handed_in : IfSome rest (λ all. AreAllHandedIn all (of 0 taken) notes)
+  pub handed_in : IfSome rest (λ all. AreAllHandedIn opening.version all (of 0 taken) notes)
   pub others : HaveOnlyEnds (of 1 taken) (of 2 taken) (of 3 taken)
   pub audited : HasAudited opening taken sent
   pub items : items_in notes ≡ about_each (of 0 taken)

@@ -7,6 +7,7 @@ use Rattle.cobra.specs.Outputs.{IsTold}
 use Rattle.fragment_intake.specs.Collectors.{AreCollectorsOf, Collector}
 use Rattle.fragment_intake.specs.Delivers.{of}
 use Rattle.fragment_intake.specs.declared.rules.Parcel.{Parcel}
+use Rattle.log_text.specs.declared.versions.Version.{Version}
 use Rattle.report_queue.specs.Rings.{Receiving}
 use Rattle.live_lines.specs.declared.halls.Hall.{Hall}
 use Rattle.live_lines.specs.declared.reading.Read.{Read}
@@ -38,11 +39,11 @@ IsAtLine lines = (lines.limit ≡ 8388608) × (lines.under_way ≡ Some [])
 
 -- The reader is back with its passes, and of each item of the first collector's it has sent a note. Where all went well it has handed in what
 -- these lines say, where they are told, all of them and nothing else.
-pub record HasRead (rest : Option (List (List ℕ))) (passes : Collector × Collector × Collector × Collector) (notes : Noting) (back : Read) : Type 0 where
+pub record HasRead (version : Version) (rest : Option (List (List ℕ))) (passes : Collector × Collector × Collector × Collector) (notes : Noting) (back : Read) : Type 0 where
   pub passes_are : AreSamePasses passes back.passes
   pub ring : back.notes.ring ≡ notes.ring
   pub items : items_in back.notes.sent ≡ about_each back.passes.0.2
-  pub handed_in : OnOk back.end (IfSome rest (λ all. AreAllHandedIn all back.passes.0.2 back.notes.sent))
+  pub handed_in : OnOk back.end (IfSome rest (λ all. AreAllHandedIn version all back.passes.0.2 back.notes.sent))
   pub others : OnOk back.end (HaveOnlyEnds back.passes.1.2 back.passes.2.2 back.passes.3.2)
 
 -- The writer is back, and where all went well what was appended is what is written for the notes and the entries that it has received.
@@ -53,7 +54,7 @@ pub record HasWritten {W : Type 0} (contents : W → Option (List ℕ)) (sink : 
 
 -- reader, writer and auditor came back, and did what each is to do
 pub record HasReturned {W : Type 0} (rest : Option (List (List ℕ))) (opening : Opening) (contents : W → Option (List ℕ)) (sink : W) (passes : Collector × Collector × Collector × Collector) (notes : Noting) (reader : Receiving) (coming : Noted) (side : AuditorSide) (returned : Returned W) : Type 0 where
-  pub read : HasRead rest passes notes returned.read
+  pub read : HasRead opening.version rest passes notes returned.read
   pub written : HasWritten contents sink reader coming returned.written
   pub side_is : IsSameSide side returned.side
   pub audited : HasAudited opening returned.side.pass.1 returned.side.sender.sent
@@ -68,7 +69,7 @@ pub record IsOfHall {W : Type 0} (hall : Hall) (returned : Returned W) : Type 0 
 -- it did what each thread is to do
 pub record HasDone {W : Type 0} (rest : Option (List (List ℕ))) (opening : Opening) (contents : W → Option (List ℕ)) (sink : W) (returned : Returned W) : Type 0 where
   pub items : items_in returned.read.notes.sent ≡ about_each returned.read.passes.0.2
-  pub handed_in : OnOk returned.read.end (IfSome rest (λ all. AreAllHandedIn all returned.read.passes.0.2 returned.read.notes.sent))
+  pub handed_in : OnOk returned.read.end (IfSome rest (λ all. AreAllHandedIn opening.version all returned.read.passes.0.2 returned.read.notes.sent))
   pub others : OnOk returned.read.end (HaveOnlyEnds returned.read.passes.1.2 returned.read.passes.2.2 returned.read.passes.3.2)
   pub written : OnOk returned.written.end ((text : List ℕ) × Appends (contents sink) (contents returned.written.sink) text × Tells returned.written.coming.received returned.written.reader.received text)
   pub audited : HasAudited opening returned.side.pass.1 returned.side.sender.sent
@@ -78,5 +79,5 @@ abbrev pub AreTaken : List Parcel → Collector × Collector × Collector × Col
 AreTaken taken passes = (of 0 taken ≡ passes.0.2) × (of 1 taken ≡ passes.1.2) × (of 2 taken ≡ passes.2.2) × (of 3 taken ≡ passes.3.2)
 
 -- Whatever lines were handed in so far, and these parcels and notes of them, the line that is told to be next is handed in now.
-abbrev pub HandsOn : Next → ℕ → List Parcel → List Note → List Parcel → List Note → Type 0
-HandsOn next number parcels notes parcels_now notes_now = (before : List (List ℕ)) (line : List ℕ) → IsTold line next → number ≡ length before + 2 → AreHandedIn before parcels notes → AreHandedIn (before ++ line ∷ []) parcels_now notes_now
+abbrev pub HandsOn : Version → Next → ℕ → List Parcel → List Note → List Parcel → List Note → Type 0
+HandsOn version next number parcels notes parcels_now notes_now = (before : List (List ℕ)) (line : List ℕ) → IsTold line next → number ≡ length before + 2 → AreHandedIn version before parcels notes → AreHandedIn version (before ++ line ∷ []) parcels_now notes_now

@@ -33,9 +33,9 @@ pub(crate) fn about_of(item: &Item) -> About
     ensures { result ≡ about_of item.now }
 {
     match item {
-        Item::Fragment(fragment) | Item::Join(fragment) => About::Offer {
-            session: fragment.session,
-            first: fragment.first,
+        Item::Fragment(logged) | Item::Join(logged) => About::Offer {
+            session: logged.fragment.session,
+            first: logged.fragment.first,
         },
         Item::Close(session) => About::Close(*session),
         Item::End => About::End,

@@ -3,11 +3,12 @@ ghost use Rattle.serde_json.specs.View.{view, items_view};
 ghost use Rattle.order_check.specs.Effort.{IsEffort};
 ghost use Rattle.byte_lines.specs.LineReaders.{lines_ahead};
 ghost use Rattle.log_text.specs.Numbers.{number_within};
-ghost use Rattle.live_lines.specs.Inputs.{effort_in, numbers_in, opening_named, opening_in, opening_of, IsOpening, Begins};
+ghost use Rattle.live_lines.specs.Inputs.{effort_at, numbers_in, opening_named, opening_in, opening_of, IsOpening, Begins};
 
 use crate::failures::LiveFailure;
 use byte_lines::{ByteSource, LineReader, Next};
 use live_audit::Effort;
+use log_text::{Version, version_in};
 use serde_json::Value;
 use std::alloc::Global;
 use std::str;
@@ -18,12 +19,14 @@ const MOST_DEPTH: u64 = 6;
 
 const MOST_WORKERS: u64 = 16;
 
-/// What the first line says: how many sessions there are, how many transactions may remain at a time, and what each round may cost.
+/// What the first line says: how many sessions there are, how many transactions may remain at a time, what each round may cost, and of which
+/// version the lines are.
 #[derive(Clone, Copy, Debug, PartialEq, Eq)]
 pub struct Opening {
     pub sessions: u64,
     pub limit: u64,
     pub effort: Effort,
+    pub version: Version,
 }
 
 fn number_within(least: u64, most: u64, value: &Value) -> Option<u64>
@@ -38,19 +41,15 @@ fn number_within(least: u64, most: u64, value: &Value) -> Option<u64>
     }
 }
 
-#[tactic(auto, using(crate::proofs::Arity::three_items_none))]
-fn effort_in(parts: &[Value]) -> Option<Effort>
-    ensures form { result ≡ effort_in (items_view parts.now) }
+fn effort_at(budget: &Value, depth: &Value, workers: &Value) -> Option<Effort>
+    ensures form { result ≡ effort_at (view budget.now) (view depth.now) (view workers.now) }
     ensures effort { IfSome result (λ effort. IsEffort effort.budget effort.depth effort.workers) }
 {
-    match parts {
-        [budget, depth, workers] => Some(Effort {
-            budget: number_within(1, MOST_BUDGET, budget)?,
-            depth: number_within(0, MOST_DEPTH, depth)?,
-            workers: number_within(1, MOST_WORKERS, workers)?,
-        }),
-        _ => None,
-    }
+    Some(Effort {
+        budget: number_within(1, MOST_BUDGET, budget)?,
+        depth: number_within(0, MOST_DEPTH, depth)?,
+        workers: number_within(1, MOST_WORKERS, workers)?,
+    })
 }
 
 #[tactic(auto, using(crate::proofs::Arity::numbers_none))]
@@ -58,13 +57,14 @@ fn numbers_in(parts: &[Value]) -> Option<Opening>
     ensures form { result ≡ numbers_in (items_view parts.now) }
     ensures effort { IfSome result (λ opening. IsEffort opening.effort.budget opening.effort.depth opening.effort.workers) }
 {
-    let [sessions, limit, effort @ ..] = parts else {
+    let [sessions, limit, budget, depth, workers, behind @ ..] = parts else {
         return None;
     };
     Some(Opening {
         sessions: sessions.as_u64()?,
         limit: limit.as_u64()?,
-        effort: effort_in(effort)?,
+        effort: effort_at(budget, depth, workers)?,
+        version: version_in(behind)?,
     })
 }
 

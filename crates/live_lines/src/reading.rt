@@ -3,6 +3,7 @@ ghost use Rattle.byte_lines.specs.LineReaders.{lines_ahead};
 ghost use Rattle.cobra.specs.Outputs.{IsTold};
 ghost use Rattle.fragment_intake.specs.Collectors.{parcel, AreCollectorsOf};
 ghost use Rattle.fragment_intake.specs.declared.rules.Item.{Item};
+ghost use Rattle.log_text.specs.declared.commands.Command.{Command};
 ghost use Rattle.live_lines.specs.Inputs.{AsksFor, Says, AreHandedIn, AreAllHandedIn, HaveOnlyEnds};
 ghost use Rattle.live_lines.specs.Notes.{items_in, about_each, about_of};
 ghost use Rattle.live_lines.specs.Threads.{IsSamePass, IsAtLine, AreFresh, HandsOn, HasRead};
@@ -14,7 +15,8 @@ use byte_lines::{ByteSource, LineReader, Next};
 use cobra::command_in;
 use fragment_intake::{CollectorPass, CollectorPasses, Item};
 use live_audit::Patience;
-use log_text::Command;
+use log_text::{Command, Version};
+use logged_fragments::LoggedFragment;
 use std::alloc::Global;
 use std::snapshot::Snapshot;
 use std::sync::Wait;
@@ -24,25 +26,47 @@ use txn::NoMemory;
 /// No line has a number as high as this one.
 const NO_LINE: u64 = 1 << 47;
 
+/// The item of an offer, where the version has a form for it.
+fn offer_of(version: Version, logged: LoggedFragment) -> Option<Item>
+    ensures { MatchOption result ((item : Item) → ¬ AsksFor version (Command.Offer logged) item) (AsksFor version (Command.Offer logged)) }
+{
+    if version.has_form(&logged) {
+        Some(Item::Fragment(logged))
+    } else {
+        None
+    }
+}
+
+/// The same of a join.
+fn join_of(version: Version, logged: LoggedFragment) -> Option<Item>
+    ensures { MatchOption result ((item : Item) → ¬ AsksFor version (Command.Join logged) item) (AsksFor version (Command.Join logged)) }
+{
+    if version.has_form(&logged) {
+        Some(Item::Join(logged))
+    } else {
+        None
+    }
+}
+
 /// The item that the command asks for, if it does.
-fn item_of(command: Command) -> Option<Item>
-    ensures { MatchOption result ((item : Item) → ¬ AsksFor command item) (AsksFor command) }
+fn item_of(version: Version, command: Command) -> Option<Item>
+    ensures { MatchOption result ((item : Item) → ¬ AsksFor version command item) (AsksFor version command) }
 {
     match command {
-        Command::Offer(fragment) => Some(Item::Fragment(fragment)),
-        Command::Join(fragment) => Some(Item::Join(fragment)),
+        Command::Offer(logged) => offer_of(version, logged),
+        Command::Join(logged) => join_of(version, logged),
         Command::Close(session) => Some(Item::Close(session)),
         _ => None,
     }
 }
 
 /// The item that was read, where it was one.
-fn item_in(alloc: Global, next: &Next) -> Result<Option<Item>, NoMemory>
-    ensures some { IfOk result (λ found. IfSome found (λ item. (line : List ℕ) → IsTold line next.now → Says line item)) }
-    ensures none { IfOk result (λ found. IfNone found ((line : List ℕ) → IsTold line next.now → (item : Item) → ¬ Says line item)) }
+fn item_in(alloc: Global, version: Version, next: &Next) -> Result<Option<Item>, NoMemory>
+    ensures some { IfOk result (λ found. IfSome found (λ item. (line : List ℕ) → IsTold line next.now → Says version line item)) }
+    ensures none { IfOk result (λ found. IfNone found ((line : List ℕ) → IsTold line next.now → (item : Item) → ¬ Says version line item)) }
 {
     match command_in(alloc, next)? {
-        Some(command) => Ok(item_of(command)),
+        Some(command) => Ok(item_of(version, command)),
         None => Ok(None),
     }
 }
@@ -103,6 +127,7 @@ fn hand_in_line<R: Wait>(
     rt: &R,
     alloc: Global,
     hall: &Hall,
+    version: Version,
     next: &Next,
     number: u64,
     pass: &mut CollectorPass,
@@ -115,9 +140,9 @@ fn hand_in_line<R: Wait>(
     ensures same { IsSamePass pass.old pass.new × (notes.new.ring ≡ notes.old.ring) }
     ensures more { length pass.new.2 ≤ length pass.old.2 + 1 }
     ensures noted { items_in notes.new.sent ≡ about_each pass.new.2 }
-    ensures handed_in { OnOk result (HandsOn next.now number pass.old.2 notes.old.sent pass.new.2 notes.new.sent) }
+    ensures handed_in { OnOk result (HandsOn version next.now number pass.old.2 notes.old.sent pass.new.2 notes.new.sent) }
 {
-    match item_in(alloc, next)? {
+    match item_in(alloc, version, next)? {
         Some(item) => {
             hand_in(rt, hall, pass, notes, item);
             Ok(())
@@ -134,6 +159,7 @@ fn hand_in_all<R: Wait, S: ByteSource>(
     rt: &R,
     alloc: Global,
     hall: &Hall,
+    version: Version,
     lines: &mut LineReader,
     source: &mut S,
     pass: &mut CollectorPass,
@@ -146,7 +172,7 @@ fn hand_in_all<R: Wait, S: ByteSource>(
     ensures same { IsSamePass pass.old pass.new × (notes.new.ring ≡ notes.old.ring) }
     ensures few { length pass.new.2 < 2 ^ 48 }
     ensures noted { items_in notes.new.sent ≡ about_each pass.new.2 }
-    ensures handed_in { OnOk result (IfSome (lines_ahead lines.old (S.remaining source.old)) (λ all. AreHandedIn all pass.new.2 notes.new.sent)) }
+    ensures handed_in { OnOk result (IfSome (lines_ahead lines.old (S.remaining source.old)) (λ all. AreHandedIn version all pass.new.2 notes.new.sent)) }
 {
     for number in 2..NO_LINE {
         if hall.is_stopped() {
@@ -156,7 +182,7 @@ fn hand_in_all<R: Wait, S: ByteSource>(
         if let Next::End = next {
             return Ok(());
         }
-        hand_in_line(rt, alloc, hall, &next, number, pass, notes)?;
+        hand_in_line(rt, alloc, hall, version, &next, number, pass, notes)?;
     }
     Err(LiveFailure::NoMemory)
 }
@@ -172,6 +198,7 @@ pub(crate) struct Read {
 /// That this reader comes back.
 #[derive(Drop)]
 pub(crate) struct ReadingOf<S: Drop> {
+    pub version: Version,
     pub lines: Snapshot<LineReader>,
     pub source: Snapshot<S>,
     pub passes: Snapshot<CollectorPasses>,
@@ -182,7 +209,7 @@ impl<S: ByteSource + Drop> Promise<Read> for ReadingOf<S> {
     ghost use Rattle.byte_lines.specs.LineReaders.{lines_ahead};
     ghost use Rattle.live_lines.specs.Threads.{HasRead};
 
-    ghost kept_by = { λ promise read. HasRead (lines_ahead promise.lines.value (S.remaining promise.source.value)) promise.passes.value promise.notes.value read };
+    ghost kept_by = { λ promise read. HasRead promise.version (lines_ahead promise.lines.value (S.remaining promise.source.value)) promise.passes.value promise.notes.value read };
 }
 
 /// Ends the three collectors that have nothing to hand in.
@@ -209,6 +236,7 @@ fn hand_in_to_end<R: Wait, S: ByteSource>(
     rt: &R,
     alloc: Global,
     hall: &Hall,
+    version: Version,
     lines: &mut LineReader,
     source: &mut S,
     pass: &mut CollectorPass,
@@ -220,9 +248,9 @@ fn hand_in_to_end<R: Wait, S: ByteSource>(
     requires lines { IsAtLine lines.old }
     ensures same { IsSamePass pass.old pass.new × (notes.new.ring ≡ notes.old.ring) }
     ensures noted { items_in notes.new.sent ≡ about_each pass.new.2 }
-    ensures handed_in { OnOk result (IfSome (lines_ahead lines.old (S.remaining source.old)) (λ all. AreAllHandedIn all pass.new.2 notes.new.sent)) }
+    ensures handed_in { OnOk result (IfSome (lines_ahead lines.old (S.remaining source.old)) (λ all. AreAllHandedIn version all pass.new.2 notes.new.sent)) }
 {
-    let end = hand_in_all(rt, alloc, hall, lines, source, pass, notes);
+    let end = hand_in_all(rt, alloc, hall, version, lines, source, pass, notes);
     hand_in(rt, hall, pass, notes, Item::End);
     end
 }
@@ -232,6 +260,7 @@ fn read_once_called<R: Wait, S: ByteSource>(
     rt: &R,
     alloc: Global,
     hall: &Hall,
+    version: Version,
     lines: &mut LineReader,
     source: &mut S,
     first: &mut CollectorPass,
@@ -245,14 +274,14 @@ fn read_once_called<R: Wait, S: ByteSource>(
     requires lines { IsAtLine lines.old }
     ensures same { IsSamePass first.old first.new × IsSamePass second.old second.new × IsSamePass third.old third.new × IsSamePass fourth.old fourth.new × (notes.new.ring ≡ notes.old.ring) }
     ensures noted { items_in notes.new.sent ≡ about_each first.new.2 }
-    ensures handed_in { OnOk result (IfSome (lines_ahead lines.old (S.remaining source.old)) (λ all. AreAllHandedIn all first.new.2 notes.new.sent)) }
+    ensures handed_in { OnOk result (IfSome (lines_ahead lines.old (S.remaining source.old)) (λ all. AreAllHandedIn version all first.new.2 notes.new.sent)) }
     ensures others { OnOk result (HaveOnlyEnds second.new.2 third.new.2 fourth.new.2) }
 {
     if !hall.is_called(rt) {
         return Err(LiveFailure::NoMemory);
     }
     end_others(rt, hall, second, third, fourth);
-    hand_in_to_end(rt, alloc, hall, lines, source, first, notes)
+    hand_in_to_end(rt, alloc, hall, version, lines, source, first, notes)
 }
 
 /// The same, with all that the reader comes back with.
@@ -260,6 +289,7 @@ pub(crate) fn read_all<R: Wait, S: ByteSource + Drop>(
     rt: &R,
     alloc: Global,
     hall: &Hall,
+    version: Version,
     lines: LineReader,
     source: S,
     passes: CollectorPasses,
@@ -268,7 +298,7 @@ pub(crate) fn read_all<R: Wait, S: ByteSource + Drop>(
     requires desk { AreCollectorsOf hall.now.desk passes }
     requires fresh { AreFresh passes × (notes.sent ≡ []) }
     requires lines { IsAtLine lines }
-    ensures { HasRead (lines_ahead lines (S.remaining source)) passes notes result }
+    ensures { HasRead version (lines_ahead lines (S.remaining source)) passes notes result }
 {
     let mut lines = lines;
     let mut source = source;
@@ -278,6 +308,7 @@ pub(crate) fn read_all<R: Wait, S: ByteSource + Drop>(
         rt,
         alloc,
         hall,
+        version,
         &mut lines,
         &mut source,
         &mut first,

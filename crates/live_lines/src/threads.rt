@@ -16,6 +16,7 @@ use crate::writing::{WritingOf, Written, write_lines};
 use byte_lines::{ByteSink, ByteSource, LineReader};
 use fragment_intake::CollectorPasses;
 use live_audit::AuditorSide;
+use log_text::Version;
 use polygraph::Solver;
 use report_queue::ReportReader;
 use round_state::Engine;
@@ -44,6 +45,7 @@ fn start_reader<'s, E, R: Threads + Wait + Sync, S: ByteSource + Send + Drop + '
     rt: &'s R,
     alloc: Global,
     hall: &'s Hall,
+    version: Version,
     lines: LineReader,
     source: S,
     passes: CollectorPasses,
@@ -52,9 +54,10 @@ fn start_reader<'s, E, R: Threads + Wait + Sync, S: ByteSource + Send + Drop + '
     requires desk { AreCollectorsOf hall.now.desk passes }
     requires fresh { AreFresh passes × (notes.sent ≡ []) }
     requires lines { IsAtLine lines }
-    ensures { IfOk result (λ thread. (thread.promise.lines.value ≡ lines) × (thread.promise.source.value ≡ source) × (thread.promise.passes.value ≡ passes) × (thread.promise.notes.value ≡ notes)) }
+    ensures { IfOk result (λ thread. (thread.promise.version ≡ version) × (thread.promise.lines.value ≡ lines) × (thread.promise.source.value ≡ source) × (thread.promise.passes.value ≡ passes) × (thread.promise.notes.value ≡ notes)) }
 {
     let promise = ReadingOf {
+        version,
         lines: Snapshot::of(&lines),
         source: Snapshot::of(&source),
         passes: Snapshot::of(&passes),
@@ -64,8 +67,8 @@ fn start_reader<'s, E, R: Threads + Wait + Sync, S: ByteSource + Send + Drop + '
         promise,
         move || -> Read
             requires { AreCollectorsOf hall.now.desk passes × AreFresh passes × (notes.sent ≡ []) × IsAtLine lines }
-            ensures { HasRead (lines_ahead lines (S.remaining source)) passes notes result }
-        { read_all(rt, alloc, hall, lines, source, passes, notes) },
+            ensures { HasRead version (lines_ahead lines (S.remaining source)) passes notes result }
+        { read_all(rt, alloc, hall, version, lines, source, passes, notes) },
     )?;
     Ok(thread)
 }
@@ -137,7 +140,10 @@ pub(crate) fn run_threads<
             requires { V.ready × IsEffort opening.effort.budget opening.effort.depth opening.effort.workers × (engine.asked ≡ None) × Holds engine (fresh_state opening.sessions opening.limit) × IsFreshSide hall.now side × AreCollectorsOf hall.now.desk passes × AreFresh passes × (notes.sent ≡ []) × (reader.received ≡ []) × (coming.received ≡ []) × IsAtLine lines }
             ensures { IfOk result (HasReturned (lines_ahead lines (S.remaining source)) opening W.contents sink passes notes reader coming side) }
         {
-            let reading = start_reader(scope, rt, alloc, hall, lines, source, passes, notes);
+            let version = opening.version;
+            let reading = start_reader(
+                scope, rt, alloc, hall, version, lines, source, passes, notes,
+            );
             let writing = start_writer(scope, rt, alloc, hall, reader, coming, sink);
             match (reading, writing) {
                 (Ok(reading), Ok(writing)) => {

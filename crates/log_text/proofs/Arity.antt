@@ -1,12 +1,13 @@
 -- A form that takes a number of items takes no other number.
-use Rattle.std.proofs.Common.{◌≡◌, ◌≢◌, List, [], ◌∷◌, length, Option, None, refl, arith}
+use Rattle.std.proofs.Common.{◌≡◌, ◌≢◌, ◌<◌, List, [], ◌∷◌, length, Option, None, refl, arith}
 use Rattle.serde_json.specs.Data.{Data}
 use Rattle.serde_json.specs.View.{items_view}
 use Rattle.serde_json.specs.declared.value.Value.{Value}
 use Rattle.log_text.specs.Items.{alone, one_item, two_items, three_items}
-use Rattle.log_text.specs.Commands.{source_in, join_from, join_in}
+use Rattle.log_text.specs.Commands.{source_in, aborted_in, txn_in, start_in, resume_in, fragment_in, joined_in}
 use Rattle.log_text.specs.Refutations.{choice_in, ends_in}
-use Rattle.log_text.specs.Shown.{HandsIn}
+use Rattle.log_text.specs.Shown.{HandsIn, Reports}
+use Rattle.log_text.specs.Versions.{version_in}
 use Rattle.log_text.specs.declared.shown.Shown.{Shown}
 
 pub alone_none : {X : Type 0} (given : X) (vs : List Value) → length vs ≢ 0 → None ≡ alone given (items_view vs)
@@ -32,11 +33,39 @@ three_items_none make f g h (a ∷ b ∷ c ∷ []) other = absurd (omega (arith,
 three_items_none make f g h (a ∷ b ∷ c ∷ d ∷ vs) other = refl
 
 -- a join that doesn't have two parts is of the longer form, or none
-pub join_longer : (vs : List Value) → length vs ≢ 2 → join_from (items_view vs) ≡ join_in (items_view vs)
-join_longer [] other = refl
-join_longer (a ∷ []) other = refl
-join_longer (a ∷ b ∷ []) other = absurd (omega (arith, other))
-join_longer (a ∷ b ∷ c ∷ vs) other = refl
+pub joined_longer : (vs : List Value) → length vs ≢ 2 → fragment_in (items_view vs) ≡ joined_in (items_view vs)
+joined_longer [] other = refl
+joined_longer (a ∷ []) other = refl
+joined_longer (a ∷ b ∷ []) other = absurd (omega (arith, other))
+joined_longer (a ∷ b ∷ c ∷ vs) other = refl
+
+-- behind the writes of a transaction stands one item or none
+pub aborted_none : (vs : List Value) → length vs ≢ 0 → length vs ≢ 1 → None ≡ aborted_in (items_view vs)
+aborted_none [] none one = absurd (omega (arith, none))
+aborted_none (a ∷ []) none one = absurd (omega (arith, one))
+aborted_none (a ∷ b ∷ vs) none one = refl
+
+-- and the same behind the numbers of a first line
+pub version_none : (vs : List Value) → length vs ≢ 0 → length vs ≢ 1 → None ≡ version_in (items_view vs)
+version_none [] none one = absurd (omega (arith, none))
+version_none (a ∷ []) none one = absurd (omega (arith, one))
+version_none (a ∷ b ∷ vs) none one = refl
+
+-- both have two items before that
+pub txn_none : (vs : List Value) → length vs < 2 → None ≡ txn_in (items_view vs)
+txn_none [] few = refl
+txn_none (a ∷ []) few = refl
+txn_none (a ∷ b ∷ vs) few = absurd (omega (arith, few))
+
+pub start_none : (vs : List Value) → length vs < 2 → None ≡ start_in (items_view vs)
+start_none [] few = refl
+start_none (a ∷ []) few = refl
+start_none (a ∷ b ∷ vs) few = absurd (omega (arith, few))
+
+pub resume_none : (vs : List Value) → length vs < 2 → None ≡ resume_in (items_view vs)
+resume_none [] few = refl
+resume_none (a ∷ []) few = refl
+resume_none (a ∷ b ∷ vs) few = absurd (omega (arith, few))
 
 -- a source has one part or two
 pub source_none : (vs : List Value) → length vs ≢ 1 → length vs ≢ 2 → None ≡ source_in (items_view vs)
@@ -72,3 +101,13 @@ hands_none (a ∷ []) other shown hands = hands
 hands_none (a ∷ b ∷ []) other shown hands = hands
 hands_none (a ∷ b ∷ c ∷ []) other shown hands = absurd (omega (arith, other))
 hands_none (a ∷ b ∷ c ∷ d ∷ vs) other shown hands = hands
+
+-- and a report that shows something has five
+pub reports_none : (vs : List Value) → length vs ≢ 5 → (shown : Shown) → ¬ Reports (items_view vs) shown
+reports_none [] other shown reports = reports
+reports_none (a ∷ []) other shown reports = reports
+reports_none (a ∷ b ∷ []) other shown reports = reports
+reports_none (a ∷ b ∷ c ∷ []) other shown reports = reports
+reports_none (a ∷ b ∷ c ∷ d ∷ []) other shown reports = reports
+reports_none (a ∷ b ∷ c ∷ d ∷ e ∷ []) other shown reports = absurd (omega (arith, other))
+reports_none (a ∷ b ∷ c ∷ d ∷ e ∷ f ∷ vs) other shown reports = reports

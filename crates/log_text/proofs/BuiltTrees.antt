@@ -1,5 +1,5 @@
 -- Trees put together from the last of their items on, and how many trees items make.
-use Rattle.std.proofs.Common.{◌≡◌, ◌≢◌, ℕ, zero, suc, ◌+◌, List, [], ◌∷◌, ◌++◌, length, map, reverse, Option, Some, None, option_map, option_and_then, append_assoc, append-nil, refl, sym, ap, subst, ◌∙◌, arith}
+use Rattle.std.proofs.Common.{◌≡◌, ◌≢◌, ℕ, suc, ◌+◌, List, [], ◌∷◌, ◌++◌, length, map, reverse, Option, Some, None, option_map, option_and_then, append_assoc, append-nil, refl, sym, ap, subst, ◌∙◌, arith}
 use Rattle.std.proofs.lemmas.List.{reverse-append, nil_from_length}
 use Rattle.txn.specs.declared.choices.Choice.{Choice}
 use Rattle.txn.specs.declared.choices.ForceStep.{ForceStep}
@@ -8,7 +8,7 @@ use Rattle.refutation.specs.declared.trees.Tree.{Tree, Close, Force', Split'}
 use Rattle.log_text.specs.declared.tree_items.TreeItem.{TreeItem}
 use Rattle.log_text.specs.declared.tree_items.TreeItem.TheVariants as node
 use Rattle.log_text.specs.declared.building.Front.{Front}
-use Rattle.log_text.specs.Building.{AreMerged, nodes_behind, nodes_in_front, IsInFront, AreBuilt, one_or_more, two_as_one, trees_in}
+use Rattle.log_text.specs.Building.{AreMerged, nodes_behind, nodes_in_front, AreBuilt, one_or_more, two_as_one, trees_in}
 use Rattle.log_text.specs.Refutations.{nodes_of, IsMerged, IsNoForce, AreNodesOf}
 
 -- ---- how many trees the items make

@@ -1,9 +1,13 @@
 pub mod Arity
 pub mod BuiltTrees
 pub mod EachItem
-pub mod GainedTexts
+pub mod GainedData
 pub mod HandedAnswers
+pub mod ReportsRead
+pub mod SameTrees
 pub mod SavedData
 pub mod SavedRead
+pub mod ToldTexts
+pub mod TreesRead
 pub mod ValueTexts
 pub mod WaitingTrees

@@ -1,9 +1,8 @@
 -- Lists of values beside the data that they are, and the texts of these.
-use Rattle.std.proofs.Common.{◌≡◌, ℕ, List, [], ◌∷◌, ◌++◌, Vec, Global, false, map, take, length, get_or, codes, decimal, ◌+◌, ◌<◌, ◌≤◌, refl, sym, ap, subst, ◌∙◌}
+use Rattle.std.proofs.Common.{◌≡◌, ℕ, List, [], ◌∷◌, ◌++◌, Vec, Global, map, take, length, get_or, codes, decimal, ◌+◌, ◌<◌, ◌≤◌, refl, sym, ap, ◌∙◌}
 use Rattle.std.proofs.lemmas.List.{take_all, map_more, map-append}
 use Rattle.serde_json.specs.Data.{Data, boolean, string, array}
 use Rattle.serde_json.specs.View.{view, items_of}
-use Rattle.serde_json.specs.Written.{has_float, compact_text}
 use Rattle.serde_json.specs.declared.value.Value.{Value, Array}
 use Rattle.serde_json.proofs.Views.{view-Array}
 use Rattle.serde_json.proofs.OnLiterals.{serde_json_on_literals}
@@ -15,8 +14,8 @@ use Rattle.log_text.specs.declared.saved.Saved.{Saved}
 use Rattle.log_text.specs.declared.saved.Saved.TheVariants.{Marks, Last, Offer}
 use Rattle.log_text.specs.Lists.{list_text, word_text, numbers_text}
 use Rattle.log_text.specs.Replies.{flag_text, writer_text, read_text, txn_text, saved_parts}
-use Rattle.log_text.specs.Saved.{number_data, list_data, writer_data, read_data, txn_data, saved_data, GainsData}
-use Rattle.log_text.specs.Texts.{HasText, HaveTexts, Gains}
+use Rattle.log_text.specs.Saved.{number_data, list_data, writer_data, read_data, txn_data, saved_data}
+use Rattle.log_text.specs.Texts.{HasText, HaveTexts}
 use Rattle.log_text.proofs.ValueTexts.{number_written, word_written, list_written, flag_written}
 
 -- the value of one more element
@@ -31,7 +30,7 @@ all_data {X = X} form v xs i h all =
 
 -- ---- texts
 
-have_texts : {X : Type 0} (form : X → Data) (text : X → List ℕ) → ((x : X) → HasText (form x) (text x)) → (xs : List X) → HaveTexts (items_of (map form xs)) (map text xs)
+pub have_texts : {X : Type 0} (form : X → Data) (text : X → List ℕ) → ((x : X) → HasText (form x) (text x)) → (xs : List X) → HaveTexts (items_of (map form xs)) (map text xs)
 have_texts form text each [] = tt
 have_texts form text each (x ∷ xs) = (each x, have_texts form text each xs)
 
@@ -54,7 +53,7 @@ pub offer_written : HasText (string (codes "offer")) (word_text (codes "offer"))
 unfolding serde_json_on_literals
 offer_written = word_written _ refl
 
-writer_written : (entry : ℕ × TxnId) → HasText (writer_data entry) (writer_text entry)
+pub writer_written : (entry : ℕ × TxnId) → HasText (writer_data entry) (writer_text entry)
 writer_written entry = list_data_written number_data decimal number_written (entry.0 ∷ entry.1.session ∷ entry.1.number ∷ [])
 
 read_written : (read : ℕ × Source) → HasText (read_data read) (read_text read)
@@ -75,21 +74,8 @@ saved_written (Last last) = (last_written, (list_data_written writer_data writer
 saved_written (Offer fragment) = (offer_written, (number_written fragment.session, (number_written fragment.first, (list_data_written txn_data txn_text txn_written fragment.txns, tt))))
 
 -- values of some data have their texts, behind those that were there
-have_more : (ds es : List Data) (ts us : List (List ℕ)) → HaveTexts (items_of ds) ts → HaveTexts (items_of es) us → HaveTexts (items_of (ds ++ es)) (ts ++ us)
-have_more [] es [] us h k = k
-have_more (d ∷ ds) es (t ∷ ts) us h k = (h.0, have_more ds es ts us h.1 k)
-have_more [] es (t ∷ ts) us h k = absurd h
-have_more (d ∷ ds) es [] us h k = absurd h
-
-pub gains_data : (old new : List Value) (more : List Data) (texts : List (List ℕ)) → GainsData old new more → HaveTexts (items_of more) texts → Gains old new texts
-gains_data old new more texts gains written before h =
-    subst (λ ds. HaveTexts (items_of ds) (before ++ texts)) (sym gains) (have_more _ _ _ _ h written)
-
--- the value of all of them
-pub saved_value_is : (start : List Value) (v : Vec Value Global) (saved : Saved) → start ≡ [] → GainsData start v.items (saved_data saved) → view (Array v) ≡ array (items_of (saved_data saved))
-saved_value_is start v saved none gains = view-Array v ∙ ap (λ ds. array (items_of ds)) (gains ∙ ap (λ (vs : List Value). map view vs ++ saved_data saved) none)
-
-pub saved_text : (d : Data) (bytes : List ℕ) (saved : Saved) → d ≡ array (items_of (saved_data saved)) → (has_float d ≡ false → bytes ≡ compact_text d) → bytes ≡ list_text (saved_parts saved)
-saved_text d bytes saved is text =
-    let written = subst (λ e. HasText e (list_text (saved_parts saved))) (sym is) (list_written (items_of (saved_data saved)) (saved_parts saved) (saved_written saved)) in
-    text written.no_float ∙ written.text_is
+pub have_both : (ds es : List Data) (ts us : List (List ℕ)) → HaveTexts (items_of ds) ts → HaveTexts (items_of es) us → HaveTexts (items_of (ds ++ es)) (ts ++ us)
+have_both [] es [] us h k = k
+have_both (d ∷ ds) es (t ∷ ts) us h k = (h.0, have_both ds es ts us h.1 k)
+have_both [] es (t ∷ ts) us h k = absurd h
+have_both (d ∷ ds) es [] us h k = absurd h

@@ -1,5 +1,5 @@
 -- The data of what is given out are those of a line of a hand-over.
-use Rattle.std.proofs.Common.{◌≡◌, inl, ℕ, ◌≤◌, List, [], ◌∷◌, Bool, true, map, nat_le, Option, Some, ◌+◌, refl, sym, ap, subst, ◌∙◌, arith}
+use Rattle.std.proofs.Common.{◌≡◌, inl, ℕ, ◌≤◌, List, [], ◌∷◌, Bool, true, false, map, nat_le, Option, Some, ◌+◌, refl, sym, ap, subst, ◌∙◌, arith}
 use Rattle.std.specs.Prelude.{All, IsUtf8, ⊤}
 use Rattle.std.proofs.lemmas.List.Elements.{All-head, All-tail}
 use Rattle.std.proofs.lemmas.Bool.Decides.{nat_tests}
@@ -10,18 +10,30 @@ use Rattle.txn.specs.declared.transactions.TxnId.{TxnId}
 use Rattle.txn.specs.declared.transactions.Source.{Source}
 use Rattle.txn.specs.declared.transactions.Source.TheVariants.{Init, By}
 use Rattle.txn.specs.declared.transactions.Txn.{Txn}
+use Rattle.log_text.specs.declared.replies.Reply.{Reply}
+use Rattle.log_text.specs.declared.replies.Reply.TheVariants as reply
 use Rattle.log_text.specs.declared.saved.Saved.{Saved}
 use Rattle.log_text.specs.declared.saved.Saved.TheVariants.{Marks, Last, Offer}
-use Rattle.log_text.specs.Commands.{IsCommand, flag_of, writer_of, read_of, txn_of, command_of}
+use Rattle.log_text.specs.Commands.{IsCommand, flag_of, writer_of, read_of, txn_of, both_lists, command_of}
+use Rattle.log_text.specs.declared.commands.Command.TheVariants as command
 use Rattle.log_text.specs.Items.{each_of}
 use Rattle.log_text.specs.Numbers.{whole_number, session_of}
 use Rattle.log_text.specs.Saved.{number_data, list_data, writer_data, read_data, txn_data, saved_data, handed_by, IsReadable, NamesSessions}
+use Rattle.log_text.specs.Told.{reply_data}
+
+-- each of a list is read as something made of what it was
+each_read_as : {X Y : Type 0} (form : Data → Option Y) (as_data : X → Data) (made : X → Y) (P : X → Type 0) → ((x : X) → P x → form (as_data x) ≡ Some (made x)) → (xs : List X) → All P xs → each_of form (items_of (map as_data xs)) ≡ Some (map made xs)
+each_read_as form as_data made P reads [] all = refl
+each_read_as form as_data made P reads (x ∷ xs) all =
+    rw (reads x (All-head P x xs all), each_read_as form as_data made P reads xs (All-tail P x xs all)) refl
+
+all_same : {X : Type 0} (xs : List X) → map (λ x. x) xs ≡ xs
+all_same [] = refl
+all_same (x ∷ xs) = ap (λ ys. x ∷ ys) (all_same xs)
 
 -- each of a list is read as what it was
-each_read : {X : Type 0} (form : Data → Option X) (as_data : X → Data) (P : X → Type 0) → ((x : X) → P x → form (as_data x) ≡ Some x) → (xs : List X) → All P xs → each_of form (items_of (map as_data xs)) ≡ Some xs
-each_read form as_data P reads [] all = refl
-each_read form as_data P reads (x ∷ xs) all =
-    rw (reads x (All-head P x xs all), each_read form as_data P reads xs (All-tail P x xs all)) refl
+pub each_read : {X : Type 0} (form : Data → Option X) (as_data : X → Data) (P : X → Type 0) → ((x : X) → P x → form (as_data x) ≡ Some x) → (xs : List X) → All P xs → each_of form (items_of (map as_data xs)) ≡ Some xs
+each_read form as_data P reads xs all = each_read_as form as_data (λ x. x) P reads xs all ∙ ap Some (all_same xs)
 
 any : {X : Type 0} (xs : List X) → All (λ x. ⊤) xs
 any xs = grind arith
@@ -38,7 +50,7 @@ low n h = grind (arith, nat_tests)
 from_zero : (n : ℕ) → nat_le 0 n ≡ true
 from_zero n = grind (arith, nat_tests)
 
-session_read : (s : ℕ) → s ≤ 255 → session_of (number_data s) ≡ Some s
+pub session_read : (s : ℕ) → s ≤ 255 → session_of (number_data s) ≡ Some s
 session_read s h = rw (from_zero s, low s h) refl
 
 writer_read : (entry : ℕ × TxnId) → entry.1.session ≤ 255 → writer_of (writer_data entry) ≡ Some entry
@@ -48,27 +60,33 @@ read_read : (read : ℕ × Source) → IsReadable read.1 → read_of (read_data 
 read_read (key, Init) h = refl
 read_read (key, By writer) h = rw (session_read writer.session h) refl
 
-txn_read : (txn : Txn) → All (λ read. IsReadable read.1) txn.reads → txn_of (txn_data txn) ≡ Some txn
+txn_read : (txn : Txn) → All (λ read. IsReadable read.1) txn.reads → txn_of (txn_data txn) ≡ Some (txn, false)
 txn_read txn h =
     rw (each_read read_of read_data (λ read. IsReadable read.1) read_read txn.reads h, each_read whole_number number_data (λ n. ⊤) number_read txn.writes (any txn.writes)) refl
+
+-- transactions of which none is told to have aborted
+none_told : (txns : List Txn) → both_lists (map (λ txn. (txn, false)) txns) ≡ (txns, map (λ txn. false) txns)
+none_told [] = refl
+none_told (txn ∷ txns) = ap (λ (lists : List Txn × List Bool). (txn ∷ lists.0, false ∷ lists.1)) (none_told txns)
 
 pub saved_read : (saved : Saved) → NamesSessions saved → command_of (array (items_of (saved_data saved))) ≡ Some (handed_by saved)
 saved_read (Marks marks closed) h =
     rw (each_read whole_number number_data (λ n. ⊤) number_read marks (any marks), each_read flag_of boolean (λ b. ⊤) flag_read closed (any closed)) refl
 saved_read (Last last) h = rw (each_read writer_of writer_data (λ entry. entry.1.session ≤ 255) writer_read last h) refl
 saved_read (Offer fragment) h =
-    rw (session_read fragment.session h.0, each_read txn_of txn_data (λ txn. All (λ read. IsReadable read.1) txn.reads) txn_read fragment.txns h.1) refl
+    rw (session_read fragment.session h.0, each_read_as txn_of txn_data (λ txn. (txn, false)) (λ txn. All (λ read. IsReadable read.1) txn.reads) txn_read fragment.txns h.1)
+    (ap (λ (lists : List Txn × List Bool). Some (command.Offer (record { fragment = record { session = fragment.session; first = fragment.first; txns = lists.0 }; aborted = lists.1 }))) (none_told fragment.txns))
 
 -- ---- how deep they are
 
-each_depth : {X : Type 0} (as_data : X → Data) (n : ℕ) → ((x : X) → depth (as_data x) ≤ n) → (xs : List X) → items_depth (items_of (map as_data xs)) ≤ n
+pub each_depth : {X : Type 0} (as_data : X → Data) (n : ℕ) → ((x : X) → depth (as_data x) ≤ n) → (xs : List X) → items_depth (items_of (map as_data xs)) ≤ n
 each_depth as_data n low [] = omega arith
 each_depth as_data n low (x ∷ xs) = omega (arith, low x, each_depth as_data n low xs)
 
-list_depth : {X : Type 0} (as_data : X → Data) (n : ℕ) → ((x : X) → depth (as_data x) ≤ n) → (xs : List X) → depth (list_data as_data xs) ≤ n + 1
+pub list_depth : {X : Type 0} (as_data : X → Data) (n : ℕ) → ((x : X) → depth (as_data x) ≤ n) → (xs : List X) → depth (list_data as_data xs) ≤ n + 1
 list_depth as_data n low xs = omega (arith, each_depth as_data n low xs)
 
-number_depth : (n : ℕ) → depth (number_data n) ≤ 0
+pub number_depth : (n : ℕ) → depth (number_data n) ≤ 0
 number_depth n = omega arith
 
 flag_depth : (b : Bool) → depth (boolean b) ≤ 0
@@ -89,6 +107,8 @@ saved_depth (Marks marks closed) = omega (arith, list_depth number_data 0 number
 saved_depth (Last last) = omega (arith, list_depth writer_data 1 writer_depth last)
 saved_depth (Offer fragment) = omega (arith, list_depth txn_data 3 txn_depth fragment.txns)
 
-pub saved_is_command : (d : Data) (bytes : List ℕ) (saved : Saved) → d ≡ array (items_of (saved_data saved)) → IsUtf8 bytes → (depth d ≤ max_depth → read bytes ≡ Some d) → NamesSessions saved → IsCommand bytes (handed_by saved)
-saved_is_command d bytes saved is utf8 reads names =
-    record { utf8 = utf8; said = d; reads = reads (subst (λ e. depth e ≤ 127) (sym is) (saved_depth saved)); is = inl (ap command_of is ∙ saved_read saved names) }
+pub saved_is_command : (d : Data) (bytes : List ℕ) (given : Reply) → d ≡ array (items_of (reply_data given)) → IsUtf8 bytes → (depth d ≤ max_depth → read bytes ≡ Some d)
+    → (saved : Saved) → given ≡ reply.Saved saved → NamesSessions saved → IsCommand bytes (handed_by saved)
+saved_is_command d bytes given is utf8 reads saved same names =
+    let here : d ≡ array (items_of (saved_data saved)) = is ∙ ap (λ (r : Reply). array (items_of (reply_data r))) same in
+    record { utf8 = utf8; said = d; reads = reads (subst (λ e. depth e ≤ 127) (sym here) (saved_depth saved)); is = inl (ap command_of here ∙ saved_read saved names) }

@@ -1,11 +1,8 @@
--- Values beside the texts that they are written as.
-use Rattle.std.proofs.Common.{◌≡◌, ℕ, List, [], ◌∷◌, ◌++◌, Vec, Global, Bool, true, false, codes, decimal, refl, sym, ap, subst, ◌∙◌, append_assoc}
+-- Data beside the texts that they are written as.
+use Rattle.std.proofs.Common.{◌≡◌, ℕ, List, [], ◌∷◌, ◌++◌, Bool, true, false, codes, decimal, refl, sym, ap, append_assoc}
 use Rattle.std.specs.List.{join_with_byte}
 use Rattle.serde_json.specs.Data.{Data, boolean, number, string, array, unsigned, Items, no_items, item}
-use Rattle.serde_json.specs.View.{view, items_view}
 use Rattle.serde_json.specs.Written.{compact_text, items_text, items_have_float}
-use Rattle.serde_json.specs.declared.value.Value.{Value, Array}
-use Rattle.serde_json.proofs.Views.{view-Array}
 use Rattle.txn.specs.Refusals.{name_of}
 use Rattle.txn.specs.declared.refusals.Refusal.{Refusal}
 use Rattle.txn.specs.declared.refusals.Refusal.TheVariants as refusal
@@ -14,20 +11,14 @@ use Rattle.order_check.specs.declared.remainder.Kind.TheVariants as kind
 use Rattle.serde_json.proofs.OnLiterals.{serde_json_on_literals}
 use Rattle.log_text.specs.Lists.{list_text, word_text}
 use Rattle.log_text.specs.Replies.{flag_text, kind_name}
-use Rattle.log_text.specs.Texts.{HasText, IsWrittenAs, HaveTexts}
+use Rattle.log_text.specs.Texts.{HasText, HaveTexts}
 
 pub number_written : (n : ℕ) → HasText (number (unsigned n)) (decimal n)
 number_written n = record { no_float = refl; text_is = refl }
 
-pub number_value_written : (v : Value) (n : ℕ) → view v ≡ number (unsigned n) → IsWrittenAs v (decimal n)
-number_value_written v n e = subst (λ d. HasText d (decimal n)) (sym e) (number_written n)
-
 -- a word that needs no escape
 pub word_written : (word : List ℕ) → compact_text (string word) ≡ word_text word → HasText (string word) (word_text word)
 word_written word e = record { no_float = refl; text_is = e }
-
-pub word_value_written : (v : Value) (given word : List ℕ) → view v ≡ string given → given ≡ word → HasText (string word) (word_text word) → IsWrittenAs v (word_text word)
-word_value_written v given word is same plain = subst (λ d. HasText d (word_text word)) (sym (is ∙ ap string same)) plain
 
 pub name_written : (r : Refusal) → HasText (string (name_of r)) (word_text (name_of r))
 unfolding serde_json_on_literals
@@ -119,9 +110,6 @@ pub flag_written : (b : Bool) → HasText (boolean b) (flag_text b)
 flag_written true = record { no_float = refl; text_is = refl }
 flag_written false = record { no_float = refl; text_is = refl }
 
-pub flag_value_written : (v : Value) (b : Bool) → view v ≡ boolean b → IsWrittenAs v (flag_text b)
-flag_value_written v b e = subst (λ d. HasText d (flag_text b)) (sym e) (flag_written b)
-
 -- ---- lists
 
 -- what stands behind the bracket, from an item on
@@ -147,14 +135,3 @@ no_floats (item d ds) [] h = absurd h
 -- items with texts are written as the list of the texts
 pub list_written : (ds : Items) (ts : List (List ℕ)) → HaveTexts ds ts → HasText (array ds) (list_text ts)
 list_written ds ts h = record { no_float = no_floats ds ts h; text_is = ap (λ s. 91 ∷ s) (all_joined ds ts h) }
-
--- a vector of values with texts
-pub vec_written : (v : Vec Value Global) (ts : List (List ℕ)) → HaveTexts (items_view v.items) ts → IsWrittenAs (Array v) (list_text ts)
-vec_written v ts h = subst (λ d. HasText d (list_text ts)) (sym (view-Array v)) (list_written _ ts h)
-
--- one more value
-pub HaveTexts-push : (vs : List Value) (v : Value) (ts : List (List ℕ)) (t : List ℕ) → HaveTexts (items_view vs) ts → IsWrittenAs v t → HaveTexts (items_view (vs ++ v ∷ [])) (ts ++ t ∷ [])
-HaveTexts-push [] v [] t h w = (w, tt)
-HaveTexts-push (u ∷ vs) v (s ∷ ts) t h w = (h.0, HaveTexts-push vs v ts t h.1 w)
-HaveTexts-push [] v (s ∷ ts) t h w = absurd h
-HaveTexts-push (u ∷ vs) v [] t h w = absurd h

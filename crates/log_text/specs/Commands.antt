@@ -1,5 +1,5 @@
 -- Which lines of a script are commands: each is a JSON array, of a word and the command's parts.
-use Rattle.std.specs.Prelude.{◌≡◌, ℕ, ◌^◌, ◌⊎◌, ⊤, Bool, List, Option, Some, None, IsUtf8, bytes_eq, codes, option_map, if◌then◌else◌}
+use Rattle.std.specs.Prelude.{◌≡◌, ℕ, ◌^◌, ◌⊎◌, ⊤, Bool, true, false, List, map, Option, Some, None, IsUtf8, bytes_eq, codes, option_map, if◌then◌else◌}
 use Rattle.serde_json.specs.Data.{Data, boolean, string, Items, no_items, item}
 use Rattle.serde_json.specs.Read.{read}
 use Rattle.txn.specs.declared.transactions.Source.{Source}
@@ -7,6 +7,7 @@ use Rattle.txn.specs.declared.transactions.Source.TheVariants.{Init, By}
 use Rattle.txn.specs.declared.transactions.Txn.{Txn}
 use Rattle.txn.specs.declared.transactions.TxnId.{TxnId}
 use Rattle.order_check.specs.Effort.{IsEffort}
+use Rattle.logged_fragments.specs.declared.logged.LoggedFragment.{LoggedFragment}
 use Rattle.log_text.specs.declared.commands.Command.{Command}
 use Rattle.log_text.specs.declared.commands.Effort.{Effort}
 use Rattle.log_text.specs.declared.commands.Command.TheVariants.{Start, Offer, Join, Close, Begin, Finish, Round, Truncate, Rebuild, Show, Resume, Marks, Last, Resumed, Save, Answer}
@@ -15,6 +16,7 @@ use Rattle.log_text.specs.Items.{array_of, list_of, with_both, with_three, alone
 use Rattle.log_text.specs.Numbers.{whole_number, number_within, session_of}
 use Rattle.log_text.specs.Shown.{IsAnswer}
 use Rattle.log_text.specs.declared.shown.Shown.{Shown}
+use Rattle.log_text.specs.Versions.{version_in}
 
 -- "init"
 abbrev pub init_of : Data → Option Source
@@ -35,33 +37,60 @@ read_in no_items = None
 abbrev pub read_of : Data → Option (ℕ × Source)
 read_of = array_of read_in
 
--- a transaction: [[read,..],[key,..]]
-abbrev pub txn_in : Items → Option Txn
-txn_in = two_items (λ reads writes. record { reads = reads; writes = writes }) (list_of read_of) (list_of whole_number)
+-- "aborted"
+abbrev pub aborted_by : Data → Option Bool
+aborted_by (string word) = if bytes_eq word (codes "aborted") then Some true else None
+aborted_by given = None
 
-abbrev pub txn_of : Data → Option Txn
+-- whether a transaction aborted: it did where "aborted" stands behind its writes, and nothing else may stand there
+abbrev pub aborted_in : Items → Option Bool
+aborted_in no_items = Some false
+aborted_in (item word no_items) = aborted_by word
+aborted_in items = None
+
+-- a transaction, and whether it aborted: [[read,..],[key,..]] or [[read,..],[key,..],"aborted"]
+abbrev pub txn_in : Items → Option (Txn × Bool)
+txn_in (item reads (item writes behind)) = with_three (λ r w aborted. (record { reads = r; writes = w }, aborted)) (list_of read_of reads) (list_of whole_number writes) (aborted_in behind)
+txn_in items = None
+
+abbrev pub txn_of : Data → Option (Txn × Bool)
 txn_of = array_of txn_in
 
--- ["open",sessions,limit]
+-- transactions, and for each of them in order whether it aborted
+abbrev pub both_lists : List (Txn × Bool) → List Txn × List Bool
+both_lists told = (map (λ one. one.0) told, map (λ one. one.1) told)
+
+-- a fragment of these transactions
+abbrev pub fragment_of : ℕ → ℕ → List (Txn × Bool) → LoggedFragment
+fragment_of session first told = record {
+  fragment = record { session = session; first = first; txns = (both_lists told).0 };
+  aborted = (both_lists told).1;
+}
+
+-- a fragment, where all of its parts are there
+abbrev pub fragment_at : Option ℕ → Option ℕ → Option (List (Txn × Bool)) → Option LoggedFragment
+fragment_at = with_three fragment_of
+
+-- session,first,[txn,..]
+abbrev pub fragment_in : Items → Option LoggedFragment
+fragment_in = three_items fragment_of session_of whole_number (list_of txn_of)
+
+-- ["open",sessions,limit] or ["open",sessions,limit,2]
 abbrev pub start_in : Items → Option Command
-start_in = two_items Start whole_number whole_number
+start_in (item sessions (item limit behind)) = with_three Start (whole_number sessions) (whole_number limit) (version_in behind)
+start_in items = None
 
 -- ["offer",session,first,[txn,..]]
 abbrev pub offer_in : Items → Option Command
-offer_in = three_items (λ session first txns. Offer (record { session = session; first = first; txns = txns })) session_of whole_number (list_of txn_of)
+offer_in parts = option_map Offer (fragment_in parts)
 
--- a join, where all of its parts are there
-abbrev pub join_at : Option ℕ → Option ℕ → Option (List Txn) → Option Command
-join_at = with_three (λ session first txns. Join (record { session = session; first = first; txns = txns }))
+-- ["join",session,[txn,..]] begins with number 0; ["join",session,first,[txn,..]] says where it begins
+abbrev pub joined_in : Items → Option LoggedFragment
+joined_in (item session (item txns no_items)) = fragment_at (session_of session) (Some 0) (list_of txn_of txns)
+joined_in parts = fragment_in parts
 
--- ["join",session,first,[txn,..]]
-abbrev pub join_from : Items → Option Command
-join_from = three_items (λ session first txns. Join (record { session = session; first = first; txns = txns })) session_of whole_number (list_of txn_of)
-
--- ["join",session,[txn,..]] begins with number 0; the longer form says where it begins
 abbrev pub join_in : Items → Option Command
-join_in (item session (item txns no_items)) = join_at (session_of session) (Some 0) (list_of txn_of txns)
-join_in parts = join_from parts
+join_in parts = option_map Join (joined_in parts)
 
 -- ["close",session]
 abbrev pub close_in : Items → Option Command
@@ -79,9 +108,10 @@ finish_in parts = option_map (λ (effort : Effort). Finish effort.budget effort.
 abbrev pub round_in : Items → Option Command
 round_in parts = option_map (λ (effort : Effort). Round effort.budget effort.depth effort.workers) (effort_in parts)
 
--- ["resume",sessions,limit]
+-- ["resume",sessions,limit] or ["resume",sessions,limit,2]
 abbrev pub resume_in : Items → Option Command
-resume_in = two_items Resume whole_number whole_number
+resume_in (item sessions (item limit behind)) = with_three Resume (whole_number sessions) (whole_number limit) (version_in behind)
+resume_in items = None
 
 -- true or false
 abbrev pub flag_of : Data → Option Bool

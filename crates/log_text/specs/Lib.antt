@@ -3,10 +3,13 @@ pub mod Commands
 pub mod Items
 pub mod Lists
 pub mod Numbers
+pub mod ReadBack
 pub mod Refutations
 pub mod Replies
 pub mod Saved
 pub mod Shown
 pub mod Texts
+pub mod Told
 pub mod Trees
+pub mod Versions
 pub mod Waiting

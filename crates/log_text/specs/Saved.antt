@@ -1,5 +1,5 @@
 -- The lines that give parts out are lines of a hand-over: the data that they are, and the commands that these are.
-use Rattle.std.specs.Prelude.{◌≡◌, ℕ, ◌≤◌, List, [], ◌∷◌, ◌++◌, map, codes, All, ⊤}
+use Rattle.std.specs.Prelude.{◌≡◌, ℕ, ◌≤◌, List, [], ◌∷◌, ◌++◌, map, codes, All, ⊤, false}
 use Rattle.serde_json.specs.Data.{Data, boolean, number, string, array, unsigned}
 use Rattle.serde_json.specs.View.{view, items_of}
 use Rattle.serde_json.specs.declared.value.Value.{Value}
@@ -7,16 +7,22 @@ use Rattle.txn.specs.declared.transactions.TxnId.{TxnId}
 use Rattle.txn.specs.declared.transactions.Source.{Source}
 use Rattle.txn.specs.declared.transactions.Source.TheVariants.{Init, By}
 use Rattle.txn.specs.declared.transactions.Txn.{Txn}
+use Rattle.txn.specs.declared.transactions.Fragment.{Fragment}
+use Rattle.logged_fragments.specs.declared.logged.LoggedFragment.{LoggedFragment}
 use Rattle.log_text.specs.declared.commands.Command.{Command}
 use Rattle.log_text.specs.declared.commands.Command.TheVariants as command
 use Rattle.log_text.specs.declared.saved.Saved.{Saved}
 use Rattle.log_text.specs.declared.saved.Saved.TheVariants.{Marks, Last, Offer}
 
+-- a fragment of which no transaction is told to have aborted
+abbrev pub untold : Fragment → LoggedFragment
+untold fragment = record { fragment = fragment; aborted = map (λ txn. false) fragment.txns }
+
 -- the line of a hand-over that gives these parts
 abbrev pub handed_by : Saved → Command
 handed_by (Marks marks closed) = command.Marks marks closed
 handed_by (Last last) = command.Last last
-handed_by (Offer fragment) = command.Offer fragment
+handed_by (Offer fragment) = command.Offer (untold fragment)
 
 -- the sources of reads name sessions up to 255, as lines do
 abbrev pub IsReadable : Source → Type 0

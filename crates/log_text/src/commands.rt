@@ -4,12 +4,14 @@ ghost use Rattle.order_check.specs.Effort.{IsEffort};
 ghost use Rattle.log_text.specs.declared.commands.Command.{Command};
 ghost use Rattle.log_text.specs.Items.{alone, list_of, one_item, two_items};
 ghost use Rattle.log_text.specs.Numbers.{whole_number, session_of};
-ghost use Rattle.log_text.specs.Commands.{start_in, offer_in, join_at, join_from, join_in, txn_of, close_in, effort_in, finish_in, round_in, resume_in, marks_in, last_in, save_named, save_in, command_named, command_in, command_of, IsCommand, HasLimits};
+ghost use Rattle.log_text.specs.Commands.{start_in, fragment_at, fragment_in, offer_in, joined_in, join_in, txn_of, close_in, effort_in, finish_in, round_in, resume_in, marks_in, last_in, save_named, save_in, command_named, command_in, command_of, IsCommand, HasLimits};
 
 use crate::fragments::txns_of;
 use crate::handed::{flags_of, marks_of, writers_of};
 use crate::numbers::{number_within, session_of, whole_number};
 use crate::shown::{Shown, answer_of};
+use crate::versions::{Version, version_in};
+use logged_fragments::LoggedFragment;
 use serde_json::Value;
 use std::alloc::Global;
 use txn::{Fragment, NoMemory, Refusal, Sequence, TxnId};
@@ -23,15 +25,16 @@ const MOST_WORKERS: u64 = 16;
 /// What a line of a script asks for.
 #[derive(Drop, Debug)]
 pub enum Command {
-    /// To open an engine.
+    /// To open an engine, by lines of this version.
     Start {
         sessions: u64,
         limit: u64,
+        version: Version,
     },
-    /// To take a fragment.
-    Offer(Fragment),
+    /// To take a fragment: it has a flag for each of its transactions, whether it is told to have aborted.
+    Offer(LoggedFragment),
     /// To let a session join with a fragment, or come back with it.
-    Join(Fragment),
+    Join(LoggedFragment),
     /// To close a session.
     Close(u8),
     /// To begin a round.
@@ -54,10 +57,11 @@ pub enum Command {
     Rebuild,
     /// To tell the state.
     Show,
-    /// To begin with parts, which are handed over next.
+    /// To begin with parts, which are handed over next, and to go on by lines of this version.
     Resume {
         sessions: u64,
         limit: u64,
+        version: Version,
     },
     /// Handed over: of each session how many transactions are gone, and whether it is closed.
     Marks {
@@ -105,15 +109,16 @@ fn alone(command: Command, parts: &[Value]) -> Option<Command>
     }
 }
 
-#[tactic(auto, using(crate::proofs::Arity::two_items_none))]
+#[tactic(auto, using(crate::proofs::Arity::start_none))]
 fn start_in(parts: &[Value]) -> Option<Command>
     ensures form { result ≡ start_in (items_view parts.now) }
     ensures limits { IfSome result HasLimits }
 {
     match parts {
-        [sessions, limit] => Some(Command::Start {
+        [sessions, limit, behind @ ..] => Some(Command::Start {
             sessions: whole_number(sessions)?,
             limit: whole_number(limit)?,
+            version: version_in(behind)?,
         }),
         _ => None,
     }
@@ -177,80 +182,80 @@ fn round_in(parts: &[Value]) -> Option<Command>
     })
 }
 
-#[tactic(auto, using(crate::proofs::Arity::three_items_none))]
-fn offer_in(alloc: Global, parts: &[Value]) -> Result<Option<Command>, NoMemory>
-    ensures form { IfOk result (λ command. command ≡ offer_in (items_view parts.now)) }
-    ensures limits { IfOk result (λ command. IfSome command HasLimits) }
-{
-    let [session, first, txns] = parts else {
-        return Ok(None);
-    };
-    let (Some(session), Some(first)) = (session_of(session), whole_number(first)) else {
-        return Ok(None);
-    };
-    match txns_of(alloc, txns)? {
-        Some(txns) => Ok(Some(Command::Offer(Fragment {
-            session,
-            first,
-            txns,
-        }))),
-        None => Ok(None),
-    }
-}
-
-fn join_at(
+/// A fragment, where all of its parts are there.
+fn fragment_at(
     alloc: Global,
     session: Option<u8>,
     first: Option<u64>,
     txns: &Value,
-) -> Result<Option<Command>, NoMemory>
-    ensures form { IfOk result (λ command. command ≡ join_at session first (list_of txn_of (view txns.now))) }
-    ensures limits { IfOk result (λ command. IfSome command HasLimits) }
+) -> Result<Option<LoggedFragment>, NoMemory>
+    ensures { IfOk result (λ logged. logged ≡ fragment_at session first (list_of txn_of (view txns.now))) }
 {
     let (Some(session), Some(first)) = (session, first) else {
         return Ok(None);
     };
-    match txns_of(alloc, txns)? {
-        Some(txns) => Ok(Some(Command::Join(Fragment {
-            session,
-            first,
-            txns,
-        }))),
-        None => Ok(None),
-    }
+    let Some((txns, aborted)) = txns_of(alloc, txns)? else {
+        return Ok(None);
+    };
+    let fragment = Fragment {
+        session,
+        first,
+        txns,
+    };
+    Ok(Some(LoggedFragment { fragment, aborted }))
 }
 
 #[tactic(auto, using(crate::proofs::Arity::three_items_none))]
-fn join_from(alloc: Global, parts: &[Value]) -> Result<Option<Command>, NoMemory>
-    ensures form { IfOk result (λ command. command ≡ join_from (items_view parts.now)) }
-    ensures limits { IfOk result (λ command. IfSome command HasLimits) }
+fn fragment_in(alloc: Global, parts: &[Value]) -> Result<Option<LoggedFragment>, NoMemory>
+    ensures { IfOk result (λ logged. logged ≡ fragment_in (items_view parts.now)) }
 {
     let [session, first, txns] = parts else {
         return Ok(None);
     };
-    join_at(alloc, session_of(session), whole_number(first), txns)
+    fragment_at(alloc, session_of(session), whole_number(first), txns)
 }
 
-#[tactic(auto, using(crate::proofs::Arity::join_longer))]
+fn offer_in(alloc: Global, parts: &[Value]) -> Result<Option<Command>, NoMemory>
+    ensures form { IfOk result (λ command. command ≡ offer_in (items_view parts.now)) }
+    ensures limits { IfOk result (λ command. IfSome command HasLimits) }
+{
+    match fragment_in(alloc, parts)? {
+        Some(logged) => Ok(Some(Command::Offer(logged))),
+        None => Ok(None),
+    }
+}
+
+/// What a session joins with: the shorter form begins with number 0.
+#[tactic(auto, using(crate::proofs::Arity::joined_longer))]
+fn joined_in(alloc: Global, parts: &[Value]) -> Result<Option<LoggedFragment>, NoMemory>
+    ensures { IfOk result (λ logged. logged ≡ joined_in (items_view parts.now)) }
+{
+    match parts {
+        [session, txns] => fragment_at(alloc, session_of(session), Some(0), txns),
+        _ => fragment_in(alloc, parts),
+    }
+}
+
 fn join_in(alloc: Global, parts: &[Value]) -> Result<Option<Command>, NoMemory>
     ensures form { IfOk result (λ command. command ≡ join_in (items_view parts.now)) }
     ensures limits { IfOk result (λ command. IfSome command HasLimits) }
 {
-    match parts {
-        [session, txns] => join_at(alloc, session_of(session), Some(0), txns),
-        _ => join_from(alloc, parts),
+    match joined_in(alloc, parts)? {
+        Some(logged) => Ok(Some(Command::Join(logged))),
+        None => Ok(None),
     }
 }
 
-#[tactic(auto, using(crate::proofs::Arity::two_items_none))]
+#[tactic(auto, using(crate::proofs::Arity::resume_none))]
 fn resume_in(parts: &[Value]) -> Option<Command>
     ensures form { result ≡ resume_in (items_view parts.now) }
     ensures limits { IfSome result HasLimits }
 {
     match parts {
-        [sessions, limit] => Some(Command::Resume {
+        [sessions, limit, behind @ ..] => Some(Command::Resume {
             sessions: whole_number(sessions)?,
             limit: whole_number(limit)?,
+            version: version_in(behind)?,
         }),
         _ => None,
     }

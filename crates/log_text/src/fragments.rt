@@ -1,8 +1,8 @@
-ghost use Rattle.std.specs.Prelude.{◌≡◌, IfOk};
+ghost use Rattle.std.specs.Prelude.{◌≡◌, IfOk, option_map};
 ghost use Rattle.serde_json.specs.View.{view, items_view};
 ghost use Rattle.log_text.specs.Items.{list_of};
 ghost use Rattle.log_text.specs.Numbers.{whole_number};
-ghost use Rattle.log_text.specs.Commands.{init_of, source_in, read_in, read_of, txn_in, txn_of};
+ghost use Rattle.log_text.specs.Commands.{init_of, source_in, read_in, read_of, aborted_by, aborted_in, txn_in, txn_of, both_lists};
 
 use crate::numbers::{session_of, whole_number};
 use serde_json::Value;
@@ -80,11 +80,33 @@ pub(crate) fn keys_of(alloc: Global, value: &Value) -> Result<Option<Sequence<u6
     Ok(Some(Sequence::new(keys)))
 }
 
-#[tactic(auto, using(crate::proofs::Arity::two_items_none))]
-fn txn_in(alloc: Global, items: &[Value]) -> Result<Option<Txn>, NoMemory>
+fn aborted_by(word: &Value) -> Option<bool>
+    ensures { result ≡ aborted_by (view word.now) }
+{
+    if word.as_str()? == "aborted" {
+        Some(true)
+    } else {
+        None
+    }
+}
+
+/// Whether a transaction aborted, by what stands behind its writes.
+#[tactic(auto, using(crate::proofs::Arity::aborted_none))]
+fn aborted_in(behind: &[Value]) -> Option<bool>
+    ensures { result ≡ aborted_in (items_view behind.now) }
+{
+    match behind {
+        [] => Some(false),
+        [word] => aborted_by(word),
+        _ => None,
+    }
+}
+
+#[tactic(auto, using(crate::proofs::Arity::txn_none))]
+fn txn_in(alloc: Global, items: &[Value]) -> Result<Option<(Txn, bool)>, NoMemory>
     ensures { IfOk result (λ txn. txn ≡ txn_in (items_view items.now)) }
 {
-    let [reads, writes] = items else {
+    let [reads, writes, behind @ ..] = items else {
         return Ok(None);
     };
     let Some(reads) = reads_of(alloc, reads)? else {
@@ -93,10 +115,13 @@ fn txn_in(alloc: Global, items: &[Value]) -> Result<Option<Txn>, NoMemory>
     let Some(writes) = keys_of(alloc, writes)? else {
         return Ok(None);
     };
-    Ok(Some(Txn { reads, writes }))
+    match aborted_in(behind) {
+        Some(aborted) => Ok(Some((Txn { reads, writes }, aborted))),
+        None => Ok(None),
+    }
 }
 
-fn txn_of(alloc: Global, value: &Value) -> Result<Option<Txn>, NoMemory>
+fn txn_of(alloc: Global, value: &Value) -> Result<Option<(Txn, bool)>, NoMemory>
     ensures { IfOk result (λ txn. txn ≡ txn_of (view value.now)) }
 {
     match value.as_array() {
@@ -105,18 +130,26 @@ fn txn_of(alloc: Global, value: &Value) -> Result<Option<Txn>, NoMemory>
     }
 }
 
-pub(crate) fn txns_of(alloc: Global, value: &Value) -> Result<Option<Sequence<Txn>>, NoMemory>
-    ensures { IfOk result (λ txns. txns ≡ list_of txn_of (view value.now)) }
+/// Transactions, and whether each of them aborted.
+pub(crate) fn txns_of(
+    alloc: Global,
+    value: &Value,
+) -> Result<Option<(Sequence<Txn>, Sequence<bool>)>, NoMemory>
+    ensures { IfOk result (λ found. found ≡ option_map both_lists (list_of txn_of (view value.now))) }
 {
     let Some(items) = value.as_array() else {
         return Ok(None);
     };
     let mut txns = Vec::with_capacity(alloc, items.len())?;
+    let mut flags = Vec::with_capacity(alloc, items.len())?;
     for item in items {
         match txn_of(alloc, item)? {
-            Some(txn) => txns.push(txn)?,
+            Some((txn, aborted)) => {
+                txns.push(txn)?;
+                flags.push(aborted)?;
+            }
             None => return Ok(None),
         }
     }
-    Ok(Some(Sequence::new(txns)))
+    Ok(Some((Sequence::new(txns), Sequence::new(flags))))
 }

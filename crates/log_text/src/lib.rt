@@ -12,8 +12,10 @@ mod saved;
 mod shown;
 mod tree_items;
 mod trees;
+mod versions;
 
 pub use commands::{Command, Wanted, read_line};
 pub use replies::{Reply, write_reply};
 pub use saved::Saved;
 pub use shown::{Shown, read_shown};
+pub use versions::{Version, version_in};

@@ -1,7 +1,7 @@
-ghost use Rattle.std.specs.Prelude.{◌≡◌, [], ◌∷◌, OnOk, map, decimal};
-ghost use Rattle.log_text.specs.Lists.{list_text, word_text, numbers_text, named_text};
-ghost use Rattle.log_text.specs.Replies.{id_text, writer_text, flag_text};
-ghost use Rattle.log_text.specs.Texts.{Gains, IsPlain};
+ghost use Rattle.std.specs.Prelude.{[], ◌∷◌, OnOk, map};
+ghost use Rattle.serde_json.specs.Data.{boolean, string};
+ghost use Rattle.log_text.specs.Saved.{GainsData, list_data, number_data, writer_data};
+ghost use Rattle.log_text.specs.Told.{id_data, named_data};
 
 use serde_json::Value;
 use std::alloc::Global;
@@ -9,8 +9,7 @@ use txn::{NoMemory, TxnId};
 
 /// Puts a word at the end of a list.
 pub(crate) fn push_word(alloc: Global, items: &mut Vec<Value>, word: &str) -> Result<(), NoMemory>
-    requires { IsPlain word.now }
-    ensures { OnOk result (Gains items.old.items items.new.items (word_text word.now ∷ [])) }
+    ensures { OnOk result (GainsData items.old.items items.new.items (string word.now ∷ [])) }
 {
     let word = word.to_string(alloc)?;
     items.push(Value::from(word))?;
@@ -19,7 +18,7 @@ pub(crate) fn push_word(alloc: Global, items: &mut Vec<Value>, word: &str) -> Re
 
 /// Puts numbers at the end of a list, one after another.
 pub(crate) fn push_each(items: &mut Vec<Value>, numbers: &[u64]) -> Result<(), NoMemory>
-    ensures { OnOk result (Gains items.old.items items.new.items (map decimal numbers.now)) }
+    ensures { OnOk result (GainsData items.old.items items.new.items (map number_data numbers.now)) }
 {
     for number in numbers {
         items.push(Value::from(*number))?;
@@ -33,7 +32,7 @@ pub(crate) fn push_numbers(
     items: &mut Vec<Value>,
     numbers: &[u64],
 ) -> Result<(), NoMemory>
-    ensures { OnOk result (Gains items.old.items items.new.items (numbers_text numbers.now ∷ [])) }
+    ensures { OnOk result (GainsData items.old.items items.new.items (list_data number_data numbers.now ∷ [])) }
 {
     let mut list = Vec::new(alloc);
     push_each(&mut list, numbers)?;
@@ -48,8 +47,7 @@ pub(crate) fn push_named(
     word: &str,
     numbers: &[u64],
 ) -> Result<(), NoMemory>
-    requires { IsPlain word.now }
-    ensures { OnOk result (Gains items.old.items items.new.items (named_text word.now numbers.now ∷ [])) }
+    ensures { OnOk result (GainsData items.old.items items.new.items (named_data word.now numbers.now ∷ [])) }
 {
     let mut list = Vec::new(alloc);
     push_word(alloc, &mut list, word)?;
@@ -64,7 +62,7 @@ pub(crate) fn push_flags(
     items: &mut Vec<Value>,
     flags: &[bool],
 ) -> Result<(), NoMemory>
-    ensures { OnOk result (Gains items.old.items items.new.items (list_text (map flag_text flags.now) ∷ [])) }
+    ensures { OnOk result (GainsData items.old.items items.new.items (list_data boolean flags.now ∷ [])) }
 {
     let mut list = Vec::new(alloc);
     for flag in flags {
@@ -76,14 +74,14 @@ pub(crate) fn push_flags(
 
 /// Puts an id at the end of a list.
 pub(crate) fn push_id(alloc: Global, items: &mut Vec<Value>, id: TxnId) -> Result<(), NoMemory>
-    ensures { OnOk result (Gains items.old.items items.new.items (id_text id ∷ [])) }
+    ensures { OnOk result (GainsData items.old.items items.new.items (id_data id ∷ [])) }
 {
     push_numbers(alloc, items, &[u64::from(id.session), id.number])
 }
 
 /// Puts a list of ids at the end of a list.
 pub(crate) fn push_ids(alloc: Global, items: &mut Vec<Value>, ids: &[TxnId]) -> Result<(), NoMemory>
-    ensures { OnOk result (Gains items.old.items items.new.items (list_text (map id_text ids.now) ∷ [])) }
+    ensures { OnOk result (GainsData items.old.items items.new.items (list_data id_data ids.now ∷ [])) }
 {
     let mut list = Vec::new(alloc);
     for id in ids {
@@ -99,7 +97,7 @@ pub(crate) fn push_writers(
     items: &mut Vec<Value>,
     writers: &[(u64, TxnId)],
 ) -> Result<(), NoMemory>
-    ensures { OnOk result (Gains items.old.items items.new.items (list_text (map writer_text writers.now) ∷ [])) }
+    ensures { OnOk result (GainsData items.old.items items.new.items (list_data writer_data writers.now ∷ [])) }
 {
     let mut list = Vec::new(alloc);
     for (key, id) in writers {

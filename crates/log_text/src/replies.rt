@@ -1,13 +1,16 @@
-ghost use Rattle.std.specs.Prelude.{◌≡◌, IfOk, OnOk};
-ghost use Rattle.log_text.specs.Replies.{line_of, text_of, parts_of, report_parts, HasKindOfOrder, kind_name};
+ghost use Rattle.std.specs.Prelude.{◌≡◌, ℕ, List, Option, IfOk, OnOk};
+ghost use Rattle.log_text.specs.Replies.{line_of, text_of, HasKindOfOrder, kind_name};
 ghost use Rattle.log_text.specs.Commands.{IsCommand};
-ghost use Rattle.log_text.specs.Saved.{NamesSessions, handed_by};
-ghost use Rattle.log_text.specs.Texts.{Gains, IsWrittenAs};
+ghost use Rattle.log_text.specs.ReadBack.{CanBeRead, ReportsThat};
+ghost use Rattle.log_text.specs.Saved.{GainsData, NamesSessions, handed_by};
+ghost use Rattle.log_text.specs.Shown.{IsShownIn};
+ghost use Rattle.log_text.specs.declared.shown.Shown.{Shown};
+ghost use Rattle.log_text.specs.Told.{IsReply, reply_data, report_data};
 
 use crate::lists::{
     push_each, push_flags, push_id, push_ids, push_numbers, push_word, push_writers,
 };
-use crate::saved::{Saved, push_saved, saved_bytes};
+use crate::saved::{Saved, push_saved};
 use crate::trees::push_tree;
 use order_check::Kind;
 use refutation::Tree;
@@ -70,9 +73,8 @@ fn kind_name(kind: Kind) -> &'static str
     }
 }
 
-#[tactic(auto, using(crate::proofs::ValueTexts::no_written))]
 fn push_refused(alloc: Global, items: &mut Vec<Value>, refusal: Refusal) -> Result<(), NoMemory>
-    ensures { OnOk result (Gains items.old.items items.new.items (parts_of (Reply.No refusal))) }
+    ensures { OnOk result (GainsData items.old.items items.new.items (reply_data (Reply.No refusal))) }
 {
     push_word(alloc, items, "no")?;
     push_each(items, &[u64::from(refusal.number())])?;
@@ -80,7 +82,6 @@ fn push_refused(alloc: Global, items: &mut Vec<Value>, refusal: Refusal) -> Resu
 }
 
 /// Puts what each report begins with at the end.
-#[tactic(auto, using(crate::proofs::ValueTexts::report_written))]
 fn push_report(
     alloc: Global,
     items: &mut Vec<Value>,
@@ -88,7 +89,7 @@ fn push_report(
     kind: Kind,
     counts: &Sequence<u64>,
 ) -> Result<(), NoMemory>
-    ensures { OnOk result (Gains items.old.items items.new.items (report_parts round kind counts.now)) }
+    ensures { OnOk result (GainsData items.old.items items.new.items (report_data round kind counts.now)) }
 {
     push_word(alloc, items, "report")?;
     push_each(items, &[round])?;
@@ -104,7 +105,7 @@ fn push_ordered(
     counts: &Sequence<u64>,
     order: &Sequence<TxnId>,
 ) -> Result<(), NoMemory>
-    ensures { OnOk result (Gains items.old.items items.new.items (parts_of (Reply.Order round kind counts.now order.now))) }
+    ensures { OnOk result (GainsData items.old.items items.new.items (reply_data (Reply.Order round kind counts.now order.now))) }
 {
     push_report(alloc, items, round, kind, counts)?;
     push_ids(alloc, items, order.as_slice())
@@ -117,13 +118,12 @@ fn push_violated(
     counts: &Sequence<u64>,
     tree: &Tree,
 ) -> Result<(), NoMemory>
-    ensures { OnOk result (Gains items.old.items items.new.items (parts_of (Reply.Violated round counts.now tree.now))) }
+    ensures { OnOk result (GainsData items.old.items items.new.items (reply_data (Reply.Violated round counts.now tree.now))) }
 {
     push_report(alloc, items, round, Kind::Violated, counts)?;
     push_tree(alloc, items, tree)
 }
 
-#[tactic(auto, using(crate::proofs::ValueTexts::cut_written))]
 fn push_cut(
     alloc: Global,
     items: &mut Vec<Value>,
@@ -131,7 +131,7 @@ fn push_cut(
     gone: &Sequence<TxnId>,
     last: &Sequence<(u64, TxnId)>,
 ) -> Result<(), NoMemory>
-    ensures { OnOk result (Gains items.old.items items.new.items (parts_of (Reply.Cut fence gone.now last.now))) }
+    ensures { OnOk result (GainsData items.old.items items.new.items (reply_data (Reply.Cut fence gone.now last.now))) }
 {
     push_word(alloc, items, "cut")?;
     push_id(alloc, items, fence)?;
@@ -139,7 +139,6 @@ fn push_cut(
     push_writers(alloc, items, last.as_slice())
 }
 
-#[tactic(auto, using(crate::proofs::ValueTexts::show_written))]
 fn push_shown(
     alloc: Global,
     items: &mut Vec<Value>,
@@ -149,7 +148,7 @@ fn push_shown(
     last: &Sequence<(u64, TxnId)>,
     remaining: u64,
 ) -> Result<(), NoMemory>
-    ensures { OnOk result (Gains items.old.items items.new.items (parts_of (Reply.Show marks.now received.now closed.now last.now remaining))) }
+    ensures { OnOk result (GainsData items.old.items items.new.items (reply_data (Reply.Show marks.now received.now closed.now last.now remaining))) }
 {
     push_word(alloc, items, "show")?;
     push_numbers(alloc, items, marks.as_slice())?;
@@ -160,9 +159,8 @@ fn push_shown(
 }
 
 /// Puts a reply's parts at the end.
-#[tactic(auto, using(crate::proofs::ValueTexts::ok_written))]
 fn push_parts(alloc: Global, items: &mut Vec<Value>, reply: &Reply) -> Result<(), NoMemory>
-    ensures { OnOk result (Gains items.old.items items.new.items (parts_of reply.now)) }
+    ensures { OnOk result (GainsData items.old.items items.new.items (reply_data reply.now)) }
 {
     match reply {
         Reply::Done => push_word(alloc, items, "ok"),
@@ -192,30 +190,31 @@ fn push_parts(alloc: Global, items: &mut Vec<Value>, reply: &Reply) -> Result<()
 }
 
 fn value_of(alloc: Global, reply: &Reply) -> Result<Value, NoMemory>
-    ensures { IfOk result (λ value. IsWrittenAs value (text_of reply.now)) }
+    ensures { IfOk result (λ value. IsReply value reply.now) }
 {
     let mut items = Vec::new(alloc);
     push_parts(alloc, &mut items, reply)?;
     Ok(Value::Array(items))
 }
 
-/// The reply's text: one JSON array with no space in it. That of parts that are given out is a line of a hand-over.
+/// The reply's text: one JSON array with no space in it.
 fn reply_bytes(alloc: Global, reply: &Reply) -> Result<Vec<u8>, NoMemory>
     ensures text { IfOk result (λ bytes. bytes.items ≡ text_of reply.now) }
     ensures reads_back { IfOk result (λ bytes. (saved : Saved) → reply.now ≡ Reply.Saved saved → NamesSessions saved → IsCommand bytes.items (handed_by saved)) }
+    ensures report_reads_back { IfOk result (λ bytes. HasKindOfOrder reply.now → (found : Option Shown) → ReportsThat reply.now found → CanBeRead found → IsShownIn bytes.items found) }
 {
-    match reply {
-        Reply::Saved(saved) => saved_bytes(alloc, saved),
-        _ => Ok(value_of(alloc, reply)?.to_vec(alloc)?),
-    }
+    let value = value_of(alloc, reply)?;
+    let bytes = value.to_vec(alloc)?;
+    Ok(bytes)
 }
 
 /// The reply's line: its text and a line feed. The text of parts that are given out is a line of a hand-over, and hands the same parts
-/// over.
+/// over. The order or the tree that a report ends in is read as it was, so that another auditor may be handed it.
 pub fn write_reply(alloc: Global, reply: &Reply) -> Result<Vec<u8>, NoMemory>
     requires { HasKindOfOrder reply.now }
     ensures line { IfOk result (λ bytes. bytes.items ≡ line_of reply.now) }
     ensures reads_back { IfOk result (λ bytes. (saved : Saved) → reply.now ≡ Reply.Saved saved → NamesSessions saved → IsCommand (text_of reply.now) (handed_by saved)) }
+    ensures report_reads_back { IfOk result (λ bytes. (found : Option Shown) → ReportsThat reply.now found → CanBeRead found → IsShownIn (text_of reply.now) found) }
 {
     let mut bytes = reply_bytes(alloc, reply)?;
     bytes.push(b'\n')?;

@@ -2,10 +2,7 @@
 ghost use Rattle.std.specs.Prelude.{◌≡◌, [], ◌∷◌, IfOk, OnOk};
 ghost use Rattle.serde_json.specs.Data.{boolean, string, array};
 ghost use Rattle.serde_json.specs.View.{view, items_of};
-ghost use Rattle.log_text.specs.Commands.{IsCommand};
-ghost use Rattle.log_text.specs.Lists.{list_text};
-ghost use Rattle.log_text.specs.Replies.{saved_parts};
-ghost use Rattle.log_text.specs.Saved.{GainsData, NamesSessions, handed_by, list_data, number_data, writer_data, read_data, txn_data, saved_data};
+ghost use Rattle.log_text.specs.Saved.{GainsData, list_data, number_data, writer_data, read_data, txn_data, saved_data};
 
 use serde_json::Value;
 use std::alloc::Global;
@@ -146,22 +143,4 @@ pub(crate) fn push_saved(
         }
     }
     Ok(())
-}
-
-fn saved_value(alloc: Global, saved: &Saved) -> Result<Value, NoMemory>
-    ensures { IfOk result (λ value. view value ≡ array (items_of (saved_data saved.now))) }
-{
-    let mut items = Vec::new(alloc);
-    push_saved(alloc, &mut items, saved)?;
-    Ok(Value::Array(items))
-}
-
-/// The text of the line, which is read as a line of a hand-over.
-pub(crate) fn saved_bytes(alloc: Global, saved: &Saved) -> Result<Vec<u8>, NoMemory>
-    ensures text { IfOk result (λ bytes. bytes.items ≡ list_text (saved_parts saved.now)) }
-    ensures reads_back { IfOk result (λ bytes. NamesSessions saved.now → IsCommand bytes.items (handed_by saved.now)) }
-{
-    let value = saved_value(alloc, saved)?;
-    let bytes = value.to_vec(alloc)?;
-    Ok(bytes)
 }

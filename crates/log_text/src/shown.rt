@@ -1,11 +1,12 @@
 //! What is handed in to be judged: an order, or a tree that refutes.
-ghost use Rattle.std.specs.Prelude.{◌≡◌, IfOk, MatchOption, codes};
+ghost use Rattle.std.specs.Prelude.{◌≡◌, Option, IfOk, MatchOption, codes};
 ghost use Rattle.serde_json.specs.Data.{string};
 ghost use Rattle.serde_json.specs.View.{view, items_view};
 ghost use Rattle.refutation.specs.declared.trees.Tree.{Tree};
 ghost use Rattle.log_text.specs.Items.{list_of};
 ghost use Rattle.log_text.specs.Refutations.{IsTree};
-ghost use Rattle.log_text.specs.Shown.{id_in, id_of, Shows, HandsIn, HandsInBy, IsAnswer};
+ghost use Rattle.log_text.specs.ReadBack.{IsSameShown};
+ghost use Rattle.log_text.specs.Shown.{id_in, id_of, Shows, ShowsAs, HandsIn, HandsInBy, IsAnswer, Reports, ReportsBy, IsReportOf, IsShownIn};
 ghost use Rattle.log_text.specs.declared.shown.Shown.{Shown};
 
 use crate::building::tree_of_items;
@@ -138,27 +139,69 @@ pub(crate) fn answer_of(alloc: Global, value: &Value) -> Result<Option<Shown>, N
     }
 }
 
-/// What the report in a reply shows, where it shows something: nothing is promised of it but that it comes from the reply's text.
-pub fn read_shown(alloc: Global, reply: &[u8]) -> Result<Option<Shown>, NoMemory> {
+/// What a report of this kind shows.
+fn shown_by(alloc: Global, kind: &str, given: &Value) -> Result<Option<Shown>, NoMemory>
+    ensures { IfOk result (λ found. MatchOption found ((shown : Shown) → ¬ ShowsAs (string kind.now) (view given.now) shown) (ShowsAs (string kind.now) (view given.now))) }
+{
+    match kind {
+        "serial" => order_shown(alloc, given),
+        "pending" => order_shown(alloc, given),
+        "violated" => tree_shown(alloc, given),
+        _ => Ok(None),
+    }
+}
+
+fn reported(
+    alloc: Global,
+    name: &Value,
+    kind: &Value,
+    given: &Value,
+) -> Result<Option<Shown>, NoMemory>
+    ensures { IfOk result (λ found. MatchOption found ((shown : Shown) → ¬ ReportsBy (view name.now) (view kind.now) (view given.now) shown) (ReportsBy (view name.now) (view kind.now) (view given.now))) }
+{
+    let Some(name) = name.as_str() else {
+        return Ok(None);
+    };
+    let Some(kind) = kind.as_str() else {
+        return Ok(None);
+    };
+    if name != "report" {
+        return Ok(None);
+    }
+    shown_by(alloc, kind, given)
+}
+
+#[tactic(auto, using(crate::proofs::Arity::reports_none))]
+fn report_in(alloc: Global, items: &[Value]) -> Result<Option<Shown>, NoMemory>
+    ensures { IfOk result (λ found. MatchOption found ((shown : Shown) → ¬ Reports (items_view items.now) shown) (Reports (items_view items.now))) }
+{
+    match items {
+        [name, _, kind, _, given] => reported(alloc, name, kind, given),
+        _ => Ok(None),
+    }
+}
+
+fn report_of(alloc: Global, value: &Value) -> Result<Option<Shown>, NoMemory>
+    ensures { IfOk result (λ found. MatchOption found ((shown : Shown) → ¬ IsReportOf (view value.now) shown) (IsReportOf (view value.now))) }
+{
+    match value.as_array() {
+        Some(items) => report_in(alloc, items.as_slice()),
+        None => Ok(None),
+    }
+}
+
+/// What the text of a reply shows, where it is a report's: the order or the tree that it ends in. It is the only one that the text shows,
+/// and is none the truer for that.
+pub fn read_shown(alloc: Global, reply: &[u8]) -> Result<Option<Shown>, NoMemory>
+    ensures shown { IfOk result (IsShownIn reply.now) }
+    ensures only { IfOk result (λ found. (other : Option Shown) → IsShownIn reply.now other → IsSameShown found other) }
+{
     let Ok(text) = std::str::from_utf8(reply) else {
         return Ok(None);
     };
     match Value::from_str(alloc, text) {
-        Ok(value) => shown_in(alloc, &value),
+        Ok(value) => report_of(alloc, &value),
         Err(error) if error.is_memory() => Err(AllocError),
         Err(_) => Ok(None),
-    }
-}
-
-fn shown_in(alloc: Global, value: &Value) -> Result<Option<Shown>, NoMemory> {
-    let Some(items) = value.as_array() else {
-        return Ok(None);
-    };
-    let [_, _, kind, _, given] = items.as_slice() else {
-        return Ok(None);
-    };
-    match kind.as_str() {
-        Some("violated") => tree_shown(alloc, given),
-        _ => order_shown(alloc, given),
     }
 }

@@ -1,7 +1,9 @@
 ghost use Rattle.std.specs.Prelude.{◌≡◌, ◌+◌, ◌<◌, ℕ, List, [], ◌∷◌, ◌++◌, OnOk, map};
+ghost use Rattle.serde_json.specs.Data.{Data};
 ghost use Rattle.refutation.specs.Weights.{weight};
-ghost use Rattle.log_text.specs.Texts.{Gains};
-ghost use Rattle.log_text.specs.Trees.{choice_text, arc_text, cycle_text, side_number, step_text, split_text, leaf_text, tree_text};
+ghost use Rattle.log_text.specs.Saved.{GainsData};
+ghost use Rattle.log_text.specs.Told.{choice_data, arc_data, cycle_data, step_data, split_data, leaf_data, tree_data};
+ghost use Rattle.log_text.specs.Trees.{side_number};
 ghost use Rattle.log_text.specs.Waiting.{ComeTo, waiting_weight};
 
 use crate::lists::{push_each, push_named, push_numbers, push_word};
@@ -11,7 +13,7 @@ use std::alloc::Global;
 use txn::{Arc, Choice, ForceStep, NoMemory, Side, TxnId};
 
 fn push_choice(alloc: Global, items: &mut Vec<Value>, choice: &Choice) -> Result<(), NoMemory>
-    ensures { OnOk result (Gains items.old.items items.new.items (choice_text choice.now ∷ [])) }
+    ensures { OnOk result (GainsData items.old.items items.new.items (choice_data choice.now ∷ [])) }
 {
     let Choice {
         reader,
@@ -56,9 +58,8 @@ fn ends_on(key: u64, from: TxnId, to: TxnId) -> [u64; 5]
     ]
 }
 
-#[tactic(auto, using(crate::proofs::ValueTexts::session_written, crate::proofs::ValueTexts::read_written, crate::proofs::ValueTexts::base_written, crate::proofs::ValueTexts::taken_written))]
 fn push_arc(alloc: Global, items: &mut Vec<Value>, arc: Arc) -> Result<(), NoMemory>
-    ensures { OnOk result (Gains items.old.items items.new.items (arc_text arc ∷ [])) }
+    ensures { OnOk result (GainsData items.old.items items.new.items (arc_data arc ∷ [])) }
 {
     match arc {
         Arc::Session { from, to } => push_named(alloc, items, "session", &ends(from, to)),
@@ -69,7 +70,7 @@ fn push_arc(alloc: Global, items: &mut Vec<Value>, arc: Arc) -> Result<(), NoMem
 }
 
 fn push_cycle(alloc: Global, items: &mut Vec<Value>, arcs: &[Arc]) -> Result<(), NoMemory>
-    ensures { OnOk result (Gains items.old.items items.new.items (cycle_text arcs.now ∷ [])) }
+    ensures { OnOk result (GainsData items.old.items items.new.items (cycle_data arcs.now ∷ [])) }
 {
     let mut list = Vec::new(alloc);
     for arc in arcs {
@@ -88,9 +89,8 @@ fn side_number(side: Side) -> u64
     }
 }
 
-#[tactic(auto, using(crate::proofs::ValueTexts::force_written))]
 fn push_step(alloc: Global, items: &mut Vec<Value>, step: &ForceStep) -> Result<(), NoMemory>
-    ensures { OnOk result (Gains items.old.items items.new.items (step_text step.now ∷ [])) }
+    ensures { OnOk result (GainsData items.old.items items.new.items (step_data step.now ∷ [])) }
 {
     let mut list = Vec::new(alloc);
     push_word(alloc, &mut list, "force")?;
@@ -101,9 +101,8 @@ fn push_step(alloc: Global, items: &mut Vec<Value>, step: &ForceStep) -> Result<
     Ok(())
 }
 
-#[tactic(auto, using(crate::proofs::ValueTexts::split_written))]
 fn push_split(alloc: Global, items: &mut Vec<Value>, choice: &Choice) -> Result<(), NoMemory>
-    ensures { OnOk result (Gains items.old.items items.new.items (split_text choice.now ∷ [])) }
+    ensures { OnOk result (GainsData items.old.items items.new.items (split_data choice.now ∷ [])) }
 {
     let mut list = Vec::new(alloc);
     push_word(alloc, &mut list, "split")?;
@@ -112,9 +111,8 @@ fn push_split(alloc: Global, items: &mut Vec<Value>, choice: &Choice) -> Result<
     Ok(())
 }
 
-#[tactic(auto, using(crate::proofs::ValueTexts::cycle_written))]
 fn push_cycle_leaf(alloc: Global, items: &mut Vec<Value>, arcs: &[Arc]) -> Result<(), NoMemory>
-    ensures { OnOk result (Gains items.old.items items.new.items (leaf_text (Leaf.Cycle arcs.now) ∷ [])) }
+    ensures { OnOk result (GainsData items.old.items items.new.items (leaf_data (Leaf.Cycle arcs.now) ∷ [])) }
 {
     let mut list = Vec::new(alloc);
     push_word(alloc, &mut list, "cycle")?;
@@ -130,9 +128,8 @@ fn read_at(reader: TxnId, key: u64) -> [u64; 3]
     [u64::from(reader.session), reader.number, key]
 }
 
-#[tactic(auto, using(crate::proofs::ValueTexts::nowrite_written, crate::proofs::ValueTexts::gone_written))]
 fn push_leaf(alloc: Global, items: &mut Vec<Value>, leaf: &Leaf) -> Result<(), NoMemory>
-    ensures { OnOk result (Gains items.old.items items.new.items (leaf_text leaf.now ∷ [])) }
+    ensures { OnOk result (GainsData items.old.items items.new.items (leaf_data leaf.now ∷ [])) }
 {
     match leaf {
         Leaf::Cycle(arcs) => push_cycle_leaf(alloc, items, arcs.as_slice()),
@@ -142,7 +139,7 @@ fn push_leaf(alloc: Global, items: &mut Vec<Value>, leaf: &Leaf) -> Result<(), N
 }
 
 fn push_steps(alloc: Global, items: &mut Vec<Value>, steps: &[ForceStep]) -> Result<(), NoMemory>
-    ensures { OnOk result (Gains items.old.items items.new.items (map step_text steps.now)) }
+    ensures { OnOk result (GainsData items.old.items items.new.items (map step_data steps.now)) }
 {
     for step in steps {
         push_step(alloc, items, step)?;
@@ -157,7 +154,7 @@ fn push_node<'t>(
     waiting: &mut Vec<&'t Tree>,
     tree: &'t Tree,
 ) -> Result<(), NoMemory>
-    ensures written { OnOk result ((texts : List (List ℕ)) → ComeTo items.old.items (waiting.old.items ++ tree.entry ∷ []) texts → ComeTo items.new.items waiting.new.items texts) }
+    ensures written { OnOk result ((all : List Data) → ComeTo items.old.items (waiting.old.items ++ tree.entry ∷ []) all → ComeTo items.new.items waiting.new.items all) }
     ensures lighter { OnOk result (waiting_weight waiting.new.items < waiting_weight waiting.old.items + weight tree.now) }
 {
     match tree {
@@ -181,7 +178,7 @@ fn push_node<'t>(
 
 /// Puts the list of a tree's items, one after another, at the end. A tree may be very deep, so this is a loop.
 pub(crate) fn push_tree(alloc: Global, items: &mut Vec<Value>, tree: &Tree) -> Result<(), NoMemory>
-    ensures { OnOk result (Gains items.old.items items.new.items (tree_text tree.now ∷ [])) }
+    ensures { OnOk result (GainsData items.old.items items.new.items (tree_data tree.now ∷ [])) }
 {
     let mut list = Vec::new(alloc);
     let mut waiting = Vec::new(alloc);

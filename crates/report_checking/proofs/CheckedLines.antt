@@ -9,15 +9,14 @@ use Rattle.byte_lines.specs.declared.lines.Next.{Next}
 use Rattle.byte_lines.specs.declared.lines.Next.TheVariants.{Line, TooLong, End}
 use Rattle.byte_lines.specs.LineReaders.{LineState, lines_ahead, IsNextOf}
 use Rattle.byte_lines.specs.Lines.{lines}
-use Rattle.round_state.specs.EngineState.{EngineState}
-use Rattle.round_state.specs.Legal.{State}
 use Rattle.round_state.specs.Opening.{IsSessions, IsLimit, fresh_state}
 use Rattle.round_state.specs.Runs.{Holds}
 use Rattle.cobra.specs.Outputs.{Asks, IsTold}
 use Rattle.report_checking.specs.Checking.{TakesMemory, Checks, start, right, unchecked, IsAllRight}
-use Rattle.report_checking.specs.Owing.{Owes}
+use Rattle.report_checking.specs.Owing.{Owes, ScriptState}
 use Rattle.report_checking.specs.Reading.{HoldsScript, LeadsScript, IsOwedBy, IsOfKind, IsRead, Finds, FindsFor, FindsNext, IsFoundBy, IsFoundOf, IsFine, IsChecking, LeadsOn, Advances}
 use Rattle.report_checking.specs.declared.findings.Found.{Found}
+use Rattle.report_checking.specs.declared.pairs.OpenScript.{OpenScript}
 use Rattle.report_checking.specs.declared.findings.Found.TheVariants as found
 use Rattle.report_checking.specs.declared.findings.Fault.{Fault}
 use Rattle.report_checking.specs.declared.findings.Fault.TheVariants as fault
@@ -27,27 +26,28 @@ use Rattle.report_checking.specs.declared.findings.Owed.{Owed}
 use Rattle.report_checking.specs.declared.findings.Owed.TheVariants as owed
 
 -- None was open, and the first one is.
-opened_by : (engine : EngineState) (sessions limit : ℕ) → Holds engine (fresh_state sessions limit) → IsSessions sessions × IsLimit limit → LeadsScript None (Some engine) (λ before after. Owes before (Start sessions limit) told.Done after)
-opened_by engine sessions limit holds numbers None first = (Some (fresh_state sessions limit), (numbers.0, numbers.1, refl), holds)
-opened_by engine sessions limit holds numbers (Some before) first = absurd first
+opened_by : (script : OpenScript) (sessions limit : ℕ) → Holds script.engine (fresh_state sessions limit) → IsSessions sessions × IsLimit limit → LeadsScript None (Some script) (λ before after. Owes before (Start sessions limit script.version) told.Done after)
+opened_by script sessions limit holds numbers None first =
+    (Some (record { state = fresh_state sessions limit; version = script.version }), (numbers.0, numbers.1, refl), (holds, refl))
+opened_by script sessions limit holds numbers (Some before) first = absurd first
 
-pub opened : (old : Option EngineState) (engine : EngineState) (sessions limit : ℕ) → old ≡ None → Holds engine (fresh_state sessions limit) → IsSessions sessions × IsLimit limit → LeadsScript old (Some engine) (λ before after. Owes before (Start sessions limit) told.Done after)
-opened old engine sessions limit none holds numbers =
-    subst (λ (o : Option EngineState). LeadsScript o (Some engine) (λ before after. Owes before (Start sessions limit) told.Done after)) (sym none) (opened_by engine sessions limit holds numbers)
+pub opened : (old : Option OpenScript) (script : OpenScript) (sessions limit : ℕ) → old ≡ None → Holds script.engine (fresh_state sessions limit) → IsSessions sessions × IsLimit limit → LeadsScript old (Some script) (λ before after. Owes before (Start sessions limit script.version) told.Done after)
+opened old script sessions limit none holds numbers =
+    subst (λ (o : Option OpenScript). LeadsScript o (Some script) (λ before after. Owes before (Start sessions limit script.version) told.Done after)) (sym none) (opened_by script sessions limit holds numbers)
 
 pub owed_kind : (P : Reply → Type 0) (given : Owed) → IsOwedBy P given → IsOfKind given
 owed_kind P (owed.Reply answer) owes = owes.0
 owed_kind P (owed.Nothing why) owes = tt
 
 -- what was owed is found, or isn't
-found_for_reply : (old new : Option EngineState) (command : Command) (stored : List ℕ) (answer : Reply) (given : Found) → LeadsScript old new (λ before after. Owes before command answer after) → IsFoundBy answer stored given → FindsFor old command stored given new
+found_for_reply : (old new : Option OpenScript) (command : Command) (stored : List ℕ) (answer : Reply) (given : Found) → LeadsScript old new (λ before after. Owes before command answer after) → IsFoundBy answer stored given → FindsFor old command stored given new
 found_for_reply old new command stored answer (found.Right what) owes is = (answer, is, owes)
 found_for_reply old new command stored answer found.Unchecked owes is = absurd is
 found_for_reply old new command stored answer (found.Wrong (fault.Other text)) owes is = (answer, is.0, is.1, owes)
 found_for_reply old new command stored answer (found.Wrong why) owes is = absurd is
 
-found_for_nothing : (old new : Option EngineState) (command : Command) (stored : List ℕ) (given : Owed) (got : Found) → IsOwedBy (λ answer. LeadsScript old new (λ before after. Owes before command answer after)) given → IsFoundOf given stored got → FindsFor old command stored got new
-found_for_nothing old new command stored (owed.Reply answer) got owes is = found_for_reply old new command stored answer got owes.1 is
+found_for_nothing : (old new : Option OpenScript) (command : Command) (stored : List ℕ) (given : Owed) (got : Found) → IsOwedBy (λ answer. LeadsScript old new (λ before after. Owes before command answer after)) given → IsFoundOf given stored got → FindsFor old command stored got new
+found_for_nothing old new command stored (owed.Reply answer) got owes is = found_for_reply old new command stored answer got owes.1 is.0
 found_for_nothing old new command stored (owed.Nothing why) (found.Wrong (fault.Unshown shown)) owes is = tt
 found_for_nothing old new command stored (owed.Nothing why) (found.Wrong (fault.Other text)) owes is = absurd is
 found_for_nothing old new command stored (owed.Nothing why) (found.Wrong fault.Missing) owes is = absurd is
@@ -55,23 +55,23 @@ found_for_nothing old new command stored (owed.Nothing why) (found.Wrong fault.T
 found_for_nothing old new command stored (owed.Nothing why) (found.Right what) owes is = absurd is
 found_for_nothing old new command stored (owed.Nothing why) found.Unchecked owes is = absurd is
 
-pub found_for : (old new : Option EngineState) (command : Command) (stored : List ℕ) (given : Owed) → IsOwedBy (λ answer. LeadsScript old new (λ before after. Owes before command answer after)) given → (got : Found) → IsFoundOf given stored got → FindsFor old command stored got new
+pub found_for : (old new : Option OpenScript) (command : Command) (stored : List ℕ) (given : Owed) → IsOwedBy (λ answer. LeadsScript old new (λ before after. Owes before command answer after)) given → (got : Found) → IsFoundOf given stored got → FindsFor old command stored got new
 found_for old new command stored given owes got is = found_for_nothing old new command stored given got owes is
 
 -- along the histories beside the engine
-takes_along : (engine : Option EngineState) (state : Option State) (command : Command) → HoldsScript engine state → TakesMemory engine command → TakesMemory state command
+takes_along : (engine : Option OpenScript) (state : Option ScriptState) (command : Command) → HoldsScript engine state → TakesMemory engine command → TakesMemory state command
 takes_along None None command holds takes = takes
 takes_along (Some engine) (Some state) command holds takes = takes
 takes_along None (Some state) command holds takes = absurd holds
 takes_along (Some engine) None command holds takes = absurd holds
 
 -- what is found of the reply to a command is found of the reply to the line that asks for it
-pub finds_asked : (old new : Option EngineState) (next : Next) (command : Command) (stored : List ℕ) → ((line : List ℕ) → IsTold line next → Asks line command) → (given : Found) → FindsFor old command stored given new → Finds old next stored given new
+pub finds_asked : (old new : Option OpenScript) (next : Next) (command : Command) (stored : List ℕ) → ((line : List ℕ) → IsTold line next → Asks line command) → (given : Found) → FindsFor old command stored given new → Finds old next stored given new
 finds_asked old new next command stored asks (found.Right what) finds = λ line said before holds.
     let after = finds.2 before holds in
     (after.0, record { answer = finds.0; owed = inl (command, asks line said, after.1); text_is = finds.1 }, after.2)
 finds_asked old new next command stored asks found.Unchecked finds = λ line said before holds.
-    (before, record { command = command; asks = asks line said; takes = takes_along old before command holds finds.0; text_is = finds.1; same = refl }, subst (λ (e : Option EngineState). HoldsScript e before) (sym finds.2) holds)
+    (before, record { command = command; asks = asks line said; takes = takes_along old before command holds finds.0; text_is = finds.1; same = refl }, subst (λ (e : Option OpenScript). HoldsScript e before) (sym finds.2) holds)
 finds_asked old new next command stored asks (found.Wrong (fault.Other text)) finds = λ line said before holds.
     let after = finds.3 before holds in
     (after.0, (finds.1, record { answer = finds.0; owed = inl (command, asks line said, after.1); text_is = finds.2 }), after.2)
@@ -80,7 +80,7 @@ finds_asked old new next command stored asks (found.Wrong fault.Missing) finds =
 finds_asked old new next command stored asks (found.Wrong fault.TooLong) finds = tt
 
 -- and of the reply to a line that asks for none
-pub finds_none : (old : Option EngineState) (next : Next) (stored : List ℕ) → ((line : List ℕ) → IsTold line next → (command : Command) → ¬ Asks line command) → (given : Found) → IsFoundBy (told.No BadLine) stored given → Finds old next stored given old
+pub finds_none : (old : Option OpenScript) (next : Next) (stored : List ℕ) → ((line : List ℕ) → IsTold line next → (command : Command) → ¬ Asks line command) → (given : Found) → IsFoundBy (told.No BadLine) stored given → Finds old next stored given old
 finds_none old next stored none (found.Right what) is = λ line said before holds.
     (before, record { answer = told.No BadLine; owed = inr (none line said, (refl, refl)); text_is = is }, holds)
 finds_none old next stored none found.Unchecked is = absurd is
@@ -90,7 +90,7 @@ finds_none old next stored none (found.Wrong (fault.Unshown shown)) is = absurd 
 finds_none old next stored none (found.Wrong fault.Missing) is = absurd is
 finds_none old next stored none (found.Wrong fault.TooLong) is = absurd is
 
-pub checking_first : (input : List ℕ) (ahead : Option (List (List ℕ))) (engine : Option EngineState) → ahead ≡ Some (lines input) → engine ≡ None → IsChecking input ahead engine
+pub checking_first : (input : List ℕ) (ahead : Option (List (List ℕ))) (engine : Option OpenScript) → ahead ≡ Some (lines input) → engine ≡ None → IsChecking input ahead engine
 checking_first input ahead engine all first = record {
   left = lines input;
   left_is = all;
@@ -98,17 +98,17 @@ checking_first input ahead engine all first = record {
   split = refl;
   state = None;
   checks = start;
-  holds = subst (λ (e : Option EngineState). HoldsScript e None) (sym first) tt;
+  holds = subst (λ (e : Option OpenScript). HoldsScript e None) (sym first) tt;
 }
 
 -- the next line, where there is one
-next_line : (limit : ℕ) (all : List (List ℕ)) (after : Option (List (List ℕ))) (next : Next) → 8388608 ≤ limit → IsNextOf limit (Some all) next after → next ≢ End → (line : List ℕ) × (rest : List (List ℕ)) × (after ≡ Some rest) × (all ≡ line ∷ rest) × IsRead line next
+pub next_line : (limit : ℕ) (all : List (List ℕ)) (after : Option (List (List ℕ))) (next : Next) → 8388608 ≤ limit → IsNextOf limit (Some all) next after → next ≢ End → (line : List ℕ) × (rest : List (List ℕ)) × (after ≡ Some rest) × (all ≡ line ∷ rest) × IsRead line next
 next_line limit all after (Line bytes) is h some = (bytes.items, h.0, h.1, h.2, refl)
 next_line limit all after TooLong is h some = (h.1, h.0, h.2, h.3, omega (arith, h.4, is))
 next_line limit all after End is h some = absurd (some refl)
 
 -- a reply that isn't wrong leads on
-checked_on : (front : List (List ℕ)) (line stored : List ℕ) (next : Next) (given : Found) (old new : Option EngineState) (at : Option State) → Checks front at → HoldsScript old at → IsTold line next → Finds old next stored given new → ((why : Fault) → given ≢ found.Wrong why) → (after : Option State) × Checks (front ++ line ∷ stored ∷ []) after × HoldsScript new after
+checked_on : (front : List (List ℕ)) (line stored : List ℕ) (next : Next) (given : Found) (old new : Option OpenScript) (at : Option ScriptState) → Checks front at → HoldsScript old at → IsTold line next → Finds old next stored given new → ((why : Fault) → given ≢ found.Wrong why) → (after : Option ScriptState) × Checks (front ++ line ∷ stored ∷ []) after × HoldsScript new after
 checked_on front line stored next (found.Right what) old new at checks holds said finds not =
     let after = finds line said at holds in
     (after.0, right front line stored at after.0 checks after.1, after.2)
@@ -118,7 +118,7 @@ checked_on front line stored next found.Unchecked old new at checks holds said f
 checked_on front line stored next (found.Wrong why) old new at checks holds said finds not = absurd (not why refl)
 
 -- the reply behind the line, where it isn't wrong
-next_reply : (limit : ℕ) (all : List (List ℕ)) (after : Option (List (List ℕ))) (line next : Next) (given : Found) (old new : Option EngineState) → IsNextOf limit (Some all) next after → FindsNext old line next given new → ((why : Fault) → given ≢ found.Wrong why) → (stored : List ℕ) × (rest : List (List ℕ)) × (after ≡ Some rest) × (all ≡ stored ∷ rest) × Finds old line stored given new
+next_reply : (limit : ℕ) (all : List (List ℕ)) (after : Option (List (List ℕ))) (line next : Next) (given : Found) (old new : Option OpenScript) → IsNextOf limit (Some all) next after → FindsNext old line next given new → ((why : Fault) → given ≢ found.Wrong why) → (stored : List ℕ) × (rest : List (List ℕ)) × (after ≡ Some rest) × (all ≡ stored ∷ rest) × Finds old line stored given new
 next_reply limit all after line (Line bytes) given old new h finds not = (bytes.items, h.0, h.1, h.2, finds)
 next_reply limit all after line TooLong (found.Wrong why) old new h finds not = absurd (not why refl)
 next_reply limit all after line TooLong (found.Right what) old new h finds not = absurd finds
@@ -127,7 +127,7 @@ next_reply limit all after line End (found.Wrong why) old new h finds not = absu
 next_reply limit all after line End (found.Right what) old new h finds not = absurd finds
 next_reply limit all after line End found.Unchecked old new h finds not = absurd finds
 
-pub checking_on : (input : List ℕ) (limit : ℕ) (a b c : Option (List (List ℕ))) (next line stored : Next) (given : Found) (old new : Option EngineState) → IsChecking input a old → 8388608 ≤ limit → IsNextOf limit a next b → next ≢ End → ((bytes : List ℕ) → IsRead bytes next → IsTold bytes line) → IsNextOf limit b stored c → FindsNext old line stored given new → ((why : Fault) → given ≢ found.Wrong why) → IsChecking input c new
+pub checking_on : (input : List ℕ) (limit : ℕ) (a b c : Option (List (List ℕ))) (next line stored : Next) (given : Found) (old new : Option OpenScript) → IsChecking input a old → 8388608 ≤ limit → IsNextOf limit a next b → next ≢ End → ((bytes : List ℕ) → IsRead bytes next → IsTold bytes line) → IsNextOf limit b stored c → FindsNext old line stored given new → ((why : Fault) → given ≢ found.Wrong why) → IsChecking input c new
 checking_on input limit a b c next line stored given old new s long is some told second finds not =
     let one = next_line limit s.left b next long (subst (λ (o : Option (List (List ℕ))). IsNextOf limit o next b) s.left_is is) some in
     let two = next_reply limit one.1 c line stored given old new (subst (λ (o : Option (List (List ℕ))). IsNextOf limit o stored c) one.2 second) finds not in
@@ -143,11 +143,11 @@ checking_on input limit a b c next line stored given old new s long is some told
     }
 
 -- all of it was checked
-all_checked : (input : List ℕ) (front left : List (List ℕ)) (state : Option State) → lines input ≡ front ++ left → left ≡ [] → Checks front state → Checks (lines input) state
+all_checked : (input : List ℕ) (front left : List (List ℕ)) (state : Option ScriptState) → lines input ≡ front ++ left → left ≡ [] → Checks front state → Checks (lines input) state
 all_checked input front left state split none checks =
     subst (λ ls. Checks ls state) (sym (split ∙ ap (λ ls. front ++ ls) none ∙ append-nil front)) checks
 
-pub checking_end : (input : List ℕ) (limit : ℕ) (a b : Option (List (List ℕ))) (engine : Option EngineState) → IsChecking input a engine → IsNextOf limit a End b → IsAllRight input
+pub checking_end : (input : List ℕ) (limit : ℕ) (a b : Option (List (List ℕ))) (engine : Option OpenScript) → IsChecking input a engine → IsNextOf limit a End b → IsAllRight input
 checking_end input limit a b engine s is =
     let none = subst (λ (o : Option (List (List ℕ))). IsNextOf limit o End b) s.left_is is in
     (s.state, all_checked input s.front s.left s.state s.split none.1 s.checks)
@@ -162,7 +162,7 @@ ahead_first reader left input told none =
     ap (λ (o : Option (List ℕ)). lines_ahead reader o) told ∙ ap (λ (bytes : List ℕ). Some (lines (bytes ++ input))) none
 
 -- the reply behind a line leads on
-pub leads_on : (limit : ℕ) (b c : Option (List (List ℕ))) (next line stored : Next) (given : Found) (old new : Option EngineState) → 8388608 ≤ limit → ((bytes : List ℕ) → IsRead bytes next → IsTold bytes line) → IsNextOf limit b stored c → FindsNext old line stored given new → LeadsOn limit b next old given c new
+pub leads_on : (limit : ℕ) (b c : Option (List (List ℕ))) (next line stored : Next) (given : Found) (old new : Option OpenScript) → 8388608 ≤ limit → ((bytes : List ℕ) → IsRead bytes next → IsTold bytes line) → IsNextOf limit b stored c → FindsNext old line stored given new → LeadsOn limit b next old given c new
 leads_on limit b c next line stored given old new long told second finds input a s is some not =
     checking_on input limit a b c next line stored given old new s long is some told second finds not
 
@@ -170,7 +170,7 @@ pub long_enough : (limit : ℕ) → limit ≡ LONGEST_REPLY → 8388608 ≤ limi
 long_enough limit is = omega (arith, is)
 
 -- where nothing wrong was found there was a reply
-pub not_end : (old new : Option EngineState) (line stored : Next) (given : Found) → FindsNext old line stored given new → IsFine given → stored ≢ End
+pub not_end : (old new : Option OpenScript) (line stored : Next) (given : Found) → FindsNext old line stored given new → IsFine given → stored ≢ End
 not_end old new line (Line bytes) given finds fine e = cc
 not_end old new line TooLong given finds fine e = cc
 not_end old new line End (found.Wrong why) finds fine e = absurd (fine why refl)
@@ -178,9 +178,9 @@ not_end old new line End (found.Right what) finds fine e = absurd finds
 not_end old new line End found.Unchecked finds fine e = absurd finds
 
 -- a line and its reply were checked
-pub advances_on : (limit now : ℕ) (a b c : Option (List (List ℕ))) (next : Next) (given : Found) (old new : Option EngineState) → now ≡ limit → IsNextOf limit a next b → next ≢ End → LeadsOn now b next old given c new → IsFine given → Advances a old advance.On c new
+pub advances_on : (limit now : ℕ) (a b c : Option (List (List ℕ))) (next : Next) (given : Found) (old new : Option OpenScript) → now ≡ limit → IsNextOf limit a next b → next ≢ End → LeadsOn now b next old given c new → IsFine given → Advances a old advance.On c new
 advances_on limit now a b c next given old new same is some leads fine input s = leads input a s (subst (λ n. IsNextOf n a next b) (sym same) is) some fine
 
 -- or there was none
-pub advances_end : (limit : ℕ) (a b : Option (List (List ℕ))) (next : Next) (old : Option EngineState) → next ≡ End → IsNextOf limit a next b → Advances a old advance.End b old
+pub advances_end : (limit : ℕ) (a b : Option (List (List ℕ))) (next : Next) (old : Option OpenScript) → next ≡ End → IsNextOf limit a next b → Advances a old advance.End b old
 advances_end limit a b next old end is input s = checking_end input limit a b old s (subst (λ (n : Next). IsNextOf limit a n b) end is)

@@ -1,3 +1,4 @@
 pub mod CheckedLines
 pub mod EarnedReports
 pub mod OwedReplies
+pub mod RightReports

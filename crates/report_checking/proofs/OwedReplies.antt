@@ -1,11 +1,15 @@
 -- What is owed to steps and commands.
-use Rattle.std.proofs.Common.{◌≡◌, ◌≢◌, ◌+◌, Some, None, refl, sym, subst, inl, inr}
+use Rattle.std.proofs.Common.{◌≡◌, ◌≢◌, ◌+◌, Some, None, true, false, refl, sym, subst, ◌∙◌, inl, inr}
 use Rattle.txn.specs.declared.refusals.Refusal.TheVariants.{BadLine, NoRound}
 use Rattle.log_text.specs.declared.commands.Command.{Command}
 use Rattle.log_text.specs.declared.commands.Wanted.{Wanted}
 use Rattle.log_text.specs.declared.replies.Reply.{Reply}
 use Rattle.log_text.specs.declared.replies.Reply.TheVariants as told
 use Rattle.log_text.specs.Replies.{HasKindOfOrder}
+use Rattle.log_text.specs.Versions.{has_form}
+use Rattle.log_text.specs.declared.versions.Version.{Version}
+use Rattle.logged_fragments.specs.declared.logged.LoggedFragment.{LoggedFragment}
+use Rattle.round_state.specs.Legal.{State}
 use Rattle.round_state.specs.EngineState.{EngineState}
 use Rattle.round_state.specs.Runs.{HasLimits, Holds, StepsLegally}
 use Rattle.round_state.specs.Steps.{StepsTo, answer_told}
@@ -15,12 +19,13 @@ use Rattle.round_state.specs.declared.steps.Step.TheVariants as step
 use Rattle.round_state.specs.declared.steps.StepReply.{StepReply}
 use Rattle.round_state.specs.declared.steps.StepReply.TheVariants as reply
 use Rattle.cobra.specs.Saving.{saved_told}
-use Rattle.cobra.specs.Scripts.{IsBadLine, state_told}
+use Rattle.cobra.specs.Scripts.{IsBadLine, IsTakenIn, state_told}
 use Rattle.cobra.specs.StepReplies.{reply_of, report_of}
 use Rattle.cobra.proofs.ReplyKinds.{judged_kind, saved_kind}
 use Rattle.report_checking.specs.Owing.{IsOwedReport, IsStep, OwesFinish, OwesRound, OwesOpen, Owes, IsPlain}
 use Rattle.report_checking.specs.Reading.{Leads, LeadsScript, IsOwedBy}
 use Rattle.report_checking.specs.declared.findings.Owed.{Owed}
+use Rattle.report_checking.specs.declared.pairs.OpenScript.{OpenScript}
 use Rattle.report_checking.specs.declared.findings.Owed.TheVariants as owed
 
 pub plain_limits : (asked : Step) → IsPlain asked → HasLimits asked
@@ -97,13 +102,28 @@ saved_owed old wanted answer is =
 pub out_of_place : (old : EngineState) → Leads old old (λ before after. IsBadLine before (told.No BadLine) after)
 out_of_place old before holds = (before, (refl, refl), holds)
 
-script_owed : (old new : EngineState) (command : Command) (answer : Reply) → Leads old new (λ before after. OwesOpen before command answer after) → LeadsScript (Some old) (Some new) (λ before after. Owes before command answer after)
-script_owed old new command answer owes None holds = absurd holds
-script_owed old new command answer owes (Some before) holds =
-    let after = owes before holds in
-    (Some after.0, after.1, after.2)
+-- the same of a fragment for which the version has no form
+pub none_taken : (old : EngineState) (version : Version) (logged : LoggedFragment) (Taken : State → State → Type 0) → has_form version logged ≡ false → Leads old old (λ before after. IsTakenIn version logged before (told.No BadLine) after (Taken before after))
+none_taken old version logged Taken none before holds = (before, inr (none, (refl, refl)), holds)
 
--- an engine is open
-pub open_owed : (old new : EngineState) (command : Command) (given : Owed) → IsOwedBy (λ answer. Leads old new (λ before after. OwesOpen before command answer after)) given → IsOwedBy (λ answer. LeadsScript (Some old) (Some new) (λ before after. Owes before command answer after)) given
-open_owed old new command (owed.Reply answer) owes = (owes.0, script_owed old new command answer owes.1)
-open_owed old new command (owed.Nothing why) owes = tt
+-- one for which it has is taken
+some_taken : (old new : EngineState) (version : Version) (logged : LoggedFragment) (answer : Reply) (Taken : State → State → Type 0) → has_form version logged ≡ true → Leads old new Taken → Leads old new (λ before after. IsTakenIn version logged before answer after (Taken before after))
+some_taken old new version logged answer Taken some leads before holds =
+    let after = leads before holds in
+    (after.0, inl (some, after.1), after.2)
+
+pub taken_owed : (old new : EngineState) (version : Version) (logged : LoggedFragment) (asked : Step) (given : Owed) → has_form version logged ≡ true → IsOwedBy (λ answer. Leads old new (λ before after. IsStep before asked answer after)) given → IsOwedBy (λ answer. Leads old new (λ before after. IsTakenIn version logged before answer after (IsStep before asked answer after))) given
+taken_owed old new version logged asked (owed.Reply answer) some owes = (owes.0, some_taken old new version logged answer (λ before after. IsStep before asked answer after) some owes.1)
+taken_owed old new version logged asked (owed.Nothing why) some owes = tt
+
+script_owed : (old new : OpenScript) (command : Command) (answer : Reply) → new.version ≡ old.version → Leads old.engine new.engine (λ before after. OwesOpen old.version before command answer after) → LeadsScript (Some old) (Some new) (λ before after. Owes before command answer after)
+script_owed old new command answer same owes None holds = absurd holds
+script_owed old new command answer same owes (Some before) holds =
+    let after = owes before.state holds.0 in
+    let owed_it = subst (λ (version : Version). OwesOpen version before.state command answer after.0) holds.1 after.1 in
+    (Some (record { state = after.0; version = before.version }), (owed_it, refl), (after.2, same ∙ holds.1))
+
+-- a script is open
+pub open_owed : (old new : OpenScript) (command : Command) (given : Owed) → new.version ≡ old.version → IsOwedBy (λ answer. Leads old.engine new.engine (λ before after. OwesOpen old.version before command answer after)) given → IsOwedBy (λ answer. LeadsScript (Some old) (Some new) (λ before after. Owes before command answer after)) given
+open_owed old new command (owed.Reply answer) same owes = (owes.0, script_owed old new command answer same owes.1)
+open_owed old new command (owed.Nothing why) same owes = tt

@@ -7,28 +7,27 @@ use Rattle.log_text.specs.declared.replies.Reply.{Reply}
 use Rattle.log_text.specs.declared.replies.Reply.TheVariants as told
 use Rattle.log_text.specs.Replies.{text_of}
 use Rattle.byte_lines.specs.Lines.{lines}
-use Rattle.round_state.specs.Legal.{State}
 use Rattle.cobra.specs.Outputs.{Asks}
-use Rattle.report_checking.specs.Owing.{OwesLine}
+use Rattle.report_checking.specs.Owing.{OwesLine, ScriptState}
 
 -- the stored reply to a line is the text of what is owed
-pub record IsRightReply (old : Option State) (line stored : List ℕ) (new : Option State) : Type 0 where
+pub record IsRightReply (old : Option ScriptState) (line stored : List ℕ) (new : Option ScriptState) : Type 0 where
   pub answer : Reply
   pub owed : OwesLine old line answer new
   pub text_is : stored ≡ text_of answer
 
 -- a command that may be refused for want of memory, where no engine is open
 abbrev pub OpensEngine : Command → Type 0
-OpensEngine (Start sessions limit) = ⊤
+OpensEngine (Start sessions limit version) = ⊤
 OpensEngine command = ⊥
 
 -- and where one is
 abbrev pub AsksOfMemory : Command → Type 0
-AsksOfMemory (Start sessions limit) = ⊥
+AsksOfMemory (Start sessions limit version) = ⊥
 AsksOfMemory (Close session) = ⊥
 AsksOfMemory Show = ⊥
 AsksOfMemory (Save wanted) = ⊥
-AsksOfMemory (Resume sessions limit) = ⊥
+AsksOfMemory (Resume sessions limit version) = ⊥
 AsksOfMemory (Marks marks closed) = ⊥
 AsksOfMemory (Last last) = ⊥
 AsksOfMemory Resumed = ⊥
@@ -39,7 +38,7 @@ TakesMemory None command = OpensEngine command
 TakesMemory (Some open_one) command = AsksOfMemory command
 
 -- The stored reply to a command says that memory was wanting, of which nothing is known; it changes nothing.
-pub record IsUnchecked (old : Option State) (line stored : List ℕ) (new : Option State) : Type 0 where
+pub record IsUnchecked (old : Option ScriptState) (line stored : List ℕ) (new : Option ScriptState) : Type 0 where
   pub command : Command
   pub asks : Asks line command
   pub takes : TakesMemory old command
@@ -48,15 +47,15 @@ pub record IsUnchecked (old : Option State) (line stored : List ℕ) (new : Opti
 
 -- From the beginning of a script on: lines and stored replies by turns, each of which is right, or says that memory was wanting; and what
 -- they lead to.
-pub data Checks : List (List ℕ) → Option State → Type 0 where
+pub data Checks : List (List ℕ) → Option ScriptState → Type 0 where
   start : Checks [] None
-  right : (front : List (List ℕ)) (line stored : List ℕ) (at new : Option State)
+  right : (front : List (List ℕ)) (line stored : List ℕ) (at new : Option ScriptState)
       → Checks front at → IsRightReply at line stored new
       → Checks (front ++ line ∷ stored ∷ []) new
-  unchecked : (front : List (List ℕ)) (line stored : List ℕ) (at new : Option State)
+  unchecked : (front : List (List ℕ)) (line stored : List ℕ) (at new : Option ScriptState)
       → Checks front at → IsUnchecked at line stored new
       → Checks (front ++ line ∷ stored ∷ []) new
 
 -- All lines of the input are the lines of a script and right replies to them, by turns.
 abbrev pub IsAllRight : List ℕ → Type 0
-IsAllRight input = (end : Option State) × Checks (lines input) end
+IsAllRight input = (end : Option ScriptState) × Checks (lines input) end

@@ -1,3 +1,4 @@
 pub mod Checking
 pub mod Owing
 pub mod Reading
+pub mod RightReports

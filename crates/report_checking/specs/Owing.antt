@@ -7,6 +7,7 @@ use Rattle.log_text.specs.declared.commands.Command.{Command}
 use Rattle.log_text.specs.declared.commands.Command.TheVariants.{Start, Offer, Join, Close, Begin, Finish, Round, Truncate, Rebuild, Show, Resume, Save, Answer}
 use Rattle.log_text.specs.declared.replies.Reply.{Reply}
 use Rattle.log_text.specs.declared.replies.Reply.TheVariants as told
+use Rattle.log_text.specs.declared.versions.Version.{Version}
 use Rattle.round_state.specs.EngineState.{EngineState}
 use Rattle.round_state.specs.Legal.{State, Legal, TellsOf}
 use Rattle.round_state.specs.Opening.{IsSessions, IsLimit, IsOpenRefusal, fresh_state}
@@ -19,7 +20,7 @@ use Rattle.round_state.specs.declared.steps.StepReply.{StepReply}
 use Rattle.round_state.specs.declared.steps.StepReply.TheVariants as reply
 use Rattle.cobra.specs.Outputs.{Asks}
 use Rattle.cobra.specs.Saving.{saved_told}
-use Rattle.cobra.specs.Scripts.{IsBadLine, state_told}
+use Rattle.cobra.specs.Scripts.{IsBadLine, IsTakenIn, state_told}
 use Rattle.cobra.specs.StepReplies.{certificate_of, reply_of, report_of}
 
 -- The open round's report, by the engine alone: some answer about its snapshot earns it. An order was seen to explain the snapshot, or a
@@ -53,37 +54,42 @@ OwesRound old answer new =
 abbrev pub IsStep : State → Step → Reply → State → Type 0
 IsStep old asked answer new = (said : StepReply) × Legal old asked said new × (answer ≡ reply_of said)
 
--- what is owed to a command, where an engine is open
-abbrev pub OwesOpen : State → Command → Reply → State → Type 0
-OwesOpen old (Offer fragment) answer new = IsStep old (step.Offer fragment) answer new
-OwesOpen old (Join fragment) answer new = IsStep old (step.Join fragment) answer new
-OwesOpen old (Close session) answer new = IsStep old (step.Close session) answer new
-OwesOpen old Begin answer new = IsStep old step.Begin answer new
-OwesOpen old (Finish budget depth workers) answer new = OwesFinish old answer new
-OwesOpen old (Round budget depth workers) answer new = OwesRound old answer new
-OwesOpen old (Answer shown) answer new = IsStep old (step.Judge (certificate_of shown)) answer new
-OwesOpen old Truncate answer new = IsStep old step.Truncate answer new
-OwesOpen old Rebuild answer new = IsStep old step.Rebuild answer new
-OwesOpen old Show answer new = (answer ≡ state_told old.engine) × (new ≡ old)
-OwesOpen old (Save wanted) answer new = (answer ≡ saved_told old.engine.parts wanted) × (new ≡ old)
-OwesOpen old command answer new = IsBadLine old answer new
+-- what is owed to a command, where an engine is open, for lines of this version
+abbrev pub OwesOpen : Version → State → Command → Reply → State → Type 0
+OwesOpen version old (Offer logged) answer new = IsTakenIn version logged old answer new (IsStep old (step.Offer logged) answer new)
+OwesOpen version old (Join logged) answer new = IsTakenIn version logged old answer new (IsStep old (step.Join logged) answer new)
+OwesOpen version old (Close session) answer new = IsStep old (step.Close session) answer new
+OwesOpen version old Begin answer new = IsStep old step.Begin answer new
+OwesOpen version old (Finish budget depth workers) answer new = OwesFinish old answer new
+OwesOpen version old (Round budget depth workers) answer new = OwesRound old answer new
+OwesOpen version old (Answer shown) answer new = IsStep old (step.Judge (certificate_of shown)) answer new
+OwesOpen version old Truncate answer new = IsStep old step.Truncate answer new
+OwesOpen version old Rebuild answer new = IsStep old step.Rebuild answer new
+OwesOpen version old Show answer new = (answer ≡ state_told old.engine) × (new ≡ old)
+OwesOpen version old (Save wanted) answer new = (answer ≡ saved_told old.engine.parts wanted) × (new ≡ old)
+OwesOpen version old command answer new = IsBadLine old answer new
+
+-- A script whose engine is open: the engine, with the history that it stands for, and the version of the lines.
+pub record ScriptState : Type 0 where
+  pub state : State
+  pub version : Version
 
 -- What is owed to a command, where none is open yet. To one that begins a hand-over nothing is: what had gone before isn't shown.
-abbrev pub OwesFirst : Command → Reply → Option State → Type 0
-OwesFirst (Start sessions limit) told.Done new = IsSessions sessions × IsLimit limit × (new ≡ Some (fresh_state sessions limit))
-OwesFirst (Start sessions limit) (told.No refusal) new = IsOpenRefusal sessions limit refusal × (new ≡ None)
-OwesFirst (Start sessions limit) answer new = ⊥
-OwesFirst (Resume sessions limit) answer new = ⊥
+abbrev pub OwesFirst : Command → Reply → Option ScriptState → Type 0
+OwesFirst (Start sessions limit version) told.Done new = IsSessions sessions × IsLimit limit × (new ≡ Some (record { state = fresh_state sessions limit; version = version }))
+OwesFirst (Start sessions limit version) (told.No refusal) new = IsOpenRefusal sessions limit refusal × (new ≡ None)
+OwesFirst (Start sessions limit version) answer new = ⊥
+OwesFirst (Resume sessions limit version) answer new = ⊥
 OwesFirst command answer new = IsBadLine None answer new
 
--- what is owed to a command; a script has a state once its engine is open
-abbrev pub Owes : Option State → Command → Reply → Option State → Type 0
+-- what is owed to a command; a script has a state once its engine is open, and its version stays
+abbrev pub Owes : Option ScriptState → Command → Reply → Option ScriptState → Type 0
 Owes None command answer new = OwesFirst command answer new
-Owes (Some old) command answer (Some new) = OwesOpen old command answer new
+Owes (Some old) command answer (Some new) = OwesOpen old.version old.state command answer new.state × (new.version ≡ old.version)
 Owes (Some old) command answer None = ⊥
 
 -- what is owed to a line: that of its command, and BadLine where it is none
-abbrev pub OwesLine : Option State → List ℕ → Reply → Option State → Type 0
+abbrev pub OwesLine : Option ScriptState → List ℕ → Reply → Option ScriptState → Type 0
 OwesLine old line answer new =
     ((command : Command) × Asks line command × Owes old command answer new)
     ⊎ (((command : Command) → ¬ Asks line command) × IsBadLine old answer new)

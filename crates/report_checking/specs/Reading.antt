@@ -1,10 +1,17 @@
 -- For private clauses: what single calls of the checker come to, whatever histories its engine stood for.
-use Rattle.std.specs.Prelude.{◌≡◌, ◌≢◌, ℕ, ◌<◌, ⊤, List, ◌++◌, length, Option, Some, None}
+use Rattle.std.specs.Prelude.{◌≡◌, ◌≢◌, ℕ, ◌<◌, ◌⊎◌, ⊤, List, ◌++◌, length, Option, Some, None}
 use Rattle.txn.specs.declared.refusals.Refusal.TheVariants.{NoMemory}
 use Rattle.log_text.specs.declared.commands.Command.{Command}
+use Rattle.log_text.specs.declared.commands.Command.TheVariants.{Finish, Round, Answer}
+use Rattle.polygraph.specs.declared.solving.Answer as solved
+use Rattle.polygraph.specs.declared.solving.Answer.TheVariants as answers
 use Rattle.log_text.specs.declared.replies.Reply.{Reply}
 use Rattle.log_text.specs.declared.replies.Reply.TheVariants as told
 use Rattle.log_text.specs.Replies.{HasKindOfOrder, text_of}
+use Rattle.log_text.specs.ReadBack.{IsSameTree, IsSameShown}
+use Rattle.log_text.specs.Shown.{IsShownIn}
+use Rattle.log_text.specs.declared.shown.Shown.{Shown}
+use Rattle.log_text.specs.declared.shown.Shown.TheVariants as shown
 use Rattle.byte_lines.specs.declared.lines.Next.{Next}
 use Rattle.byte_lines.specs.declared.lines.Next.TheVariants.{Line, TooLong, End}
 use Rattle.byte_lines.specs.LineReaders.{IsNextOf}
@@ -12,10 +19,19 @@ use Rattle.byte_lines.specs.Lines.{lines}
 use Rattle.round_state.specs.EngineState.{EngineState}
 use Rattle.round_state.specs.Legal.{State}
 use Rattle.round_state.specs.Runs.{Holds}
-use Rattle.cobra.specs.Outputs.{IsTold}
+use Rattle.round_state.specs.Steps.{StepsTo}
+use Rattle.round_state.specs.declared.reports.Report.{Report}
+use Rattle.round_state.specs.declared.steps.Step.{Step}
+use Rattle.round_state.specs.declared.steps.Step.TheVariants as step
+use Rattle.round_state.specs.declared.steps.StepReply.{StepReply}
+use Rattle.round_state.specs.declared.steps.StepReply.TheVariants as reply
+use Rattle.cobra.specs.Outputs.{Asks, IsTold}
+use Rattle.cobra.specs.StepReplies.{certificate_of, report_of, reply_of}
 use Rattle.report_checking.specs.Checking.{IsRightReply, IsUnchecked, TakesMemory, Checks, IsAllRight}
-use Rattle.report_checking.specs.Owing.{Owes}
+use Rattle.report_checking.specs.Owing.{IsEarned, Owes, ScriptState}
+use Rattle.report_checking.specs.RightReports.{shown_of, StopsAtWrong}
 use Rattle.report_checking.specs.declared.findings.Found.{Found}
+use Rattle.report_checking.specs.declared.pairs.OpenScript.{OpenScript}
 use Rattle.report_checking.specs.declared.findings.Found.TheVariants as found
 use Rattle.report_checking.specs.declared.findings.Fault.{Fault}
 use Rattle.report_checking.specs.declared.findings.Fault.TheVariants as fault
@@ -28,15 +44,15 @@ use Rattle.report_checking.specs.declared.findings.Owed.TheVariants as owed
 abbrev pub Leads : EngineState → EngineState → (State → State → Type 0) → Type 0
 Leads old new P = (before : State) → Holds old before → (after : State) × P before after × Holds new after
 
--- the engine of a script, once there is one, is that of its state, and stands for the histories of the state
-abbrev pub HoldsScript : Option EngineState → Option State → Type 0
+-- A script, once it is open, is of the version of its state; its engine is that of the state, and stands for the histories of the state.
+abbrev pub HoldsScript : Option OpenScript → Option ScriptState → Type 0
 HoldsScript None None = ⊤
-HoldsScript (Some engine) (Some state) = Holds engine state
-HoldsScript engine state = ⊥
+HoldsScript (Some script) (Some state) = Holds script.engine state.state × (script.version ≡ state.version)
+HoldsScript script state = ⊥
 
--- the same of a script's engine, once there is one
-abbrev pub LeadsScript : Option EngineState → Option EngineState → (Option State → Option State → Type 0) → Type 0
-LeadsScript old new P = (before : Option State) → HoldsScript old before → (after : Option State) × P before after × HoldsScript new after
+-- the same of a script, once it is open
+abbrev pub LeadsScript : Option OpenScript → Option OpenScript → (Option ScriptState → Option ScriptState → Type 0) → Type 0
+LeadsScript old new P = (before : Option ScriptState) → HoldsScript old before → (after : Option ScriptState) × P before after × HoldsScript new after
 
 -- a reply that is owed is of a kind that has its certificate, and leads on; of a certificate that shows nothing, nothing is said
 abbrev pub IsOwedBy : (Reply → Type 0) → Owed → Type 0
@@ -55,7 +71,7 @@ IsRead line TooLong = 8388608 < length line
 IsRead line End = ⊥
 
 -- What was found of a stored reply.
-abbrev pub Finds : Option EngineState → Next → List ℕ → Found → Option EngineState → Type 0
+abbrev pub Finds : Option OpenScript → Next → List ℕ → Found → Option OpenScript → Type 0
 Finds old next stored (found.Right what) new = (line : List ℕ) → IsTold line next → LeadsScript old new (λ before after. IsRightReply before line stored after)
 Finds old next stored found.Unchecked new = (line : List ℕ) → IsTold line next → LeadsScript old new (λ before after. IsUnchecked before line stored after)
 Finds old next stored (found.Wrong (fault.Other text)) new = (line : List ℕ) → IsTold line next → LeadsScript old new (λ before after. (stored ≢ text.items) × IsRightReply before line text.items after)
@@ -67,21 +83,21 @@ IsFoundBy answer stored (found.Right what) = stored ≡ text_of answer
 IsFoundBy answer stored (found.Wrong (fault.Other text)) = (stored ≢ text.items) × (text.items ≡ text_of answer)
 IsFoundBy answer stored other = ⊥
 
--- the same where it may be that nothing is owed
+-- the same where it may be that nothing is owed; want of memory of our own isn't found
 abbrev pub IsFoundOf : Owed → List ℕ → Found → Type 0
-IsFoundOf (owed.Reply answer) stored given = IsFoundBy answer stored given
+IsFoundOf (owed.Reply answer) stored given = IsFoundBy answer stored given × (answer ≢ told.No NoMemory)
 IsFoundOf (owed.Nothing why) stored (found.Wrong (fault.Unshown shown)) = ⊤
 IsFoundOf (owed.Nothing why) stored other = ⊥
 
 -- What is found of a stored reply to a command.
-abbrev pub FindsFor : Option EngineState → Command → List ℕ → Found → Option EngineState → Type 0
+abbrev pub FindsFor : Option OpenScript → Command → List ℕ → Found → Option OpenScript → Type 0
 FindsFor old command stored (found.Right what) new = (answer : Reply) × (stored ≡ text_of answer) × LeadsScript old new (λ before after. Owes before command answer after)
 FindsFor old command stored found.Unchecked new = TakesMemory old command × (stored ≡ text_of (told.No NoMemory)) × (new ≡ old)
 FindsFor old command stored (found.Wrong (fault.Other text)) new = (answer : Reply) × (stored ≢ text.items) × (text.items ≡ text_of answer) × LeadsScript old new (λ before after. Owes before command answer after)
 FindsFor old command stored other new = ⊤
 
 -- What is found of what was read behind a line.
-abbrev pub FindsNext : Option EngineState → Next → Next → Found → Option EngineState → Type 0
+abbrev pub FindsNext : Option OpenScript → Next → Next → Found → Option OpenScript → Type 0
 FindsNext old line (Line stored) given new = Finds old line stored.items given new
 FindsNext old line other (found.Wrong why) new = ⊤
 FindsNext old line other given new = ⊥
@@ -91,21 +107,74 @@ abbrev pub IsFine : Found → Type 0
 IsFine given = (why : Fault) → given ≢ found.Wrong why
 
 -- A script is being checked: what was checked so far, and the lines that are ahead.
-pub record IsChecking (input : List ℕ) (ahead : Option (List (List ℕ))) (engine : Option EngineState) : Type 0 where
+pub record IsChecking (input : List ℕ) (ahead : Option (List (List ℕ))) (script : Option OpenScript) : Type 0 where
   pub left : List (List ℕ)
   pub left_is : ahead ≡ Some left
   pub front : List (List ℕ)
   pub split : lines input ≡ front ++ left
-  pub state : Option State
+  pub state : Option ScriptState
   pub checks : Checks front state
-  pub holds : HoldsScript engine state
+  pub holds : HoldsScript script state
 
 -- From what was ahead behind a line, what was found of the reply to it leads on, unless that is wrong.
-abbrev pub LeadsOn : ℕ → Option (List (List ℕ)) → Next → Option EngineState → Found → Option (List (List ℕ)) → Option EngineState → Type 0
+abbrev pub LeadsOn : ℕ → Option (List (List ℕ)) → Next → Option OpenScript → Found → Option (List (List ℕ)) → Option OpenScript → Type 0
 LeadsOn limit b next old given c new = (input : List ℕ) (a : Option (List (List ℕ))) → IsChecking input a old → IsNextOf limit a next b → next ≢ End → IsFine given → IsChecking input c new
 
 -- One more line and its reply were checked, or the end was reached.
-abbrev pub Advances : Option (List (List ℕ)) → Option EngineState → Advance → Option (List (List ℕ)) → Option EngineState → Type 0
-Advances old engine advance.On new after = (input : List ℕ) → IsChecking input old engine → IsChecking input new after
-Advances old engine advance.End new after = (input : List ℕ) → IsChecking input old engine → IsAllRight input
-Advances old engine advance.Wrong new after = ⊤
+abbrev pub Advances : Option (List (List ℕ)) → Option OpenScript → Advance → Option (List (List ℕ)) → Option OpenScript → Type 0
+Advances old script advance.On new after = (input : List ℕ) → IsChecking input old script → IsChecking input new after
+Advances old script advance.End new after = (input : List ℕ) → IsChecking input old script → IsAllRight input
+Advances old script advance.Wrong new after = (input : List ℕ) → IsChecking input old script → StopsAtWrong input
+
+-- ---- Of right reports.
+
+-- The answer is what is shown, a tree wherever it is kept in memory.
+abbrev pub IsAnswerOf : Option Shown → solved.Answer → Type 0
+IsAnswerOf None answers.Spent = ⊤
+IsAnswerOf (Some (shown.Order order)) (answers.Yes order') = order' ≡ order
+IsAnswerOf (Some (shown.Refuted tree)) (answers.No tree') = IsSameTree tree' tree
+IsAnswerOf found answer = ⊥
+
+-- what is owed to a step is the reply of the engine, told
+abbrev pub IsToldOf : EngineState → Step → Owed → Type 0
+IsToldOf old asked given = (said : StepReply) × (new : EngineState) × StepsTo old asked said new × (given ≡ owed.Reply (reply_of said))
+
+-- The reply with this text is owed, unless our own engine found no memory.
+abbrev pub OwesText : List ℕ → Owed → Type 0
+OwesText text (owed.Reply answer) = (answer ≡ told.No NoMemory) ⊎ (text_of answer ≡ text)
+OwesText text (owed.Nothing why) = ⊥
+
+-- By the engine alone: a command that ends a round earns the report. An answer that is handed in may be kept elsewhere in memory.
+abbrev pub Earns : EngineState → Command → Report → EngineState → Type 0
+Earns old (Finish budget depth workers) report new = IsEarned old report new
+Earns old (Round budget depth workers) report new = (begun : EngineState) × StepsTo old step.Begin reply.Done begun × IsEarned begun report new
+Earns old (Answer handed) report new = (other : Shown) × IsSameShown (Some handed) (Some other) × StepsTo old (step.Judge (certificate_of other)) (reply.Report report) new
+Earns old command report new = ⊥
+
+-- the same of a script; the version of its lines has no part in it
+abbrev pub EarnsScript : Option OpenScript → Command → Report → EngineState → Type 0
+EarnsScript None command report new = ⊥
+EarnsScript (Some old) command report new = Earns old.engine command report new
+
+-- Where a report is earned and the stored reply shows its certificate, this is so of its text.
+abbrev pub OfRight : (Report → EngineState → Type 0) → List ℕ → (List ℕ → Type 0) → Type 0
+OfRight Earned stored P = (report : Report) (new : EngineState) → Earned report new → IsShownIn stored (shown_of report.certificate) → P (text_of (report_of report))
+
+-- A reply to the command that is found wrong isn't the text of a right report.
+abbrev pub IsFair : Option OpenScript → Command → List ℕ → Found → Type 0
+IsFair old command stored (found.Wrong why) = OfRight (EarnsScript old command) stored (λ text. stored ≢ text)
+IsFair old command stored given = ⊤
+
+-- the same of a reply to what was read
+abbrev pub IsFairTo : Option OpenScript → Next → List ℕ → Found → Type 0
+IsFairTo old next stored (found.Wrong why) = (line : List ℕ) → IsTold line next → (command : Command) → Asks line command → OfRight (EarnsScript old command) stored (λ text. stored ≢ text)
+IsFairTo old next stored given = ⊤
+
+-- and of what was read behind it
+abbrev pub IsFairNext : Option OpenScript → Next → Next → Found → Type 0
+IsFairNext old line (Line stored) given = IsFairTo old line stored.items given
+IsFairNext old line other given = ⊤
+
+-- Where what was found of the reply behind a line is wrong, the script stops there.
+abbrev pub StopsOn : ℕ → Option (List (List ℕ)) → Next → Option OpenScript → Found → Type 0
+StopsOn limit b next old given = (input : List ℕ) (a : Option (List (List ℕ))) → IsChecking input a old → IsNextOf limit a next b → next ≢ End → (why : Fault) → given ≡ found.Wrong why → StopsAtWrong input

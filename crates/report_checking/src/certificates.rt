@@ -1,16 +1,30 @@
-//! What a stored report shows. Nothing is promised of how it is read: it is a guess, which the engine judges, and the
-//! text of the report that it earns is compared with the stored one.
+//! What a stored report shows. It isn't believed: the engine judges it, and the text of the report that it earns is
+//! compared with the stored one.
+ghost use Rattle.std.specs.Prelude.{Option, IfOk};
+ghost use Rattle.log_text.specs.ReadBack.{IsSameShown};
+ghost use Rattle.log_text.specs.Shown.{IsShownIn};
+ghost use Rattle.log_text.specs.declared.shown.Shown.{Shown};
+ghost use Rattle.report_checking.specs.Reading.{IsAnswerOf};
 
 use log_text::{Shown, read_shown};
 use polygraph::Answer;
 use std::alloc::Global;
 use txn::NoMemory;
 
-/// The answer of a search that this reply tells: the order or the tree that it shows, and Spent where it shows neither.
-pub(crate) fn answer_told(alloc: Global, stored: &[u8]) -> Result<Answer, NoMemory> {
-    Ok(match read_shown(alloc, stored)? {
+/// As the answer of a search: Spent where it is neither an order nor a tree.
+fn as_answer(found: Option<Shown>) -> Answer
+    ensures { (shown : Option Shown) → IsSameShown found shown → IsAnswerOf shown result }
+{
+    match found {
         Some(Shown::Order(order)) => Answer::Yes(order),
         Some(Shown::Refuted(tree)) => Answer::No(tree),
         None => Answer::Spent,
-    })
+    }
+}
+
+/// The answer of a search that this reply tells: the order or the tree that it shows, and Spent where it shows neither.
+pub(crate) fn answer_told(alloc: Global, stored: &[u8]) -> Result<Answer, NoMemory>
+    ensures { IfOk result (λ answer. (shown : Option Shown) → IsShownIn stored.now shown → IsAnswerOf shown answer) }
+{
+    Ok(as_answer(read_shown(alloc, stored)?))
 }

@@ -1,7 +1,8 @@
 ghost use Rattle.std.specs.Prelude.{◌≡◌, ℕ, ◌<◌, List, [], Some, None, IfOk, IfSome, IsTrue, OnOk};
 ghost use Rattle.byte_lines.specs.LineReaders.{lines_ahead, lines_left};
 ghost use Rattle.report_checking.specs.Checking.{IsAllRight};
-ghost use Rattle.report_checking.specs.Reading.{IsRead, IsFine, FindsNext, LeadsOn, Advances};
+ghost use Rattle.report_checking.specs.Reading.{IsRead, IsFine, FindsNext, LeadsOn, Advances, IsFairNext, StopsOn};
+ghost use Rattle.report_checking.specs.RightReports.{StopsAtWrong};
 ghost use Rattle.cobra.specs.Outputs.{IsTold};
 
 use crate::findings::{Advance, Fault, Found};
@@ -37,7 +38,8 @@ fn found_behind(
     line: &Next,
     stored: &Next,
 ) -> Result<Found, NoMemory>
-    ensures { IfOk result (λ found. FindsNext replay.old.engine line.now stored.now found replay.new.engine) }
+    ensures finds { IfOk result (λ found. FindsNext replay.old.script line.now stored.now found replay.new.script) }
+    ensures fair { IfOk result (λ found. IsFairNext replay.old.script line.now stored.now found) }
 {
     match stored {
         Next::Line(text) => replay.check(alloc, line, text.as_slice()),
@@ -56,7 +58,8 @@ fn check_reply<R: ByteSource>(
 ) -> Result<Found, Failure>
     requires limit { reader.old.limit ≡ LONGEST_REPLY }
     requires fresh { reader.old.under_way ≡ Some [] }
-    ensures on { IfOk result (λ found. LeadsOn reader.old.limit (lines_ahead reader.old (R.remaining source.old)) next replay.old.engine found (lines_ahead reader.new (R.remaining source.new)) replay.new.engine) }
+    ensures on { IfOk result (λ found. LeadsOn reader.old.limit (lines_ahead reader.old (R.remaining source.old)) next replay.old.script found (lines_ahead reader.new (R.remaining source.new)) replay.new.script) }
+    ensures stops { IfOk result (StopsOn reader.old.limit (lines_ahead reader.old (R.remaining source.old)) next replay.old.script) }
     ensures fresh { OnOk result (reader.new.under_way ≡ Some []) }
     ensures limit { reader.new.limit ≡ reader.old.limit }
     ensures fewer { IfOk result (λ found. IsFine found → lines_left reader.new (R.reads_left source.new) < lines_left reader.old (R.reads_left source.old)) }
@@ -78,7 +81,7 @@ fn check_next<R: ByteSource, W: ByteSink>(
 ) -> Result<Advance, Failure>
     requires limit { reader.old.limit ≡ LONGEST_REPLY }
     requires fresh { reader.old.under_way ≡ Some [] }
-    ensures on { IfOk result (λ advance. Advances (lines_ahead reader.old (R.remaining source.old)) replay.old.engine advance (lines_ahead reader.new (R.remaining source.new)) replay.new.engine) }
+    ensures on { IfOk result (λ advance. Advances (lines_ahead reader.old (R.remaining source.old)) replay.old.script advance (lines_ahead reader.new (R.remaining source.new)) replay.new.script) }
     ensures fresh { IfOk result (λ advance. advance ≡ Advance.On → reader.new.under_way ≡ Some []) }
     ensures limit { reader.new.limit ≡ reader.old.limit }
     ensures fewer { IfOk result (λ advance. advance ≡ Advance.On → lines_left reader.new (R.reads_left source.new) < lines_left reader.old (R.reads_left source.old)) }
@@ -108,8 +111,9 @@ fn check_lines<R: ByteSource, W: ByteSink>(
     requires limit { reader.old.limit ≡ LONGEST_REPLY }
     requires ahead { reader.old.ahead ≡ [] }
     requires under_way { reader.old.under_way ≡ Some [] }
-    requires unopened { replay.old.engine ≡ None }
+    requires unopened { replay.old.script ≡ None }
     ensures right { IfOk result (λ right. IsTrue right → IfSome (R.remaining source.old) IsAllRight) }
+    ensures wrong { IfOk result (λ right. ¬ IsTrue right → IfSome (R.remaining source.old) StopsAtWrong) }
 {
     loop {
         let advance = check_next(alloc, reader, replay, tally, source, sink)?;
@@ -133,8 +137,9 @@ fn check_all<R: ByteSource, W: ByteSink>(
     requires limit { reader.old.limit ≡ LONGEST_REPLY }
     requires ahead { reader.old.ahead ≡ [] }
     requires under_way { reader.old.under_way ≡ Some [] }
-    requires unopened { replay.old.engine ≡ None }
+    requires unopened { replay.old.script ≡ None }
     ensures right { IfOk result (λ right. IsTrue right → IfSome (R.remaining source.old) IsAllRight) }
+    ensures wrong { IfOk result (λ right. ¬ IsTrue right → IfSome (R.remaining source.old) StopsAtWrong) }
 {
     let mut tally = Tally::new();
     let right = check_lines(alloc, reader, replay, &mut tally, source, sink)?;
@@ -144,13 +149,14 @@ fn check_all<R: ByteSource, W: ByteSink>(
 
 /// Checks what an auditor replied to a script: the input has the script's lines and the replies by turns. It writes a line for each report,
 /// each cut and each reply that isn't right or isn't checked, and a last one that counts them. Answers whether all replies are right; what
-/// comes behind the first that is wrong isn't read.
+/// comes behind the first that is wrong isn't read. A right report, as an auditor writes it, is never told wrong.
 pub fn check_replies<R: ByteSource, W: ByteSink>(
     alloc: Global,
     source: &mut R,
     sink: &mut W,
 ) -> Result<bool, Failure>
     ensures right { IfOk result (λ right. IsTrue right → IfSome (R.remaining source.old) IsAllRight) }
+    ensures wrong { IfOk result (λ right. ¬ IsTrue right → IfSome (R.remaining source.old) StopsAtWrong) }
 {
     let mut reader = LineReader::new(alloc, LONGEST_REPLY)?;
     let mut replay = Replay::new();

@@ -1,15 +1,19 @@
 ghost use Rattle.std.specs.Prelude.{◌≡◌, IfOk};
 ghost use Rattle.log_text.specs.Commands.{HasLimits};
 ghost use Rattle.log_text.specs.Replies.{HasKindOfOrder};
+ghost use Rattle.round_state.specs.EngineState.{EngineState};
 ghost use Rattle.round_state.specs.Runs.{Holds};
-ghost use Rattle.report_checking.specs.Owing.{IsPlain, IsStep, OwesFinish, OwesRound, OwesOpen};
-ghost use Rattle.report_checking.specs.Reading.{Leads, IsOwedBy};
+ghost use Rattle.round_state.specs.Steps.{StepsTo};
+ghost use Rattle.cobra.specs.Scripts.{IsTakenIn};
+ghost use Rattle.report_checking.specs.Owing.{IsEarned, IsPlain, IsStep, OwesFinish, OwesRound, OwesOpen};
+ghost use Rattle.report_checking.specs.Reading.{Leads, IsOwedBy, IsToldOf, Earns, OfRight, OwesText};
 
 use crate::certificates::answer_told;
 use crate::findings::{Owed, Unshown};
 use crate::replayed::Replayed;
 use cobra::{certificate_of, reply_of, report_of, saved_told, state_told};
-use log_text::{Command, Reply};
+use log_text::{Command, Reply, Version};
+use logged_fragments::LoggedFragment;
 use polygraph::Answer;
 use round_state::{Step, StepReply};
 use std::alloc::{AllocError, Global};
@@ -26,7 +30,8 @@ fn unshown_by(answer: &Answer) -> Unshown {
 /// What is owed to a step that isn't a finish.
 fn owed_step(engine: &mut Replayed, alloc: Global, step: Step) -> Result<Owed, NoMemory>
     requires { IsPlain step }
-    ensures { IfOk result (IsOwedBy (λ answer. Leads engine.old engine.new (λ before after. IsStep before step answer after))) }
+    ensures owed { IfOk result (IsOwedBy (λ answer. Leads engine.old engine.new (λ before after. IsStep before step answer after))) }
+    ensures told { IfOk result (IsToldOf engine.old step) }
 {
     let said = engine.step(alloc, step);
     Ok(Owed::Reply(reply_of(alloc, said)?))
@@ -34,7 +39,8 @@ fn owed_step(engine: &mut Replayed, alloc: Global, step: Step) -> Result<Owed, N
 
 /// What is owed to a finish, whose report is what the certificate in the stored reply earns.
 fn owed_finish(engine: &mut Replayed, alloc: Global, stored: &[u8]) -> Result<Owed, NoMemory>
-    ensures { IfOk result (IsOwedBy (λ answer. Leads engine.old engine.new (λ before after. OwesFinish before answer after))) }
+    ensures owed { IfOk result (IsOwedBy (λ answer. Leads engine.old engine.new (λ before after. OwesFinish before answer after))) }
+    ensures right { IfOk result (λ owed. OfRight (IsEarned engine.old) stored.now (λ text. OwesText text owed)) }
 {
     let answer = answer_told(alloc, stored)?;
     let unshown = unshown_by(&answer);
@@ -47,7 +53,8 @@ fn owed_finish(engine: &mut Replayed, alloc: Global, stored: &[u8]) -> Result<Ow
 }
 
 fn owed_round(engine: &mut Replayed, alloc: Global, stored: &[u8]) -> Result<Owed, NoMemory>
-    ensures { IfOk result (IsOwedBy (λ answer. Leads engine.old engine.new (λ before after. OwesRound before answer after))) }
+    ensures owed { IfOk result (IsOwedBy (λ answer. Leads engine.old engine.new (λ before after. OwesRound before answer after))) }
+    ensures right { IfOk result (λ owed. (begun : EngineState) → StepsTo engine.old Step.Begin StepReply.Done begun → OfRight (IsEarned begun) stored.now (λ text. OwesText text owed)) }
 {
     match engine.step(alloc, Step::Begin) {
         StepReply::Done => owed_finish(engine, alloc, stored),
@@ -55,18 +62,52 @@ fn owed_round(engine: &mut Replayed, alloc: Global, stored: &[u8]) -> Result<Owe
     }
 }
 
-/// What is owed to a command of an engine that is open.
+/// What is owed to an offer.
+fn owed_offer(
+    engine: &mut Replayed,
+    alloc: Global,
+    version: Version,
+    logged: LoggedFragment,
+) -> Result<Owed, NoMemory>
+    ensures { IfOk result (IsOwedBy (λ answer. Leads engine.old engine.new (λ before after. IsTakenIn version logged before answer after (IsStep before (Step.Offer logged) answer after)))) }
+{
+    if version.has_form(&logged) {
+        owed_step(engine, alloc, Step::Offer(logged))
+    } else {
+        Ok(Owed::Reply(Reply::No(Refusal::BadLine)))
+    }
+}
+
+/// The same of a join.
+fn owed_join(
+    engine: &mut Replayed,
+    alloc: Global,
+    version: Version,
+    logged: LoggedFragment,
+) -> Result<Owed, NoMemory>
+    ensures { IfOk result (IsOwedBy (λ answer. Leads engine.old engine.new (λ before after. IsTakenIn version logged before answer after (IsStep before (Step.Join logged) answer after)))) }
+{
+    if version.has_form(&logged) {
+        owed_step(engine, alloc, Step::Join(logged))
+    } else {
+        Ok(Owed::Reply(Reply::No(Refusal::BadLine)))
+    }
+}
+
+/// What is owed to a command of an engine that is open, for lines of this version.
 pub(crate) fn owed_open(
     engine: &mut Replayed,
     alloc: Global,
+    version: Version,
     command: Command,
     stored: &[u8],
 ) -> Result<Owed, NoMemory>
-    ensures { IfOk result (IsOwedBy (λ answer. Leads engine.old engine.new (λ before after. OwesOpen before command answer after))) }
+    ensures owed { IfOk result (IsOwedBy (λ answer. Leads engine.old engine.new (λ before after. OwesOpen version before command answer after))) }
+    ensures right { IfOk result (λ owed. OfRight (Earns engine.old command) stored.now (λ text. OwesText text owed)) }
 {
     match command {
-        Command::Offer(fragment) => owed_step(engine, alloc, Step::Offer(fragment)),
-        Command::Join(fragment) => owed_step(engine, alloc, Step::Join(fragment)),
+        Command::Offer(logged) => owed_offer(engine, alloc, version, logged),
+        Command::Join(logged) => owed_join(engine, alloc, version, logged),
         Command::Close(session) => owed_step(engine, alloc, Step::Close(session)),
         Command::Begin => owed_step(engine, alloc, Step::Begin),
         Command::Finish { .. } => owed_finish(engine, alloc, stored),

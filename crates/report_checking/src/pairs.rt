@@ -4,22 +4,29 @@ ghost use Rattle.log_text.specs.Replies.{text_of, HasKindOfOrder};
 ghost use Rattle.txn.specs.declared.refusals.Refusal.TheVariants as refusals;
 ghost use Rattle.report_checking.specs.Checking.{TakesMemory};
 ghost use Rattle.report_checking.specs.Owing.{Owes};
-ghost use Rattle.report_checking.specs.Reading.{LeadsScript, IsOwedBy, IsOfKind, Finds, FindsFor, IsFoundBy, IsFoundOf};
+ghost use Rattle.report_checking.specs.Reading.{LeadsScript, IsOwedBy, IsOfKind, Finds, FindsFor, IsFoundBy, IsFoundOf, EarnsScript, OfRight, OwesText, IsFair, IsFairTo};
 
 use crate::findings::{Fault, Found, Owed, Unshown, what_of};
 use crate::owed::owed_open;
 use crate::replayed::Replayed;
 use byte_lines::Next;
 use cobra::command_in;
-use log_text::{Command, Reply, write_reply};
+use log_text::{Command, Reply, Version, write_reply};
 use std::alloc::{AllocError, Global};
 use txn::{NoMemory, Refusal};
+
+/// A script whose engine is open, for lines of this version.
+#[derive(Drop)]
+pub(crate) struct OpenScript {
+    engine: Replayed,
+    version: Version,
+}
 
 /// A script that is gone through once more.
 #[derive(Drop)]
 pub(crate) struct Replay {
-    /// There is one once a line has opened it.
-    engine: Option<Replayed>,
+    /// It is open once a line has opened it.
+    script: Option<OpenScript>,
 }
 
 /// The text of a reply, without its line feed.
@@ -34,17 +41,17 @@ fn text_of(alloc: Global, answer: &Reply) -> Result<Vec<u8>, NoMemory>
 
 impl Replay {
     pub(crate) fn new() -> Replay
-        ensures { result.engine ≡ None }
+        ensures { result.script ≡ None }
     {
-        Replay { engine: None }
+        Replay { script: None }
     }
 
     /// Whether the command may be refused for want of memory.
     fn takes_memory(&self, command: &Command) -> bool
-        ensures { IsTrue result → TakesMemory self.now.engine command.now }
+        ensures { IsTrue result → TakesMemory self.now.script command.now }
     {
         match command {
-            Command::Start { .. } => self.engine.is_none(),
+            Command::Start { .. } => self.script.is_none(),
             Command::Close(_)
             | Command::Show
             | Command::Save(_)
@@ -52,18 +59,18 @@ impl Replay {
             | Command::Marks { .. }
             | Command::Last(_)
             | Command::Resumed => false,
-            _ => self.engine.is_some(),
+            _ => self.script.is_some(),
         }
     }
 
-    fn open(&mut self, alloc: Global, sessions: u64, limit: u64) -> Reply
-        requires { self.old.engine ≡ None }
-        ensures owed { LeadsScript self.old.engine self.new.engine (λ before after. Owes before (Command.Start sessions limit) result after) }
+    fn open(&mut self, alloc: Global, sessions: u64, limit: u64, version: Version) -> Reply
+        requires { self.old.script ≡ None }
+        ensures owed { LeadsScript self.old.script self.new.script (λ before after. Owes before (Command.Start sessions limit version) result after) }
         ensures kind { HasKindOfOrder result }
     {
         match Replayed::open(alloc, sessions, limit) {
             Ok(engine) => {
-                self.engine = Some(engine);
+                self.script = Some(OpenScript { engine, version });
                 Reply::Done
             }
             Err(refusal) => Reply::No(refusal),
@@ -72,15 +79,19 @@ impl Replay {
 
     /// What is owed to a command.
     fn owed(&mut self, alloc: Global, command: Command, stored: &[u8]) -> Result<Owed, NoMemory>
-        ensures { IfOk result (IsOwedBy (λ answer. LeadsScript self.old.engine self.new.engine (λ before after. Owes before command answer after))) }
+        ensures owed { IfOk result (IsOwedBy (λ answer. LeadsScript self.old.script self.new.script (λ before after. Owes before command answer after))) }
+        ensures right { IfOk result (λ owed. OfRight (EarnsScript self.old.script command) stored.now (λ text. OwesText text owed)) }
     {
-        if let Some(engine) = &mut self.engine {
-            return owed_open(engine, alloc, command, stored);
+        if let Some(script) = &mut self.script {
+            let version = script.version;
+            return owed_open(&mut script.engine, alloc, version, command, stored);
         }
         match command {
-            Command::Start { sessions, limit } => {
-                Ok(Owed::Reply(self.open(alloc, sessions, limit)))
-            }
+            Command::Start {
+                sessions,
+                limit,
+                version,
+            } => Ok(Owed::Reply(self.open(alloc, sessions, limit, version))),
             Command::Resume { .. } => Ok(Owed::Nothing(Unshown::Beginning)),
             _ => Ok(Owed::Reply(Reply::No(Refusal::BadLine))),
         }
@@ -88,7 +99,7 @@ impl Replay {
 
     /// Whether the stored reply to the command says that memory was wanting, as it may.
     fn is_left_out(&self, alloc: Global, command: &Command, stored: &[u8]) -> Result<bool, NoMemory>
-        ensures takes { IfOk result (λ is. IsTrue is → TakesMemory self.now.engine command.now) }
+        ensures takes { IfOk result (λ is. IsTrue is → TakesMemory self.now.script command.now) }
         ensures text { IfOk result (λ is. IsTrue is → stored.now ≡ text_of (told.No refusals.NoMemory)) }
     {
         if !self.takes_memory(command) {
@@ -104,7 +115,8 @@ impl Replay {
         command: Command,
         stored: &[u8],
     ) -> Result<Found, NoMemory>
-        ensures { IfOk result (λ found. FindsFor self.old.engine command stored.now found self.new.engine) }
+        ensures finds { IfOk result (λ found. FindsFor self.old.script command stored.now found self.new.script) }
+        ensures fair { IfOk result (λ found. IsFair self.old.script command stored.now found) }
     {
         if self.is_left_out(alloc, &command, stored)? {
             return Ok(Found::Unchecked);
@@ -120,7 +132,8 @@ impl Replay {
         next: &Next,
         stored: &[u8],
     ) -> Result<Found, NoMemory>
-        ensures { IfOk result (λ found. Finds self.old.engine next.now stored.now found self.new.engine) }
+        ensures finds { IfOk result (λ found. Finds self.old.script next.now stored.now found self.new.script) }
+        ensures fair { IfOk result (λ found. IsFairTo self.old.script next.now stored.now found) }
     {
         match command_in(alloc, next)? {
             Some(command) => self.check_command(alloc, command, stored),

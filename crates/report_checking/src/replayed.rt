@@ -1,8 +1,9 @@
-ghost use Rattle.std.specs.Prelude.{◌≡◌, Some, IfOk, IfErr, OnOk, ⊤};
+ghost use Rattle.std.specs.Prelude.{◌≡◌, ◌+◌, Some, IsSomeAnd, IfOk, IfErr, OnOk, ⊤};
 ghost use Rattle.order_check.specs.declared.remainder.Parts.{Parts};
 ghost use Rattle.order_check.specs.Good.{IsGood};
 ghost use Rattle.round_state.specs.Opening.{IsSessions, IsLimit, IsOpenRefusal, fresh_state};
 ghost use Rattle.round_state.specs.Runs.{HasLimits, Holds, StepsLegally};
+ghost use Rattle.round_state.specs.Solving.{IsReportOn};
 ghost use Rattle.round_state.specs.Steps.{StepsTo, IsFinishRefusal};
 ghost use Rattle.report_checking.specs.Owing.{IsEarned, IsOwedReport};
 ghost use Rattle.report_checking.specs.Reading.{Leads};
@@ -93,6 +94,7 @@ impl Replayed {
 
     /// Finishes the open round by an answer that isn't believed: where it is wrong, nothing has changed.
     pub(crate) fn finish(&mut self, alloc: Global, answer: Answer) -> Result<Report, Refusal>
+        ensures answered { IfOk result (λ report. IsSomeAnd self.old.asked (λ parts. IsReportOn parts (self.old.rounds + 1) answer report)) }
         ensures earned { IfOk result (λ report. IsEarned self.old report self.new) }
         ensures owed { IfOk result (λ report. Leads self.old self.new (λ before after. IsOwedReport before report after)) }
         ensures err { IfErr result (λ refusal. IsFinishRefusal self.old answer refusal × (self.new ≡ self.old)) }

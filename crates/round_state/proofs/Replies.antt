@@ -8,6 +8,7 @@ use Rattle.txn.specs.declared.transactions.Txn.{Txn}
 use Rattle.txn.specs.declared.transactions.TxnId.{TxnId}
 use Rattle.txn.specs.declared.refusals.Refusal.{Refusal}
 use Rattle.txn.specs.declared.refusals.Refusal.TheVariants as refusals
+use Rattle.logged_fragments.specs.Effects.{effects}
 use Rattle.order_check.specs.declared.remainder.Parts.{Parts}
 use Rattle.order_check.specs.declared.remainder.Kind.{Kind}
 use Rattle.order_check.specs.declared.remainder.Kind.TheVariants as kinds
@@ -200,14 +201,14 @@ joins_of parts whole f joins returns stands fits = subst (λ (n : ℕ). StandsFo
 pub legal_of : (old new : EngineState) (step : Step) (said : StepReply) → Grounds old → StepsTo old step said new → StepsLegally old step said new
 legal_of old new (Offer f) reply.Done grounds right before holds =
     legal_by old new (Offer f) reply.Done before holds right tt
-    (parts_along new _ _ right.1 (grounds.offers old.parts before.whole f holds.parts right.0.next))
-    (asked_along new _ _ right.1 holds.asked)
+    (parts_along new _ _ right.2 (grounds.offers old.parts before.whole (effects f) holds.parts right.1.next))
+    (asked_along new _ _ right.2 holds.asked)
 legal_of old new (Offer f) (reply.Refused refusal) grounds right before holds =
     legal_by old new (Offer f) (reply.Refused refusal) before holds right tt (parts_along new old _ right.1 holds.parts) (asked_along new old _ right.1 holds.asked)
 legal_of old new (Join f) reply.Done grounds right before holds =
     legal_by old new (Join f) reply.Done before holds right tt
-    (parts_along new _ _ right.2 (joins_of old.parts before.whole f grounds.joins grounds.returns holds.parts right.1))
-    (asked_along new _ _ right.2 holds.asked)
+    (parts_along new _ _ right.3 (joins_of old.parts before.whole (effects f) grounds.joins grounds.returns holds.parts right.2))
+    (asked_along new _ _ right.3 holds.asked)
 legal_of old new (Join f) (reply.Refused refusal) grounds right before holds =
     legal_by old new (Join f) (reply.Refused refusal) before holds right tt (parts_along new old _ right.1 holds.parts) (asked_along new old _ right.1 holds.asked)
 legal_of old new (Close s) reply.Done grounds right before holds =

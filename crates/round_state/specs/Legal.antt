@@ -2,6 +2,7 @@
 -- is said of them.
 use Rattle.std.specs.Prelude.{◌≡◌, ⊤, List, [], ◌∷◌, length, map}
 use Rattle.txn.specs.History.{History}
+use Rattle.logged_fragments.specs.Effects.{effects}
 use Rattle.order_check.specs.declared.remainder.Kind.{Kind}
 use Rattle.order_check.specs.declared.remainder.Kind.TheVariants.{Spent}
 use Rattle.order_check.specs.StandsFor.{history_after, with_fragment}
@@ -20,11 +21,11 @@ pub record State : Type 0 where
   pub whole : History
   pub asked : History
 
--- What a step that was replied to so makes of the whole history that was received: an offer that is done puts its fragment
+-- What a step that was replied to so makes of the whole history that was received: an offer that is done puts what its fragment did
 -- at the end, and so does a join, where its session is new in a session more.
 abbrev pub whole_after : State → Step → StepReply → History
-whole_after old (Offer fragment) reply.Done = with_fragment old.whole fragment
-whole_after old (Join fragment) reply.Done = history_after old.whole (arrival_of (length old.whole) fragment)
+whole_after old (Offer logged) reply.Done = with_fragment old.whole (effects logged)
+whole_after old (Join logged) reply.Done = history_after old.whole (arrival_of (length old.whole) (effects logged))
 whole_after old step said = old.whole
 
 -- and of the one of the open round: a begin that is done takes what was received

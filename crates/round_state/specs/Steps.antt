@@ -5,6 +5,8 @@ use Rattle.txn.specs.declared.transactions.Fragment.{Fragment}
 use Rattle.txn.specs.declared.refusals.Refusal.{Refusal}
 use Rattle.txn.specs.declared.refusals.Refusal.TheVariants.{BadSession, Closed, Gap, Repeat, Backlog, TooLong, RoundOpen, NoRound, BadCertificate, NoCut, NoMemory, NotAnchored}
 use Rattle.txn.specs.Transactions.{IsWellFormedFragment, FragmentFault}
+use Rattle.logged_fragments.specs.declared.logged.LoggedFragment.{LoggedFragment}
+use Rattle.logged_fragments.specs.Effects.{effects}
 use Rattle.order_check.specs.declared.remainder.Parts.{Parts}
 use Rattle.order_check.specs.declared.remainder.Kind.{Kind}
 use Rattle.order_check.specs.declared.remainder.Kind.TheVariants as kinds
@@ -47,10 +49,11 @@ pub record IsAdmitted (parts : Parts) (fragment : Fragment) : Type 0 where
   pub next : IsNextFragment parts fragment
   pub room : sum_by length parts.remain + length fragment.txns ≤ parts.limit
 
--- Why an offer is refused: what is wrong with the fragment comes first, and memory is asked for last.
-abbrev pub IsOfferRefusal : Parts → Fragment → Refusal → Type 0
-IsOfferRefusal parts fragment NoMemory = IsAdmitted parts fragment
-IsOfferRefusal parts fragment refusal = FragmentFault fragment refusal ⊎ (IsWellFormedFragment fragment × IntakeFault parts fragment refusal)
+-- Why an offer is refused: what is wrong with the fragment as it was logged comes first, then what is wrong with what it did, and memory
+-- is asked for last.
+abbrev pub IsOfferRefusal : Parts → LoggedFragment → Refusal → Type 0
+IsOfferRefusal parts logged NoMemory = IsWellFormedFragment logged.fragment × IsAdmitted parts (effects logged)
+IsOfferRefusal parts logged refusal = FragmentFault logged.fragment refusal ⊎ (IsWellFormedFragment logged.fragment × IntakeFault parts (effects logged) refusal)
 
 -- A session may join where it is the next new one, or is closed and nothing of it remains.
 abbrev pub MayJoin : Parts → ℕ → Type 0
@@ -74,11 +77,12 @@ pub record IsLetIn (parts : Parts) (fragment : Fragment) : Type 0 where
   pub anchored : IsAnchored parts fragment
   pub room : sum_by length parts.remain + length fragment.txns ≤ parts.limit
 
--- Why a join is refused: what is wrong with the fragment comes first, then that a round is open; memory is asked for last.
-abbrev pub IsJoinRefusal : EngineState → Fragment → Refusal → Type 0
-IsJoinRefusal engine fragment RoundOpen = IsWellFormedFragment fragment × IsSome engine.asked
-IsJoinRefusal engine fragment NoMemory = (engine.asked ≡ None) × IsLetIn engine.parts fragment
-IsJoinRefusal engine fragment refusal = FragmentFault fragment refusal ⊎ (IsWellFormedFragment fragment × (engine.asked ≡ None) × JoinFault engine.parts fragment refusal)
+-- Why a join is refused: what is wrong with the fragment as it was logged comes first, then that a round is open, then what is wrong with
+-- what it did; memory is asked for last.
+abbrev pub IsJoinRefusal : EngineState → LoggedFragment → Refusal → Type 0
+IsJoinRefusal engine logged RoundOpen = IsWellFormedFragment logged.fragment × IsSome engine.asked
+IsJoinRefusal engine logged NoMemory = IsWellFormedFragment logged.fragment × (engine.asked ≡ None) × IsLetIn engine.parts (effects logged)
+IsJoinRefusal engine logged refusal = FragmentFault logged.fragment refusal ⊎ (IsWellFormedFragment logged.fragment × (engine.asked ≡ None) × JoinFault engine.parts (effects logged) refusal)
 
 -- what a fragment is with which a session joins, where there are so many sessions
 abbrev pub arrival_of : ℕ → Fragment → Arrival
@@ -207,12 +211,13 @@ pub record IsRightReport (old : EngineState) (parts : Parts) (budget depth : ℕ
   -- a search within this budget, split to this depth, may come to what it tells
   pub within : MayComeTo parts budget depth (answer_told report.certificate)
 
--- From the old engine, this reply to the step is right, and leads to the new engine.
+-- From the old engine, this reply to the step is right, and leads to the new engine. A fragment is judged as it was logged, and what is
+-- looked up and added is what it did.
 abbrev pub StepsTo : EngineState → Step → StepReply → EngineState → Type 0
-StepsTo old (Offer fragment) reply.Done new = IsAdmitted old.parts fragment × (new ≡ engine_offered old fragment)
-StepsTo old (Offer fragment) (reply.Refused refusal) new = IsOfferRefusal old.parts fragment refusal × (new ≡ old)
-StepsTo old (Join fragment) reply.Done new = (old.asked ≡ None) × IsLetIn old.parts fragment × (new ≡ engine_joined old fragment)
-StepsTo old (Join fragment) (reply.Refused refusal) new = IsJoinRefusal old fragment refusal × (new ≡ old)
+StepsTo old (Offer logged) reply.Done new = IsWellFormedFragment logged.fragment × IsAdmitted old.parts (effects logged) × (new ≡ engine_offered old (effects logged))
+StepsTo old (Offer logged) (reply.Refused refusal) new = IsOfferRefusal old.parts logged refusal × (new ≡ old)
+StepsTo old (Join logged) reply.Done new = IsWellFormedFragment logged.fragment × (old.asked ≡ None) × IsLetIn old.parts (effects logged) × (new ≡ engine_joined old (effects logged))
+StepsTo old (Join logged) (reply.Refused refusal) new = IsJoinRefusal old logged refusal × (new ≡ old)
 StepsTo old (Close s) reply.Done new = IsOpenSession old.parts s × (new ≡ engine_closed old s)
 StepsTo old (Close s) (reply.Refused refusal) new = IsCloseRefusal old.parts s refusal × (new ≡ old)
 StepsTo old Begin reply.Done new = MayBegin old × (new ≡ engine_begun old)

@@ -1,17 +1,28 @@
 ghost use Rattle.std.specs.Prelude.{◌≡◌, [], ◌∷◌, ◌++◌, ◌+◌, ◌≤◌, ◌^◌, length, OnOk, OnErr, IfOk, MatchResult};
 ghost use Rattle.std.specs.Option.{option_to_list};
-ghost use Rattle.txn.specs.Transactions.{IsWellFormedFragment};
+ghost use Rattle.txn.specs.Transactions.{FragmentFault, IsWellFormedFragment};
+ghost use Rattle.logged_fragments.specs.Effects.{effects};
 ghost use Rattle.order_check.specs.Good.{IsGood};
 ghost use Rattle.order_check.specs.StandsFor.{parts_with};
 ghost use Rattle.round_state.specs.Awaiting.{awaited_of, awaited_from, HaveArrived};
 ghost use Rattle.round_state.specs.Steps.{IsAdmitted, IntakeFault};
 ghost use Rattle.round_state.specs.Tracked.{AreMarksOf, IsTracked};
 
+use logged_fragments::LoggedFragment;
 use order_check::Parts;
 use pending_reads::{PendingRead, PendingReads};
 use session_marks::Marks;
 use std::alloc::Global;
-use txn::{Fragment, NoMemory, Refusal, Source, Txn, TxnId};
+use txn::{Fragment, NoMemory, Refusal, Source, Txn, TxnId, check_fragment};
+
+/// What the fragment did to the store, where it is well formed as it was logged; if not, its first fault.
+pub(crate) fn effects_of(logged: LoggedFragment) -> Result<Fragment, Refusal>
+    ensures judged { MatchResult result (λ _. IsWellFormedFragment logged.fragment) (FragmentFault logged.fragment) }
+    ensures effects { IfOk result (λ fragment. (fragment ≡ effects logged) × IsWellFormedFragment fragment) }
+{
+    check_fragment(&logged.fragment)?;
+    Ok(logged.into_effects())
+}
 
 /// Whether a well-formed fragment is next in an open session and finds room; if not, why.
 pub(crate) fn admit(parts: &Parts, marks: &Marks, fragment: &Fragment) -> Result<(), Refusal>

@@ -1,5 +1,7 @@
 ghost use Rattle.std.specs.Prelude.{◌≡◌, ◌+◌, length, sum_by, Some, None, IfOk, IfErr, OnErr, OnOk, IsSome, IsSomeAnd};
 ghost use Rattle.txn.specs.History.{History};
+ghost use Rattle.txn.specs.Transactions.{IsWellFormedFragment};
+ghost use Rattle.logged_fragments.specs.Effects.{effects};
 ghost use Rattle.settle.specs.declared.cuts.Cut.{Cut};
 ghost use Rattle.order_check.specs.Good.{IsGood};
 ghost use Rattle.order_check.specs.StandsFor.{IsOpenSession, StandsFor};
@@ -12,13 +14,14 @@ ghost use Rattle.round_state.specs.Solving.{IsReportOn};
 
 use crate::catching_up::{known_after_cut, known_of, known_to_cut};
 use crate::fronts::kept_cuts_fit;
-use crate::intake::{admit, take_in};
+use crate::intake::{admit, effects_of, take_in};
 use crate::joining::{join_with, let_in};
 use crate::opening::{empty_parts, is_limit, is_sessions};
 use crate::reports::{Report, report_on};
 use crate::snapshots::{Snapshot, asked_of, relation_of};
 use crate::tracking::{raise_all, tracks_of};
 use forced_choices::Saturated;
+use logged_fragments::LoggedFragment;
 use order_check::{
     Parts, close_keeps_front, fragment_keeps_front, front_of_itself, stands_for_what_remains,
 };
@@ -29,7 +32,7 @@ use settle::Cut;
 use std::alloc::Global;
 use std::marker::Model;
 use truncate::apply;
-use txn::{Fragment, NoMemory, Refusal, check_fragment};
+use txn::{NoMemory, Refusal};
 
 /// The number of the last round.
 const LAST_ROUND: u64 = (1 << 48) - 1;
@@ -132,13 +135,14 @@ impl Engine {
     }
 
     /// Takes a fragment in, whether or not a round is open. Beside memory it takes time of the sessions, and of the fragment's
-    /// reads and transactions times the logarithm of the pending reads, however much remains.
-    pub fn offer(&mut self, alloc: Global, fragment: Fragment) -> Result<(), Refusal>
-        ensures ok { OnOk result (IsAdmitted self.old.parts fragment × (self.new ≡ engine_offered self.old fragment)) }
-        ensures err { IfErr result (λ refusal. IsOfferRefusal self.old.parts fragment refusal × (self.new ≡ self.old)) }
+    /// reads and transactions times the logarithm of the pending reads, however much remains. What a transaction that aborted has read
+    /// and written is judged as that of any other; then it counts as one that did nothing.
+    pub fn offer(&mut self, alloc: Global, logged: LoggedFragment) -> Result<(), Refusal>
+        ensures ok { OnOk result (IsWellFormedFragment logged.fragment × IsAdmitted self.old.parts (effects logged) × (self.new ≡ engine_offered self.old (effects logged))) }
+        ensures err { IfErr result (λ refusal. IsOfferRefusal self.old.parts logged refusal × (self.new ≡ self.old)) }
     {
         fragment_keeps_front();
-        check_fragment(&fragment)?;
+        let fragment = effects_of(logged)?;
         admit(&self.parts, &self.marks, &fragment)?;
         take_in(
             alloc,
@@ -152,13 +156,13 @@ impl Engine {
 
     /// Lets a session join with a fragment, while no round is open: the next new session with its first fragment, or one that was
     /// closed and of which nothing remains with its next. The fragment begins with a fence that reads from a fence that
-    /// remains, or from the last gone writer of the epoch key. After it the session is open, and a cut that was held is
-    /// dropped.
-    pub fn join(&mut self, alloc: Global, fragment: Fragment) -> Result<(), Refusal>
-        ensures ok { OnOk result ((self.old.asked ≡ None) × IsLetIn self.old.parts fragment × (self.new ≡ engine_joined self.old fragment)) }
-        ensures err { IfErr result (λ refusal. IsJoinRefusal self.old fragment refusal × (self.new ≡ self.old)) }
+    /// remains, or from the last gone writer of the epoch key; one that aborted is no fence. After it the session is open, and a cut
+    /// that was held is dropped.
+    pub fn join(&mut self, alloc: Global, logged: LoggedFragment) -> Result<(), Refusal>
+        ensures ok { OnOk result (IsWellFormedFragment logged.fragment × (self.old.asked ≡ None) × IsLetIn self.old.parts (effects logged) × (self.new ≡ engine_joined self.old (effects logged))) }
+        ensures err { IfErr result (λ refusal. IsJoinRefusal self.old logged refusal × (self.new ≡ self.old)) }
     {
-        check_fragment(&fragment)?;
+        let fragment = effects_of(logged)?;
         if self.asked.is_some() {
             return Err(Refusal::RoundOpen);
         }

@@ -7,6 +7,7 @@ ghost use Rattle.round_state.specs.Steps.{StepsTo, RunsTo, answer_told};
 
 use crate::reports::{Certificate, Report};
 use crate::state::Engine;
+use logged_fragments::LoggedFragment;
 use order_check::{
     close_keeps_stands_for, join_keeps_stands_for, offer_keeps_stands_for, return_keeps_stands_for,
     verdict_as_stood_for,
@@ -15,14 +16,22 @@ use polygraph::{Answer, Problem, Solver};
 use refutation::refuted_has_no_order;
 use settle::Cut;
 use std::alloc::Global;
-use txn::{Fragment, NoMemory, Refusal};
+use txn::{NoMemory, Refusal};
+
+/// What a search may take: so many nodes, cubes of so many splits, so many workers.
+#[derive(Clone, Copy)]
+struct Effort {
+    budget: u64,
+    depth: u64,
+    workers: u64,
+}
 
 /// A step of an engine.
 #[derive(Drop, Debug)]
 pub enum Step {
-    Offer(Fragment),
+    Offer(LoggedFragment),
     /// Lets a session join with the fragment, or come back with it.
-    Join(Fragment),
+    Join(LoggedFragment),
     /// Closes the session.
     Close(u8),
     Begin,
@@ -73,21 +82,21 @@ fn note(replies: &mut Vec<StepReply>, reply: StepReply)
 }
 
 impl Engine {
-    fn reply_to_offer(&mut self, alloc: Global, fragment: Fragment) -> StepReply
-        ensures right { StepsTo self.old (Step.Offer fragment) result self.new }
+    fn reply_to_offer(&mut self, alloc: Global, logged: LoggedFragment) -> StepReply
+        ensures right { StepsTo self.old (Step.Offer logged) result self.new }
         ensures asked { self.new.asked ≡ self.old.asked }
     {
-        match self.offer(alloc, fragment) {
+        match self.offer(alloc, logged) {
             Ok(()) => StepReply::Done,
             Err(refusal) => StepReply::Refused(refusal),
         }
     }
 
-    fn reply_to_join(&mut self, alloc: Global, fragment: Fragment) -> StepReply
-        ensures right { StepsTo self.old (Step.Join fragment) result self.new }
+    fn reply_to_join(&mut self, alloc: Global, logged: LoggedFragment) -> StepReply
+        ensures right { StepsTo self.old (Step.Join logged) result self.new }
         ensures asked { self.new.asked ≡ self.old.asked }
     {
-        match self.join(alloc, fragment) {
+        match self.join(alloc, logged) {
             Ok(()) => StepReply::Done,
             Err(refusal) => StepReply::Refused(refusal),
         }
@@ -120,22 +129,20 @@ impl Engine {
     fn reply_to_finish<S: Solver>(
         &mut self,
         alloc: Global,
-        budget: u64,
-        depth: u64,
-        workers: u64,
+        effort: Effort,
         kept: &mut Option<Problem>,
         solver: &S,
     ) -> StepReply
         requires ready { S.ready }
-        requires effort { IsEffort budget depth workers }
+        requires effort { IsEffort effort.budget effort.depth effort.workers }
         requires kept { parts_asked kept.old ≡ self.old.asked }
-        ensures right { StepsTo self.old (Step.Finish budget depth workers) result self.new }
+        ensures right { StepsTo self.old (Step.Finish effort.budget effort.depth effort.workers) result self.new }
         ensures kept { parts_asked kept.new ≡ self.new.asked }
     {
         let Some(problem) = kept.as_ref() else {
             return StepReply::Refused(Refusal::NoRound);
         };
-        let answer = solver.solve(alloc, problem, budget, depth, workers);
+        let answer = solver.solve(alloc, problem, effort.budget, effort.depth, effort.workers);
         match self.finish_lawfully(alloc, answer) {
             Ok(report) => {
                 *kept = None;
@@ -243,15 +250,22 @@ impl Engine {
     {
         self.right_is_legal();
         match step {
-            Step::Offer(fragment) => self.reply_to_offer(alloc, fragment),
-            Step::Join(fragment) => self.reply_to_join(alloc, fragment),
+            Step::Offer(logged) => self.reply_to_offer(alloc, logged),
+            Step::Join(logged) => self.reply_to_join(alloc, logged),
             Step::Close(session) => self.reply_to_close(session),
             Step::Begin => self.reply_to_begin(alloc, kept),
             Step::Finish {
                 budget,
                 depth,
                 workers,
-            } => self.reply_to_finish(alloc, budget, depth, workers, kept, solver),
+            } => {
+                let effort = Effort {
+                    budget,
+                    depth,
+                    workers,
+                };
+                self.reply_to_finish(alloc, effort, kept, solver)
+            }
             Step::Judge(certificate) => self.reply_to_judge(alloc, certificate, kept),
             Step::Abandon => self.reply_to_abandon(kept),
             Step::Truncate => self.reply_to_truncate(alloc),

@@ -38,7 +38,7 @@ struct Row {
     said: Said,
 }
 
-static ROWS: [Row; 14] = [
+static ROWS: [Row; 25] = [
     Row {
         table: EMPTY,
         open: 0,
@@ -168,6 +168,84 @@ static ROWS: [Row; 14] = [
         table: REAL_SPLIT,
         open: 4,
         budget: 32,
+        depth: 6,
+        said: "no",
+    },
+    // a cube is closed at its root: the least budget has a node for each of at most 16 cubes
+    Row {
+        table: REAL_SPLIT,
+        open: 4,
+        budget: 1,
+        depth: 1,
+        said: "spent",
+    },
+    Row {
+        table: REAL_SPLIT,
+        open: 4,
+        budget: 2,
+        depth: 1,
+        said: "no",
+    },
+    Row {
+        table: REAL_SPLIT,
+        open: 4,
+        budget: 4,
+        depth: 2,
+        said: "no",
+    },
+    Row {
+        table: REAL_SPLIT,
+        open: 4,
+        budget: 7,
+        depth: 3,
+        said: "spent",
+    },
+    Row {
+        table: REAL_SPLIT,
+        open: 4,
+        budget: 8,
+        depth: 3,
+        said: "no",
+    },
+    Row {
+        table: REAL_SPLIT,
+        open: 4,
+        budget: 15,
+        depth: 4,
+        said: "spent",
+    },
+    Row {
+        table: REAL_SPLIT,
+        open: 4,
+        budget: 16,
+        depth: 4,
+        said: "no",
+    },
+    Row {
+        table: REAL_SPLIT,
+        open: 4,
+        budget: 15,
+        depth: 5,
+        said: "spent",
+    },
+    Row {
+        table: REAL_SPLIT,
+        open: 4,
+        budget: 16,
+        depth: 5,
+        said: "no",
+    },
+    Row {
+        table: REAL_SPLIT,
+        open: 4,
+        budget: 15,
+        depth: 6,
+        said: "spent",
+    },
+    Row {
+        table: REAL_SPLIT,
+        open: 4,
+        budget: 16,
         depth: 6,
         said: "no",
     },

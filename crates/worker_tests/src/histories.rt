@@ -10,7 +10,7 @@ use std::test::*;
 use txn::{NoMemory, Sequence, Source, Txn, TxnId};
 
 /// A read of a key from a session's first transaction.
-type Read = (u64, u8);
+pub type Read = (u64, u8);
 
 /// Four writers and four readers: each way to order the writers of key 1 and those of key 2 fails one of the readers.
 static REAL_SPLIT: [(&[Read], &[u64]); 8] = [
@@ -24,7 +24,7 @@ static REAL_SPLIT: [(&[Read], &[u64]); 8] = [
     (&[(2, 3), (3, 0), (4, 1)], &[]),
 ];
 
-fn txn_of(alloc: Global, reads: &[Read], writes: &[u64]) -> Result<Txn, NoMemory> {
+pub fn txn_of(alloc: Global, reads: &[Read], writes: &[u64]) -> Result<Txn, NoMemory> {
     let mut sources = Vec::new(alloc);
     for (key, session) in reads {
         let writer = TxnId {
@@ -40,7 +40,7 @@ fn txn_of(alloc: Global, reads: &[Read], writes: &[u64]) -> Result<Txn, NoMemory
 }
 
 /// Parts of which nothing is gone.
-fn whole(alloc: Global, remain: Vec<Sequence<Txn>>) -> Result<Parts, NoMemory> {
+pub fn whole(alloc: Global, remain: Vec<Sequence<Txn>>) -> Result<Parts, NoMemory> {
     let mut marks = Vec::new(alloc);
     let mut closed = Vec::new(alloc);
     for _ in &remain {
@@ -54,12 +54,12 @@ fn whole(alloc: Global, remain: Vec<Sequence<Txn>>) -> Result<Parts, NoMemory> {
         },
         remain: Sequence::new(remain),
         closed: Sequence::new(closed),
-        limit: 64,
+        limit: 4096,
     })
 }
 
 /// A session of one transaction.
-fn alone(alloc: Global, txn: Txn) -> Result<Sequence<Txn>, NoMemory> {
+pub fn alone(alloc: Global, txn: Txn) -> Result<Sequence<Txn>, NoMemory> {
     let mut txns = Vec::new(alloc);
     txns.push(txn)?;
     Ok(Sequence::new(txns))

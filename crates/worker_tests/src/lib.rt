@@ -8,8 +8,12 @@ mod boards;
 #[cfg(test)]
 mod cubes;
 #[cfg(test)]
+mod depths;
+#[cfg(test)]
 mod guided;
 #[cfg(test)]
 mod histories;
+#[cfg(test)]
+mod looks;
 #[cfg(test)]
 mod meetings;

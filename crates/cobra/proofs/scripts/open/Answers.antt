@@ -4,7 +4,7 @@ use Rattle.round_state.specs.EngineState.{EngineState}
 use Rattle.cobra.proofs.scripts.open.Goals as goal
 
 pub returns-in-Ok : goal.returns-in-Ok
-returns-in-Ok c = (c.in-Ok.ensures.numbers.0, c.in-Ok.ensures.numbers.1, ap (λ (engine : EngineState). Some (stage.Open engine)) c.in-Ok.ensures.ok, c.in-Ok.ensures.holds)
+returns-in-Ok c = (c.in-Ok.ensures.numbers.0, c.in-Ok.ensures.numbers.1, ap (λ (engine : EngineState). Some (stage.Open engine c.args.version)) c.in-Ok.ensures.ok, c.in-Ok.ensures.holds)
 
 pub returns-in-Err : goal.returns-in-Err
 returns-in-Err c = (c.in-Err.ensures.err, refl)

@@ -4,4 +4,4 @@ use Rattle.forced_choices.specs.Undecided.{AreCounted}
 use Rattle.forced_choices.proofs.counted.count_open_in.Given as goal
 
 abbrev pub invariant-loop-place : goal.invariant-loop-place
-invariant-loop-place l = AreCounted l.graph.arcs (choices_at l.parts l.table.ids.items (take l.place l.table.reads.items)) l.most l.first.items l.count
+invariant-loop-place l = AreCounted l.graph.arcs (choices_at l.lookup.parts.now l.lookup.table.now.ids.items (take l.place l.lookup.table.now.reads.items)) l.most l.tally.first.items l.tally.count

@@ -1,7 +1,6 @@
-use Rattle.std.proofs.Common.{◌∙◌, List, Option, sym, subst, subst₂}
+use Rattle.std.proofs.Common.{◌∙◌, List, [], Option, sym, subst, subst₂}
 use Rattle.txn.specs.declared.transactions.TxnId.{TxnId}
 use Rattle.txn.specs.declared.choices.Arc.{Arc}
-use Rattle.txn.specs.declared.choices.ForceStep.{ForceStep}
 use Rattle.order_check.specs.Based.{Remains}
 use Rattle.known_graph.specs.Graphs.{HasKey}
 use Rattle.forced_choices.specs.Forcing.{Forces, AreAllSettledUnless}
@@ -36,16 +35,16 @@ returns-clause-kept c = λ parts log goes.
     let old = c.args.graph.now in
     let fresh = c.args.fresh.now in
     let new = c.saturate.new.graph in
-    let steps = c.saturate.new.log.items in
-    let forces = subst₂ (λ (arcs : List Arc) (none : List ForceStep). Forces more arcs none new.arcs steps) c.in_ok-add_all_noted.ensures.arcs c.new-steps.ensures.items c.in_ok-saturate.ensures.forces in
-    let nodes : (id : TxnId) → Remains more id → HasKey new.nodes id = λ id remains. subst (λ nodes. HasKey nodes id) (sym (c.in_ok-saturate.ensures.nodes ∙ c.add_all_noted.ensures.nodes)) (c.requires.nodes id remains) in
-    kept_grown parts more old log fresh new steps c.requires.good goes forces c.in_ok-saturate.ensures.closed nodes
+    let steps = c.in_ok-steps.steps.items in
+    let forces = subst (λ (arcs : List Arc). Forces more arcs [] new.arcs steps) c.in_ok-add_all_noted.ensures.arcs c.in_ok-steps.ensures.forces in
+    let nodes : (id : TxnId) → Remains more id → HasKey new.nodes id = λ id remains. subst (λ nodes. HasKey nodes id) (sym (c.in_ok-steps.ensures.nodes ∙ c.add_all_noted.ensures.nodes)) (c.requires.nodes id remains) in
+    kept_grown parts more old log fresh new steps c.requires.good goes forces c.in_ok-steps.ensures.closed nodes
 
 pub returns-clause-new : goal.returns-clause-new
 returns-clause-new c = λ parts log goes.
     let more = c.args.more.now in
     let old = c.args.graph.now in
     let new = c.saturate.new.graph in
-    let steps = c.saturate.new.log.items in
-    let forces = subst₂ (λ (arcs : List Arc) (none : List ForceStep). Forces more arcs none new.arcs steps) c.in_ok-add_all_noted.ensures.arcs c.new-steps.ensures.items c.in_ok-saturate.ensures.forces in
+    let steps = c.in_ok-steps.steps.items in
+    let forces = subst (λ (arcs : List Arc). Forces more arcs [] new.arcs steps) c.in_ok-add_all_noted.ensures.arcs c.in_ok-steps.ensures.forces in
     new_grown parts more old log c.args.fresh.now new steps goes forces

@@ -7,7 +7,7 @@ use Rattle.forced_choices.proofs.looking.look_at_columns.Given as goal
 
 abbrev pub invariant-loop-place : goal.invariant-loop-place
 invariant-loop-place l = record {
-  looked : HasLooked l.parts l.initial.graph.nodes (stage_of l.initial.graph l.initial.log.items l.initial.touched) (stage_of l.graph l.log.items l.touched) (choices_in l.parts (those_at l.table.ids.items (take l.place-index l.places)) l.read);
+  looked : HasLooked l.lookup.parts.now l.initial.graph.nodes (stage_of l.initial.graph l.initial.trail) (stage_of l.graph l.trail) (choices_in l.lookup.parts.now (those_at l.lookup.table.now.ids.items (take l.place-index l.place-items)) l.read);
   nodes : l.graph.nodes ≡ l.initial.graph.nodes;
   mark : last_mark l.graph ≡ last_mark l.initial.graph;
 }

@@ -17,13 +17,13 @@ loop-place-init c = c.requires.passed
 pub open_of_read-requires-clause-placed : goal.open_of_read-requires-clause-placed
 open_of_read-requires-clause-placed c =
     let k = c.loop-place.place in
-    let within : k < length c.args.table.now.reads.items = subst (λ (xs : List Placed). k < length xs) c.as_slice-reads.ensures.value c.loop-place-test.true in
-    subst (λ (xs : List Placed). IsPlaced c.args.parts.now c.args.graph.now.nodes (get_or xs k no_read)) (sym c.as_slice-reads.ensures.value) (c.requires.table.reads.placed k no_read within)
+    let within : k < length c.args.lookup.now.table.now.reads.items = subst (λ (xs : List Placed). k < length xs) c.as_slice-reads.ensures.value c.loop-place-test.true in
+    subst (λ (xs : List Placed). IsPlaced c.args.lookup.now.parts.now c.args.graph.now.nodes (get_or xs k no_read)) (sym c.as_slice-reads.ensures.value) (c.requires.table.reads.placed k no_read within)
 
 pub returns-in-Some-clause-choice : goal.returns-in-Some-clause-choice
 returns-in-Some-clause-choice c =
-    let parts = c.args.parts.now in
-    let table = c.args.table.now in
+    let parts = c.args.lookup.now.parts.now in
+    let table = c.args.lookup.now.table.now in
     let reads = table.reads.items in
     let arcs = c.args.graph.now.arcs in
     let k = c.loop-place.place in
@@ -35,8 +35,8 @@ returns-in-Some-clause-choice c =
 
 pub loop-place-preserved : goal.loop-place-preserved
 loop-place-preserved c =
-    let parts = c.args.parts.now in
-    let table = c.args.table.now in
+    let parts = c.args.lookup.now.parts.now in
+    let table = c.args.lookup.now.table.now in
     let ids = table.ids.items in
     let reads = table.reads.items in
     let arcs = c.args.graph.now.arcs in
@@ -50,8 +50,8 @@ loop-place-preserved c =
 
 pub returns-clause-choice : goal.returns-clause-choice
 returns-clause-choice c =
-    let parts = c.args.parts.now in
-    let table = c.args.table.now in
+    let parts = c.args.lookup.now.parts.now in
+    let table = c.args.lookup.now.table.now in
     let reads = table.reads.items in
     let past = subst (λ (xs : List Placed). length xs ≤ c.loop-place.place) c.as_slice-reads.ensures.value c.loop-place-test.false in
     let whole = ap (λ xs. choices_at parts table.ids.items xs) (take_whole reads c.loop-place.place past) ∙ c.requires.table.reads.listed ∙ ap (λ (ids : List TxnId). choices_of parts ids ids) c.requires.table.ids in

@@ -18,13 +18,13 @@ pub push_open_of_read-requires-clause-placed : goal.push_open_of_read-requires-c
 push_open_of_read-requires-clause-placed c =
     let k = c.loop-placed.placed-index in
     let reads = c.as_slice-placed-items.result.now in
-    let within : k < length c.args.table.now.reads.items = subst (λ (xs : List Placed). k < length xs) c.as_slice-placed-items.ensures.value c.loop-placed-test.true in
-    subst (λ (xs : List Placed). IsPlaced c.args.parts.now c.args.graph.now.nodes (get_or xs k no_read)) (sym c.as_slice-placed-items.ensures.value) (c.requires.reads.placed k no_read within)
+    let within : k < length c.args.lookup.now.table.now.reads.items = subst (λ (xs : List Placed). k < length xs) c.as_slice-placed-items.ensures.value c.loop-placed-test.true in
+    subst (λ (xs : List Placed). IsPlaced c.args.lookup.now.parts.now c.args.graph.now.nodes (get_or xs k no_read)) (sym c.as_slice-placed-items.ensures.value) (c.requires.reads.placed k no_read within)
 
 pub loop-placed-preserved : goal.loop-placed-preserved
 loop-placed-preserved c =
-    let parts = c.args.parts.now in
-    let table = c.args.table.now in
+    let parts = c.args.lookup.now.parts.now in
+    let table = c.args.lookup.now.table.now in
     let ids = table.ids.items in
     let reads = table.reads.items in
     let arcs = c.args.graph.now.arcs in
@@ -37,8 +37,8 @@ loop-placed-preserved c =
 
 pub returns : goal.returns
 returns c =
-    let parts = c.args.parts.now in
-    let table = c.args.table.now in
+    let parts = c.args.lookup.now.parts.now in
+    let table = c.args.lookup.now.table.now in
     let reads = table.reads.items in
     let past = subst (λ (xs : List Placed). length xs ≤ c.loop-placed.placed-index) c.as_slice-placed-items.ensures.value c.loop-placed-test.false in
     let whole = ap (λ xs. choices_at parts table.ids.items xs) (take_whole reads c.loop-placed.placed-index past) ∙ c.requires.reads.listed ∙ ap (λ (ids : List TxnId). choices_of parts ids ids) c.requires.ids in

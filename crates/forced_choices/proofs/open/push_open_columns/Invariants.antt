@@ -6,4 +6,4 @@ use Rattle.forced_choices.specs.WriterPlaces.{those_at}
 use Rattle.forced_choices.proofs.open.push_open_columns.Given as goal
 
 abbrev pub invariant-loop-place : goal.invariant-loop-place
-invariant-loop-place l = (front : List Choice) → AreFound l.graph.arcs front l.initial.found.items → AreFound l.graph.arcs (front ++ choices_in l.parts (those_at l.ids (take l.place-index l.places)) l.read) l.found.items
+invariant-loop-place l = (front : List Choice) → AreFound l.graph.arcs front l.initial.found.items → AreFound l.graph.arcs (front ++ choices_in l.lookup.parts.now (those_at l.lookup.table.now.ids.items (take l.place-index l.place-items)) l.read) l.found.items

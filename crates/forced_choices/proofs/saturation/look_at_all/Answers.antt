@@ -11,33 +11,33 @@ use Rattle.forced_choices.proofs.TableReads.{no_read, at_more}
 use Rattle.forced_choices.proofs.saturation.look_at_all.Goals as goal
 
 pub loop-placed-init : goal.loop-placed-init
-loop-placed-init c = record { looked = looked_none c.args.parts.now c.args.graph.now.nodes (stage_of c.args.graph.now c.args.log.now.items c.args.touched.now); nodes = refl; mark = refl }
+loop-placed-init c = record { looked = looked_none c.args.lookup.now.parts.now c.args.graph.now.nodes (stage_of c.args.graph.now c.args.trail.now); nodes = refl; mark = refl }
 
 pub look_at_read-requires-clause-placed : goal.look_at_read-requires-clause-placed
 look_at_read-requires-clause-placed c =
     let reads = c.as_slice-reads.result.now in
     let k = c.loop-placed.placed-index in
-    let within : k < length c.args.table.now.reads.items = subst (λ (xs : List Placed). k < length xs) c.as_slice-reads.ensures.value c.loop-placed-test.true in
-    let here = subst (λ (xs : List Placed). IsPlaced c.args.parts.now c.args.graph.now.nodes (get_or xs k no_read)) (sym c.as_slice-reads.ensures.value) (c.requires.table.placed k no_read within) in
-    subst (λ (nodes : List (Option TxnId)). IsPlaced c.args.parts.now nodes (get_or reads k no_read)) (sym c.loop-placed.invariant.nodes) here
+    let within : k < length c.args.lookup.now.table.now.reads.items = subst (λ (xs : List Placed). k < length xs) c.as_slice-reads.ensures.value c.loop-placed-test.true in
+    let here = subst (λ (xs : List Placed). IsPlaced c.args.lookup.now.parts.now c.args.graph.now.nodes (get_or xs k no_read)) (sym c.as_slice-reads.ensures.value) (c.requires.table.placed k no_read within) in
+    subst (λ (nodes : List (Option TxnId)). IsPlaced c.args.lookup.now.parts.now nodes (get_or reads k no_read)) (sym c.loop-placed.invariant.nodes) here
 
 pub look_at_read-requires-clause-nodes : goal.look_at_read-requires-clause-nodes
 look_at_read-requires-clause-nodes c = λ id remains. subst (λ nodes. HasKey nodes id) (sym c.loop-placed.invariant.nodes) (c.requires.nodes id remains)
 
 pub look_at_read-requires-clause-table : goal.look_at_read-requires-clause-table
-look_at_read-requires-clause-table c = subst (λ (nodes : List (Option TxnId)). IsLookup c.args.parts.now nodes c.args.table.now) (sym c.loop-placed.invariant.nodes) c.requires.table
+look_at_read-requires-clause-table c = subst (λ (nodes : List (Option TxnId)). IsLookup c.args.lookup.now.parts.now nodes c.args.lookup.now.table.now) (sym c.loop-placed.invariant.nodes) c.requires.table
 
 pub loop-placed-preserved : goal.loop-placed-preserved
 loop-placed-preserved c =
-    let parts = c.args.parts.now in
-    let ids = c.args.table.now.ids.items in
+    let parts = c.args.lookup.now.parts.now in
+    let ids = c.args.lookup.now.table.now.ids.items in
     let nodes = c.args.graph.now.nodes in
     let reads = c.as_slice-reads.result.now in
     let k = c.loop-placed.placed-index in
-    let start = stage_of c.args.graph.now c.args.log.now.items c.args.touched.now in
-    let middle = stage_of c.loop-placed.graph c.loop-placed.log.items c.loop-placed.touched in
+    let start = stage_of c.args.graph.now c.args.trail.now in
+    let middle = stage_of c.loop-placed.graph c.loop-placed.trail in
     let new = c.look_at_read.new in
-    let then = stage_of new.graph new.log.items new.touched in
+    let then = stage_of new.graph new.trail in
     let own = choices_in parts ids (get_or reads k no_read).read in
     let here = subst (λ (nodes : List (Option TxnId)). HasLooked parts nodes middle then own) c.loop-placed.invariant.nodes c.in_ok-look_at_read.ensures.looked in
     let both = looked_both parts nodes start middle then (choices_at parts ids (take k reads)) own c.loop-placed.invariant.looked here in
@@ -50,4 +50,4 @@ loop-placed-preserved c =
 pub returns-clause-looked : goal.returns-clause-looked
 returns-clause-looked c =
     let whole = take_whole c.as_slice-reads.result.now c.loop-placed.placed-index c.loop-placed-test.false ∙ c.as_slice-reads.ensures.value in
-    subst (λ (reads : List Placed). HasLooked c.args.parts.now c.args.graph.now.nodes (stage_of c.args.graph.now c.args.log.now.items c.args.touched.now) (stage_of c.loop-placed.graph c.loop-placed.log.items c.loop-placed.touched) (choices_at c.args.parts.now c.args.table.now.ids.items reads)) whole c.loop-placed.invariant.looked
+    subst (λ (reads : List Placed). HasLooked c.args.lookup.now.parts.now c.args.graph.now.nodes (stage_of c.args.graph.now c.args.trail.now) (stage_of c.loop-placed.graph c.loop-placed.trail) (choices_at c.args.lookup.now.parts.now c.args.lookup.now.table.now.ids.items reads)) whole c.loop-placed.invariant.looked

@@ -6,7 +6,7 @@ use Rattle.forced_choices.proofs.saturation.look_at_all.Given as goal
 
 abbrev pub invariant-loop-placed : goal.invariant-loop-placed
 invariant-loop-placed l = record {
-  looked : HasLooked l.parts l.initial.graph.nodes (stage_of l.initial.graph l.initial.log.items l.initial.touched) (stage_of l.graph l.log.items l.touched) (choices_at l.parts l.table.ids.items (take l.placed-index l.reads));
+  looked : HasLooked l.lookup.parts.now l.initial.graph.nodes (stage_of l.initial.graph l.initial.trail) (stage_of l.graph l.trail) (choices_at l.lookup.parts.now l.lookup.table.now.ids.items (take l.placed-index l.reads));
   nodes : l.graph.nodes ≡ l.initial.graph.nodes;
   mark : last_mark l.graph ≡ last_mark l.initial.graph;
 }

@@ -1,69 +1,73 @@
-use Rattle.std.proofs.Common.{◌≡◌, ◌++◌, ◌<◌, ◌≤◌, ◌∙◌, ℕ, List, Option, length, get_or, take, sym, ap, subst, append_assoc}
+use Rattle.std.proofs.Common.{◌≡◌, ◌≢◌, ◌⊎◌, ◌++◌, ◌<◌, ◌∙◌, ℕ, List, Option, length, get_or, take, sym, ap, subst, subst₂}
 use Rattle.txn.specs.declared.transactions.TxnId.{TxnId}
-use Rattle.txn.specs.declared.choices.Choice.{Choice}
 use Rattle.known_graph.specs.Bits.{HasBit}
+use Rattle.known_graph.specs.Graphs.{IsAt}
 use Rattle.forced_choices.specs.declared.reads.Placed.{Placed}
 use Rattle.forced_choices.specs.ByKeys.{reads_at}
-use Rattle.forced_choices.specs.Forcing.{Stage, stage_of, HasLooked, AreAllSettledUnless}
-use Rattle.forced_choices.specs.Masks.{choices_in, mask_of}
-use Rattle.forced_choices.specs.Tables.{choices_at}
+use Rattle.forced_choices.specs.Forcing.{stage_of, HasLooked}
+use Rattle.forced_choices.specs.Masks.{IsSettled, choices_in, mask_of}
+use Rattle.forced_choices.specs.Tables.{IsPlaced, choices_at}
+use Rattle.forced_choices.specs.Touching.{IsUntouchedAt}
 use Rattle.forced_choices.specs.WriterPlaces.{places_at}
 use Rattle.forced_choices.proofs.Distinct.{take_whole}
-use Rattle.forced_choices.proofs.KeysLooked.{at_key_more, key_untouched}
+use Rattle.forced_choices.proofs.Forced.{looked_both}
+use Rattle.forced_choices.proofs.KeysLooked.{all_in, looked_more}
 use Rattle.forced_choices.proofs.Members.{In, in_place}
-use Rattle.forced_choices.proofs.SettledReads.{looked_and_there}
-use Rattle.forced_choices.proofs.TableReads.{no_read}
+use Rattle.forced_choices.proofs.TableReads.{looked_since, no_read}
 use Rattle.forced_choices.proofs.saturation.look_at_key.Goals as goal
 
-pub returns-then-not-meets-clause-looked : goal.returns-then-not-meets-clause-looked
-returns-then-not-meets-clause-looked c = λ start before looked settled.
-    let parts = c.args.parts.now in
+-- where the columns are settled
+pub loop-place-preserved-then-are_settled_since : goal.loop-place-preserved-then-are_settled_since
+loop-place-preserved-then-are_settled_since c =
+    let parts = c.args.lookup.now.parts.now in
+    let table = c.args.lookup.now.table.now in
+    let ids = table.ids.items in
     let nodes = c.args.graph.now.nodes in
-    let table = c.args.table.now in
-    let bare : (j : ℕ) → HasBit c.args.row.now j → ¬ HasBit c.args.since.now.targets.items j = λ j has. subst (λ (row : List ℕ). ¬ HasBit row j) c.deref.ensures.value (c.meets.ensures c.if-not-meets.true j has) in
-    looked_and_there parts nodes start (stage_of c.args.graph.now c.args.log.now.items c.args.touched.now) before (choices_at parts table.ids.items (reads_at table.reads.items (places_at table.by_key.reads.lists c.args.key))) looked
-    (key_untouched parts nodes start.arcs table c.args.since.now c.args.key c.args.row.now c.requires.table settled c.requires.row bare)
-
-pub look_if_touched-requires-clause-mask : goal.look_if_touched-requires-clause-mask
-look_if_touched-requires-clause-mask c =
-    let table = c.args.table.now in
+    let reads = c.as_slice-reads.result.now in
     let places = c.of_key-place-items.result.now in
-    let place = get_or places c.loop-place.place-index 0 in
-    let here = subst (λ (xs : List ℕ). In xs place) c.of_key-place-items.ensures (in_place places c.loop-place.place-index 0 c.loop-place-test.true) in
-    let same : (get_or c.as_slice-reads.result.now place no_read).read.key ≡ c.args.key = ap (λ (xs : List Placed). (get_or xs place no_read).read.key) c.as_slice-reads.ensures.value ∙ c.requires.table.indexed.keyed c.args.key place no_read here in
-    c.mask-mask.ensures ∙ ap (λ key. mask_of table.writers.masks key) (sym same)
+    let k = c.loop-place.place-index in
+    let place = get_or places k 0 in
+    let placed = get_or reads place no_read in
+    let since = c.args.delta.now.touched.now in
+    let middle = stage_of c.loop-place.graph c.loop-place.trail in
+    let yes = c.if-are_settled_since.true in
+    let among = subst (λ (xs : List ℕ). In xs place) c.of_key-place-items.ensures (in_place places k 0 c.loop-place-test.true) in
+    let within : place < length table.reads.items = all_in (λ place. place < length table.reads.items) (places_at table.by_key.reads.lists c.args.key) place (c.requires.table.indexed.within c.args.key) among in
+    let is : IsPlaced parts nodes placed = subst (λ (xs : List Placed). IsPlaced parts nodes (get_or xs place no_read)) (sym c.as_slice-reads.ensures.value) (c.requires.table.placed place no_read within) in
+    let same : placed.read.key ≡ c.args.key = ap (λ (xs : List Placed). (get_or xs place no_read).read.key) c.as_slice-reads.ensures.value ∙ c.requires.table.indexed.keyed c.args.key place no_read among in
+    let mask = c.mask-mask.ensures ∙ ap (λ key. mask_of table.writers.masks key) (sym same) in
+    let others = subst (λ (nodes : List (Option TxnId)). (j : ℕ) (other : TxnId) → HasBit c.mask-mask.result.now j → IsAt nodes j other → other ≢ placed.read.reader → other ≢ placed.read.writer → IsUntouchedAt since placed j ⊎ IsSettled c.loop-place.graph.arcs placed.read other) c.loop-place.invariant.nodes (c.are_settled_since.ensures.others yes) in
+    record {
+      looked = λ start before looked settled.
+          let front = before ++ choices_at parts ids (reads_at reads (take k places)) in
+          looked_more parts nodes start middle ids reads places k before c.loop-place-test.true (looked_since parts nodes start middle ids table.writers c.mask-mask.result.now since placed front is c.requires.table.writers mask (c.loop-place.invariant.looked start before looked settled) settled (c.are_settled_since.ensures.read yes) others);
+      nodes = c.loop-place.invariant.nodes;
+      mark = c.loop-place.invariant.mark;
+    }
 
 pub loop-place-preserved : goal.loop-place-preserved
 loop-place-preserved c =
-    let parts = c.args.parts.now in
-    let ids = c.args.table.now.ids.items in
-    let reads = c.args.table.now.reads.items in
+    let parts = c.args.lookup.now.parts.now in
+    let ids = c.args.lookup.now.table.now.ids.items in
     let nodes = c.args.graph.now.nodes in
-    let places = places_at c.args.table.now.by_key.reads.lists c.args.key in
+    let reads = c.as_slice-reads.result.now in
+    let places = c.of_key-place-items.result.now in
     let k = c.loop-place.place-index in
-    let since = c.args.since.now in
-    let middle = stage_of c.loop-place.graph c.loop-place.log.items c.loop-place.touched in
-    let new = c.look_if_touched.new in
-    let then = stage_of new.graph new.log.items new.touched in
+    let middle = stage_of c.loop-place.graph c.loop-place.trail in
+    let then = stage_of c.look_at_read.new.graph c.look_at_read.new.trail in
     let own = choices_in parts ids (get_or reads (get_or places k 0) no_read).read in
-    let given = choices_in parts ids (get_or c.as_slice-reads.result.now (get_or c.of_key-place-items.result.now k 0) no_read).read in
-    let same : given ≡ own = ap (λ (xs : List Placed). choices_in parts ids (get_or xs (get_or c.of_key-place-items.result.now k 0) no_read).read) c.as_slice-reads.ensures.value ∙ ap (λ (xs : List ℕ). choices_in parts ids (get_or reads (get_or xs k 0) no_read).read) c.of_key-place-items.ensures in
-    let within : k < length places = subst (λ (xs : List ℕ). k < length xs) c.of_key-place-items.ensures c.loop-place-test.true in
-    let here = subst (λ (nodes : List (Option TxnId)). (start : Stage) (before : List Choice) → HasLooked parts nodes start middle before → AreAllSettledUnless parts nodes start.arcs since → HasLooked parts nodes start then (before ++ given)) c.loop-place.invariant.nodes c.in_ok-look_if_touched.ensures.looked in
+    let here = subst (λ (nodes : List (Option TxnId)). HasLooked parts nodes middle then own) c.loop-place.invariant.nodes c.in_ok-look_at_read.ensures.looked in
     record {
       looked = λ start before looked settled.
-          let front = choices_at parts ids (reads_at reads (take k places)) in
-          let both = here start (before ++ front) (c.loop-place.invariant.looked start before looked settled) settled in
-          let is = append_assoc before front given ∙ ap (λ xs. before ++ (front ++ xs)) same ∙ ap (λ xs. before ++ xs) (sym (at_key_more parts ids reads places k within)) in
-          subst (λ xs. HasLooked parts nodes start then xs) is both;
-      nodes = c.in_ok-look_if_touched.ensures.nodes ∙ c.loop-place.invariant.nodes;
-      mark = c.look_if_touched.ensures.mark ∙ c.loop-place.invariant.mark;
+          let front = before ++ choices_at parts ids (reads_at reads (take k places)) in
+          looked_more parts nodes start then ids reads places k before c.loop-place-test.true (looked_both parts nodes start middle then front own (c.loop-place.invariant.looked start before looked settled) here);
+      nodes = c.in_ok-look_at_read.ensures.nodes ∙ c.loop-place.invariant.nodes;
+      mark = c.look_at_read.ensures.mark ∙ c.loop-place.invariant.mark;
     }
 
 pub returns-clause-looked : goal.returns-clause-looked
 returns-clause-looked c = λ start before looked settled.
-    let parts = c.args.parts.now in
-    let table = c.args.table.now in
-    let places = places_at table.by_key.reads.lists c.args.key in
-    let past : length places ≤ c.loop-place.place-index = subst (λ (xs : List ℕ). length xs ≤ c.loop-place.place-index) c.of_key-place-items.ensures c.loop-place-test.false in
-    subst (λ (xs : List ℕ). HasLooked parts c.args.graph.now.nodes start (stage_of c.loop-place.graph c.loop-place.log.items c.loop-place.touched) (before ++ choices_at parts table.ids.items (reads_at table.reads.items xs))) (take_whole places c.loop-place.place-index past) (c.loop-place.invariant.looked start before looked settled)
+    let parts = c.args.lookup.now.parts.now in
+    let table = c.args.lookup.now.table.now in
+    let whole = take_whole c.of_key-place-items.result.now c.loop-place.place-index c.loop-place-test.false ∙ c.of_key-place-items.ensures in
+    subst₂ (λ (reads : List Placed) (places : List ℕ). HasLooked parts c.args.graph.now.nodes start (stage_of c.loop-place.graph c.loop-place.trail) (before ++ choices_at parts table.ids.items (reads_at reads places))) c.as_slice-reads.ensures.value whole (c.loop-place.invariant.looked start before looked settled)

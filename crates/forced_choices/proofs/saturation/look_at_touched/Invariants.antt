@@ -12,8 +12,8 @@ use Rattle.forced_choices.proofs.saturation.look_at_touched.Given as goal
 abbrev pub invariant-loop-key : goal.invariant-loop-key
 invariant-loop-key l = record {
   done : List Choice;
-  looked : HasLooked l.parts l.initial.graph.nodes (stage_of l.initial.graph l.initial.log.items l.initial.touched) (stage_of l.graph l.log.items l.touched) done;
-  each : (k : ℕ) → k < length l.table.reads.items → ((choice : Choice) → In (choices_in l.parts l.table.ids.items (get_or l.table.reads.items k no_read).read) choice → In done choice) ⊎ In (keys_of l.key-iterator) (get_or l.table.reads.items k no_read).read.key;
+  looked : HasLooked l.lookup.parts.now l.initial.graph.nodes (stage_of l.initial.graph l.initial.trail) (stage_of l.graph l.trail) done;
+  each : (k : ℕ) → k < length l.lookup.table.now.reads.items → ((choice : Choice) → In (choices_in l.lookup.parts.now l.lookup.table.now.ids.items (get_or l.lookup.table.now.reads.items k no_read).read) choice → In done choice) ⊎ In (keys_of l.key-iterator) (get_or l.lookup.table.now.reads.items k no_read).read.key;
   nodes : l.graph.nodes ≡ l.initial.graph.nodes;
   mark : last_mark l.graph ≡ last_mark l.initial.graph;
 }

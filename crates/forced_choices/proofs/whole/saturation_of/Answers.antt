@@ -1,4 +1,4 @@
-use Rattle.std.proofs.Common.{sym, subst, subst₂}
+use Rattle.std.proofs.Common.{[], sym, subst}
 use Rattle.known_graph.specs.Graphs.{HasKey}
 use Rattle.forced_choices.specs.Forcing.{Forces}
 use Rattle.forced_choices.specs.Tables.{IsTable}
@@ -17,10 +17,10 @@ saturate-requires-clause-table c = lookup_of c.args.parts.now c.in_ok-graph.grap
 
 pub returns-clause-made : goal.returns-clause-made
 returns-clause-made c = record {
-  forces = subst₂ (λ arcs log. Forces c.args.parts.now arcs log c.saturate.new.graph.arcs c.saturate.new.log.items) c.in_ok-graph.ensures.arcs c.new-log.ensures.items c.in_ok-saturate.ensures.forces;
-  closed = c.in_ok-saturate.ensures.closed;
-  nodes = λ id remains. subst (λ nodes. HasKey nodes id) (sym c.in_ok-saturate.ensures.nodes) (node_of c.args.parts.now c.in_ok-graph.graph id c.in_ok-graph.ensures.nodes remains);
+  forces = subst (λ arcs. Forces c.args.parts.now arcs [] c.saturate.new.graph.arcs c.in_ok-log.log.items) c.in_ok-graph.ensures.arcs c.in_ok-log.ensures.forces;
+  closed = c.in_ok-log.ensures.closed;
+  nodes = λ id remains. subst (λ nodes. HasKey nodes id) (sym c.in_ok-log.ensures.nodes) (node_of c.args.parts.now c.in_ok-graph.graph id c.in_ok-graph.ensures.nodes remains);
 }
 
 pub returns-clause-table : goal.returns-clause-table
-returns-clause-table c = c.in_ok-shared.ensures c.args.parts.now c.saturate.new.graph (subst (λ nodes. IsTable c.args.parts.now nodes c.in_ok-table.table) (sym c.in_ok-saturate.ensures.nodes) c.in_ok-table.ensures)
+returns-clause-table c = c.in_ok-shared.ensures c.args.parts.now c.saturate.new.graph (subst (λ nodes. IsTable c.args.parts.now nodes c.in_ok-table.table) (sym c.in_ok-log.ensures.nodes) c.in_ok-table.ensures)

@@ -14,7 +14,7 @@ loop-number-init g c =
       noted = ap items_in fresh.1 ∙ sym (ap about_each fresh.0);
       few = omega (arith, ap (λ (parcels : List Parcel). length parcels) fresh.0);
       lines = c.requires.lines;
-      told = λ all told. reading_first all _ c.args.pass.now.2 c.args.notes.now.sent told fresh.0 fresh.1;
+      told = λ all told. reading_first c.args.version all _ c.args.pass.now.2 c.args.notes.now.sent told fresh.0 fresh.1;
     }
 
 pub loop-number-preserved : goal.loop-number-preserved
@@ -29,10 +29,10 @@ loop-number-preserved g c =
       noted = handed.noted;
       few = omega (arith, handed.more, i.few);
       lines = (read.limit ∙ i.lines.0, read.line.2.fresh);
-      told = λ all told. reading_on all (lines_ahead c.loop-number.lines (g.S.ByteSource.remaining c.loop-number.source)) (lines_ahead c.next_line.new.self (g.S.ByteSource.remaining c.next_line.new.source)) c.loop-number.pass.2 now.pass.2 c.loop-number.notes.sent now.notes.sent c.loop-number.number c.loop-number.lines.limit c.in_ok-next.next (i.told all told) i.lines.0 (read.next i.lines.1) c.in_default.not-End handed.handed_in;
+      told = λ all told. reading_on c.args.version all (lines_ahead c.loop-number.lines (g.S.ByteSource.remaining c.loop-number.source)) (lines_ahead c.next_line.new.self (g.S.ByteSource.remaining c.next_line.new.source)) c.loop-number.pass.2 now.pass.2 c.loop-number.notes.sent now.notes.sent c.loop-number.number c.loop-number.lines.limit c.in_ok-next.next (i.told all told) i.lines.0 (read.next i.lines.1) c.in_default.not-End handed.handed_in;
     }
 
 pub returns-in-End-clause-handed_in : goal.returns-in-End-clause-handed_in
 returns-in-End-clause-handed_in g c =
     let next = rw c.in-End.is at (c.in_ok-next.ensures.next c.loop-number.invariant.lines.1) in
-    if_told _ _ (λ all told. reading_last all (lines_ahead c.loop-number.lines (g.S.ByteSource.remaining c.loop-number.source)) (lines_ahead c.next_line.new.self (g.S.ByteSource.remaining c.next_line.new.source)) c.loop-number.pass.2 c.loop-number.notes.sent c.loop-number.number c.loop-number.lines.limit (c.loop-number.invariant.told all told) next)
+    if_told _ _ (λ all told. reading_last c.args.version all (lines_ahead c.loop-number.lines (g.S.ByteSource.remaining c.loop-number.source)) (lines_ahead c.next_line.new.self (g.S.ByteSource.remaining c.next_line.new.source)) c.loop-number.pass.2 c.loop-number.notes.sent c.loop-number.number c.loop-number.lines.limit (c.loop-number.invariant.told all told) next)

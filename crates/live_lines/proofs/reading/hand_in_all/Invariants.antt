@@ -14,5 +14,5 @@ invariant-loop-number g l = record {
   noted : items_in l.notes.sent ≡ about_each l.pass.2;
   few : length l.pass.2 ≤ l.number;
   lines : IsAtLine l.lines;
-  told : (all : List (List ℕ)) → lines_ahead l.initial.lines (g.S.ByteSource.remaining l.initial.source) ≡ Some all → IsReading all (lines_ahead l.lines (g.S.ByteSource.remaining l.source)) l.pass.2 l.notes.sent l.number;
+  told : (all : List (List ℕ)) → lines_ahead l.initial.lines (g.S.ByteSource.remaining l.initial.source) ≡ Some all → IsReading l.fn.version all (lines_ahead l.lines (g.S.ByteSource.remaining l.source)) l.pass.2 l.notes.sent l.number;
 }

@@ -6,10 +6,10 @@ pub returns-in-Some-clause-handed_in : goal.returns-in-Some-clause-handed_in
 returns-in-Some-clause-handed_in g c =
     let handed = c.hand_in in
     let says = rw c.in-Some.is at c.in_ok-item.ensures.some in
-    hands_said c.args.next.now c.args.number c.args.pass.now.1 c.in-Some.item c.args.pass.now.2 handed.new.pass.2 c.args.notes.now.sent handed.new.notes.sent c.requires.collector handed.ensures.submitted handed.ensures.sent says
+    hands_said c.args.version c.args.next.now c.args.number c.args.pass.now.1 c.in-Some.item c.args.pass.now.2 handed.new.pass.2 c.args.notes.now.sent handed.new.notes.sent c.requires.collector handed.ensures.submitted handed.ensures.sent says
 
 pub returns-in-None-clause-handed_in : goal.returns-in-None-clause-handed_in
 returns-in-None-clause-handed_in g c =
     let refused = c.refuse in
     let none = rw c.in-None.is at c.in_ok-item.ensures.none in
-    hands_none c.args.next.now c.args.number c.args.pass.now.2 c.args.pass.now.2 c.args.notes.now.sent refused.new.notes.sent refl refused.ensures.sent none
+    hands_none c.args.version c.args.next.now c.args.number c.args.pass.now.2 c.args.pass.now.2 c.args.notes.now.sent refused.new.notes.sent refl refused.ensures.sent none

@@ -1,9 +1,21 @@
+use Rattle.std.proofs.Common.{[], ◌∷◌, codes}
 use Rattle.std.proofs.lemmas.Result.{on_ok_weaker}
-use Rattle.log_text.proofs.GainedTexts.{gains_then}
+use Rattle.serde_json.specs.Data.{string}
+use Rattle.log_text.specs.Saved.{list_data, writer_data}
+use Rattle.log_text.specs.Told.{id_data}
+use Rattle.log_text.proofs.GainedData.{gains_then}
 use Rattle.log_text.proofs.replies.push_cut.Goals as goal
 
 pub returns : goal.returns
 returns c =
+    let start = c.args.items.now.items in
+    let one = c.push_word.new.items.items in
+    let two = c.push_id.new.items.items in
+    let three = c.push_ids.new.items.items in
+    let end = c.push_writers.new.items.items in
+    let fence = id_data c.args.fence in
+    let gone = list_data id_data c.args.gone.now in
+    let writers = list_data writer_data c.args.last.now in
     on_ok_weaker c.push_writers.result
-    (λ last. gains_then _ _ _ _ _ c.in_ok-push_word.ensures (gains_then _ _ _ _ _ c.in_ok-push_id.ensures (gains_then _ _ _ _ _ (rw c.as_slice.ensures at c.in_ok-push_ids.ensures) last)))
+    (λ last. gains_then start one end (string (codes "cut") ∷ []) (fence ∷ gone ∷ writers ∷ []) c.in_ok-push_word.ensures (gains_then one two end (fence ∷ []) (gone ∷ writers ∷ []) c.in_ok-push_id.ensures (gains_then two three end (gone ∷ []) (writers ∷ []) (rw c.as_slice.ensures at c.in_ok-push_ids.ensures) last)))
     (rw c.as_slice-2.ensures at c.push_writers.ensures)

@@ -1,5 +1,5 @@
 use Rattle.std.proofs.lemmas.Result.{on_ok_weaker}
-use Rattle.log_text.proofs.GainedTexts.{gains_then}
+use Rattle.log_text.proofs.GainedData.{gains_then}
 use Rattle.log_text.proofs.replies.push_ordered.Goals as goal
 
 pub returns : goal.returns

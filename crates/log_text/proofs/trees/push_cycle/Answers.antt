@@ -1,6 +1,6 @@
-use Rattle.log_text.specs.Trees.{arc_text}
-use Rattle.log_text.proofs.GainedTexts.{gains_elements}
+use Rattle.log_text.specs.Told.{arc_data}
+use Rattle.log_text.proofs.GainedData.{gains_elements}
 use Rattle.log_text.proofs.trees.push_cycle.Goals as goal
 
 pub returns : goal.returns
-returns c = gains_elements arc_text _ _ c.loop-arc.list c.args.arcs.now _ c.loop-arc.invariant c.loop-arc-test.false c.in_ok-push.ensures.items
+returns c = gains_elements arc_data _ _ c.loop-arc.list c.args.arcs.now _ c.loop-arc.invariant c.loop-arc-test.false c.in_ok-push.ensures.items

@@ -1,8 +1,7 @@
-use Rattle.std.proofs.Common.{map, take}
-use Rattle.serde_json.specs.View.{items_view}
-use Rattle.log_text.specs.Trees.{arc_text}
-use Rattle.log_text.specs.Texts.{HaveTexts}
+use Rattle.std.proofs.Common.{◌≡◌, map, take}
+use Rattle.serde_json.specs.View.{view}
+use Rattle.log_text.specs.Told.{arc_data}
 use Rattle.log_text.proofs.trees.push_cycle.Given as goal
 
 abbrev pub invariant-loop-arc : goal.invariant-loop-arc
-invariant-loop-arc l = HaveTexts (items_view l.list.items) (map arc_text (take l.arc-index l.arcs))
+invariant-loop-arc l = map view l.list.items ≡ map arc_data (take l.arc-index l.arcs)

@@ -2,28 +2,28 @@ use Rattle.std.proofs.Common.{List, [], ◌∷◌, ◌++◌, Bor, map, sym, ap, 
 use Rattle.txn.specs.declared.choices.ForceStep.{ForceStep}
 use Rattle.refutation.specs.Weights.{weight}
 use Rattle.refutation.specs.declared.trees.Tree.{Tree}
-use Rattle.log_text.specs.Trees.{step_text, items_of}
+use Rattle.log_text.specs.Told.{step_data, nodes_data}
 use Rattle.log_text.proofs.WaitingTrees.{comes_closed, comes_forced, comes_split, lighter_forced, lighter_split}
 use Rattle.log_text.proofs.trees.push_node.Goals as goal
 
 pub returns-in_ok-push_leaf-in-Close-clause-written : goal.returns-in_ok-push_leaf-in-Close-clause-written
-returns-in_ok-push_leaf-in-Close-clause-written c = λ texts come.
-    comes_closed _ _ c.args.waiting.now.items c.args.tree c.in-Close.leaf texts (ap items_of c.in-Close.is) c.in_ok-push_leaf-in-Close.ensures come
+returns-in_ok-push_leaf-in-Close-clause-written c = λ all come.
+    comes_closed _ _ c.args.waiting.now.items c.args.tree c.in-Close.leaf all (ap nodes_data c.in-Close.is) c.in_ok-push_leaf-in-Close.ensures come
 
 pub returns-in_ok-push-in-Force-clause-written : goal.returns-in_ok-push-in-Force-clause-written
-returns-in_ok-push-in-Force-clause-written c = λ texts come.
+returns-in_ok-push-in-Force-clause-written c = λ all come.
     let rest = c.in-Force.rest.value in
-    comes_forced _ _ c.args.waiting.now.items _ c.args.tree c.deref.result c.as_slice.result.now rest texts
-    (ap items_of c.in-Force.is ∙ ap (λ (steps : List ForceStep). map step_text steps ++ items_of rest) (sym c.as_slice.ensures)) c.deref.ensures c.in_ok-push-in-Force.ensures.items c.in_ok-push_steps-in-Force.ensures come
+    comes_forced _ _ c.args.waiting.now.items _ c.args.tree c.deref.result c.as_slice.result.now rest all
+    (ap nodes_data c.in-Force.is ∙ ap (λ (steps : List ForceStep). map step_data steps ++ nodes_data rest) (sym c.as_slice.ensures)) c.deref.ensures c.in_ok-push-in-Force.ensures.items c.in_ok-push_steps-in-Force.ensures come
 
 pub returns-in_ok-push-in-Force-clause-lighter : goal.returns-in_ok-push-in-Force-clause-lighter
 returns-in_ok-push-in-Force-clause-lighter c =
     lighter_forced c.args.waiting.now.items _ c.args.tree c.deref.result c.in-Force.rest.value (ap weight c.in-Force.is) c.deref.ensures c.in_ok-push-in-Force.ensures.items
 
 pub returns-in_ok-push-in-Split-2-clause-written : goal.returns-in_ok-push-in-Split-2-clause-written
-returns-in_ok-push-in-Split-2-clause-written c = λ texts come.
+returns-in_ok-push-in-Split-2-clause-written c = λ all come.
     let waits = c.in_ok-push-in-Split-2.ensures.items ∙ ap (λ (ts : List (Bor Tree)). ts ++ c.deref-in-Split-2.result ∷ []) c.in_ok-push-in-Split.ensures.items in
-    comes_split _ _ c.args.waiting.now.items _ c.args.tree c.deref-in-Split-2.result c.deref-in-Split.result c.in-Split.choice c.in-Split.first.value c.in-Split.second.value texts (ap items_of c.in-Split.is) c.deref-in-Split-2.ensures c.deref-in-Split.ensures waits c.in_ok-push_split-in-Split.ensures come
+    comes_split _ _ c.args.waiting.now.items _ c.args.tree c.deref-in-Split-2.result c.deref-in-Split.result c.in-Split.choice c.in-Split.first.value c.in-Split.second.value all (ap nodes_data c.in-Split.is) c.deref-in-Split-2.ensures c.deref-in-Split.ensures waits c.in_ok-push_split-in-Split.ensures come
 
 pub returns-in_ok-push-in-Split-2-clause-lighter : goal.returns-in_ok-push-in-Split-2-clause-lighter
 returns-in_ok-push-in-Split-2-clause-lighter c =

@@ -5,5 +5,5 @@ pub loop-advance-init : goal.loop-advance-init
 loop-advance-init g c = record {
   fresh = c.requires.under_way;
   limit = c.requires.limit;
-  told = λ input told. checking_first input _ c.args.replay.now.engine (ahead_first c.args.reader.now _ input told c.requires.ahead) c.requires.unopened;
+  told = λ input told. checking_first input _ c.args.replay.now.script (ahead_first c.args.reader.now _ input told c.requires.ahead) c.requires.unopened;
 }

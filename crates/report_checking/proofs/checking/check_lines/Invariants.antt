@@ -9,7 +9,7 @@ abbrev pub invariant-loop-advance : goal.invariant-loop-advance
 invariant-loop-advance g l = record {
   fresh : l.reader.under_way ≡ Some [];
   limit : l.reader.limit ≡ LONGEST_REPLY;
-  told : (input : List ℕ) → g.R.ByteSource.remaining l.initial.source ≡ Some input → IsChecking input (lines_ahead l.reader (g.R.ByteSource.remaining l.source)) l.replay.engine;
+  told : (input : List ℕ) → g.R.ByteSource.remaining l.initial.source ≡ Some input → IsChecking input (lines_ahead l.reader (g.R.ByteSource.remaining l.source)) l.replay.script;
 }
 
 abbrev pub decreases-loop-advance : goal.decreases-loop-advance

@@ -2,15 +2,30 @@ use Rattle.std.proofs.Common.{sym, subst}
 use Rattle.log_text.specs.Replies.{HasKindOfOrder}
 use Rattle.report_checking.proofs.EarnedReports.{earned_kind}
 use Rattle.report_checking.proofs.OwedReplies.{report_owed, no_round_owed}
+use Rattle.report_checking.proofs.RightReports.{right_finished, never_none, never_bad}
 use Rattle.report_checking.proofs.owed.owed_finish.Goals as goal
 
-pub returns-in-Ok : goal.returns-in-Ok
-returns-in-Ok c = (
+pub returns-in-Ok-clause-owed : goal.returns-in-Ok-clause-owed
+returns-in-Ok-clause-owed c = (
   subst HasKindOfOrder (sym c.report_of.ensures) (earned_kind c.args.engine.now c.finish.new.self c.in-Ok.report c.in-Ok.ensures.earned),
   report_owed c.args.engine.now c.finish.new.self c.in-Ok.report c.in-Ok.ensures.owed c.report_of.result c.report_of.ensures,
 )
 
-pub returns-in-Err-NoRound : goal.returns-in-Err-NoRound
-returns-in-Err-NoRound c =
+pub returns-in-Err-NoRound-clause-owed : goal.returns-in-Err-NoRound-clause-owed
+returns-in-Err-NoRound-clause-owed c =
     let why = rw c.in-Err-NoRound.field-0-is at c.in-Err-NoRound.ensures.err in
     (tt, no_round_owed c.args.engine.now c.finish.new.self why.0 why.1)
+
+pub returns-in-Ok-clause-right : goal.returns-in-Ok-clause-right
+returns-in-Ok-clause-right c =
+    right_finished c.args.engine.now c.args.stored.now c.in_ok-answer.answer c.in-Ok.report c.report_of.result c.in_ok-answer.ensures c.in-Ok.ensures.answered c.report_of.ensures
+
+pub returns-in-Err-NoRound-clause-right : goal.returns-in-Err-NoRound-clause-right
+returns-in-Err-NoRound-clause-right c =
+    let why = rw c.in-Err-NoRound.field-0-is at c.in-Err-NoRound.ensures.err in
+    λ report new earned shows. absurd (never_none c.args.engine.now why.0 report new earned)
+
+pub returns-in-Err-BadCertificate-clause-right : goal.returns-in-Err-BadCertificate-clause-right
+returns-in-Err-BadCertificate-clause-right c =
+    let why = rw c.in-Err-BadCertificate.field-0-is at c.in-Err-BadCertificate.ensures.err in
+    λ report new earned shows. absurd (never_bad c.args.engine.now c.args.stored.now c.in_ok-answer.answer c.in_ok-answer.ensures why.0 report new earned shows)

@@ -1,54 +1,110 @@
+use Rattle.std.proofs.Common.{subst}
+use Rattle.std.proofs.lemmas.Result.{IfOk-weaker}
+use Rattle.round_state.specs.declared.reports.Certificate.{Certificate}
+use Rattle.round_state.specs.declared.steps.Step.TheVariants as step
+use Rattle.report_checking.specs.Reading.{IsToldOf}
+use Rattle.report_checking.proofs.RightReports.{right_judged}
 use Rattle.report_checking.proofs.OwedReplies.{show_owed, saved_owed, out_of_place}
 use Rattle.report_checking.proofs.owed.owed_open.Goals as goal
 
-pub returns-in-Offer : goal.returns-in-Offer
-returns-in-Offer c = rw c.in-Offer.is c.owed_step.ensures
+pub returns-in-Offer-clause-owed : goal.returns-in-Offer-clause-owed
+returns-in-Offer-clause-owed c = rw c.in-Offer.is c.owed_offer.ensures
 
-pub returns-in-Join : goal.returns-in-Join
-returns-in-Join c = rw c.in-Join.is c.owed_step-in-Join.ensures
+pub returns-in-Join-clause-owed : goal.returns-in-Join-clause-owed
+returns-in-Join-clause-owed c = rw c.in-Join.is c.owed_join.ensures
 
-pub returns-in-Close : goal.returns-in-Close
-returns-in-Close c = rw c.in-Close.is c.owed_step-in-Close.ensures
+pub returns-in-Close-clause-owed : goal.returns-in-Close-clause-owed
+returns-in-Close-clause-owed c = rw c.in-Close.is c.owed_step.ensures.owed
 
-pub returns-in-Begin : goal.returns-in-Begin
-returns-in-Begin c = rw c.in-Begin.is c.owed_step-in-Begin.ensures
+pub returns-in-Begin-clause-owed : goal.returns-in-Begin-clause-owed
+returns-in-Begin-clause-owed c = rw c.in-Begin.is c.owed_step-in-Begin.ensures.owed
 
-pub returns-in-Finish : goal.returns-in-Finish
-returns-in-Finish c = rw c.in-Finish.is c.owed_finish.ensures
+pub returns-in-Finish-clause-owed : goal.returns-in-Finish-clause-owed
+returns-in-Finish-clause-owed c = rw c.in-Finish.is c.owed_finish.ensures.owed
 
-pub returns-in-Round : goal.returns-in-Round
-returns-in-Round c = rw c.in-Round.is c.owed_round.ensures
+pub returns-in-Round-clause-owed : goal.returns-in-Round-clause-owed
+returns-in-Round-clause-owed c = rw c.in-Round.is c.owed_round.ensures.owed
 
-pub returns-in-Answer : goal.returns-in-Answer
-returns-in-Answer c = rw (c.in-Answer.is, ← c.certificate_of.ensures) c.owed_step-in-Answer.ensures
+pub returns-in-Answer-clause-owed : goal.returns-in-Answer-clause-owed
+returns-in-Answer-clause-owed c = rw (c.in-Answer.is, ← c.certificate_of.ensures) c.owed_step-in-Answer.ensures.owed
 
-pub returns-in-Truncate : goal.returns-in-Truncate
-returns-in-Truncate c = rw c.in-Truncate.is c.owed_step-in-Truncate.ensures
+pub returns-in-Truncate-clause-owed : goal.returns-in-Truncate-clause-owed
+returns-in-Truncate-clause-owed c = rw c.in-Truncate.is c.owed_step-in-Truncate.ensures.owed
 
-pub returns-in-Rebuild : goal.returns-in-Rebuild
-returns-in-Rebuild c = rw c.in-Rebuild.is c.owed_step-in-Rebuild.ensures
+pub returns-in-Rebuild-clause-owed : goal.returns-in-Rebuild-clause-owed
+returns-in-Rebuild-clause-owed c = rw c.in-Rebuild.is c.owed_step-in-Rebuild.ensures.owed
 
-pub returns-in-Show : goal.returns-in-Show
-returns-in-Show c =
+pub returns-in-Show-clause-owed : goal.returns-in-Show-clause-owed
+returns-in-Show-clause-owed c =
     let is = rw c.engine.ensures at c.in_ok-state_told-in-Show.ensures in
     rw c.in-Show.is (show_owed c.args.engine.now c.in_ok-state_told-in-Show.field-0 is)
 
-pub returns-in-Save : goal.returns-in-Save
-returns-in-Save c =
+pub returns-in-Save-clause-owed : goal.returns-in-Save-clause-owed
+returns-in-Save-clause-owed c =
     let is = rw c.engine-in-Save.ensures at c.in_ok-saved_told-in-Save.ensures in
     rw c.in-Save.is (saved_owed c.args.engine.now c.in-Save.wanted c.in_ok-saved_told-in-Save.field-0 is)
 
-pub returns-in-Start : goal.returns-in-Start
-returns-in-Start c = rw c.in-Start.is (tt, out_of_place c.args.engine.now)
+pub returns-in-Start-clause-owed : goal.returns-in-Start-clause-owed
+returns-in-Start-clause-owed c = rw c.in-Start.is (tt, out_of_place c.args.engine.now)
 
-pub returns-in-Resume : goal.returns-in-Resume
-returns-in-Resume c = rw c.in-Resume.is (tt, out_of_place c.args.engine.now)
+pub returns-in-Resume-clause-owed : goal.returns-in-Resume-clause-owed
+returns-in-Resume-clause-owed c = rw c.in-Resume.is (tt, out_of_place c.args.engine.now)
 
-pub returns-in-Marks : goal.returns-in-Marks
-returns-in-Marks c = rw c.in-Marks.is (tt, out_of_place c.args.engine.now)
+pub returns-in-Marks-clause-owed : goal.returns-in-Marks-clause-owed
+returns-in-Marks-clause-owed c = rw c.in-Marks.is (tt, out_of_place c.args.engine.now)
 
-pub returns-in-Last : goal.returns-in-Last
-returns-in-Last c = rw c.in-Last.is (tt, out_of_place c.args.engine.now)
+pub returns-in-Last-clause-owed : goal.returns-in-Last-clause-owed
+returns-in-Last-clause-owed c = rw c.in-Last.is (tt, out_of_place c.args.engine.now)
 
-pub returns : goal.returns
-returns c = rw c.in-Resumed.is (tt, out_of_place c.args.engine.now)
+pub returns-clause-owed : goal.returns-clause-owed
+returns-clause-owed c = rw c.in-Resumed.is (tt, out_of_place c.args.engine.now)
+
+pub returns-in-Offer-clause-right : goal.returns-in-Offer-clause-right
+returns-in-Offer-clause-right c = rw c.in-Offer.is (IfOk-weaker c.owed_offer.result _ _ (λ given owes report new earned shows. absurd earned) c.owed_offer.ensures)
+
+pub returns-in-Join-clause-right : goal.returns-in-Join-clause-right
+returns-in-Join-clause-right c = rw c.in-Join.is (IfOk-weaker c.owed_join.result _ _ (λ given owes report new earned shows. absurd earned) c.owed_join.ensures)
+
+pub returns-in-Close-clause-right : goal.returns-in-Close-clause-right
+returns-in-Close-clause-right c = rw c.in-Close.is (IfOk-weaker c.owed_step.result _ _ (λ given owes report new earned shows. absurd earned) c.owed_step.ensures.owed)
+
+pub returns-in-Begin-clause-right : goal.returns-in-Begin-clause-right
+returns-in-Begin-clause-right c = rw c.in-Begin.is (IfOk-weaker c.owed_step-in-Begin.result _ _ (λ given owes report new earned shows. absurd earned) c.owed_step-in-Begin.ensures.owed)
+
+pub returns-in-Truncate-clause-right : goal.returns-in-Truncate-clause-right
+returns-in-Truncate-clause-right c = rw c.in-Truncate.is (IfOk-weaker c.owed_step-in-Truncate.result _ _ (λ given owes report new earned shows. absurd earned) c.owed_step-in-Truncate.ensures.owed)
+
+pub returns-in-Rebuild-clause-right : goal.returns-in-Rebuild-clause-right
+returns-in-Rebuild-clause-right c = rw c.in-Rebuild.is (IfOk-weaker c.owed_step-in-Rebuild.result _ _ (λ given owes report new earned shows. absurd earned) c.owed_step-in-Rebuild.ensures.owed)
+
+pub returns-in-Finish-clause-right : goal.returns-in-Finish-clause-right
+returns-in-Finish-clause-right c = rw c.in-Finish.is c.owed_finish.ensures.right
+
+pub returns-in-Round-clause-right : goal.returns-in-Round-clause-right
+returns-in-Round-clause-right c = rw c.in-Round.is (IfOk-weaker c.owed_round.result _ _ (λ given right report new earned shows. right earned.0 earned.1 report new earned.2 shows) c.owed_round.ensures.right)
+
+pub returns-in-Answer-clause-right : goal.returns-in-Answer-clause-right
+returns-in-Answer-clause-right c =
+    rw c.in-Answer.is
+    (IfOk-weaker c.owed_step-in-Answer.result _ _ (λ given told. right_judged c.args.engine.now c.in-Answer.shown c.args.stored.now given (subst (λ (it : Certificate). IsToldOf c.args.engine.now (step.Judge it) given) c.certificate_of.ensures told)) c.owed_step-in-Answer.ensures.told)
+
+pub returns-in-Show-clause-right : goal.returns-in-Show-clause-right
+returns-in-Show-clause-right c = rw c.in-Show.is (λ report new earned shows. absurd earned)
+
+pub returns-in-Save-clause-right : goal.returns-in-Save-clause-right
+returns-in-Save-clause-right c = rw c.in-Save.is (λ report new earned shows. absurd earned)
+
+pub returns-in-Start-clause-right : goal.returns-in-Start-clause-right
+returns-in-Start-clause-right c = rw c.in-Start.is (λ report new earned shows. absurd earned)
+
+pub returns-in-Resume-clause-right : goal.returns-in-Resume-clause-right
+returns-in-Resume-clause-right c = rw c.in-Resume.is (λ report new earned shows. absurd earned)
+
+pub returns-in-Marks-clause-right : goal.returns-in-Marks-clause-right
+returns-in-Marks-clause-right c = rw c.in-Marks.is (λ report new earned shows. absurd earned)
+
+pub returns-in-Last-clause-right : goal.returns-in-Last-clause-right
+returns-in-Last-clause-right c = rw c.in-Last.is (λ report new earned shows. absurd earned)
+
+pub returns-clause-right : goal.returns-clause-right
+returns-clause-right c = rw c.in-Resumed.is (λ report new earned shows. absurd earned)

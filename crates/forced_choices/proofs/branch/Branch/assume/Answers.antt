@@ -17,10 +17,10 @@ use Rattle.forced_choices.proofs.branch.Branch.assume.Goals as goal
 pub first_open_from-requires-clause-passed : goal.first_open_from-requires-clause-passed
 first_open_from-requires-clause-passed c =
     let passed = passed_before c.self.inside.parts (table_in c.self.inside.table) c.self.inside.table.passed c.self.inside.tops.items c.deref.result.now c.passed_by-passed.result c.self.inside.graph c.deref.ensures.value c.passed_by-passed.ensures c.self.invariant.passed in
-    subst (λ (table : Table). ArePassed c.self.inside.parts c.self.inside.graph.arcs table c.passed_by-passed.result) (sym c.get-table.ensures) passed
+    subst (λ (table : Table). ArePassed c.self.inside.parts c.self.inside.graph.arcs table c.passed_by-passed.result) (sym c.get.ensures) passed
 
 pub first_open_from-requires-clause-table : goal.first_open_from-requires-clause-table
-first_open_from-requires-clause-table c = subst (λ (table : Table). IsTable c.self.inside.parts c.self.inside.graph.nodes table) (sym c.get-table.ensures) c.self.invariant.table
+first_open_from-requires-clause-table c = subst (λ (table : Table). IsTable c.self.inside.parts c.self.inside.graph.nodes table) (sym c.get.ensures) c.self.invariant.table
 
 pub take_side-requires-clause-choice : goal.take_side-requires-clause-choice
 take_side-requires-clause-choice c = subst (λ (b : BranchState). IsChoice b.parts c.args.choice) (sym c.self.view_is) c.requires
@@ -33,8 +33,8 @@ take_side-requires-clause-nodes c = λ id remains.
 
 pub take_side-requires-clause-table : goal.take_side-requires-clause-table
 take_side-requires-clause-table c =
-    let here : IsTable c.self.inside.parts c.self.inside.graph.nodes c.get-table.result.now = subst (λ (table : Table). IsTable c.self.inside.parts c.self.inside.graph.nodes table) (sym c.get-table.ensures) c.self.invariant.table in
-    subst (λ (g : GraphState). IsTable c.self.inside.parts g.nodes c.get-table.result.now) (sym c.in_ok-mark.ensures.ok) here
+    let here : IsTable c.self.inside.parts c.self.inside.graph.nodes c.get.result.now = subst (λ (table : Table). IsTable c.self.inside.parts c.self.inside.graph.nodes table) (sym c.get.ensures) c.self.invariant.table in
+    subst (λ (g : GraphState). IsTable c.self.inside.parts g.nodes c.get.result.now) (sym c.in_ok-mark.ensures.ok) here
 
 pub take_side-requires-clause-closed : goal.take_side-requires-clause-closed
 take_side-requires-clause-closed c =
@@ -72,7 +72,7 @@ invariant_of-self-in-Ok c =
       stacked = subst (λ (levels : List Level). AreStacked c.self.inside.parts c.self.inside.log levels c.take_side.new.graph) (sym more)
           (stacked_more c.self.inside.parts c.self.inside.log levels c.self.inside.graph c.mark.new.self c.take_side.new.graph c.args.choice c.args.side ok.0 c.self.invariant.stacked c.in_ok-mark.ensures.ok c.take_side.ensures.mark ok.2 (subst (λ (b : BranchState). IsChoice b.parts c.args.choice) (sym c.self.view_is) c.requires));
       passed = subst (λ (counts : List ℕ). HavePassed c.self.inside.parts (table_in c.self.inside.table) c.self.inside.table.passed counts c.take_side.new.graph) (sym (ap (λ tops. passed_onto [] tops) ok.1 ∙ passed_push [] c.self.inside.tops.items top))
-          (passed_more c.self.inside.parts (table_in c.self.inside.table) c.self.inside.table.passed (passed_onto [] c.self.inside.tops.items) c.in_ok-first.first.passed c.self.inside.graph c.mark.new.self c.take_side.new.graph c.self.invariant.passed c.in_ok-mark.ensures.ok c.take_side.ensures.mark (subst (λ (table : Table). ArePassed c.self.inside.parts c.self.inside.graph.arcs table c.in_ok-first.first.passed) c.get-table.ensures c.in_ok-first.ensures.passed));
+          (passed_more c.self.inside.parts (table_in c.self.inside.table) c.self.inside.table.passed (passed_onto [] c.self.inside.tops.items) c.in_ok-first.first.passed c.self.inside.graph c.mark.new.self c.take_side.new.graph c.self.invariant.passed c.in_ok-mark.ensures.ok c.take_side.ensures.mark (subst (λ (table : Table). ArePassed c.self.inside.parts c.self.inside.graph.arcs table c.in_ok-first.first.passed) c.get.ensures c.in_ok-first.ensures.passed));
     }
 
 pub returns-in-Ok-clause-ok : goal.returns-in-Ok-clause-ok

@@ -16,10 +16,10 @@ use Rattle.forced_choices.proofs.branch.Branch.first_open.Goals as goal
 pub first_open_from-requires-clause-passed : goal.first_open_from-requires-clause-passed
 first_open_from-requires-clause-passed c =
     let passed = passed_before c.self.inside.parts (table_in c.self.inside.table) c.self.inside.table.passed c.self.inside.tops.items c.deref.result.now c.passed_by-passed.result c.self.inside.graph c.deref.ensures.value c.passed_by-passed.ensures c.self.invariant.passed in
-    subst (λ (table : Table). ArePassed c.self.inside.parts c.self.inside.graph.arcs table c.passed_by-passed.result) (sym c.get-table.ensures) passed
+    subst (λ (table : Table). ArePassed c.self.inside.parts c.self.inside.graph.arcs table c.passed_by-passed.result) (sym c.get.ensures) passed
 
 pub first_open_from-requires-clause-table : goal.first_open_from-requires-clause-table
-first_open_from-requires-clause-table c = subst (λ (table : Table). IsTable c.self.inside.parts c.self.inside.graph.nodes table) (sym c.get-table.ensures) c.self.invariant.table
+first_open_from-requires-clause-table c = subst (λ (table : Table). IsTable c.self.inside.parts c.self.inside.graph.nodes table) (sym c.get.ensures) c.self.invariant.table
 
 pub returns : goal.returns
 returns c =

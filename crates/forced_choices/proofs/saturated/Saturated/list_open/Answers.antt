@@ -22,11 +22,11 @@ count_open_in-requires-clause-after c = λ reader writer key reads writes. (c.se
 pub returns : goal.returns
 returns c =
     let parts = c.self.inside.parts in
-    let counted = c.in_ok-first.ensures in
+    let counted = c.in_ok-tally.ensures in
     let own : parts ≡ c.args.self.now.parts = ap (λ (s : SaturatedState). s.parts) c.self.view_is in
     record {
       all = counted.all;
       open_choices = subst (λ p. AreOpenChoices p [] counted.all) own (open_choices_of parts c.self.inside.graph c.self.inside.log counted.all c.self.invariant.0 counted.found);
-      first = c.new.ensures ∙ c.truncate.ensures.items ∙ front_cut c.args.most c.in_ok-first.first.items counted.all counted.front;
+      first = c.new.ensures ∙ c.truncate.ensures.items ∙ front_cut c.args.most c.in_ok-tally.tally.first.items counted.all counted.front;
       counted = counted.counted;
     }

@@ -1,12 +1,18 @@
-use Rattle.std.proofs.Common.{Some}
+use Rattle.std.proofs.Common.{Some, refl}
 use Rattle.std.proofs.lemmas.Result.{IfOk-weaker}
 use Rattle.report_checking.specs.Owing.{Owes, OwesOpen}
 use Rattle.report_checking.specs.Reading.{Leads, LeadsScript, IsOwedBy}
+use Rattle.report_checking.specs.declared.pairs.OpenScript.{OpenScript}
 use Rattle.report_checking.proofs.OwedReplies.{open_owed}
 use Rattle.report_checking.proofs.pairs.Replay.owed.Goals as goal
 
-pub returns-in-Some : goal.returns-in-Some
-returns-in-Some c =
+pub returns-in-Some-clause-owed : goal.returns-in-Some-clause-owed
+returns-in-Some-clause-owed c =
+    let old : OpenScript = c.in-Some.script in
+    let new : OpenScript = record old { engine = c.owed_open.new.engine } in
     rw c.in-Some.is
-    (IfOk-weaker c.owed_open.result (IsOwedBy (λ answer. Leads c.in-Some.engine c.owed_open.new.engine (λ before after. OwesOpen before c.args.command answer after))) (IsOwedBy (λ answer. LeadsScript (Some c.in-Some.engine) (Some c.owed_open.new.engine) (λ before after. Owes before c.args.command answer after)))
-    (open_owed c.in-Some.engine c.owed_open.new.engine c.args.command) c.owed_open.ensures)
+    (IfOk-weaker c.owed_open.result (IsOwedBy (λ answer. Leads old.engine new.engine (λ before after. OwesOpen old.version before c.args.command answer after))) (IsOwedBy (λ answer. LeadsScript (Some old) (Some new) (λ before after. Owes before c.args.command answer after)))
+    (λ given. open_owed old new c.args.command given refl) c.owed_open.ensures.owed)
+
+pub returns-in-Some-clause-right : goal.returns-in-Some-clause-right
+returns-in-Some-clause-right c = rw c.in-Some.is c.owed_open.ensures.right

@@ -16,6 +16,6 @@ pub invariant_of-self-2 : goal.invariant_of-self-2
 invariant_of-self-2 c =
     let e = c.self.inside in
     let receives = c.in_ok-admit.ensures.next.session in (
-      kept_offered c.fragment_keeps_front.ensures e.parts c.take_in.new.parts e.marks c.take_in.new.marks e.waits c.take_in.new.waits e.asked e.held e.round c.args.fragment c.in_ok-take_in.ensures.ok receives c.take_in.ensures.tracked c.self.invariant.0,
-      known_with c.fragment_keeps_front.ensures e.parts c.take_in.new.parts e.asked e.kept c.args.fragment c.in_ok-take_in.ensures.ok receives c.self.invariant.1,
+      kept_offered c.fragment_keeps_front.ensures e.parts c.take_in.new.parts e.marks c.take_in.new.marks e.waits c.take_in.new.waits e.asked e.held e.round c.in_ok-fragment.fragment c.in_ok-take_in.ensures.ok receives c.take_in.ensures.tracked c.self.invariant.0,
+      known_with c.fragment_keeps_front.ensures e.parts c.take_in.new.parts e.asked e.kept c.in_ok-fragment.fragment c.in_ok-take_in.ensures.ok receives c.self.invariant.1,
     )

@@ -1,0 +1,468 @@
+"""What attempts did that were aborted: it is logged and told, and counts for nothing."""
+import io
+import json
+import os
+import tempfile
+import unittest
+from contextlib import redirect_stderr, redirect_stdout
+from unittest import mock
+
+from zanteyard import Aborted, Auditor, AuditorApart, AuditLostError, LiveAuditor, Logged
+from zanteyard import OutcomeUnknown, Session
+from zanteyard import audited, from_start, reasons, smaller, words
+from zanteyard.anomalies import find_anomaly
+from zanteyard.auditor import FENCE, FLAG, PROGRAM
+from zanteyard.command_line import main
+from zanteyard.coverage import Coverage
+from zanteyard.errors import JournalError, ProgramTooOldError
+from zanteyard.journal import EARLIER, FIRST_LINE
+from zanteyard.journal_records import record, records
+from zanteyard.lockstep import SESSIONS, run_lockstep
+from zanteyard.memory_store import MemoryStore
+from zanteyard.picture import dot_text
+from zanteyard.records import MOST, as_bytes, undone, unpacked
+from zanteyard.sqlite_store import SQLiteStore
+from zanteyard.sqlite_store import prepare as prepare_sqlite
+
+from .test_memory import add_one, put, read
+from .test_restarting import WithJournal
+
+UNDONE = Logged((), (), "aborted", tried_reads=[("y", "init")], tried_writes=["x", "y"])
+OLD = """#!/bin/sh
+while read -r line; do echo '["no",1,"BadLine"]'; done
+"""
+
+
+class WithFolder(unittest.TestCase):
+    def setUp(self):
+        if not os.path.isfile(PROGRAM):
+            self.skipTest(f"{PROGRAM} is not built: see README.md")
+        folder = tempfile.TemporaryDirectory()
+        self.addCleanup(folder.cleanup)
+        self.folder, self.path = folder.name, os.path.join(folder.name, "script")
+
+    def auditor(self, **more):
+        auditor = Auditor(3, 64, script=self.path, **more)
+        self.addCleanup(auditor.end)
+        return auditor
+
+    def lines(self):
+        with open(self.path, encoding="utf-8") as file:
+            return [json.loads(line) for line in file]
+
+    def sessions(self, auditor, fault=None):
+        self.store = MemoryStore(fault)
+        return [Session(auditor, number, self.store.connect()) for number in range(3)]
+
+
+class Lines(WithFolder):
+    """What the auditor is given."""
+
+    def test_an_attempt_is_told_with_what_it_did(self):
+        """And what did nothing is idle, as ever."""
+        auditor = self.auditor()
+        auditor.offer(0, 0, UNDONE, Logged((), (), "aborted"), Logged((), ("x",)))
+        auditor.offer(1, 0, Logged([("x", (0, 2))], ()), Logged([("x", "init")], (), "aborted"))
+        self.assertEqual(
+            self.lines(),
+            [
+                ["open", 3, 64, 2],
+                ["offer", 0, 0, [[[[1, "init"]], [1, 2], "aborted"], [[], []], [[], [2]]]],
+                ["offer", 1, 0, [[[[2, 0, 2]], []], [[[2, "init"]], []]]],
+            ],
+        )
+
+    def test_it_counts_for_nothing(self):
+        """Its writes are no versions, its reads wait for nobody, and what it only looked like isn't
+        there."""
+        auditor = self.auditor()
+        auditor.offer(0, 0, Logged((), (), "aborted", tried_reads=[("x", (1, 7))], tried_writes=["x"]))
+        fence = Logged((), (), "aborted", tried_reads=[(FENCE, "init")], tried_writes=[FENCE])
+        auditor.offer(0, 1, fence, Logged([(FENCE, "init")], [FENCE]))
+        auditor.offer(1, 0, Logged([(FENCE, (0, 2))], [FENCE]))
+        auditor.offer(2, 0, Logged([(FENCE, (1, 0))], [FENCE]), Logged([("x", "init")], ()))
+        self.assertEqual(auditor.round().kind, "serial")
+        self.assertEqual(auditor.outcome().pending, ())
+        self.assertEqual(auditor.truncate().fence, (0, 2))
+        self.assertEqual((auditor.marks, auditor.base), ([3, 0, 0], {FENCE: (0, 2)}))
+        auditor.offer(2, 2, Logged([("x", (0, 0))], ()))
+        self.assertEqual(auditor.round().kind, "violated")
+
+    def test_what_a_line_may_not_have_is_left_out(self):
+        for reads, writes, told in (
+            ([("x", (0, 7)), ("y", (0, 6))], ["x"], ([("y", (0, 6))], ["x"])),  # its own
+            ([("x", (64, 0)), ("y", (63, 0))], ["x"], ([("y", (63, 0))], ["x"])),
+            ([("x", (-1, 0)), ("y", (0, 1 << 48))], ["x"], ([], ["x"])),
+            ([("x", "init")], ["x", "x"], ([("x", "init")], ["x"])),
+            ([(FENCE, (1, 1))], [FENCE], ([(FENCE, (1, 1))], [FENCE])),
+            ([], [FENCE], ([], [])),  # of a fence that nobody knows what it has read
+            ([(FENCE, (0, 7))], [FENCE], ([], [])),
+            ([(FENCE, (1, 1)), (FENCE, (1, 2))], [FENCE], ([], [])),
+            ([(FENCE, (1, 1)), ("x", "init")], [FENCE], ([("x", "init")], [])),
+            ([(FENCE, (1, 1))], [FENCE, "x"], ([], ["x"])),
+            ([(FENCE, (1, 1))], ["x"], ([], ["x"])),
+        ):
+            with self.subTest(reads=reads, writes=writes):
+                self.assertEqual(undone((0, 7), reads, writes, FENCE), told)
+
+    def test_the_longest(self):
+        keys = [f"key {at:03}" for at in range(MOST + 1)]
+        reads = [(key, "init") for key in keys]
+        self.assertEqual(undone((0, 0), reads, keys[1:], FENCE), (reads[:MOST], keys[1:]))
+        self.assertEqual(undone((0, 0), reads, keys, FENCE), (reads[:MOST], []))
+        auditor = self.auditor()
+        long = Logged((), (), "aborted", tried_reads=reads[:MOST], tried_writes=keys[1:])
+        auditor.offer(0, 0, *[long] * 64)
+        self.assertEqual(auditor.received, [64, 0, 0])
+
+    def test_where_an_audit_begins_among_others(self):
+        """Its reads are moved, or left out, and aren't counted as unchecked."""
+        moves = Coverage([2, 0, 5], [3, 0, None], unknown=[((1, 2),), (), ()])
+        tried = [("x", (0, 4)), ("x", (0, 1)), ("x", (0, 0)), ("y", (1, 2)), ("y", (2, 9)), ("z", "init")]
+        moved, left_out = moves.moved(UNDONE._replace(tried_reads=tried))
+        told = [("x", "init"), ("x", (0, 1)), ("y", (1, 2)), ("z", "init")]
+        self.assertEqual((sorted(moved.tried_reads, key=repr), left_out), (sorted(told, key=repr), 0))
+        self.assertEqual(moved.tried_writes, UNDONE.tried_writes)
+
+    def test_it_is_the_same_as_bytes(self):
+        self.assertEqual(unpacked(as_bytes(UNDONE)), UNDONE)
+
+
+class Told(WithFolder):
+    """What is said of who has read it."""
+
+    HISTORY = [
+        [Logged((), ("x",)), UNDONE._replace(statements=[(("x",), "UPDATE x")], values=[("wrote", "x", "2")])],
+        [Logged([("x", (0, 1)), ("z", "init")], ("z",))],
+    ]
+    SAID = "of x, 1.0 read what 0.1 wrote, which had aborted"
+
+    def test_in_words(self):
+        self.assertEqual(reasons(self.HISTORY), [self.SAID])
+        anomaly = find_anomaly(self.HISTORY)
+        self.assertEqual((anomaly.name, anomaly.sentence), ("dirty read", self.SAID))
+        self.assertEqual(anomaly.transactions, ((0, 1), (1, 0)))
+        small = smaller(self.HISTORY)
+        self.assertEqual(
+            [*words(small)], ["0.1 wrote x, aborted", "    wrote x: UPDATE x", "1.0 read x from 0.1"]
+        )
+        report, script = audited(small)
+        self.assertEqual(report.kind, "violated")
+        lines = [json.loads(line) for line in script.splitlines()]
+        self.assertEqual(lines[0], ["open", 2, 3, 2])
+        self.assertEqual(lines[1], ["offer", 0, 0, [[[], []], [[], [1], "aborted"]]])
+
+    def test_of_a_key_that_it_did_not_write(self):
+        history = [[UNDONE], [Logged([("z", (0, 0))], ())]]
+        self.assertEqual(reasons(history), ["1.0 read z from 0.0, which aborted"])
+        self.assertEqual(find_anomaly(history).name, "dirty read")
+
+    def test_it_is_no_reason_where_nobody_has_read_it(self):
+        """Nor is it told, as it plays no part."""
+        history = [[UNDONE, Logged([("x", "init")], ["x"])], [Logged([("x", "init")], ["x"])]]
+        small = smaller(history)
+        self.assertEqual(find_anomaly(small).name, "lost update")
+        self.assertNotIn("aborted", "\n".join(words(small)))
+
+    def test_drawn(self):
+        text = dot_text(self.HISTORY)
+        self.assertIn('"0.1" [label="0.1\\nread y as it was at first\\nwrote x\\nwrote y\\naborted", ', text)
+        self.assertEqual(text.count("style=dashed"), 2)
+        self.assertIn('"0.1" -> "1.0" [label="read x", style=dashed]', text)
+
+    def told(self, command, *more):
+        out, err = io.StringIO(), io.StringIO()
+        with redirect_stdout(out), redirect_stderr(err):
+            status = main([command, self.path, *more])
+        return status, out.getvalue() + err.getvalue()
+
+    SCRIPT = (
+        '["open",2,8,2]\n["offer",0,0,[[[[6,1,7]],[5],"aborted"]]]\n'
+        '["offer",1,0,[[[[5,0,0]],[6]]]]\n["round",4096,0,1]\n'
+    )
+
+    def test_of_a_script(self):
+        with open(self.path, "w", encoding="utf-8") as file:
+            file.write(self.SCRIPT)
+        status, text = self.told("check")
+        self.assertEqual(status, 1)
+        self.assertIn("of key 5, 1.0 read what 0.0 wrote, which had aborted", text)
+        self.assertIn("0.0 wrote key 5, aborted\n", text)
+        status, _ = self.told("explain", "--html", f"{self.path}.html")
+        with open(f"{self.path}.html", encoding="utf-8") as file:
+            page = file.read()
+        self.assertEqual(page.count('<g class="transaction aborted">'), 1)
+        self.assertEqual(page.count('<g class="arc other aborted">'), 1)
+        self.assertIn("What was aborted is dashed", page)
+        self.assertIn('["open",2,2,2]', page.replace("&quot;", '"'))
+
+    def test_of_a_script_of_the_first_version(self):
+        """Where the form is none, and nothing is drawn dashed."""
+        with open(self.path, "w", encoding="utf-8") as file:
+            file.write(self.SCRIPT.replace(",8,2]", ",8]"))
+        status, text = self.told("check")
+        self.assertEqual(status, 2)
+        self.assertIn("line 2 was answered BadLine", text)
+
+
+class Found(WithFolder):
+    """By clients of a store in memory that leaves in place what an aborted attempt has written."""
+
+    def dirty_read(self, sessions):
+        a, b, c = sessions
+        a.run(put(x=1))
+        late = b.begin()
+        add_one(late)
+        late.put("y", 5)
+        a.run(add_one)
+        with self.assertRaises(Aborted):
+            late.commit()
+        b.run(put(z=1))  # the retry has another number
+        c.run(read("x"))
+
+    def test_in_words_that_name_the_abort(self):
+        for kind in (Auditor, AuditorApart):
+            with self.subTest(kind=kind.__name__), kind(3, 64, script=self.path) as auditor:
+                self.dirty_read(self.sessions(auditor, "dirty-read"))
+                self.assertEqual(auditor.round().kind, "violated")
+                self.assertEqual(
+                    reasons(smaller(auditor.history)), ["of x, 2.0 read what 1.0 wrote, which had aborted"]
+                )
+            self.assertIn(["offer", 1, 0, [[[[1, 0, 0]], [1, 2], "aborted"]]], self.lines())
+
+    def test_by_a_live_audit(self):
+        store = MemoryStore("dirty-read")
+        with LiveAuditor(self.auditor()) as live:
+            self.dirty_read([live.session(store.connect()) for _ in range(3)])
+        self.assertEqual(live.outcome.kind, "violated")
+        told = reasons(smaller(live.auditor.history))
+        self.assertEqual(len(told), 1)
+        self.assertRegex(told[0], "^of x, .* read what .* wrote, which had aborted$")
+
+    def test_an_honest_store_is_serial(self):
+        with self.auditor() as auditor:
+            self.dirty_read(self.sessions(auditor))
+            self.assertEqual(auditor.round().kind, "serial")
+            aborted = auditor.history[1][0]
+        self.assertEqual((aborted.reads, aborted.writes, aborted.outcome), ([], [], "aborted"))
+        self.assertEqual(aborted.did, ([("x", (0, 0))], ["x", "y"]))
+        self.assertIn(("wrote", "y", "5"), aborted.values)
+
+    def test_what_never_went_to_the_store_was_not_written(self):
+        with self.auditor() as auditor:
+            a, *_ = self.sessions(auditor, "dirty-read")
+            with self.assertRaises(ZeroDivisionError):
+                a.run(lambda t: (t.put("x", 1), t.get("y"), 1 // 0))
+            transaction = a.begin()
+            transaction.rollback()
+            its = auditor.history[0]
+        self.assertEqual([one.did for one in its], [([("y", "init")], []), ([], [])])
+
+    def test_a_store_that_aborts_in_the_midst_of_what_is_written(self):
+        """What it was given by then is told, and what it wasn't isn't."""
+        with self.auditor() as auditor:
+            a, *_ = self.sessions(auditor)
+            write = a.store.write
+
+            def refuses(key, value, name):
+                if key == "y":
+                    raise Aborted("no")
+                write(key, value, name)
+
+            with mock.patch.object(a.store, "write", refuses), self.assertRaises(Aborted):
+                a.run(put(x=1, y=1, z=1), attempts=1)
+            self.assertEqual(auditor.history[0][0].tried_writes, ["x", "y"])
+
+    def test_fences_and_flags_that_were_aborted(self):
+        """What a fence has read that failed isn't known: it is idle. A flag is told."""
+        with self.auditor() as auditor:
+            a, *_ = self.sessions(auditor)
+            for deed in (a.fence, a.flag):
+                with mock.patch.object(a.store, "commit", side_effect=Aborted("no")), self.assertRaises(Aborted):
+                    deed()
+            told = [one.did for one in auditor.history[0]]
+            self.assertEqual(auditor.round().kind, "serial")
+        key = f"{FLAG}0"
+        self.assertEqual(told, [([(FENCE, "init")], [FENCE])] * 3 + [([(key, "init")], [key])] * 3)
+
+    def test_a_store_s_own_word_on_what_clients_wrote(self):
+        with self.auditor() as auditor:
+            a, *_ = self.sessions(auditor)
+            a.store.tried = lambda: ["a row", "another"]
+            with self.assertRaises(ZeroDivisionError):
+                a.run(lambda t: 1 // 0)
+            logged = auditor.history[0][0]
+        self.assertEqual((logged.tried_writes, logged.values), (["a row", "another"], ()))  # no value is known
+
+    def test_over_sqlite(self):
+        """At its weakest level, where the fault shows each time; and at the strictest, where what is
+        aborted is told."""
+        path = os.path.join(self.folder, "store")
+        prepare_sqlite(path, "delete")
+        for level, kind in (("read uncommitted", "violated"), ("immediate", "serial")):
+            stores = [SQLiteStore(path, level, patience=0.0) for _ in range(SESSIONS)]
+            seen = run_lockstep("dirty read", stores, f"{level}/", tells=True)
+            for store in stores:
+                store.close()
+            self.assertEqual(seen.kind, kind)
+            if kind == "violated":
+                self.assertEqual(seen.anomaly, "dirty read")
+                self.assertIn("of x, 1.0 read what 0.1 wrote, which had aborted", "\n".join(seen.lines))
+
+
+class NotKnown(WithFolder):
+    """What isn't known to be aborted isn't called so."""
+
+    def outcome_of(self, store, *errors):
+        auditor = self.auditor()
+        session = Session(auditor, 0, store, patience=0.05)
+        with self.assertRaises(errors):
+            session.run(put(x=1), attempts=1)
+        session.close()
+        return auditor.history[0][0]
+
+    def store(self, **more):
+        its = MemoryStore().connect()
+        for name, call in more.items():
+            setattr(its, name, call)
+        return its
+
+    def raises(self, error):
+        def call(*_):
+            raise error
+
+        return call
+
+    def test_a_commit_that_was_not_answered(self):
+        """Whatever the store's rollback says then, and whatever comes in between."""
+        failed = ValueError("of a handler of SIGALRM")
+        for name, error in (
+            ("rollback", Aborted("so it says of the rollback")),
+            ("rollback", OutcomeUnknown("nor of the rollback")),
+            ("rollback", OSError("the connection is gone")),
+            ("rollback", KeyboardInterrupt()),
+            ("has_answered", KeyboardInterrupt()),
+            ("outcome", KeyboardInterrupt()),
+        ):
+            with self.subTest(name=name, error=error):
+                store = self.store(commit=self.raises(failed), **{name: self.raises(error)})
+                store.known = False
+                logged = self.outcome_of(store, ValueError, OutcomeUnknown, KeyboardInterrupt)
+                self.assertEqual((logged.outcome, logged.writes, logged.did), ("unknown", ["x"], ([], ["x"])))
+
+    def test_nor_what_its_client_knows_nothing_of(self):
+        """As of an application's own statements: it may have written what isn't known."""
+
+        def look_up(transaction):
+            transaction.unclear = AuditLostError("a statement isn't understood")
+
+        auditor = self.auditor()
+        store = self.store(commit=self.raises(ValueError("of a handler")), look_up=look_up)
+        session = Session(auditor, 0, store, patience=0.05)
+        with self.assertRaises(ValueError):
+            session.run(read("x"), attempts=1)
+        self.assertEqual((auditor.history[0], auditor.outcome().kind), ([], "incomplete"))
+
+    def test_what_the_store_has_answered_is(self):
+        failed = ValueError("a constraint")
+        for more in ({"has_answered": lambda error: error is failed}, {"outcome": lambda: "aborted"}):
+            with self.subTest(more=[*more]):
+                logged = self.outcome_of(self.store(commit=self.raises(failed), **more), ValueError)
+                self.assertEqual((logged.outcome, logged.tried_writes), ("aborted", ["x"]))
+
+    def test_before_the_commit_is_sent_it_is(self):
+        for error in (ValueError("of the driver"), Aborted("a conflict")):
+            logged = self.outcome_of(self.store(write=self.raises(error)), ValueError, Aborted)
+            self.assertEqual((logged.outcome, logged.tried_writes), ("aborted", ["x"]))
+
+
+class Kept(WithJournal):
+    """By a journal."""
+
+    def fences(self, auditor, numbers, source):
+        for session in range(3):
+            auditor.offer(session, numbers[session], Logged([(FENCE, source)], [FENCE]))
+            source = session, numbers[session]
+            numbers[session] += 1
+        return source
+
+    def test_what_was_aborted_is_still_told(self):
+        """Behind a cut, too, with which a checkpoint is written: no program gives it out."""
+        with self.auditor() as auditor:
+            auditor.offer(0, 0, UNDONE, Logged((), ("z",)), UNDONE)
+            numbers = [3, 0, 0]
+            last = self.fences(auditor, numbers, "init")
+            self.fences(auditor, numbers, last)
+            auditor.offer(0, 5, UNDONE._replace(tried_writes=["new"]))
+            self.assertEqual(auditor.round().kind, "serial")
+            gone = auditor.truncate().gone
+            self.assertGreater(gone, 3)
+            kept = auditor.history[0][-1]
+            auditor.offer(0, 6, UNDONE, Logged([("z", (0, 1))], ()))
+        for _ in range(2):  # the second is of what the first has written
+            with self.resumed() as auditor:
+                its = auditor.history[0]
+                self.assertEqual([one.outcome for one in its[-3:]], ["aborted", "aborted", "committed"])
+                self.assertEqual(its[-3].did, kept.did)
+                self.assertEqual([sorted(deeds) for deeds in its[-2].did], [[("y", "init")], ["x", "y"]])
+        with self.resumed() as auditor:
+            auditor.offer(1, numbers[1], Logged([("new", (0, 5))], ()))
+            self.assertEqual(auditor.round().kind, "violated")
+            history, name = from_start(auditor)
+            told = reasons(smaller(history), name)
+        self.assertEqual(told, ["of new, 1.2 read what 0.5 wrote, which had aborted"])
+
+    def test_a_journal_of_an_earlier_version_is_gone_on_with(self):
+        """In which nothing is aborted; from then on it may be."""
+        with self.auditor() as auditor:
+            auditor.offer(0, 0, Logged((), ("x",)))
+        texts = [text for text, _ in records(self.bytes(), len(FIRST_LINE))]
+        begins = b'S["resume",3,512'
+        self.assertEqual([text for text in texts if text.startswith(begins)], [begins + b",2]"])
+        texts = [begins + b"]" if text.startswith(begins) else text for text in texts]
+        self.overwrite(EARLIER + b"".join(map(record, texts)))
+        with self.resumed() as auditor:
+            auditor.offer(0, 1, UNDONE)
+            self.assertEqual(auditor.round().kind, "serial")
+        self.assertTrue(self.bytes().startswith(FIRST_LINE))
+        with self.resumed() as auditor:
+            self.assertEqual([one.outcome for one in auditor.history[0]], ["committed", "aborted"])
+
+    def test_a_program_that_is_too_old(self):
+        with self.auditor() as auditor:
+            auditor.offer(0, 0, Logged((), ("x",)))
+        old = os.path.join(self.folder, "old")
+        with open(old, "w", encoding="utf-8") as file:
+            file.write(OLD)
+        os.chmod(old, 0o755)
+        with self.assertRaisesRegex(JournalError, "of an earlier version"):
+            Auditor.resumed(self.path, old)
+
+
+class TooOld(WithFolder):
+    """A program that doesn't know version 2 is told of as what it is."""
+
+    def setUp(self):
+        super().setUp()
+        self.old = os.path.join(self.folder, "old")
+        with open(self.old, "w", encoding="utf-8") as file:
+            file.write(OLD)
+        os.chmod(self.old, 0o755)
+
+    def test_auditors(self):
+        for kind in (Auditor, AuditorApart):
+            with self.subTest(kind=kind.__name__), self.assertRaisesRegex(ProgramTooOldError, "version 2"):
+                kind(3, 64, self.old)
+
+    def test_scripts(self):
+        with open(self.path, "w", encoding="utf-8") as file:
+            file.write('["open",2,8,2]\n')
+        out = io.StringIO()
+        with mock.patch.dict(os.environ, COBRA_AUDIT=self.old), redirect_stdout(out), redirect_stderr(out):
+            status = main(["check", self.path])
+        self.assertEqual(status, 2)
+        self.assertIn("an earlier version", out.getvalue())
+
+
+if __name__ == "__main__":
+    unittest.main()

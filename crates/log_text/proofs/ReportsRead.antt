@@ -1,0 +1,155 @@
+-- What reports show is read as it was written, and nothing else is read in its place.
+use Rattle.std.proofs.Common.{◌≡◌, ℕ, ◌≤◌, List, [], ◌∷◌, Option, Some, None, codes, refl, ap, sym, ◌∙◌, subst, inl, inr, arith}
+use Rattle.std.specs.Prelude.{◌⊎◌, All, IsUtf8, MatchOption}
+use Rattle.serde_json.specs.Data.{Data, string, array, Items, no_items, item, depth}
+use Rattle.serde_json.specs.Find.{as_str}
+use Rattle.serde_json.specs.Read.{read, max_depth}
+use Rattle.serde_json.specs.View.{items_of}
+use Rattle.txn.specs.declared.transactions.TxnId.{TxnId}
+use Rattle.order_check.specs.declared.remainder.Kind.{Kind}
+use Rattle.order_check.specs.declared.remainder.Kind.TheVariants as kind
+use Rattle.log_text.specs.declared.replies.Reply.{Reply}
+use Rattle.log_text.specs.declared.replies.Reply.TheVariants as reply
+use Rattle.log_text.specs.declared.shown.Shown.{Shown}
+use Rattle.log_text.specs.declared.shown.Shown.TheVariants.{Order, Refuted}
+use Rattle.log_text.specs.ReadBack.{IsNamed, CanBeRead, IsSameShown, ReportsThat}
+use Rattle.log_text.specs.Refutations.{nodes_of}
+use Rattle.log_text.specs.Replies.{HasKindOfOrder, kind_name}
+use Rattle.log_text.specs.Saved.{number_data}
+use Rattle.log_text.specs.Shown.{id_of, Shows, ShowsAs, Reports, ReportsBy, IsReportOf, ShowsIn, IsShownIn}
+use Rattle.log_text.specs.Told.{id_data, reply_data}
+use Rattle.log_text.proofs.HandedAnswers.{is_word}
+use Rattle.log_text.proofs.SameTrees.{same_tree}
+use Rattle.log_text.proofs.SavedRead.{each_read, session_read, list_depth, number_depth}
+use Rattle.log_text.proofs.TreesRead.{nodes_read, violated_depth}
+
+id_read : (id : TxnId) → IsNamed id → id_of (id_data id) ≡ Some id
+id_read id h = rw (session_read id.session h) refl
+
+id_depth : (id : TxnId) → depth (id_data id) ≤ 1
+id_depth id = list_depth number_data 0 number_depth (id.session ∷ id.number ∷ [])
+
+ordered_depth : (round : ℕ) (k : Kind) (counts : List ℕ) (order : List TxnId) → depth (array (items_of (reply_data (reply.Order round k counts order)))) ≤ 127
+ordered_depth round k counts order = omega (arith, list_depth number_data 0 number_depth counts, list_depth id_data 1 id_depth order)
+
+spent_depth : (round : ℕ) (counts : List ℕ) → depth (array (items_of (reply_data (reply.Spent round counts)))) ≤ 127
+spent_depth round counts = omega (arith, list_depth number_data 0 number_depth counts)
+
+-- ---- what was written is read
+
+reads_as : (d e : Data) (bytes : List ℕ) → d ≡ e → depth e ≤ 127 → (depth d ≤ max_depth → read bytes ≡ Some d) → read bytes ≡ Some e
+reads_as d e bytes is low reads = reads (subst (λ (x : Data). depth x ≤ 127) (sym is) low) ∙ ap (λ (x : Data). Some x) is
+
+order_back : (bytes : List ℕ) (round : ℕ) (k : Kind) (counts : List ℕ) (order : List TxnId) → IsUtf8 bytes → read bytes ≡ Some (array (items_of (reply_data (reply.Order round k counts order))))
+    → (string (kind_name k) ≡ string (codes "serial")) ⊎ (string (kind_name k) ≡ string (codes "pending")) → All IsNamed order → ShowsIn bytes (Order order)
+order_back bytes round k counts order utf8 reads kinds names = record {
+  utf8 = utf8;
+  said = array (items_of (reply_data (reply.Order round k counts order)));
+  reads = reads;
+  is = (refl, (kinds, each_read id_of id_data IsNamed id_read order names));
+}
+
+only_said : (bytes : List ℕ) (d e : Data) → read bytes ≡ Some d → read bytes ≡ Some e → d ≡ e
+only_said bytes d e one two = let same : Some d ≡ Some e = sym one ∙ two in cc
+
+nothing_back : (bytes : List ℕ) (round : ℕ) (counts : List ℕ) → read bytes ≡ Some (array (items_of (reply_data (reply.Spent round counts)))) → (shown : Shown) → ¬ ShowsIn bytes shown
+nothing_back bytes round counts reads shown shows =
+    subst (λ (d : Data). IsReportOf d shown) (only_said bytes shows.said (array (items_of (reply_data (reply.Spent round counts)))) shows.reads reads) shows.is
+
+pub report_back : (d : Data) (bytes : List ℕ) (given : Reply) → d ≡ array (items_of (reply_data given)) → IsUtf8 bytes → (depth d ≤ max_depth → read bytes ≡ Some d)
+    → HasKindOfOrder given → (found : Option Shown) → ReportsThat given found → CanBeRead found → IsShownIn bytes found
+report_back d bytes (reply.Order round kind.Serial counts order) is utf8 reads of found same = subst (λ (f : Option Shown). CanBeRead f → IsShownIn bytes f) (sym same)
+    (order_back bytes round kind.Serial counts order utf8 (reads_as d _ bytes is (ordered_depth round kind.Serial counts order) reads) (inl refl))
+report_back d bytes (reply.Order round kind.Pending counts order) is utf8 reads of found same = subst (λ (f : Option Shown). CanBeRead f → IsShownIn bytes f) (sym same)
+    (order_back bytes round kind.Pending counts order utf8 (reads_as d _ bytes is (ordered_depth round kind.Pending counts order) reads) (inr refl))
+report_back d bytes (reply.Violated round counts tree) is utf8 reads of found same = subst (λ (f : Option Shown). CanBeRead f → IsShownIn bytes f) (sym same) (λ names. record {
+  utf8 = utf8;
+  said = array (items_of (reply_data (reply.Violated round counts tree)));
+  reads = reads_as d _ bytes is (violated_depth round counts tree) reads;
+  is = (refl, (refl, record { nodes = nodes_read tree names.0; merged = names.1 }));
+})
+report_back d bytes (reply.Spent round counts) is utf8 reads of found same = subst (λ (f : Option Shown). CanBeRead f → IsShownIn bytes f) (sym same)
+    (λ names shown shows. nothing_back bytes round counts (reads_as d _ bytes is (spent_depth round counts) reads) shown shows)
+report_back d bytes (reply.Order round kind.Violated counts order) is utf8 reads of found same = absurd of
+report_back d bytes (reply.Order round kind.Spent counts order) is utf8 reads of found same = absurd of
+report_back d bytes given is utf8 reads of found same = absurd same
+
+-- ---- nothing else is read
+
+no_kind_of_both : (k : Data) → (k ≡ string (codes "serial")) ⊎ (k ≡ string (codes "pending")) → k ≡ string (codes "violated") → ⊥
+no_kind_of_both k (inl one) two = let no : string (codes "serial") ≡ string (codes "violated") = sym one ∙ two in cc
+no_kind_of_both k (inr one) two = let no : string (codes "pending") ≡ string (codes "violated") = sym one ∙ two in cc
+
+same_behind : (k given : Data) (one two : Shown) → ShowsAs k given one → ShowsAs k given two → IsSameShown (Some one) (Some two)
+same_behind k given (Order order) (Order order') a b = let same : Some order ≡ Some order' = sym a.1 ∙ b.1 in cc
+same_behind k given (Order order) (Refuted tree) a b = absurd (no_kind_of_both k a.0 b.0)
+same_behind k given (Refuted tree) (Order order) a b = absurd (no_kind_of_both k b.0 a.0)
+same_behind k given (Refuted tree) (Refuted tree') a b =
+    let same : Some (nodes_of tree) ≡ Some (nodes_of tree') = sym a.1.nodes ∙ b.1.nodes in
+    same_tree tree tree' a.1.merged b.1.merged (let e : nodes_of tree ≡ nodes_of tree' = cc in e)
+
+same_reported : (items : Items) (one two : Shown) → Reports items one → Reports items two → IsSameShown (Some one) (Some two)
+same_reported (item name (item round (item k (item counts (item given no_items))))) one two a b = same_behind k given one two a.1 b.1
+same_reported items one two a b = absurd a
+
+same_report : (d : Data) (one two : Shown) → IsReportOf d one → IsReportOf d two → IsSameShown (Some one) (Some two)
+same_report (array items) one two a b = same_reported items one two a b
+same_report d one two a b = absurd a
+
+pub same_shown : (text : List ℕ) (found other : Option Shown) → IsShownIn text found → IsShownIn text other → IsSameShown found other
+same_shown text None None a b = tt
+same_shown text None (Some two) a b = absurd (a two b)
+same_shown text (Some one) None a b = absurd (b one a)
+same_shown text (Some one) (Some two) a b = same_report b.said one two (subst (λ (d : Data). IsReportOf d one) (only_said text a.said b.said a.reads b.reads) a.is) b.is
+
+-- what is read from the data that the text is read as
+pub shown_in : (text : List ℕ) (d : Data) → IsUtf8 text → read text ≡ Some d → (found : Option Shown) → MatchOption found ((shown : Shown) → ¬ IsReportOf d shown) (IsReportOf d) → IsShownIn text found
+shown_in text d utf8 reads None none = λ shown shows. none shown (subst (λ (e : Data). IsReportOf e shown) (only_said text shows.said d shows.reads reads) shows.is)
+shown_in text d utf8 reads (Some shown) some = record { utf8 = utf8; said = d; reads = reads; is = some }
+
+-- ---- which values a report is read from
+
+no_order : (k given : Data) → (k ≡ string (codes "serial")) ⊎ (k ≡ string (codes "pending")) → ((shown : Shown) → ¬ Shows (string (codes "order")) given shown) → (shown : Shown) → ¬ ShowsAs k given shown
+no_order k given is none (Order order) shows = none (Order order) (refl, shows.1)
+no_order k given is none (Refuted tree) shows = no_kind_of_both k is shows.0
+
+no_tree : (k given : Data) → k ≡ string (codes "violated") → ((shown : Shown) → ¬ Shows (string (codes "refuted")) given shown) → (shown : Shown) → ¬ ShowsAs k given shown
+no_tree k given is none (Order order) shows = no_kind_of_both k shows.0 is
+no_tree k given is none (Refuted tree) shows = none (Refuted tree) (refl, shows.1)
+
+-- what is shown as an order, or as a tree, is shown by a kind
+pub order_as : (k given : Data) → (k ≡ string (codes "serial")) ⊎ (k ≡ string (codes "pending")) → (found : Option Shown) → MatchOption found ((shown : Shown) → ¬ Shows (string (codes "order")) given shown) (Shows (string (codes "order")) given)
+    → MatchOption found ((shown : Shown) → ¬ ShowsAs k given shown) (ShowsAs k given)
+order_as k given is None none = λ shown shows. no_order k given is none shown shows
+order_as k given is (Some (Order order)) some = (is, some.1)
+order_as k given is (Some (Refuted tree)) some = absurd (let no : string (codes "order") ≡ string (codes "refuted") = some.0 in let it : ⊥ = cc in it)
+
+pub tree_as : (k given : Data) → k ≡ string (codes "violated") → (found : Option Shown) → MatchOption found ((shown : Shown) → ¬ Shows (string (codes "refuted")) given shown) (Shows (string (codes "refuted")) given)
+    → MatchOption found ((shown : Shown) → ¬ ShowsAs k given shown) (ShowsAs k given)
+tree_as k given is None none = λ shown shows. no_tree k given is none shown shows
+tree_as k given is (Some (Refuted tree)) some = (is, some.1)
+tree_as k given is (Some (Order order)) some = absurd (let no : string (codes "refuted") ≡ string (codes "order") = some.0 in let it : ⊥ = cc in it)
+
+no_word : (given : Data) (word : List ℕ) → None ≡ as_str given → given ≡ string word → ⊥
+no_word given word e is = let no : None ≡ Some word = e ∙ ap as_str is in cc
+
+pub reports_no_name : (name k given : Data) → None ≡ as_str name → (shown : Shown) → ¬ ReportsBy name k given shown
+reports_no_name name k given none shown reports = no_word name (codes "report") none reports.0
+
+shows_no_kind : (k given : Data) → None ≡ as_str k → (shown : Shown) → ¬ ShowsAs k given shown
+shows_no_kind k given none (Order order) (inl is, a) = no_word k (codes "serial") none is
+shows_no_kind k given none (Order order) (inr is, a) = no_word k (codes "pending") none is
+shows_no_kind k given none (Refuted tree) shows = no_word k (codes "violated") none shows.0
+
+pub reports_no_kind : (name k given : Data) → None ≡ as_str k → (shown : Shown) → ¬ ReportsBy name k given shown
+reports_no_kind name k given none shown reports = shows_no_kind k given none shown reports.1
+
+pub reports_other_name : (name k given : Data) (said : List ℕ) → Some said ≡ as_str name → (said ≡ codes "report" → ⊥) → (shown : Shown) → ¬ ReportsBy name k given shown
+reports_other_name name k given said is other shown reports =
+    let same : string said ≡ string (codes "report") = sym (is_word name said is) ∙ reports.0 in
+    other (let words : said ≡ codes "report" = cc in words)
+
+pub reported_by : (name k given : Data) (said behind : List ℕ) → Some said ≡ as_str name → said ≡ codes "report" → Some behind ≡ as_str k → (found : Option Shown)
+    → MatchOption found ((shown : Shown) → ¬ ShowsAs (string behind) given shown) (ShowsAs (string behind) given) → MatchOption found ((shown : Shown) → ¬ ReportsBy name k given shown) (ReportsBy name k given)
+reported_by name k given said behind is report next None none = λ shown reports. none shown (subst (λ w. ShowsAs w given shown) (is_word k behind next) reports.1)
+reported_by name k given said behind is report next (Some shown) some = (is_word name said is ∙ ap string report, subst (λ w. ShowsAs w given shown) (sym (is_word k behind next)) some)

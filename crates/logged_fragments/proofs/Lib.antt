@@ -1,0 +1,2 @@
+mod Idling
+mod WellFormedEffects

@@ -1,0 +1,64 @@
+-- Scripts of which a stored reply is told wrong: the first such reply isn't a right report.
+use Rattle.std.specs.Prelude.{◌≡◌, ◌<◌, ◌⊎◌, ⊤, ℕ, List, [], ◌∷◌, ◌++◌, length, Option, Some, None}
+use Rattle.log_text.specs.declared.commands.Command.{Command}
+use Rattle.log_text.specs.declared.commands.Command.TheVariants.{Finish, Round, Answer}
+use Rattle.log_text.specs.declared.shown.Shown.{Shown}
+use Rattle.log_text.specs.declared.shown.Shown.TheVariants as shown
+use Rattle.log_text.specs.Replies.{text_of}
+use Rattle.log_text.specs.Shown.{IsShownIn}
+use Rattle.byte_lines.specs.Lines.{lines}
+use Rattle.round_state.specs.Legal.{State, Legal}
+use Rattle.round_state.specs.declared.reports.Certificate.{Certificate}
+use Rattle.round_state.specs.declared.reports.Certificate.TheVariants.{Order, Refuted, Nothing}
+use Rattle.round_state.specs.declared.reports.Report.{Report}
+use Rattle.round_state.specs.declared.steps.Step.TheVariants as step
+use Rattle.round_state.specs.declared.steps.StepReply.TheVariants as reply
+use Rattle.cobra.specs.Outputs.{Asks}
+use Rattle.cobra.specs.StepReplies.{certificate_of, report_of}
+use Rattle.report_checking.specs.Checking.{Checks}
+use Rattle.report_checking.specs.Owing.{IsOwedReport, ScriptState}
+
+-- what the text of a report with this certificate is to show
+abbrev pub shown_of : Certificate → Option Shown
+shown_of (Order order) = Some (shown.Order order)
+shown_of (Refuted tree) = Some (shown.Refuted tree)
+shown_of Nothing = None
+
+-- the report is owed to a command that ends a round; to one that hands an answer in, where that is right
+abbrev pub OwesReport : State → Command → Report → State → Type 0
+OwesReport old (Finish budget depth workers) report new = IsOwedReport old report new
+OwesReport old (Round budget depth workers) report new = (begun : State) × Legal old step.Begin reply.Done begun × IsOwedReport begun report new
+OwesReport old (Answer handed) report new = Legal old (step.Judge (certificate_of handed)) (reply.Report report) new
+OwesReport old command report new = ⊥
+
+-- The stored reply to the line is a right report: it is the text of one that is owed, whatever its certificate, and it shows that
+-- certificate. The text that `write_reply` wrote of a report does, where it names sessions up to 255 and its tree is merged.
+pub record IsRightReport (old : State) (line stored : List ℕ) : Type 0 where
+  pub command : Command
+  pub asks : Asks line command
+  pub report : Report
+  pub new : State
+  pub owed : OwesReport old command report new
+  pub text_is : stored ≡ text_of (report_of report)
+  pub shows : IsShownIn stored (shown_of report.certificate)
+
+-- the same of a script, whatever the version of its lines is
+abbrev pub TellsRightReport : Option ScriptState → List ℕ → List ℕ → Type 0
+TellsRightReport None line stored = ⊥
+TellsRightReport (Some old) line stored = IsRightReport old.state line stored
+
+-- What may be wrong with the next line and its reply: the line has no reply, or one that is longer than any that is read (1 GiB), or one
+-- that isn't a right report.
+abbrev pub MayBeWrong : Option ScriptState → List (List ℕ) → Type 0
+MayBeWrong state [] = ⊥
+MayBeWrong state (line ∷ []) = ⊤
+MayBeWrong state (line ∷ stored ∷ left) = (1073741824 < length stored) ⊎ (¬ TellsRightReport state line stored)
+
+-- The input's lines were checked up to a reply that is wrong.
+pub record StopsAtWrong (input : List ℕ) : Type 0 where
+  pub front : List (List ℕ)
+  pub left : List (List ℕ)
+  pub split : lines input ≡ front ++ left
+  pub state : Option ScriptState
+  pub checks : Checks front state
+  pub wrong : MayBeWrong state left
