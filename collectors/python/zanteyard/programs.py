@@ -69,11 +69,25 @@ def live_path(environment: Mapping[str, str] = os.environ) -> str:
 
 def found_live(environment: Mapping[str, str] = os.environ) -> str:
     """The running auditor, if it is there and can be started; else an empty string. Where the
-    environment names an auditor and no running one, it is one beside that."""
+    environment names an auditor and no running one, it is one beside that: in the same folder, or
+    in a clone where it has built both."""
     path = live_path(environment)
     if environment.get(ENVIRONMENT) and not environment.get(LIVE_ENVIRONMENT):
-        path = os.path.join(os.path.dirname(environment[ENVIRONMENT]), LIVE)
-    return path if os.path.isfile(path) and os.access(path, os.X_OK) else ""
+        path = _beside(os.path.abspath(environment[ENVIRONMENT]))
+    return path if _can_start(path) else ""
+
+
+def _beside(auditor: str) -> str:
+    """Where the running auditor would be that was built, or packed, together with this auditor."""
+    folder = os.path.dirname(auditor)
+    crate, last = os.path.split(folder)
+    if last == "out" and os.path.basename(crate) == AUDITOR:  # as a clone has what it builds
+        return os.path.join(os.path.dirname(crate), LIVE, "out", LIVE)
+    return os.path.join(folder, LIVE)
+
+
+def _can_start(path: str) -> bool:
+    return os.path.isfile(path) and os.access(path, os.X_OK)
 
 
 def _path(environment: Mapping[str, str], name: str, program: str, built: str) -> str:
