@@ -8,9 +8,9 @@ use Rattle.std.proofs.Math.Seq.{get_or-append_seam}
 use Rattle.txn.specs.declared.transactions.TxnId.{TxnId}
 use Rattle.order_check.specs.declared.remainder.Parts.{Parts}
 use Rattle.known_graph.specs.Bits.{HasBit}
-use Rattle.forced_choices.specs.declared.by_key.ByKey.{ByKey}
-use Rattle.forced_choices.specs.declared.places.Places.{Places}
-use Rattle.forced_choices.specs.declared.reads.Placed.{Placed}
+use Rattle.forced_choices.specs.declared.tables.by_key.ByKey.{ByKey}
+use Rattle.forced_choices.specs.declared.tables.places.Places.{Places}
+use Rattle.forced_choices.specs.declared.tables.reads.Placed.{Placed}
 use Rattle.forced_choices.specs.ByKeys.{AreIndexed, AreRows}
 use Rattle.forced_choices.specs.Masks.{mask_of}
 use Rattle.forced_choices.specs.WriterPlaces.{places_at}

@@ -9,9 +9,9 @@ use Rattle.txn.specs.declared.choices.ForceStep.{ForceStep}
 use Rattle.order_check.specs.declared.remainder.Parts.{Parts}
 use Rattle.order_check.specs.Based.{Remains}
 use Rattle.known_graph.specs.Graphs.{GraphState, HasNode}
-use Rattle.forced_choices.specs.declared.kept.KeptTable.{KeptTable}
-use Rattle.forced_choices.specs.declared.kept.Loose.{Loose}
-use Rattle.forced_choices.specs.declared.table.Table.{Table}
+use Rattle.forced_choices.specs.declared.tables.kept.KeptTable.{KeptTable}
+use Rattle.forced_choices.specs.declared.tables.kept.Loose.{Loose}
+use Rattle.forced_choices.specs.declared.tables.table.Table.{Table}
 use Rattle.forced_choices.specs.ByKeys.{AreIndexed}
 use Rattle.forced_choices.specs.FreshArcs.{new_arcs}
 use Rattle.forced_choices.specs.Growth.{AreFresh, Brings, GoesOn, IsNext, NodesStay, ids_of_fragment}

@@ -12,8 +12,8 @@ use Rattle.known_graph.specs.Bits.{HasBit}
 use Rattle.known_graph.specs.Graphs.{IsAt}
 use Rattle.known_graph.specs.Reach.{Reaches}
 use Rattle.known_graph.specs.Sizes.{HasSize}
-use Rattle.forced_choices.specs.declared.reads.Read.{Read}
-use Rattle.forced_choices.specs.declared.table.Table.{Table}
+use Rattle.forced_choices.specs.declared.tables.reads.Read.{Read}
+use Rattle.forced_choices.specs.declared.tables.table.Table.{Table}
 use Rattle.forced_choices.specs.Between.{AreDistinct}
 use Rattle.forced_choices.specs.Listing.{writes_here}
 use Rattle.forced_choices.specs.Masks.{mask_of, is_third, choice_of, choices_in}

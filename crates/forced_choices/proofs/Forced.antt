@@ -13,7 +13,7 @@ use Rattle.txn.specs.declared.choices.Side.TheVariants.{First, Second}
 use Rattle.txn.specs.declared.choices.ForceStep.{ForceStep}
 use Rattle.order_check.specs.declared.remainder.Parts.{Parts}
 use Rattle.order_check.specs.Known.{IsChoice}
-use Rattle.forced_choices.specs.declared.rules.Rule.{Rule}
+use Rattle.forced_choices.specs.declared.saturation.rules.Rule.{Rule}
 use Rattle.known_graph.specs.Bits.{HasBit}
 use Rattle.known_graph.specs.Graphs.{GraphState, HasKey, IsAt}
 use Rattle.known_graph.specs.Reach.{Reaches}
@@ -22,7 +22,7 @@ use Rattle.forced_choices.specs.Forcing.{Stage, Continues, IsSettledUnless, AreA
 use Rattle.forced_choices.specs.Listing.{all_ids, reads_of, choices_of_read, choices_of}
 use Rattle.forced_choices.specs.Rules.{arc_of_side, conclusion}
 use Rattle.order_check.specs.Based.{Remains}
-use Rattle.forced_choices.specs.declared.touched.Touched.{Touched}
+use Rattle.forced_choices.specs.declared.saturation.touched.Touched.{Touched}
 use Rattle.forced_choices.specs.Touching.{AreNoted, IsTouchedIn, MayBeJoined}
 use Rattle.forced_choices.proofs.Touches.{noted_none, noted_both, touched_same, touched_more}
 use Rattle.forced_choices.proofs.Members.{In, in_either, in_right, flat_map_in, map_in}

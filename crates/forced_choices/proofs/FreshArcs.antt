@@ -15,8 +15,8 @@ use Rattle.order_check.specs.Based.{Remains, remaining_at, mark_of, last_gone}
 use Rattle.order_check.specs.Good.{IsGood}
 use Rattle.order_check.specs.Known.{ReadsKey, WritesKey, IsBaseSource}
 use Rattle.order_check.specs.Cycles.{IsArc}
-use Rattle.forced_choices.specs.declared.kept.Loose.{Loose}
-use Rattle.forced_choices.specs.declared.reads.Placed.{Placed}
+use Rattle.forced_choices.specs.declared.tables.kept.Loose.{Loose}
+use Rattle.forced_choices.specs.declared.tables.reads.Placed.{Placed}
 use Rattle.forced_choices.specs.FreshArcs.{arcs_of_loose, new_arcs}
 use Rattle.forced_choices.specs.Growth.{AreMore, Brings, AreFresh, is_fresh}
 use Rattle.forced_choices.specs.KeptTables.{AreReadsOf, IsAmong}

@@ -17,7 +17,7 @@ use Rattle.order_check.specs.Cycles.{Sides, IsArc, AreNew, sides_after}
 use Rattle.order_check.specs.Known.{Known}
 use Rattle.known_graph.specs.Graphs.{GraphState, HasKey, HasNode, IsAt, IsPut}
 use Rattle.known_graph.specs.Reach.{Reaches, by_arc, through}
-use Rattle.forced_choices.specs.declared.touched.Touched.{Touched}
+use Rattle.forced_choices.specs.declared.saturation.touched.Touched.{Touched}
 use Rattle.forced_choices.specs.Between.{IsBetween}
 use Rattle.forced_choices.specs.Forcing.{IsReady, IsThere, Forces, unforced, forced, taken_arc, IsClosed, AreAllSettledUnless}
 use Rattle.forced_choices.specs.Growth.{GoesOn, NodesStay, is_fresh}

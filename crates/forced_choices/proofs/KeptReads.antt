@@ -8,9 +8,9 @@ use Rattle.txn.specs.declared.transactions.Source.TheVariants.{By}
 use Rattle.order_check.specs.declared.remainder.Parts.{Parts}
 use Rattle.order_check.specs.Based.{remaining_at}
 use Rattle.order_check.specs.Known.{ReadsKey, WritesKey}
-use Rattle.forced_choices.specs.declared.kept.Loose.{Loose}
-use Rattle.forced_choices.specs.declared.reads.Read.{Read}
-use Rattle.forced_choices.specs.declared.reads.Placed.{Placed}
+use Rattle.forced_choices.specs.declared.tables.kept.Loose.{Loose}
+use Rattle.forced_choices.specs.declared.tables.reads.Read.{Read}
+use Rattle.forced_choices.specs.declared.tables.reads.Placed.{Placed}
 use Rattle.forced_choices.specs.KeptTables.{AreReadsAnd, AreReadsOf, IsAmong, IsLoose}
 use Rattle.forced_choices.specs.Listing.{reads_of}
 use Rattle.forced_choices.specs.Tables.{IsPlaced, IsAtColumns}

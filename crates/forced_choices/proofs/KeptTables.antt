@@ -11,13 +11,13 @@ use Rattle.order_check.specs.declared.remainder.Parts.{Parts}
 use Rattle.order_check.specs.Based.{Remains}
 use Rattle.order_check.specs.Known.{IsChoice}
 use Rattle.known_graph.specs.Bits.{HasBit}
-use Rattle.forced_choices.specs.declared.kept.KeptTable.{KeptTable}
-use Rattle.forced_choices.specs.declared.kept.Loose.{Loose}
-use Rattle.forced_choices.specs.declared.places.Places.{Places}
-use Rattle.forced_choices.specs.declared.reads.Placed.{Placed}
-use Rattle.forced_choices.specs.declared.reads.Read.{Read}
-use Rattle.forced_choices.specs.declared.table.Table.{Table}
-use Rattle.forced_choices.specs.declared.writers.Writers.{Writers}
+use Rattle.forced_choices.specs.declared.tables.kept.KeptTable.{KeptTable}
+use Rattle.forced_choices.specs.declared.tables.kept.Loose.{Loose}
+use Rattle.forced_choices.specs.declared.tables.places.Places.{Places}
+use Rattle.forced_choices.specs.declared.tables.reads.Placed.{Placed}
+use Rattle.forced_choices.specs.declared.tables.reads.Read.{Read}
+use Rattle.forced_choices.specs.declared.tables.table.Table.{Table}
+use Rattle.forced_choices.specs.declared.tables.writers.Writers.{Writers}
 use Rattle.forced_choices.specs.ByKeys.{AreIndexed, AreRows}
 use Rattle.forced_choices.specs.Growth.{AreMore, Brings, NodesStay}
 use Rattle.forced_choices.specs.KeptTables.{AreReadsOf, AreWritersOf, IsAmong, IsKeptTable, WereReadsOf}

@@ -16,9 +16,9 @@ use Rattle.txn.specs.declared.choices.Arc.{Arc}
 use Rattle.txn.specs.declared.choices.Choice.{Choice}
 use Rattle.order_check.specs.declared.remainder.Parts.{Parts}
 use Rattle.known_graph.specs.Bits.{HasBit}
-use Rattle.forced_choices.specs.declared.reads.Placed.{Placed}
-use Rattle.forced_choices.specs.declared.table.Table.{Table}
-use Rattle.forced_choices.specs.declared.touched.Touched.{Touched}
+use Rattle.forced_choices.specs.declared.tables.reads.Placed.{Placed}
+use Rattle.forced_choices.specs.declared.tables.table.Table.{Table}
+use Rattle.forced_choices.specs.declared.saturation.touched.Touched.{Touched}
 use Rattle.forced_choices.specs.ByKeys.{AreIndexed, reads_at}
 use Rattle.forced_choices.specs.Forcing.{AreAllSettledUnless, HasLooked, IsThere, Stage}
 use Rattle.forced_choices.specs.Masks.{AreColumns, AreThere, choices_in, mask_of, words_in}

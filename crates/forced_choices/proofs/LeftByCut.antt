@@ -25,7 +25,7 @@ use Rattle.order_check.specs.Known.{Known, IsBaseSource, IsChoice, ReadsBase, Re
 use Rattle.known_graph.specs.Graphs.{GraphState, HasNode}
 use Rattle.known_graph.specs.Reach.{Reaches}
 use Rattle.known_graph.specs.Reach as reach
-use Rattle.forced_choices.specs.declared.cutting.Left.{Left}
+use Rattle.forced_choices.specs.declared.relation.cutting.Left.{Left}
 use Rattle.forced_choices.specs.Forcing.{IsClosed}
 use Rattle.forced_choices.specs.Kept.{IsKept}
 use Rattle.forced_choices.specs.LeftByCut.{AllRemain, IsLeft, arc_by, base_key, log_left, renamed, renamed_step, steps_left}

@@ -3,7 +3,7 @@ use Rattle.std.proofs.Common.{List, Option, sym, ap, ◌∙◌, subst}
 use Rattle.txn.specs.declared.transactions.TxnId.{TxnId}
 use Rattle.txn.specs.declared.choices.Choice.{Choice}
 use Rattle.order_check.specs.declared.remainder.Parts.{Parts}
-use Rattle.forced_choices.specs.declared.table.Table.{Table}
+use Rattle.forced_choices.specs.declared.tables.table.Table.{Table}
 use Rattle.forced_choices.specs.Listing.{choices_of}
 use Rattle.forced_choices.specs.Tables.{IsTable, IsLookup}
 use Rattle.forced_choices.proofs.ListedChoices.{choice_listed}

@@ -8,8 +8,8 @@ use Rattle.order_check.specs.declared.remainder.Parts.{Parts}
 use Rattle.known_graph.specs.Bits.{HasBit}
 use Rattle.known_graph.specs.Graphs.{IsAt}
 use Rattle.known_graph.specs.Reach.{Reaches}
-use Rattle.forced_choices.specs.declared.reads.Read.{Read}
-use Rattle.forced_choices.specs.declared.writers.Writers.{Writers}
+use Rattle.forced_choices.specs.declared.tables.reads.Read.{Read}
+use Rattle.forced_choices.specs.declared.tables.writers.Writers.{Writers}
 use Rattle.forced_choices.specs.Masks.{AreWriters, AreTold, mask_of, choice_of, choices_in}
 use Rattle.forced_choices.specs.Undecided.{IsUndecided, AreAllDecided, AreFound, no_more, undecided, decided, TellsOpen}
 use Rattle.forced_choices.proofs.Members.{In, Ascends, in_right, in_either}

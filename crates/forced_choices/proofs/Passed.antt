@@ -11,7 +11,7 @@ use Rattle.known_graph.specs.Graphs.{GraphState, back_to, where_marked, last_mar
 use Rattle.known_graph.specs.Reach.{Reaches}
 use Rattle.known_graph.specs.Reach as reach
 use Rattle.forced_choices.specs.declared.branch.Top.{Top}
-use Rattle.forced_choices.specs.declared.table.Table.{Table}
+use Rattle.forced_choices.specs.declared.tables.table.Table.{Table}
 use Rattle.forced_choices.specs.Stacks.{HavePassed, last_passed, levels_onto, passed_onto}
 use Rattle.forced_choices.specs.Tables.{ArePassed, choices_at}
 use Rattle.forced_choices.specs.Undecided.{AreAllDecided}

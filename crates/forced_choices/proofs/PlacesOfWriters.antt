@@ -15,7 +15,7 @@ use Rattle.txn.specs.Transactions.{same_id}
 use Rattle.order_check.specs.declared.remainder.Parts.{Parts}
 use Rattle.order_check.specs.Based.{mark_of, remaining_at}
 use Rattle.order_check.specs.Good.{IsGood}
-use Rattle.forced_choices.specs.declared.reads.Read.{Read}
+use Rattle.forced_choices.specs.declared.tables.reads.Read.{Read}
 use Rattle.forced_choices.specs.FreshArcs.{AreAllWritten}
 use Rattle.forced_choices.specs.Listing.{writes_here, is_other, base_arcs}
 use Rattle.forced_choices.specs.Masks.{is_third, choice_of, choices_in}

@@ -7,8 +7,8 @@ use Rattle.txn.specs.declared.transactions.Source.{Source}
 use Rattle.txn.specs.declared.transactions.Source.TheVariants.{By}
 use Rattle.order_check.specs.declared.remainder.Parts.{Parts}
 use Rattle.order_check.specs.Known.{WritesKey}
-use Rattle.forced_choices.specs.declared.kept.Loose.{Loose}
-use Rattle.forced_choices.specs.declared.reads.Placed.{Placed}
+use Rattle.forced_choices.specs.declared.tables.kept.Loose.{Loose}
+use Rattle.forced_choices.specs.declared.tables.reads.Placed.{Placed}
 use Rattle.forced_choices.specs.KeptTables.{AreReadsOf, IsAmong, WereReadsOf, has_come, is_writer}
 use Rattle.forced_choices.specs.Tables.{IsPlaced}
 use Rattle.forced_choices.proofs.Members.{In, filter_in, in_filter, in_left}

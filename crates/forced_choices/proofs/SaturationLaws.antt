@@ -13,7 +13,7 @@ use Rattle.txn.specs.Arcs.{start_of, end_of}
 use Rattle.order_check.specs.declared.remainder.Parts.{Parts}
 use Rattle.order_check.specs.Known.{Known, IsChoice, by_session, by_read, by_base, by_taken, through, forces_after, forces_before}
 use Rattle.order_check.specs.Cycles.{Sides, IsArc, IsPath, IsCycle, side_taken, side_not_taken, IsForced, AreForced, AreNew, sides_after, Links, IsFullLogFrom, TakeEachOnce}
-use Rattle.forced_choices.specs.declared.rules.Rule.{Rule}
+use Rattle.forced_choices.specs.declared.saturation.rules.Rule.{Rule}
 use Rattle.known_graph.specs.Reach.{Reaches, Leads}
 use Rattle.known_graph.specs.Reach as reach
 use Rattle.forced_choices.specs.Rules.{premise_of, arc_of_side, premise, conclusion}

@@ -20,8 +20,8 @@ use Rattle.order_check.specs.declared.remainder.Parts.{Parts}
 use Rattle.order_check.specs.Known.{IsChoice, ReadsKey, WritesKey}
 use Rattle.known_graph.specs.Bits.{HasBit}
 use Rattle.known_graph.specs.Graphs.{IsAt}
-use Rattle.forced_choices.specs.declared.reads.Read.{Read}
-use Rattle.forced_choices.specs.declared.writers.Writers.{Writers}
+use Rattle.forced_choices.specs.declared.tables.reads.Read.{Read}
+use Rattle.forced_choices.specs.declared.tables.writers.Writers.{Writers}
 use Rattle.forced_choices.specs.Forcing.{Stage, IsThere, IsSettledUnless, HasLooked}
 use Rattle.forced_choices.specs.Listing.{writes_here, is_other, reads_of, choices_of_read, choices_of}
 use Rattle.forced_choices.specs.Masks.{AreWriters, mask_of, is_third, choice_of, choices_in, IsSettled, AreThere, AreSettledBut}

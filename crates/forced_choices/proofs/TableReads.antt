@@ -15,10 +15,10 @@ use Rattle.order_check.specs.declared.remainder.Parts.{Parts}
 use Rattle.order_check.specs.Known.{IsChoice, ReadsKey, WritesKey}
 use Rattle.known_graph.specs.Bits.{HasBit}
 use Rattle.known_graph.specs.Graphs.{IsAt}
-use Rattle.forced_choices.specs.declared.reads.Read.{Read}
-use Rattle.forced_choices.specs.declared.reads.Placed.{Placed}
-use Rattle.forced_choices.specs.declared.touched.Touched.{Touched}
-use Rattle.forced_choices.specs.declared.writers.Writers.{Writers}
+use Rattle.forced_choices.specs.declared.tables.reads.Read.{Read}
+use Rattle.forced_choices.specs.declared.tables.reads.Placed.{Placed}
+use Rattle.forced_choices.specs.declared.saturation.touched.Touched.{Touched}
+use Rattle.forced_choices.specs.declared.tables.writers.Writers.{Writers}
 use Rattle.forced_choices.specs.Forcing.{AreAllSettledUnless, HasLooked, IsSettledUnless, IsThere, Stage}
 use Rattle.forced_choices.specs.Touching.{IsUntouchedAt, MayBeJoined}
 use Rattle.forced_choices.specs.Masks.{AreColumns, AreThere, AreWriters, IsSettled, choice_of, choices_in, mask_of}

@@ -10,7 +10,7 @@ use Rattle.txn.specs.Arcs.{start_of, end_of}
 use Rattle.known_graph.specs.Bits.{HasBit}
 use Rattle.known_graph.specs.Graphs.{IsAt}
 use Rattle.known_graph.specs.Reach.{Reaches, by_arc, through}
-use Rattle.forced_choices.specs.declared.touched.Touched.{Touched}
+use Rattle.forced_choices.specs.declared.saturation.touched.Touched.{Touched}
 use Rattle.forced_choices.specs.Touching.{IsTouchedIn, AreNoted}
 use Rattle.forced_choices.proofs.Members.{In, in_from_contains, contains_from_in, in_either}
 

@@ -4,8 +4,8 @@ use Rattle.txn.specs.declared.transactions.TxnId.{TxnId}
 use Rattle.order_check.specs.declared.remainder.Parts.{Parts}
 use Rattle.known_graph.specs.Bits.{HasBit}
 use Rattle.forced_choices.specs.Ascending.{In}
-use Rattle.forced_choices.specs.declared.by_key.ByKey.{ByKey}
-use Rattle.forced_choices.specs.declared.reads.Placed.{Placed}
+use Rattle.forced_choices.specs.declared.tables.by_key.ByKey.{ByKey}
+use Rattle.forced_choices.specs.declared.tables.reads.Placed.{Placed}
 use Rattle.forced_choices.specs.Masks.{AreColumns, mask_of}
 use Rattle.forced_choices.specs.WriterPlaces.{places_at}
 

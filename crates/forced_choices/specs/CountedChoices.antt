@@ -3,7 +3,7 @@ use Rattle.std.specs.Prelude.{◌≡◌, ℕ, List, [], length, take}
 use Rattle.txn.specs.declared.choices.Choice.{Choice}
 use Rattle.order_check.specs.declared.remainder.Parts.{Parts}
 use Rattle.order_check.specs.Known.{AreOpenChoices}
-use Rattle.forced_choices.specs.declared.counted.OpenChoices.{OpenChoices}
+use Rattle.forced_choices.specs.declared.choices.counted.OpenChoices.{OpenChoices}
 
 -- there is a list of all open choices: the first so many of them are listed, and all are counted
 pub record AreFirstOpen (parts : Parts) (most : ℕ) (listed : OpenChoices) : Type 0 where

@@ -8,13 +8,13 @@ use Rattle.txn.specs.declared.choices.Side.{Side}
 use Rattle.txn.specs.declared.choices.ForceStep.{ForceStep}
 use Rattle.order_check.specs.declared.remainder.Parts.{Parts}
 use Rattle.order_check.specs.Known.{IsChoice}
-use Rattle.forced_choices.specs.declared.looking.Trail.{Trail}
-use Rattle.forced_choices.specs.declared.rules.Rule.{Rule}
+use Rattle.forced_choices.specs.declared.saturation.looking.Trail.{Trail}
+use Rattle.forced_choices.specs.declared.saturation.rules.Rule.{Rule}
 use Rattle.known_graph.specs.Graphs.{GraphState, HasNode, IsAt}
 use Rattle.known_graph.specs.Reach.{Reaches, IsPathOf}
 use Rattle.forced_choices.specs.Ascending.{In}
 use Rattle.forced_choices.specs.Rules.{premise, conclusion}
-use Rattle.forced_choices.specs.declared.touched.Touched.{Touched}
+use Rattle.forced_choices.specs.declared.saturation.touched.Touched.{Touched}
 use Rattle.forced_choices.specs.Touching.{IsTouchedIn, AreNoted, MayBeJoined}
 
 -- the side is forced: what rules the other out is reached

@@ -4,7 +4,7 @@ use Rattle.std.specs.List.{flat_map, list_any}
 use Rattle.txn.specs.declared.transactions.TxnId.{TxnId}
 use Rattle.txn.specs.declared.choices.Arc.{Arc}
 use Rattle.order_check.specs.declared.remainder.Parts.{Parts}
-use Rattle.forced_choices.specs.declared.kept.Loose.{Loose}
+use Rattle.forced_choices.specs.declared.tables.kept.Loose.{Loose}
 use Rattle.forced_choices.specs.Ascending.{In}
 use Rattle.forced_choices.specs.Listing.{writes_here, session_arcs, arcs_of_read, arcs_of_reads}
 

@@ -6,10 +6,10 @@ use Rattle.txn.specs.declared.transactions.Source.TheVariants.{Init, By}
 use Rattle.order_check.specs.declared.remainder.Parts.{Parts}
 use Rattle.order_check.specs.Based.{Remains}
 use Rattle.order_check.specs.Known.{ReadsKey, WritesKey}
-use Rattle.forced_choices.specs.declared.kept.Loose.{Loose}
-use Rattle.forced_choices.specs.declared.kept.KeptTable.{KeptTable}
-use Rattle.forced_choices.specs.declared.reads.Placed.{Placed}
-use Rattle.forced_choices.specs.declared.table.Table.{Table}
+use Rattle.forced_choices.specs.declared.tables.kept.Loose.{Loose}
+use Rattle.forced_choices.specs.declared.tables.kept.KeptTable.{KeptTable}
+use Rattle.forced_choices.specs.declared.tables.reads.Placed.{Placed}
+use Rattle.forced_choices.specs.declared.tables.table.Table.{Table}
 use Rattle.forced_choices.specs.Ascending.{In}
 use Rattle.forced_choices.specs.ByKeys.{AreIndexed, AreRows}
 use Rattle.forced_choices.specs.Listing.{writes_here}

@@ -12,7 +12,7 @@ use Rattle.known_graph.specs.Reach.{Reaches}
 use Rattle.forced_choices.specs.Ascending.{In}
 use Rattle.forced_choices.specs.Listing.{is_base_source, is_other, reads_of}
 use Rattle.forced_choices.specs.SaturatedState.{choice_remains}
-use Rattle.forced_choices.specs.declared.cutting.Left.{Left}
+use Rattle.forced_choices.specs.declared.relation.cutting.Left.{Left}
 
 -- whether the read is one of the base, and the other transaction another writer of its key
 abbrev pub is_of_base : Parts → TxnId → TxnId → ℕ × Source → Bool

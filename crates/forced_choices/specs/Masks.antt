@@ -12,8 +12,8 @@ use Rattle.order_check.specs.declared.remainder.Parts.{Parts}
 use Rattle.known_graph.specs.Bits.{HasBit}
 use Rattle.known_graph.specs.Graphs.{IsAt}
 use Rattle.known_graph.specs.Reach.{Reaches}
-use Rattle.forced_choices.specs.declared.reads.Read.{Read}
-use Rattle.forced_choices.specs.declared.writers.Writers.{Writers}
+use Rattle.forced_choices.specs.declared.tables.reads.Read.{Read}
+use Rattle.forced_choices.specs.declared.tables.writers.Writers.{Writers}
 use Rattle.forced_choices.specs.Ascending.{In}
 use Rattle.forced_choices.specs.Forcing.{IsThere}
 use Rattle.forced_choices.specs.Undecided.{TellsOpen}

@@ -4,7 +4,7 @@ use Rattle.txn.specs.declared.choices.Choice.{Choice}
 use Rattle.txn.specs.declared.choices.Side.{Side}
 use Rattle.txn.specs.declared.choices.Side.TheVariants.{First, Second}
 use Rattle.txn.specs.Choices.{first_side, second_side}
-use Rattle.forced_choices.specs.declared.rules.Rule.{Rule}
+use Rattle.forced_choices.specs.declared.saturation.rules.Rule.{Rule}
 
 -- what rules the other side out: for the second side, that the other writer comes after the writer; for the first, that it
 -- comes before the reader

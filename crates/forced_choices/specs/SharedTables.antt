@@ -2,8 +2,8 @@
 use Rattle.std.specs.Arc.{arc_value}
 use Rattle.order_check.specs.declared.remainder.Parts.{Parts}
 use Rattle.known_graph.specs.Graphs.{GraphState}
-use Rattle.forced_choices.specs.declared.sharing.SharedTable.{SharedTable}
-use Rattle.forced_choices.specs.declared.table.Table.{Table}
+use Rattle.forced_choices.specs.declared.tables.sharing.SharedTable.{SharedTable}
+use Rattle.forced_choices.specs.declared.tables.table.Table.{Table}
 use Rattle.forced_choices.specs.Tables.{ArePassed, IsTable}
 
 -- what is shared

@@ -9,7 +9,7 @@ use Rattle.order_check.specs.Cycles.{Sides, AreNew, sides_after}
 use Rattle.order_check.specs.Known.{IsChoice}
 use Rattle.known_graph.specs.Graphs.{GraphState, last_mark}
 use Rattle.forced_choices.specs.declared.branch.Top.{Top}
-use Rattle.forced_choices.specs.declared.table.Table.{Table}
+use Rattle.forced_choices.specs.declared.tables.table.Table.{Table}
 use Rattle.forced_choices.specs.Tables.{ArePassed, IsTable}
 use Rattle.forced_choices.specs.BranchState.{Level, arc_of, assumed, all_taken}
 use Rattle.forced_choices.specs.SoFar.{IsRelation}

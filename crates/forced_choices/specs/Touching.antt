@@ -6,9 +6,9 @@ use Rattle.known_graph.specs.Bits.{HasBit}
 use Rattle.known_graph.specs.Graphs.{IsAt}
 use Rattle.known_graph.specs.Reach.{Reaches}
 use Rattle.known_graph.specs.Spans.{IsSpanOf}
-use Rattle.forced_choices.specs.declared.reads.Placed.{Placed}
-use Rattle.forced_choices.specs.declared.touched.Touched.{Touched}
-use Rattle.forced_choices.specs.declared.touched.Spans.{Spans}
+use Rattle.forced_choices.specs.declared.tables.reads.Placed.{Placed}
+use Rattle.forced_choices.specs.declared.saturation.touched.Touched.{Touched}
+use Rattle.forced_choices.specs.declared.saturation.touched.Spans.{Spans}
 
 -- each column that the one has the other has
 pub record IsTouchedIn (some more : Touched) : Type 0 where

@@ -5,7 +5,7 @@ use Rattle.std.specs.BTreeMap.{BTreeMap, get}
 use Rattle.std.specs.Ordering.{nat_cmp}
 use Rattle.txn.specs.declared.transactions.TxnId.{TxnId}
 use Rattle.order_check.specs.declared.remainder.Parts.{Parts}
-use Rattle.forced_choices.specs.declared.places.Places.{Places}
+use Rattle.forced_choices.specs.declared.tables.places.Places.{Places}
 use Rattle.forced_choices.specs.Listing.{writes_here}
 use Rattle.forced_choices.specs.Masks.{words_in}
 

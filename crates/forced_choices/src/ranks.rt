@@ -11,7 +11,7 @@ ghost use Rattle.forced_choices.specs.BranchState.{assumed};
 ghost use Rattle.forced_choices.specs.Ranks.{Counts, AreRanked, ids_of};
 
 use crate::branch::Branch;
-use crate::listing::remaining_ids_of;
+use crate::tables::listing::remaining_ids_of;
 use known_graph::Graph;
 use std::alloc::Global;
 use txn::{NoMemory, TxnId};

@@ -9,10 +9,16 @@ ghost use Rattle.forced_choices.specs.ByKeys.{reads_at};
 ghost use Rattle.forced_choices.specs.Tables.{IsLookup, choices_at};
 ghost use Rattle.forced_choices.specs.WriterPlaces.{places_at};
 
-use crate::looking::{Trail, look_at_read};
-use crate::since::{Delta, are_settled_since};
-use crate::table::Lookup;
-use crate::touched::{Touched, meets, spans_of, untouched};
+pub mod columns;
+pub mod looking;
+pub mod rules;
+pub mod since;
+pub mod touched;
+
+use crate::saturation::looking::{Trail, look_at_read};
+use crate::saturation::since::{Delta, are_settled_since};
+use crate::saturation::touched::{Touched, meets, spans_of, untouched};
+use crate::tables::table::Lookup;
 use known_graph::Graph;
 use std::alloc::Global;
 use std::mem;

@@ -5,7 +5,7 @@ use Rattle.txn.specs.declared.choices.ForceStep.{ForceStep}
 use Rattle.order_check.specs.Based.{Remains}
 use Rattle.known_graph.specs.Bits.{HasBit}
 use Rattle.known_graph.specs.Graphs.{HasKey}
-use Rattle.forced_choices.specs.declared.touched.Touched.{Touched}
+use Rattle.forced_choices.specs.declared.saturation.touched.Touched.{Touched}
 use Rattle.forced_choices.specs.Forcing.{stage_of, Forces, unforced, AreAllSettledUnless}
 use Rattle.forced_choices.specs.Listing.{all_ids}
 use Rattle.forced_choices.specs.Tables.{IsLookup, choices_at}

@@ -7,7 +7,7 @@ use Rattle.forced_choices.specs.BranchState.{Level, BranchState, AreForcedBy, as
 use Rattle.forced_choices.specs.declared.branch.Top.{Top}
 use Rattle.forced_choices.specs.Forcing.{IsClosed}
 use Rattle.forced_choices.specs.Tables.{ArePassed, IsTable}
-use Rattle.forced_choices.specs.declared.table.Table.{Table}
+use Rattle.forced_choices.specs.declared.tables.table.Table.{Table}
 use Rattle.forced_choices.specs.SharedTables.{table_in}
 use Rattle.forced_choices.specs.Stacks.{AreStacked, HavePassed, levels_onto, level_of, passed_onto}
 use Rattle.forced_choices.proofs.Passed.{passed_push, passed_before, passed_more, passed_again}

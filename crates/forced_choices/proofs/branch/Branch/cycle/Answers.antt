@@ -7,7 +7,7 @@ use Rattle.order_check.specs.Search.{HasCycle}
 use Rattle.forced_choices.specs.BranchState.{BranchState, assumed, all_taken}
 use Rattle.forced_choices.specs.SharedTables.{table_in}
 use Rattle.forced_choices.specs.Tables.{AreAtColumns}
-use Rattle.forced_choices.specs.declared.table.Table.{Table}
+use Rattle.forced_choices.specs.declared.tables.table.Table.{Table}
 use Rattle.known_graph.specs.Reach.{Reaches}
 use Rattle.forced_choices.specs.Stacks.{levels_onto}
 use Rattle.forced_choices.proofs.KnownRemain.{cycle_found, none_on_cycle, known_listed}

@@ -6,7 +6,7 @@ use Rattle.order_check.specs.Search.{IsFirstOpen}
 use Rattle.forced_choices.specs.BranchState.{BranchState, assumed}
 use Rattle.forced_choices.specs.SharedTables.{table_in}
 use Rattle.forced_choices.specs.Tables.{ArePassed, IsTable}
-use Rattle.forced_choices.specs.declared.table.Table.{Table}
+use Rattle.forced_choices.specs.declared.tables.table.Table.{Table}
 use Rattle.forced_choices.specs.Stacks.{levels_onto}
 use Rattle.forced_choices.proofs.FirstOpen.{first_found}
 use Rattle.forced_choices.proofs.Passed.{passed_before}

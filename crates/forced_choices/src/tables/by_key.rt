@@ -1,0 +1,74 @@
+// Reads by their keys, so that those of a key at which nothing is touched are passed in one step.
+ghost use Rattle.std.specs.Prelude.{◌≡◌, ◌⊎◌, ◌↔◌, ◌≤◌, ◌∷◌, [], ◌++◌, ℕ, length, take, All, IfOk, OnOk, nat_eq, if◌then◌else◌};
+ghost use Rattle.txn.specs.declared.transactions.TxnId.{TxnId};
+ghost use Rattle.known_graph.specs.Bits.{HasBit};
+ghost use Rattle.known_graph.specs.Graphs.{HasNode};
+ghost use Rattle.forced_choices.specs.ByKeys.{AreIndexed, AreRows};
+ghost use Rattle.forced_choices.specs.Masks.{mask_of};
+ghost use Rattle.forced_choices.specs.WriterPlaces.{places_at};
+
+use crate::tables::places::{Places, add_place};
+use crate::tables::reads::Placed;
+use crate::tables::writers::{add_column, writers_of};
+use known_graph::Graph;
+use order_check::Parts;
+use std::alloc::Global;
+use std::collections::BTreeMap;
+use txn::{NoMemory, TxnId};
+
+/// For each key the columns of its writers and of its readers, and where its reads stand.
+#[derive(Drop, Debug)]
+pub struct ByKey {
+    /// A bit for each column.
+    pub rows: BTreeMap<u64, Vec<u64>>,
+    pub reads: Places,
+}
+
+/// Puts a read, which stands at this place, to those of its key.
+fn add_read(alloc: Global, by_key: &mut ByKey, placed: Placed, place: usize) -> Result<(), NoMemory>
+    ensures rows { OnOk result ((other j : ℕ) → HasBit (mask_of by_key.new.rows other) j ↔ (HasBit (mask_of by_key.old.rows other) j ⊎ ((other ≡ placed.read.key) × (j ≡ placed.reader_at)))) }
+    ensures reads { OnOk result ((other : ℕ) → places_at by_key.new.reads.lists other ≡ places_at by_key.old.reads.lists other ++ (if nat_eq other placed.read.key then place ∷ [] else [])) }
+{
+    add_column(alloc, &mut by_key.rows, placed.read.key, placed.reader_at)?;
+    add_place(alloc, &mut by_key.reads.lists, placed.read.key, place)
+}
+
+/// Puts the reads from this place on to those of their keys.
+pub fn add_reads_from(
+    alloc: Global,
+    by_key: &mut ByKey,
+    reads: &[Placed],
+    from: usize,
+) -> Result<(), NoMemory>
+    requires { from ≤ length reads.now }
+    ensures indexed { OnOk result (AreIndexed (take from reads.now) by_key.old → AreIndexed reads.now by_key.new) }
+    ensures rows { OnOk result ((key j : ℕ) → HasBit (mask_of by_key.old.rows key) j → HasBit (mask_of by_key.new.rows key) j) }
+{
+    for place in from..reads.len() {
+        add_read(alloc, by_key, reads[place], place)?;
+    }
+    Ok(())
+}
+
+/// The reads by their keys, of these ids.
+pub fn by_key_of(
+    alloc: Global,
+    parts: &Parts,
+    graph: &Graph,
+    ids: &[TxnId],
+    reads: &[Placed],
+) -> Result<ByKey, NoMemory>
+    requires { All (HasNode graph.now) ids.now }
+    ensures rows { IfOk result (λ by_key. AreRows parts.now graph.now.nodes ids.now by_key) }
+    ensures indexed { IfOk result (AreIndexed reads.now) }
+{
+    let writers = writers_of(alloc, parts, graph, ids)?;
+    let mut by_key = ByKey {
+        rows: writers.masks,
+        reads: Places {
+            lists: BTreeMap::new(alloc),
+        },
+    };
+    add_reads_from(alloc, &mut by_key, reads, 0)?;
+    Ok(by_key)
+}
