@@ -25,11 +25,13 @@ pub mod OrderLaws
 pub mod OrderSearch
 pub mod OrderTest
 pub mod Orders
+pub mod Parted
 pub mod PendingReads
 pub mod Places
 pub mod Received
 pub mod Remaining
 pub mod Replayed
+pub mod RisingLists
 pub mod RulesKept
 pub mod SearchLaws
 pub mod SessionIds

@@ -36,7 +36,7 @@ equal_from_is_eq Less e = cc
 equal_from_is_eq Equal e = refl
 equal_from_is_eq Greater e = cc
 
-same_key : (x y : ℕ) → is_at (nat_cmp x) y ≡ true → x ≡ y
+pub same_key : (x y : ℕ) → is_at (nat_cmp x) y ≡ true → x ≡ y
 same_key x y e = exact_unsigned x y (equal_from_is_eq (nat_cmp x y) e)
 
 -- where each entry's writer is below its mark, so is each key's

@@ -15,6 +15,7 @@ pub mod Laws
 pub mod NoBase
 pub mod Precedes
 pub mod Replay
+pub mod Rising
 pub mod Rows
 pub mod Rules
 pub mod SameContent

@@ -9,6 +9,7 @@ mod known_laws;
 mod laws;
 mod lookups;
 mod remainder;
+mod rising;
 mod rules;
 mod search_laws;
 mod taken_laws;
