@@ -64,10 +64,14 @@ def longest():
         "brackets": b"[" * LONGEST,
         "empty lists": (b'["offer",0,0,[' + b"[]," * (LONGEST // 3))[:LONGEST - 4] + b"[]]]",
         "transactions": b'["offer",0,0,[' + b"[[],[]]," * ((LONGEST - 24) // 8) + b"[[],[]]]]",
+        "lists in lists": b"[" + b",".join(
+            [b"[" * 100 + b"0" + b"]" * 100] * (LONGEST // 202)) + b"]",
         "objects in objects, too deep": b'{"":' * (LONGEST // 5),
         "objects in objects": b"[" + b",".join(
             [b'{"":' * 100 + b"0" + b"}" * 100] * (LONGEST // 502)) + b"]",
         "small objects": b"[" + b'{"":0},' * (LONGEST // 7 - 1) + b"0]",
+        "lists, and then an object": (b'["offer",0,0,[' + b"[]," * (LONGEST // 3))[:LONGEST - 4]
+                                     + b"{}]]",
         "members": b"{" + b",".join(b'"%d":{}' % at for at in range(LONGEST // 12)) + b"}",
         "a word": b'["' + b"x" * (LONGEST - 4) + b'"]',
         "escapes": b'["' + b"\\u0041" * ((LONGEST - 4) // 6) + b'"]',

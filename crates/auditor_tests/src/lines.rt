@@ -281,7 +281,7 @@ fn aborted_transactions(rt: HostRuntime) -> Result<(), Fail> {
 }
 
 // Texts that are no JSON, or no array of a known word and its parts; other parts; offers and joins with other parts.
-static BAD_LINES: [&str; 82] = [
+static BAD_LINES: [&str; 85] = [
     "",
     " ",
     "null",
@@ -301,6 +301,9 @@ static BAD_LINES: [&str; 82] = [
     "[\"cut\"]",
     "[\"show\"}",
     "{\"show\":1}",
+    "[\"sh{ow\"]",
+    "[\"show\",{\"\":0}]",
+    "[\"offer\",0,0,[[[],[]],{}]]",
     "\u{feff}[\"show\"]",
     "[\"show\"]\u{0}",
     "[\"begin\",[]]",

@@ -3,6 +3,8 @@ pub mod BuiltTrees
 pub mod EachItem
 pub mod GainedData
 pub mod HandedAnswers
+pub mod PlainCommands
+pub mod ReadObjects
 pub mod ReportsRead
 pub mod SameTrees
 pub mod SavedData

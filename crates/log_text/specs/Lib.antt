@@ -3,6 +3,7 @@ pub mod Commands
 pub mod Items
 pub mod Lists
 pub mod Numbers
+pub mod Objects
 pub mod ReadBack
 pub mod Refutations
 pub mod Replies

@@ -9,6 +9,7 @@ ghost use Rattle.log_text.specs.Commands.{start_in, fragment_at, fragment_in, of
 use crate::fragments::txns_of;
 use crate::handed::{flags_of, marks_of, writers_of};
 use crate::numbers::{number_within, session_of, whole_number};
+use crate::objects::has_object;
 use crate::shown::{Shown, answer_of};
 use crate::versions::{Version, version_in};
 use logged_fragments::LoggedFragment;
@@ -399,6 +400,9 @@ pub fn read_line(alloc: Global, line: &[u8]) -> Result<Command, Refusal>
     let Ok(text) = std::str::from_utf8(line) else {
         return Err(Refusal::BadLine);
     };
+    if text.contains('{') && has_object(alloc, text)? {
+        return Err(Refusal::BadLine);
+    }
     let value = match Value::from_str(alloc, text) {
         Ok(value) => value,
         Err(error) if error.is_memory() => return Err(Refusal::NoMemory),

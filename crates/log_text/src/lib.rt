@@ -7,6 +7,7 @@ mod fragments;
 mod handed;
 mod lists;
 mod numbers;
+mod objects;
 mod replies;
 mod saved;
 mod shown;
