@@ -1,5 +1,6 @@
 // What many arcs make of rows that have no bit: a row is joined once for each arc, where each is taken behind those that start where it ends.
-ghost use Rattle.std.specs.Prelude.{◌≡◌, ◌↔◌, ◌<◌, ℕ, IsTrue, IfOk, IfSome, OnOk, All, Contains, length};
+ghost use Rattle.std.specs.Prelude.{◌≡◌, ◌↔◌, ◌<◌, ℕ, List, IsTrue, IfOk, IfSome, OnOk, All, Contains, length};
+ghost use Rattle.known_graph.specs.declared.closing.KeyArc.{KeyArc};
 ghost use Rattle.known_graph.specs.Rows.{HasAt, HaveSameLengths, AreSquare};
 ghost use Rattle.known_graph.specs.KeyArcs.{IsBelow, LeadsTo, IsClosedUnder, AreTurned, IsClosureOf, IsTurnedClosureOf};
 
@@ -57,7 +58,21 @@ fn starts_of(alloc: Global, arcs: &[KeyArc], width: usize) -> Result<Vec<usize>,
     Ok(starts)
 }
 
-/// The arcs, each behind those that start where it ends; without those that lead to a cycle.
+/// Puts an arc at the end, unless the last one is between the same two.
+fn push_other(order: &mut Vec<KeyArc>, arc: KeyArc) -> Result<(), NoMemory>
+    ensures { OnOk result ((arcs : List KeyArc) → Contains arcs arc → All (Contains arcs) order.old.items → All (Contains arcs) order.new.items) }
+{
+    if let Some(last) = order.last() {
+        if last.start == arc.start && last.end == arc.end {
+            return Ok(());
+        }
+    }
+    order.push(arc)?;
+    Ok(())
+}
+
+/// The arcs, each behind those that start where it ends; without those that lead to a cycle, and with one of some between the same two
+/// that come at once.
 fn in_order(alloc: Global, arcs: &[KeyArc], width: usize) -> Result<Vec<KeyArc>, NoMemory>
     ensures { IfOk result (λ order. All (Contains arcs.now) order.items) }
 {
@@ -80,7 +95,7 @@ fn in_order(alloc: Global, arcs: &[KeyArc], width: usize) -> Result<Vec<KeyArc>,
                 break;
             }
             let arc = arcs[place];
-            order.push(arc)?;
+            push_other(&mut order, arc)?;
             place = ends.before.get(place).copied().unwrap_or(NOWHERE);
             if arc.start < left.len() {
                 left[arc.start] = left[arc.start].wrapping_sub(1);

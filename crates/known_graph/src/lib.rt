@@ -10,6 +10,7 @@ mod index;
 mod joins;
 mod nearest;
 mod nodes;
+mod numbers;
 mod paths;
 mod rows;
 mod spans;

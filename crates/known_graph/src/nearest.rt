@@ -68,17 +68,17 @@ impl Search {
         next: usize,
         key: usize,
     ) -> Result<(), NoMemory> {
-        let mut arc = index.last_at(key);
-        while let Some(link) = index.link_at(arc) {
-            let key = link.start;
+        let mut place = index.last_at(key);
+        while let Some(link) = index.link_at(place) {
+            let (key, arc) = (link.start, link.arc);
             let is_between = key == ends.start || has_bit(ends.row, key);
             if is_between && !self.has(key) {
                 self.find(Found { key, arc, next })?;
             }
-            if link.before >= arc {
+            if link.before >= place {
                 break;
             }
-            arc = link.before;
+            place = link.before;
         }
         Ok(())
     }
