@@ -2,6 +2,7 @@ pub mod AskedLines
 pub mod Checkpoints
 pub mod GivenOut
 pub mod HandedWriters
+pub mod LastTold
 pub mod LineCounts
 pub mod OtherCommands
 pub mod Pages

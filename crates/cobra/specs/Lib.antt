@@ -1,5 +1,6 @@
 pub mod Checkpoints
 pub mod HandOver
+pub mod LastTold
 pub mod Outputs
 pub mod Programs
 pub mod Saving

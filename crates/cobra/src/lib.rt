@@ -2,6 +2,7 @@
 #![tactic(auto)]
 
 mod handing;
+mod last_told;
 mod open_engine;
 mod programs;
 mod replies;
