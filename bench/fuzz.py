@@ -4,24 +4,33 @@
 Run at the top of the repository, after `cd crates/cobra_audit && rt run < /dev/null` has built the
 program, or with COBRA_AUDIT naming another one:
 
-    python3 bench/fuzz.py [--lines N] [--seed S] [--minutes M] [--only WORD] [--keep FILE] [PROGRAM]
+    python3 bench/fuzz.py [--lines N] [--seed S] [--minutes M] [--processes N] [--only WORD]
+                          [--keep FILE] [PROGRAM]
 
 Four generators: bytes mutated, lines mutated by their grammar, whole scripts, and answers that are
-handed in (`fuzz_lines.py`). Each reply is held against the one that the plain model owes (`judge.py`), and
-each program has to end with status 0 and no word more. It prints a table of what was tried by kind
-of line and by reply. At the first difference it stops, makes the script smaller while a difference
-stays, writes it to FILE (fuzz-difference.jsonl) and ends with status 1. --only takes the generators
-alone whose name has the word. The same seed gives the same lines to programs that answer alike.
+handed in (`fuzz_lines.py`). Each reply is held against the one that the plain model owes
+(`judge.py`), and each program has to end with status 0 and no word more. It prints a table of what
+was tried by kind of line and by reply; so it does where SIGINT or SIGTERM stops it. At the first
+difference it stops, makes the script smaller while a difference stays, writes it to FILE
+(fuzz-difference.jsonl) and ends with status 1. --only takes the generators alone whose name has the
+word. --processes shares the lines among so many processes, each a model beside a program. The same
+seed and as many processes give the same lines to programs that answer alike.
 """
 import argparse
 import fcntl
+import gc
+import multiprocessing
 import os
 import random
 import select
+import signal
 import subprocess
 import sys
 import time
 from collections import Counter, defaultdict
+from dataclasses import dataclass, replace
+from multiprocessing.connection import wait
+from typing import Optional
 
 from fuzz_lines import Answers, Bytes, Grammar, Longest, Scripts
 from judge import Model, first_difference
@@ -31,8 +40,10 @@ PIPE = 1 << 20  # bytes that wait in a pipe before its writer has to
 SECONDS = 120.0  # for the replies to a chunk
 GENERATORS = {"bytes": (Bytes, 30), "grammar": (Grammar, 30), "scripts": (Scripts, 25),
               "answers": (Answers, 15)}
+FORKS = multiprocessing.get_context("fork")
 EACH = 600  # lines of a script, about
-FEW = 50000  # lines for each script of the longest lines
+OFTEN = 5.0  # seconds from which a process tells again how far it is
+FEW = 100000  # lines for each script of the longest lines
 
 
 class Program:
@@ -84,7 +95,7 @@ class Table:
 
     def __init__(self):
         self.tried = defaultdict(Counter)
-        self.scripts = 0
+        self.lines = self.scripts = 0
 
     def add(self, kind, reply):
         """The word of the reply: of a refusal its name, of a report its kind."""
@@ -95,9 +106,16 @@ class Table:
         else:
             word = reply.split(b'"', 2)[1].decode()
         self.tried[kind][word] += 1
+        self.lines += 1
 
-    def lines(self):
-        return sum(sum(row.values()) for row in self.tried.values())
+    def set_to(self, tables):
+        """Counts what these have counted, and nothing else."""
+        self.tried.clear()
+        for row in tables:
+            for kind, counts in row.tried.items():
+                self.tried[kind].update(counts)
+        self.lines = sum(table.lines for table in tables)
+        self.scripts = sum(table.scripts for table in tables)
 
     def text(self):
         words = sum(self.tried.values(), Counter())
@@ -108,10 +126,31 @@ class Table:
             row = self.tried[kind]
             rows.append((kind, f"{sum(row.values()):,}",
                          [f"{row[head]:,}" if row[head] else "" for head in heads]))
-        rows.append(("all", f"{self.lines():,}", [f"{words[head]:,}" for head in heads]))
+        rows.append(("all", f"{self.lines:,}", [f"{words[head]:,}" for head in heads]))
         return "\n".join(
             f"{kind:24} {count:>11}  " + " ".join(f"{it:>{w}}" for it, w in zip(its, widths))
             for kind, count, its in rows)
+
+
+@dataclass
+class Run:
+    """What is tried: scripts from this seed until so many lines were, or that time has come, by the
+    generators whose name has the word."""
+
+    seed: str
+    lines: int
+    until: Optional[float] = None
+    only: str = ""
+
+    def is_over(self, table):
+        return table.lines >= self.lines or (
+            self.until is not None and time.monotonic() >= self.until)
+
+    def shared(self, count):
+        """The parts of so many processes, each with a seed of its own."""
+        return [replace(self, seed=f"{self.seed}/{at}",
+                        lines=self.lines // count + (at < self.lines % count))
+                for at in range(count)]
 
 
 class Difference(Exception):
@@ -168,21 +207,85 @@ def end_script(model, program, given, table, dice):
         table.add("last line without LF", replies[0])
 
 
-def fuzz(start, seed, most, until=None, only="", table=None, tell=None):
-    """Scripts from this seed until so many lines were tried, or that time has come; raises
-    Difference."""
+def fuzz(start, run, table=None, tell=None):
+    """The run, in this process; raises Difference."""
     table, number, longest = table if table is not None else Table(), 0, 0
-    chosen = {name: it for name, it in GENERATORS.items() if only in name}
+    chosen = {name: it for name, it in GENERATORS.items() if run.only in name}
     kinds, weights = zip(*chosen.values()) if chosen else ((Longest,), (1,))
-    while table.lines() < most and (until is None or time.monotonic() < until):
-        dice = random.Random(f"{seed} {number}")
+    while not run.is_over(table):
+        dice = random.Random(f"{run.seed} {number}")
         kind = dice.choices(kinds, weights)[0]
-        if not only and table.lines() >= (longest + 1) * FEW:
+        if not run.only and table.lines >= (longest + 1) * FEW:
             kind, longest = Longest, longest + 1
-        try_script(kind(dice), dice, start, table, min(EACH, most))
+        try_script(kind(dice), dice, start, table, min(EACH, run.lines))
         number += 1
         if tell:
             tell(table)
+    return table
+
+
+def fuzz_beside(answers, start, run):
+    """What one of several processes does. Now and then, and at its end, it sends what it has tried,
+    whether it is over, and of a difference the script and the reason."""
+    signal.signal(signal.SIGTERM, lambda *_: sys.exit(1))  # its program is stopped, too
+    signal.signal(signal.SIGINT, signal.SIG_IGN)  # who has begun it sees to that
+    table, last, found = Table(), [time.monotonic()], None
+
+    def tell(table):
+        if time.monotonic() - last[0] > OFTEN:
+            last[0] = time.monotonic()
+            answers.send((table, False, None))
+
+    try:
+        fuzz(start, run, table, tell)
+    except Difference as difference:
+        found = difference.script, difference.why
+    answers.send((table, True, found))
+
+
+class Beside:
+    """One of several processes, and what it has tried so far."""
+
+    def __init__(self, start, run):
+        self.seed, self.table, self.is_over = run.seed, Table(), False
+        self.answers, end = FORKS.Pipe(duplex=False)
+        self.process = FORKS.Process(target=fuzz_beside, args=(end, start, run), daemon=True)
+        self.process.start()
+        end.close()
+
+    def hear(self):
+        """Takes what it sends; raises Difference."""
+        try:
+            self.table, self.is_over, found = self.answers.recv()
+        except EOFError:
+            raise RuntimeError(f"the process with seed {self.seed} has ended by itself") from None
+        if found:
+            raise Difference(*found)
+
+    def stop(self):
+        self.process.terminate()
+        self.process.join()
+        self.answers.close()
+
+
+def fuzz_side_by_side(start, run, processes, table=None, tell=None):
+    """The run, shared by so many processes; at the first difference all stop. Raises Difference."""
+    table = table if table is not None else Table()
+    team = []
+    try:
+        for part in run.shared(processes):
+            team.append(Beside(start, part))
+        while not all(each.is_over for each in team):
+            running = {each.answers: each for each in team if not each.is_over}
+            for answers in wait(list(running)):
+                running[answers].hear()
+            if tell:
+                table.set_to([each.table for each in team])
+                tell(table)
+    finally:
+        for each in team:
+            each.stop()
+        table.set_to([each.table for each in team])
     return table
 
 
@@ -235,35 +338,52 @@ def tell_difference(start, difference, path):
     print(f"{len(lines)} lines are left, in {path}: {why}")
 
 
-def main():
+def arguments():
     words = argparse.ArgumentParser(description=__doc__.splitlines()[0])
     words.add_argument("--lines", type=int, default=1000000)
     words.add_argument("--seed", default="1")
     words.add_argument("--minutes", type=float)
+    words.add_argument("--processes", type=int, default=1, metavar="N")
     words.add_argument("--only", default="", metavar="WORD")
     words.add_argument("--keep", default="fuzz-difference.jsonl", metavar="FILE")
     words.add_argument("program", nargs="?", default=os.environ.get(
         "COBRA_AUDIT", "crates/cobra_audit/out/cobra_audit"))
-    asked = words.parse_args()
+    return words.parse_args()
+
+
+def main():
+    gc.disable()  # it looks at each list of a line of 8 MiB, and next to nothing is in a circle
+    asked = arguments()
     path, begin = os.path.abspath(asked.program), time.monotonic()
-    until = begin + 60 * asked.minutes if asked.minutes else None
-    table, status, last = Table(), 0, [begin]
+    run = Run(asked.seed, asked.lines, None, asked.only)
+    if asked.minutes:
+        run.until = begin + 60 * asked.minutes
+    table, end, last = Table(), "no difference", [begin]
+    signal.signal(signal.SIGTERM, signal.default_int_handler)
+
+    def start():
+        return Program(path)
 
     def tell(table):
         if time.monotonic() - last[0] > 60:
             last[0] = time.monotonic()
-            print(f"{table.lines():,} lines so far, {last[0] - begin:.0f} s", flush=True)
+            print(f"{table.lines:,} lines so far, {last[0] - begin:.0f} s", flush=True)
 
     try:
-        fuzz(lambda: Program(path), asked.seed, asked.lines, until, asked.only, table, tell)
+        if asked.processes > 1:
+            fuzz_side_by_side(start, run, asked.processes, table, tell)
+        else:
+            fuzz(start, run, table, tell)
+    except KeyboardInterrupt:
+        end = "no difference until it was STOPPED"
     except Difference as difference:
-        status = 1
-        tell_difference(lambda: Program(path), difference, asked.keep)
-    seconds = time.monotonic() - begin
+        end = "A DIFFERENCE"
+        tell_difference(start, difference, asked.keep)
     print(table.text())
-    print(f"seed {asked.seed}: {table.lines():,} lines in {table.scripts:,} scripts, "
-          f"{seconds:.0f} s, {'A DIFFERENCE' if status else 'no difference'}")
-    sys.exit(status)
+    processes = f" in {asked.processes} processes" if asked.processes > 1 else ""
+    print(f"seed {asked.seed}{processes}: {table.lines:,} lines in {table.scripts:,} scripts, "
+          f"{time.monotonic() - begin:.0f} s, {end}")
+    sys.exit(end != "no difference")
 
 
 if __name__ == "__main__":

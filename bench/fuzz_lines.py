@@ -4,10 +4,9 @@ Each generator is made for one script, from dice, and asked for chunk after chun
 of a kind, which is a word for the table, and a line without its LF. It looks at the plain model for
 what was taken in so far; within a chunk it goes on as if all were accepted.
 """
-import json
 from collections import defaultdict
 
-from judge import ABORTED, LONGEST, NUMBERS, WHOLE, command_of, effect_of, is_aborted
+from judge import ABORTED, LONGEST, NUMBERS, WHOLE, command_of, effect_of, encode, is_aborted
 from plain_verdicts import is_fence
 
 EDGES = (0, 1, 2, 3, 5, 6, 7, 8, 15, 16, 17, 63, 64, 65, 127, 128, 255, 256, 257, 4095, 4096, 4097,
@@ -27,8 +26,8 @@ NO_SPACES = ("\x0b", "\x0c", "\xa0", "\u2028", "\ufeff", "\x00", "/**/", "\\", "
 NO_TEXT = (b"\xff", b"\xfe\xff", b"\xc3", b"\xc0\x80", b"\xed\xa0\x80", b"\xf4\x90\x80\x80",
            b"\x80", b"\xe2\x28\xa1", b"\xf8\x88\x80\x80\x80", b"\xef\xbb\xbf", b"\x00", b"\r",
            b"\x1b", b"\x7f", b"\xef\xbb", b"\xf0\x9f\x98")
-WORDS = ("open", "offer", "join", "close", "begin", "finish", "round", "truncate", "rebuild", "show",
-         "resume", "marks", "last", "resumed", "save", "remain", "answer", "order", "refuted",
+WORDS = ("open", "offer", "join", "close", "begin", "finish", "round", "truncate", "rebuild",
+         "show", "resume", "marks", "last", "resumed", "save", "remain", "answer", "order", "refuted",
          ABORTED)
 BUDGETS = (1, 1, 1, 2, 2, 3, 4, 5, 7, 8, 15, 16, 31, 32, 33, 64, 64, 128, 256)
 
@@ -43,8 +42,13 @@ OUTCOMES = (*[ABORTED] * 4, "Aborted", "abort", "aborted ", "committed", "", Non
             [ABORTED], Raw('"\\u0061borted"'), Raw('"abor\\u0074ed"'), Raw("aborted"))
 
 
+def copied(told):
+    """The list, and those in it, copied."""
+    return [copied(part) if type(part) is list else part for part in told]
+
+
 def compact(told):
-    return json.dumps(told, separators=(",", ":")).encode()
+    return encode(told).encode()
 
 
 def effort(dice):
@@ -66,7 +70,7 @@ def opening(word, sessions, limit, version):
 def versioned(dice, line):
     """The line with something behind what an opening, or a transaction, has in version 1: what
     version 2 has there, or not; one more of it; or without it."""
-    line = json.loads(json.dumps(line))
+    line = copied(line)
     if line[0] in ("open", "resume"):
         line = line[:3] if dice.random() < 0.8 else line
         holder, more = line, dice.choice(VERSIONS)
@@ -107,7 +111,8 @@ def join(dice, parts, last_fence):
     """A session that joins, or comes back, with a fence, and mostly may."""
     sessions = len(parts.gone)
     ended = [at for at in range(sessions) if parts.closed[at] and not parts.remaining[at]]
-    session = dice.choice((sessions, dice.choice(ended or [sessions]), dice.randrange(sessions + 1)))
+    ended = dice.choice(ended or [sessions])
+    session = dice.choice((sessions, ended, dice.randrange(sessions + 1)))
     first = parts.received()[session] if session < sessions else 0
     fences = [me for me in parts.ids() if is_fence(parts.get(me))]
     anchors = [*fences, *filter(None, [parts.base.get(0)])]
@@ -122,7 +127,7 @@ def forged(dice, model, fewest=0):
     """An answer that is handed in: what a report has shown at last, mostly changed, and by so many
     changes at the fewest, or the other of the two."""
     word = dice.choice(("order", "refuted"))
-    given = json.loads(json.dumps(model.shown[word]))
+    given = copied(model.shown[word])
     for _ in range(max(fewest, dice.choice((0, 0, 1, 1, 1, 2, 3)))):
         given = dice.choice((odd, odd, odd, cut_off, swapped, exchanged))(dice, given)
     if dice.random() < 0.02:
@@ -149,7 +154,8 @@ def exchanged(dice, items):
         return items
     holder, place = dice.choice(found)
     others = [it[at] for it, at in found if type(it[at]) is type(holder[place])]
-    holder[place] = json.loads(json.dumps(dice.choice(others)))
+    chosen = dice.choice(others)
+    holder[place] = copied(chosen) if type(chosen) is list else chosen
     return items
 
 
@@ -229,11 +235,13 @@ class Store:
             self.first = list(received)
         for session, count in enumerate(received):
             taken = count - self.first[session]
+            if taken <= 0:
+                continue
             if taken > len(self.waiting[session]):  # another line was taken in
                 self.waiting[session] = []
-            elif taken > 0:
+            else:
                 del self.waiting[session][:taken]
-            self.first[session] = max(count, self.first[session])
+            self.first[session] = count
 
 
 class Scripts:
@@ -269,7 +277,8 @@ class Scripts:
             line, kind = odd(self.dice, line), f"script: odd {line[0]}"
         elif self.dice.random() < self.odd / 2:
             line, kind = versioned(self.dice, line), f"script: another version of {line[0]}"
-        return kind, write(line).encode()
+            return kind, write(line).encode()
+        return kind, compact(line)
 
     def is_over(self, _):
         """Whether much remains, and nothing of it is settled."""
@@ -351,7 +360,7 @@ class Scripts:
 
 def odd(dice, line):
     """The line with one of its parts, or a part of a part, moved by a little or to a limit."""
-    line = json.loads(json.dumps(line))
+    line = copied(line)
     found = places(line)
     if not found:
         return line
@@ -466,9 +475,9 @@ class Answers:
         return False
 
     def chunk(self, model):
-        """While a round is open, answers to it, of which only the last may be as it was shown, since a
-        right one ends the round; else more is taken in, and a round is opened on it, after a
-        report."""
+        """While a round is open, answers to it, of which only the last may be as it was shown,
+        since a right one ends the round; else more is taken in, and a round is opened on it, after
+        a report."""
         if model.parts is None:
             line = opening("open", self.store.sessions, 4096, self.version)
             return [("answers: open", compact(line))]
@@ -484,8 +493,8 @@ class Answers:
         return [(f"answers: {line[0]}", compact(line)) for line in [*lines, ["begin"]]]
 
     def told(self, line):
-        piece = write(line).encode()
-        return f"answers: {line[1] if line[1] in ('order', 'refuted') else 'neither'}", piece
+        kind = line[1] if line[1] in ("order", "refuted") else "neither"
+        return f"answers: {kind}", compact(line)
 
     def offers(self, model):
         """A few more, unless as much remains as may."""
@@ -572,7 +581,7 @@ class Grammar(Mutated):
 
     def put(self, command, value, wants=object):
         """The command with the value in place of one of its parts."""
-        command = json.loads(json.dumps(command))
+        command = copied(command)
         fitting = [at for at in places(command) if isinstance(at[0][at[1]], wants)]
         if not fitting:
             return command
@@ -590,13 +599,13 @@ class Grammar(Mutated):
         return self.put(command, Raw(self.dice.choice(OTHERS)))
 
     def make_field_out(self, command):
-        command = json.loads(json.dumps(command))
+        command = copied(command)
         holder, place = self.dice.choice(places(command))
         del holder[place]
         return command
 
     def make_field_twice(self, command):
-        command = json.loads(json.dumps(command))
+        command = copied(command)
         holder, place = self.dice.choice(places(command))
         holder.insert(place, holder[place])
         return command
@@ -685,11 +694,11 @@ class Grammar(Mutated):
 def write(value):
     """Compact JSON, but for pieces that stand as they are."""
     kind = type(value)
-    if kind is Raw:
-        return value
+    if kind is int:
+        return repr(value)
     if kind is list:
         return "[" + ",".join(map(write, value)) + "]"
-    return json.dumps(value)
+    return value if kind is Raw else encode(value)
 
 
 def long_offer(dice, command):
@@ -738,5 +747,6 @@ class Longest:
         step = b'["force",[0,0,5,1,0,1,1],1,[]],'
         run = step * ((LONGEST - 40) // len(step)) + end
         lines += [(kind, b'["begin"]'),
-                  *((kind, b'["answer","refuted",[' + items + b"]]") for items in (tree, run, tree[:-1]))]
+                  *((kind, b'["answer","refuted",[' + items + b"]]")
+                    for items in (tree, run, tree[:-1]))]
         return lines + [(kind, b'["show"]')]

@@ -28,11 +28,20 @@ REFUSALS = {number: b'["no",%d,"%s"]' % (number, name.encode()) for number, name
 OK = b'["ok"]'
 ABORTED = "aborted"  # behind the lists of a transaction of which nothing was committed
 decode = json.JSONDecoder().decode
+encode = json.JSONEncoder(separators=(",", ":")).encode
 
 
 def is_whole(it, below=WHOLE):
     """Whether it is a whole number without sign, below that."""
     return type(it) is int and 0 <= it < below
+
+
+def are_wholes(numbers):
+    """The same of each of them."""
+    for it in numbers:
+        if type(it) is not int or not 0 <= it < WHOLE:
+            return False
+    return True
 
 
 def is_effort(parts):
@@ -52,7 +61,7 @@ def is_read(it):
 def is_txn(it):
     """A third entry says that it was aborted; whether that may stand there is judged by `Model`."""
     return (type(it) is list and len(it) in (2, 3) and type(it[0]) is list and type(it[1]) is list
-            and all(map(is_read, it[0])) and all(map(is_whole, it[1]))
+            and all(map(is_read, it[0])) and are_wholes(it[1])
             and it[2:] in ([], [ABORTED]))
 
 
@@ -69,7 +78,7 @@ def is_offer(parts):
 
 def is_opening(parts):
     """Two numbers, and behind them the version where that is 2: a 1 isn't said."""
-    return all(map(is_whole, parts)) and parts[2:] in ([], [2])
+    return are_wholes(parts) and parts[2:] in ([], [2])
 
 
 def is_nothing(parts):
@@ -84,7 +93,7 @@ def is_save(parts):
 
 def is_marks(parts):
     marks, flags = parts
-    return (type(marks) is list and all(map(is_whole, marks))
+    return (type(marks) is list and are_wholes(marks)
             and type(flags) is list and all(type(flag) is bool for flag in flags))
 
 
@@ -93,42 +102,42 @@ def is_writer(it):
             and is_whole(it[2]))
 
 
-def are_ids(numbers):
-    """Whether they are sessions and numbers by turns."""
-    return (all(is_whole(session, 256) for session in numbers[::2])
-            and all(map(is_whole, numbers[1::2])))
+def is_id(it):
+    return type(it) is list and len(it) == 2 and are_wholes(it) and it[0] < 256
 
 
 def is_order(it):
-    return type(it) is list and all(type(id_) is list and len(id_) == 2 and are_ids(id_)
-                                    for id_ in it)
+    return type(it) is list and all(map(is_id, it))
 
 
 def is_choice(it):
-    return (type(it) is list and len(it) == 7 and is_whole(it[2])
-            and are_ids(it[:2] + it[3:]))
+    return (type(it) is list and len(it) == 7 and are_wholes(it)
+            and it[0] < 256 and it[3] < 256 and it[5] < 256)
+
+
+ARCS = {"session": 5, "taken": 5, "read": 6, "base": 6}  # how many parts each has
 
 
 def is_arc(it):
     if type(it) is not list or not it or type(it[0]) is not str:
         return False
-    count = {"session": 5, "taken": 5, "read": 6, "base": 6}.get(it[0])
-    return len(it) == count and all(map(is_whole, it[1:])) and are_ids(it[-4:])
+    return (len(it) == ARCS.get(it[0]) and are_wholes(it[1:])
+            and it[-4] < 256 and it[-2] < 256)
 
 
 def is_cycle(it):
     return type(it) is list and all(map(is_arc, it))
 
 
-def is_reader(parts):
-    return is_whole(parts[0], 256) and all(map(is_whole, parts))
+def is_reader(it):
+    return are_wholes(it[1:]) and it[1] < 256
 
 
 TREE_FORMS = {  # with how many parts more wait for their end, behind it
-    ("force", 4): (lambda parts: is_choice(parts[0]) and is_whole(parts[1], 3) and parts[1] > 0
-                   and is_cycle(parts[2]), 0),
-    ("split", 2): (lambda parts: is_choice(parts[0]), 1),
-    ("cycle", 2): (lambda parts: is_cycle(parts[0]), -1),
+    ("force", 4): (lambda it: is_choice(it[1]) and is_whole(it[2], 3) and it[2] > 0
+                   and is_cycle(it[3]), 0),
+    ("split", 2): (lambda it: is_choice(it[1]), 1),
+    ("cycle", 2): (lambda it: is_cycle(it[1]), -1),
     ("nowrite", 4): (is_reader, -1),
     ("gone", 4): (is_reader, -1),
 }
@@ -142,7 +151,7 @@ def is_tree(it):
         if not waiting or type(item) is not list or not item or type(item[0]) is not str:
             return False
         form, more = TREE_FORMS.get((item[0], len(item)), (None, 0))
-        if not form or not form(item[1:]):
+        if not form or not form(item):
             return False
         waiting += more
     return not waiting
@@ -247,7 +256,7 @@ def fragment_fault(session, first, txns):
 
 def text(told):
     """The bytes of a reply, without its LF."""
-    return json.dumps(told, separators=(",", ":")).encode()
+    return encode(told).encode()
 
 
 def told_txn(txn):
@@ -417,7 +426,7 @@ class Model:
         return None if self.is_anchored(txns[0]) else 17
 
     def is_anchored(self, txn):
-        """Whether it is a fence that reads from one that remains, or from the last one that is gone."""
+        """Whether it is a fence that reads from one that remains, or from the last that is gone."""
         if not is_fence(txn):
             return False
         source = txn[0][0][1]

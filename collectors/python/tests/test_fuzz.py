@@ -1,13 +1,18 @@
 """The auditor beside a plain model of it: what bench/fuzz.py gives it, for a minute; and that what
 would be wrong is found, by lies that are told between the auditor and the model."""
 import json
+import multiprocessing
 import os
 import re
+import subprocess
 import sys
+import tempfile
 import time
 import unittest
 
 from zanteyard.auditor import PROGRAM
+
+from .waiting import wait_until
 
 TOP = os.path.normpath(os.path.join(os.path.dirname(os.path.abspath(__file__)), "../../.."))
 WORKED = os.path.join(TOP, "crates/cobra_examples/data")
@@ -303,10 +308,19 @@ class Liar(fuzz.Program):
         return [lie for line, reply in zip(lines, replies) for lie in self.answer(line, reply)]
 
 
+def start():
+    return fuzz.Program(PROGRAM)
+
+
+def lying():
+    _, given, answer = LIES["what is no text is skipped"]
+    return Liar(given, answer)
+
+
 def recorded(only):
     """What the program was given and told in some scripts."""
     scripts = []
-    fuzz.fuzz(lambda: Recorded(scripts), SEED, FOUND, only=only)
+    fuzz.fuzz(lambda: Recorded(scripts), fuzz.Run(SEED, FOUND, only=only))
     return scripts
 
 
@@ -336,15 +350,13 @@ def found_in(scripts, answer):
 @unittest.skipUnless(os.path.isfile(PROGRAM), f"{PROGRAM} is not built")
 class Fuzz(unittest.TestCase):
     def test_lines_and_scripts_are_answered_as_the_plain_model_says(self):
-        def start():
-            return fuzz.Program(PROGRAM)
-
         try:
-            table = fuzz.fuzz(start, SEED + 1, LINES, time.monotonic() + SECONDS)
+            run = fuzz.Run(SEED + 1, LINES, time.monotonic() + SECONDS)
+            table = fuzz.fuzz(start, run)
         except fuzz.Difference as difference:
             lines, why = fuzz.shrunk(start, difference.script)
             self.fail(f"{why}: {lines}")
-        self.assertGreater(table.lines(), 0)
+        self.assertGreater(table.lines, 0)
 
     def test_lies_about_replies_are_found(self):
         scripts = {"scripts": [*recorded("scripts"), *worked()], "bytes": recorded("bytes")}
@@ -356,20 +368,60 @@ class Fuzz(unittest.TestCase):
     def test_lies_about_lines_are_found(self):
         for name, (only, given, answer) in LIES.items():
             if given is not same:
+                run = fuzz.Run(SEED, FOUND, only=only)
                 with self.subTest(lie=name), self.assertRaises(fuzz.Difference):
-                    fuzz.fuzz(lambda: Liar(given, answer), SEED, FOUND, only=only)
+                    fuzz.fuzz(lambda: Liar(given, answer), run)
 
     def test_a_script_is_made_small(self):
-        _, given, answer = LIES["what is no text is skipped"]
-
-        def start():
-            return Liar(given, answer)
-
         with self.assertRaises(fuzz.Difference) as found:
-            fuzz.fuzz(start, SEED, FOUND, only="bytes")
-        lines, why = fuzz.shrunk(start, found.exception.script)
+            fuzz.fuzz(lying, fuzz.Run(SEED, FOUND, only="bytes"))
+        lines, why = fuzz.shrunk(lying, found.exception.script)
         self.assertLessEqual(len(lines), LEFT)
         self.assertIn("BadLine", why)
+
+    def test_processes_share_the_lines_and_give_the_same_again(self):
+        run, apart = fuzz.Run(SEED, FOUND + 1), fuzz.Table()
+        parts = run.shared(2)
+        self.assertEqual([FOUND // 2 + 1, FOUND // 2], [part.lines for part in parts])
+        apart.set_to([fuzz.fuzz(start, part) for part in parts])
+        for _ in range(2):
+            beside = fuzz.fuzz_side_by_side(start, run, 2)
+            self.assertEqual(apart.text(), beside.text())
+            self.assertEqual(apart.scripts, beside.scripts)
+            self.assertGreaterEqual(beside.lines, run.lines)
+
+    def test_what_one_process_finds_stops_all(self):
+        """The others have lines for days."""
+        first = multiprocessing.Value("i", 0)
+
+        def lying_first():
+            with first.get_lock():
+                first.value = first.value or os.getpid()
+            return lying() if first.value == os.getpid() else start()
+
+        table, run = fuzz.Table(), fuzz.Run(SEED, 10**9, only="bytes")
+        with self.assertRaises(fuzz.Difference) as found:
+            fuzz.fuzz_side_by_side(lying_first, run, 3, table)
+        self.assertEqual([], multiprocessing.active_children())
+        self.assertGreater(table.lines, 0)
+        lines, why = fuzz.shrunk(lying, found.exception.script)
+        self.assertLessEqual(len(lines), LEFT)
+        self.assertIn("BadLine", why)
+
+    def test_processes_that_are_stopped_tell_one_table_and_leave_none(self):
+        with tempfile.TemporaryDirectory() as folder:
+            program = os.path.join(folder, "program")
+            with open(program, "w", encoding="utf-8") as file:
+                file.write(f"#!/bin/sh\n: > '{folder}/'$PPID\nexec '{PROGRAM}'\n")
+            os.chmod(program, 0o700)
+            words = [sys.executable, fuzz.__file__, "--processes", "2", "--lines", str(10**9)]
+            running = subprocess.Popen([*words, program], stdout=subprocess.PIPE)
+            self.assertTrue(wait_until(lambda: len(os.listdir(folder)) > 2))
+            running.terminate()
+            told, _ = running.communicate()  # until nobody holds its end of the pipe any more
+            self.assertEqual(1, running.returncode)
+            self.assertEqual(1, told.count(b"kind of line"))
+            self.assertRegex(told.splitlines()[-1], rb"^seed 1 in 2 processes: .* STOPPED$")
 
     def test_worked_scripts_are_answered_so(self):
         for pairs in worked():
