@@ -54,7 +54,7 @@ class Package(unittest.TestCase):
         cls.environment = {
             key: value
             for key, value in os.environ.items()
-            if key not in ("COBRA_AUDIT", "PYTHONPATH")
+            if not key.startswith("COBRA_") and key != "PYTHONPATH"
         }
         made = cls.run_it(f"{TOP}/package.sh", *how, "--output", cls.folder)
         cls.wheel = made.stdout.split()[-1] if not made.returncode else None
