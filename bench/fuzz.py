@@ -37,7 +37,7 @@ from judge import Model, first_difference
 from plain_verdicts import Wrong
 
 PIPE = 1 << 20  # bytes that wait in a pipe before its writer has to
-SECONDS = 120.0  # for the replies to a chunk
+SECONDS = 600.0  # for the replies to a chunk, where other programs have the processors
 GENERATORS = {"bytes": (Bytes, 30), "grammar": (Grammar, 30), "scripts": (Scripts, 25),
               "answers": (Answers, 15)}
 FORKS = multiprocessing.get_context("fork")
