@@ -112,7 +112,7 @@ def is_owed(model, line, reply):
         return False
 
 
-MAY_WANT = ("open", "offer", "join", "begin", "finish", "round", "truncate", "rebuild")
+MAY_WANT = ("open", "offer", "join", "begin", "finish", "round", "truncate", "rebuild", "answer")
 
 
 def try_run(mutation):
