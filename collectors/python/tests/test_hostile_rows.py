@@ -10,7 +10,7 @@ from .built import TOP, by_turns, path_of
 sys.path.append(os.path.join(TOP, "bench"))
 import fuzz_check  # noqa: E402
 import worst  # noqa: E402
-from judge import Model, first_difference, txn_of  # noqa: E402
+from judge import REFUSALS, Model, first_difference, txn_of  # noqa: E402
 from plain_proofs import check_order  # noqa: E402
 from plain_verdicts import SPENT, Parts, Relation, cubes, scan  # noqa: E402
 
@@ -270,6 +270,26 @@ class Forged(unittest.TestCase):
         tried = fuzz_check.fuzz("rows", 150)
         self.assertGreater(sum(count for (_, told), count in tried.items() if told == "wrong"), 50)
         self.assertGreater(sum(count for (_, told), count in tried.items() if told == "right"), 20)
+
+    def test_want_of_memory_is_believed_of_what_may_want_memory(self):
+        """By the checker, and by the model that bench/fuzz_check.py holds it against."""
+        opening = b'["open",1,4]'
+        rows = {
+            True: (b'["offer",0,0,[[[],[5]]]]', b'["join",1,[[[[0,"init"]],[0]]]]', b'["begin"]',
+                   b'["round",1,0,1]', b'["finish",1,0,1]', b'["answer","order",[]]',
+                   b'["truncate"]', b'["rebuild"]'),
+            False: (b'["close",0]', b'["show"]', b'["save","marks"]', b'["open",1,4]', b"none"),
+        }
+        for may_want, lines in rows.items():
+            for line in lines:
+                with self.subTest(line=line):
+                    replies = [b'["ok"]', REFUSALS[16]]
+                    given = by_turns(opening + b"\n" + line + b"\n", b"\n".join([*replies, b""]))
+                    status, told, said = ended("cobra_check", given)
+                    self.assertEqual((status, said), (0 if may_want else 3, b""))
+                    self.assertEqual(may_want, b"reply 2 not checked" in told)
+                    found = fuzz_check.owed_by_model([opening, line], replies)
+                    self.assertEqual(found, None if may_want else 1)
 
     def test_a_tree_is_at_most_4096_deep(self):
         for splits in (2, 3, DEEPEST - 1, DEEPEST):
