@@ -54,13 +54,12 @@ def check_tree(parts, items, is_handed_in=False):
 
 def _forced(parts, taken, choice, side, cycle, is_handed_in):
     """What is taken behind a forced side. The fact that it rules out is the first arc of its
-    cycle, unless it is handed in."""
+    cycle, unless it is handed in: a taken one, or the arc by which the reads have it as well."""
     both = sides(parts, choice)
     if type(side) is not int or side not in (1, 2):
         raise Wrong(f"{side} is no side")
     taken_side, ruled_out = both[side - 1], both[2 - side]
-    begins = bool(cycle) and named(cycle[0]) == "taken" and ends(cycle[0]) == ruled_out
-    if not begins and not is_handed_in:
+    if not is_handed_in and (not cycle or ends(cycle[0]) != ruled_out):
         raise Wrong(f"the cycle of {choice} doesn't begin with the fact that it rules out")
     check_cycle(parts, taken | {ruled_out}, cycle)
     return taken | {taken_side}

@@ -20,6 +20,8 @@ sys.path.append(os.path.join(TOP, "bench"))
 
 import fuzz  # noqa: E402
 import judge  # noqa: E402
+from plain_proofs import check_tree  # noqa: E402
+from plain_verdicts import Wrong  # noqa: E402
 
 LINES, SECONDS = 15000, 15.0  # what is tried, at most; bench/fuzz.py tries more
 SEED = 3
@@ -279,6 +281,20 @@ LIES = {
 }
 
 
+# 0.2 and 1.2 both read key 1 as it was at first, and wrote it. A round after an answer and a cut
+# may rule out a side of 0.3's read by an arc that is that side's fact, before it meets the circle.
+KNOWN_SIDE = (
+    '["open",2,8]', '["offer",0,0,[[[[0,"init"]],[0]],[[[0,1,0]],[0]],[[[1,"init"]],[1]]]]',
+    '["offer",1,0,[[[[0,0,0]],[0]],[[[0,0,1]],[0]]]]', '["begin"]',
+    '["answer","order",[[0,0],[1,0],[0,1],[0,2],[1,1]]]', '["offer",0,3,[[[[1,1,2]],[1]]]]',
+    '["offer",1,2,[[[[1,"init"]],[1]]]]', '["truncate"]', '["round",256,0,1]',
+)
+KNOWN_SIDE_TREE = [
+    ["force", [0, 3, 1, 1, 2, 0, 2], 2, [["base", 1, 0, 2, 1, 2], ["base", 1, 1, 2, 0, 2]]],
+    ["cycle", [["base", 1, 0, 2, 0, 3], ["taken", 0, 3, 0, 2]]],
+]
+
+
 class Recorded(fuzz.Program):
     """The program, and all that it was given and told."""
 
@@ -422,6 +438,23 @@ class Fuzz(unittest.TestCase):
             self.assertEqual(1, running.returncode)
             self.assertEqual(1, told.count(b"kind of line"))
             self.assertRegex(told.splitlines()[-1], rb"^seed 1 in 2 processes: .* STOPPED$")
+
+    def test_a_side_is_ruled_out_by_a_circle_that_begins_with_its_fact(self):
+        """Which may be told by the reads; one that begins elsewhere is no tree of the auditor's."""
+        model, lines = judge.Model(), [line.encode() for line in KNOWN_SIDE]
+        for line in lines[:-1]:
+            owed = model.owed(judge.command_of(line))
+            self.assertIsNotNone(owed, line)
+        check_tree(model.parts, KNOWN_SIDE_TREE)
+        turned = json.loads(json.dumps(KNOWN_SIDE_TREE))
+        turned[0][3].reverse()
+        check_tree(model.parts, turned, is_handed_in=True)
+        with self.assertRaises(Wrong):
+            check_tree(model.parts, turned)
+        told, why = fuzz.replies_of(start, lines)
+        self.assertIsNone(why)
+        script = b"".join(line + b"\n" for line in lines)
+        self.assertIsNone(judge.first_difference(script, told))
 
     def test_worked_scripts_are_answered_so(self):
         for pairs in worked():
