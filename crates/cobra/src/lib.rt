@@ -1,6 +1,7 @@
 //! The commands of the auditor, over devices that give and take bytes.
 #![tactic(auto)]
 
+mod beginnings;
 mod handing;
 mod last_told;
 mod open_engine;

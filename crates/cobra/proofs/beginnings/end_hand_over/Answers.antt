@@ -3,7 +3,7 @@ use Rattle.round_state.specs.EngineState.{EngineState}
 use Rattle.cobra.specs.HandOver.{handed_parts}
 use Rattle.cobra.specs.declared.stages.Stage.TheVariants as stage
 use Rattle.cobra.proofs.Resumed.{holds_all}
-use Rattle.cobra.proofs.scripts.end_hand_over.Goals as goal
+use Rattle.cobra.proofs.beginnings.end_hand_over.Goals as goal
 
 pub returns-in-Ok : goal.returns-in-Ok
 returns-in-Ok c = (c.in-Ok.ensures.ok.0, ap (λ (engine : EngineState). stage.Open engine c.args.version) c.in-Ok.ensures.ok.1, holds_all (handed_parts c.args.handed))

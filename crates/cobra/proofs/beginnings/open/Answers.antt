@@ -1,7 +1,7 @@
 use Rattle.std.proofs.Common.{Some, ap, refl}
 use Rattle.cobra.specs.declared.stages.Stage.TheVariants as stage
 use Rattle.round_state.specs.EngineState.{EngineState}
-use Rattle.cobra.proofs.scripts.open.Goals as goal
+use Rattle.cobra.proofs.beginnings.open.Goals as goal
 
 pub returns-in-Ok : goal.returns-in-Ok
 returns-in-Ok c = (c.in-Ok.ensures.numbers.0, c.in-Ok.ensures.numbers.1, ap (λ (engine : EngineState). Some (stage.Open engine c.args.version)) c.in-Ok.ensures.ok, c.in-Ok.ensures.holds)
