@@ -1,4 +1,5 @@
 pub mod CheckedLines
 pub mod EarnedReports
+pub mod NoBraces
 pub mod OwedReplies
 pub mod RightReports

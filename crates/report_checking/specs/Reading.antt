@@ -1,5 +1,6 @@
 -- For private clauses: what single calls of the checker come to, whatever histories its engine stood for.
-use Rattle.std.specs.Prelude.{◌≡◌, ◌≢◌, ℕ, ◌<◌, ◌⊎◌, ⊤, List, ◌++◌, length, Option, Some, None}
+use Rattle.std.specs.Prelude.{◌≡◌, ◌≢◌, ℕ, ◌<◌, ◌⊎◌, ⊤, Bool, nat_eq, List, ◌++◌, length, Option, Some, None}
+use Rattle.std.specs.List.{list_any}
 use Rattle.txn.specs.declared.refusals.Refusal.TheVariants.{NoMemory}
 use Rattle.log_text.specs.declared.commands.Command.{Command}
 use Rattle.log_text.specs.declared.commands.Command.TheVariants.{Finish, Round, Answer}
@@ -88,6 +89,10 @@ abbrev pub IsFoundOf : Owed → List ℕ → Found → Type 0
 IsFoundOf (owed.Reply answer) stored given = IsFoundBy answer stored given × (answer ≢ told.No NoMemory)
 IsFoundOf (owed.Nothing why) stored (found.Wrong (fault.Unshown shown)) = ⊤
 IsFoundOf (owed.Nothing why) stored other = ⊥
+
+-- whether a brace stands in the text
+abbrev pub has_brace : List ℕ → Bool
+has_brace text = list_any (λ byte. nat_eq byte 123) text
 
 -- What is found of a stored reply to a command.
 abbrev pub FindsFor : Option OpenScript → Command → List ℕ → Found → Option OpenScript → Type 0
