@@ -89,10 +89,17 @@ class Mutation:
         return bytes(line).replace(b"\n", dice.choice(NO_TEXT).replace(b"\n", b""))
 
 
+class Checked(Model):
+    """What may be stored: cobra_check doesn't search, so it takes it as told that a budget was used
+    up, and that an answer is another one than before."""
+
+    judges_search = False
+
+
 def owed_by_model(lines, replies):
     """The place of the first reply that isn't owed, or None. That memory was wanting is taken as
     told where the command may stand there and may want memory; then nothing has changed."""
-    model = Model()
+    model = Checked()
     for place, (line, reply) in enumerate(zip(lines, replies)):
         if reply == REFUSALS[16]:
             command = command_of(line)

@@ -323,7 +323,10 @@ class HandOver:
 
 
 class Model:
-    """The auditor as the documents say it: `judge` takes a line and the reply to it."""
+    """The auditor as the documents say it: `judge` takes a line and the reply to it. What its
+    search comes to is judged too: that a budget is used up, and that it answers alike again."""
+
+    judges_search = True
 
     def __init__(self):
         self.parts = self.limit = self.snapshot = self.held = self.handed = None
@@ -525,7 +528,7 @@ class Model:
         self.check_front(parts, report)
         relation = Relation(parts)
         if report[2] == "spent":
-            if not may_be_spent(parts, relation, budget, depth, DEEPEST):
+            if self.judges_search and not may_be_spent(parts, relation, budget, depth, DEEPEST):
                 raise Wrong("the budget can't be used up here")
         elif report[2] == "violated":
             check_tree(parts, report[4])
@@ -535,7 +538,7 @@ class Model:
             self.shown["order"] = report[4]
             self.held = cut_of(parts, relation)
         check_by_trial(parts, report[2])
-        if command[0] == "round":  # whatever the workers, the answer is the same
+        if command[0] == "round" and self.judges_search:  # the same, whatever the workers
             if self.told.setdefault((budget, depth), report[2:]) != report[2:]:
                 raise Wrong("another answer than before to the same question")
 
