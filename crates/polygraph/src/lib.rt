@@ -4,13 +4,16 @@
 mod bad_reads;
 mod cubes;
 mod found;
+mod nodes;
 mod noted;
 mod ordering;
 mod problems;
 mod scanning;
 mod single;
 mod solving;
+mod stopping;
 
 pub use problems::Problem;
 pub use single::Single;
 pub use solving::{Answer, Cube, Solver, solve_cube};
+pub use stopping::StopWord;

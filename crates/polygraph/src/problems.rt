@@ -4,20 +4,23 @@ ghost use Rattle.order_check.specs.Known.{IsChoice};
 ghost use Rattle.polygraph.specs.Outcomes.{split_choices};
 ghost use Rattle.polygraph.specs.ProblemState.{IsProblem};
 
+use crate::stopping::{Stop, StopWord};
 use forced_choices::{OpenChoices, Saturated};
 use order_check::Parts;
-use std::alloc::Global;
+use std::alloc::{AllocError, Global};
 use std::marker::Model;
 use txn::{Choice, NoMemory};
 
 /// How many choices a search splits first at most.
 const MOST_SPLIT: usize = 6;
 
-/// What a solver is asked: the known relation of a snapshot's parts, the first of the choices that it leaves open, and how many it does.
+/// What a solver is asked: the known relation of a snapshot's parts, the first of the choices that it leaves open, and how many it does. Contracts
+/// don't see what may give the search up.
 #[derive(Drop, Debug)]
 pub struct Problem {
     known: Saturated,
     choices: OpenChoices,
+    stop: Option<Stop>,
 }
 
 impl Model for Problem {
@@ -54,7 +57,36 @@ impl Problem {
         Ok(Problem {
             known: listed,
             choices,
+            stop: None,
         })
+    }
+
+    /// The same problem, whose search has this number where the word gives searches up. Where memory is wanting for that it can't be given up.
+    pub fn stopped_by(self, word: &StopWord, number: u64) -> Problem
+        ensures { result ≡ self }
+    {
+        let Problem {
+            known,
+            choices,
+            stop: _,
+        } = self;
+        let stop = match word.another() {
+            Ok(word) => Some(Stop { word, number }),
+            Err(_) => None,
+        };
+        Problem {
+            known,
+            choices,
+            stop,
+        }
+    }
+
+    /// Whether a search of it may go on. Where it was given up it ends as if memory were refused, which a search may answer at any time.
+    pub fn go_on(&self) -> Result<(), NoMemory> {
+        match &self.stop {
+            Some(stop) if stop.word.gives_up(stop.number) => Err(AllocError),
+            _ => Ok(()),
+        }
     }
 
     pub fn parts(&self) -> &Parts
@@ -74,7 +106,7 @@ impl Problem {
     pub fn into_known(self) -> Saturated
         ensures { result ≡ self.known }
     {
-        let Problem { known, choices: _ } = self;
+        let Problem { known, .. } = self;
         known
     }
 
@@ -114,6 +146,10 @@ impl Clone for Problem {
             choices: OpenChoices {
                 first: self.choices.first.clone()?,
                 count: self.choices.count,
+            },
+            stop: match &self.stop {
+                Some(stop) => Some(stop.another()?),
+                None => None,
             },
         })
     }

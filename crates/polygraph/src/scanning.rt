@@ -11,6 +11,7 @@ ghost use Rattle.polygraph.specs.Shown.{IsBadRead, IsClosedBy, outcome_of, Order
 
 use crate::bad_reads::{BadRead, leaf_of};
 use crate::found::{Found, above_steps};
+use crate::nodes::Nodes;
 use crate::ordering::order_of;
 use forced_choices::Branch;
 use order_check::keeping_explains;
@@ -59,7 +60,7 @@ fn scan_side(
     bad: Option<BadRead>,
     choice: Choice,
     side: Side,
-    nodes: &mut u64,
+    nodes: &mut Nodes,
 ) -> Result<Found, NoMemory>
     requires bad { MatchOption bad (¬ HasBadRead branch.old.parts) (IsBadRead branch.old.parts) }
     requires choice { IsChoice branch.old.parts choice }
@@ -83,7 +84,7 @@ fn split(
     branch: &mut Branch,
     bad: Option<BadRead>,
     choice: Choice,
-    nodes: &mut u64,
+    nodes: &mut Nodes,
 ) -> Result<Found, NoMemory>
     requires bad { MatchOption bad (¬ HasBadRead branch.old.parts) (IsBadRead branch.old.parts) }
     requires low { length branch.old.levels ≤ 2047 }
@@ -108,13 +109,14 @@ fn split(
     Ok(Found::No(Pruned::split(alloc, choice, first, second)?))
 }
 
-/// Searches from the node that the branch stands at, within so many nodes, and leaves the branch as it was.
+/// Searches from the node that the branch stands at, within so many nodes, and leaves the branch as it was. Where it was given up, that counts as want
+/// of memory.
 #[cycle(scanning)]
 pub fn scan(
     alloc: Global,
     branch: &mut Branch,
     bad: Option<BadRead>,
-    nodes: &mut u64,
+    nodes: &mut Nodes,
 ) -> Result<Found, NoMemory>
     requires { MatchOption bad (¬ HasBadRead branch.old.parts) (IsBadRead branch.old.parts) }
     ensures kept { OnOk result (branch.new ≡ branch.old) }
@@ -123,14 +125,14 @@ pub fn scan(
     ensures sides { IfOk result (λ found. OrderKeeps (assumed branch.old.levels) (told_of found)) }
     ensures shown { IfOk result (IsShown branch.old) }
 {
-    if *nodes == 0 {
+    if nodes.left() == 0 {
         return Ok(Found::Spent);
     }
     if branch.depth() > GREATEST_DEPTH {
-        *nodes = 0;
+        nodes.use_up();
         return Ok(Found::Spent);
     }
-    *nodes -= 1;
+    nodes.take()?;
     if let Some(leaf) = closing_leaf(alloc, branch, bad)? {
         return Ok(Found::No(Pruned::leaf(alloc, leaf)?));
     }

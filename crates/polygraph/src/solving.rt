@@ -69,8 +69,9 @@ pub fn solve_cube(
     ensures spent { IfOk result (λ told. told ≡ cubes.Spent → share + 1 < 2 ^ (problem.now.open_count - length (split_choices problem.now depth) + 1)) }
 {
     scans_are_bounded();
+    problem.go_on()?;
     let choices = problem.choices(depth);
     let (mut branch, steps) = branch_at(alloc, problem.known(), choices, cube)?;
-    let found = search(alloc, &mut branch, steps.as_slice(), share)?;
+    let found = search(alloc, &mut branch, steps.as_slice(), share, problem)?;
     Ok(found)
 }

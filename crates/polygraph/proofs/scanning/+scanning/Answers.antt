@@ -1,4 +1,4 @@
-use Rattle.std.proofs.Common.{ap, ◌∙◌, arith, rules, subst}
+use Rattle.std.proofs.Common.{ap, ◌∙◌, arith, rules, subst, sym}
 use Rattle.order_check.specs.Search.{has_order, no_order, used_up}
 use Rattle.forced_choices.specs.BranchState.{BranchState, arc_of, assumed, last_steps}
 use Rattle.polygraph.specs.Shown.{outcome_of, OrderKeeps, told_of}
@@ -6,11 +6,11 @@ use Rattle.polygraph.proofs.Scanned.{nothing_left, deep_scan, closed_scan, decid
 use Rattle.polygraph.proofs.scanning.+scanning.Goals as goal
 
 pub scan-returns-in-Some-clause-scans : goal.scan-returns-in-Some-clause-scans
-scan-returns-in-Some-clause-scans t c = closed_scan c.args.branch.now c.args.nodes.now c.in-Some.leaf c.if-nodes-eq0.false (omega arith) (rw c.in-Some.is at c.in_ok-leaf.ensures)
+scan-returns-in-Some-clause-scans t c = rw c.in_ok-take.ensures (closed_scan c.args.branch.now c.args.nodes.now c.in-Some.leaf (λ none. c.if-left-eq0.false (c.left.ensures ∙ none)) (omega arith) (rw c.in-Some.is at c.in_ok-leaf.ensures))
 
 pub scan-returns-in_ok-explaining_order-in-None-clause-scans :
     goal.scan-returns-in_ok-explaining_order-in-None-clause-scans
-scan-returns-in_ok-explaining_order-in-None-clause-scans t c = decided_scan c.args.branch.now c.args.nodes.now c.if-nodes-eq0.false (omega arith) (rw c.in_default.is at c.in_ok-leaf.ensures) (rw c.in-None.is at c.in_ok-choice.ensures)
+scan-returns-in_ok-explaining_order-in-None-clause-scans t c = rw c.in_ok-take.ensures (decided_scan c.args.branch.now c.args.nodes.now (λ none. c.if-left-eq0.false (c.left.ensures ∙ none)) (omega arith) (rw c.in_default.is at c.in_ok-leaf.ensures) (rw c.in-None.is at c.in_ok-choice.ensures))
 
 pub scan_side-scan-requires : goal.scan_side-scan-requires
 scan_side-scan-requires t c =
@@ -51,12 +51,12 @@ split-returns-in-Spent-2-clause-scans t c = both_scan c.args.branch.now c.scan_s
 pub split-returns-clause-scans : goal.split-returns-clause-scans
 split-returns-clause-scans t c = both_scan c.args.branch.now c.scan_side.new.branch c.args.choice c.args.nodes.now c.scan_side.new.nodes _ (told_of c.in_ok-pruned.field-0) (told_of c.in_ok-pruned-2.field-0) no_order c.in_ok-pruned.ensures.kept (ap (λ f. outcome_of (told_of f)) c.in-No.is) (ap (λ f. outcome_of (told_of f)) c.in-No-2.is) c.requires.low c.requires.hopeful c.requires.first c.in_ok-pruned.ensures.scans c.in_ok-pruned-2.ensures.scans
 
-pub scan-returns-then-nodes-eq0-clause-scans : goal.scan-returns-then-nodes-eq0-clause-scans
-scan-returns-then-nodes-eq0-clause-scans t c = nothing_left c.args.branch.now c.args.nodes.now c.if-nodes-eq0.true
+pub scan-returns-then-left-eq0-clause-scans : goal.scan-returns-then-left-eq0-clause-scans
+scan-returns-then-left-eq0-clause-scans t c = nothing_left c.args.branch.now c.args.nodes.now (sym c.left.ensures ∙ c.if-left-eq0.true)
 
 pub scan-returns-then-depth-gt-GREATEST_DEPTH-clause-scans :
     goal.scan-returns-then-depth-gt-GREATEST_DEPTH-clause-scans
-scan-returns-then-depth-gt-GREATEST_DEPTH-clause-scans t c = deep_scan c.args.branch.now c.args.nodes.now (omega arith)
+scan-returns-then-depth-gt-GREATEST_DEPTH-clause-scans t c = rw c.use_up.ensures (deep_scan c.args.branch.now c.args.nodes.now (omega arith))
 
 pub scan-returns-in-Some-clause-shown : goal.scan-returns-in-Some-clause-shown
 scan-returns-in-Some-clause-shown t c = leaf_shown c.args.branch.now c.in-Some.leaf c.in_ok-leaf-2.field-0 (omega arith) (rw c.in-Some.is at c.in_ok-leaf.ensures) c.in_ok-leaf-2.ensures.tree c.in_ok-leaf-2.ensures.stands
