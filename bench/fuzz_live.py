@@ -6,9 +6,9 @@ program, or with COBRA_LIVE naming another one:
 
     python3 bench/fuzz_live.py [--runs N] [--seed S] [--minutes M] [--keep FILE]
 
-Each run is an opening, and then some hundred lines: offers, joins and closes, many of them with
-bytes mutated or changed by their grammar (`fuzz_lines.py`), in pieces that come whole or in the
-middle of a line, with pauses between them. All that it tells is judged as its tests judge it
+Each run is an opening, and then some hundred lines: offers, joins, closes, and lines that skip
+rounds, many of them with bytes mutated or changed by their grammar (`fuzz_lines.py`), in pieces that
+come whole or in the middle of a line, with pauses between them. All that it tells is judged as its tests judge it
 (collectors/python/tests/live_runs.py): one answer a line, in order, each report over what remained
 and over the whole history, each cut. It prints a table of what was told. At the first difference it
 stops, writes the run's lines to FILE (fuzz-live-difference.jsonl), and ends with status 1. Since
@@ -40,10 +40,11 @@ def lines_of(dice):
     model.open(generator.sessions, generator.limit, generator.version)
     opening = ["open", generator.sessions, generator.limit, *dice.choice(EFFORTS)]
     found = [compact([*opening, *([2] if generator.version == 2 else [])])]
+    skips = dice.choice((0.0, 0.0, 0.02, 0.2))
     for _ in range(dice.choice((30, 120))):
         if sum(model.parts.received()) >= MOST:
             break
-        command = generator.base(model)
+        command = ["skip"] if dice.random() < skips else generator.base(model)
         pieces = ([compact(command)] if dice.random() < 0.3
                   else [line for _, line in generator.mutate(command)])
         found += [line for line in pieces if take(model, line)]

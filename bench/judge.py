@@ -208,6 +208,16 @@ def command_of(line):
     return told if form and form(told[1:]) else None
 
 
+def asks_to_skip(line):
+    """Whether it is the line by which rounds of cobra_live are skipped, which isn't answered."""
+    if len(line) > LONGEST:
+        return False
+    try:
+        return decode(line.decode("utf-8")) == ["skip"]
+    except (ValueError, RecursionError):
+        return False
+
+
 def is_aborted(told):
     return told[2:] == [ABORTED]
 

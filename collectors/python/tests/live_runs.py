@@ -3,7 +3,9 @@
 `judge` goes through what was told, in its order, beside the lines, with the plain model of the
 auditor (bench/judge.py): of each item whether it is accepted, or why not; which cut is owed. Each
 report is judged twice: by that model over what remained when its round began, and over the whole
-history of what had been accepted then, as if nothing had ever been cut away (`verdict_of`).
+history of what had been accepted then, as if nothing had ever been cut away (`verdict_of`). A round
+is skipped only where a line asks for that behind what it may be about; the last one is where such a
+line stands behind all.
 """
 
 import json
@@ -18,7 +20,7 @@ from zanteyard.programs import live_path
 sys.path.insert(0, os.path.join(os.path.dirname(os.path.abspath(__file__)), "../../../bench"))
 from fuzz_lines import Store, compact  # noqa: E402
 from judge import (  # noqa: E402
-    Model, NAMES, command_of, effect_of, fragment_fault, tells_aborted, text, txn_of,
+    Model, NAMES, asks_to_skip, command_of, effect_of, fragment_fault, tells_aborted, text, txn_of,
 )
 from plain_verdicts import (  # noqa: E402
     NO, SPENT, YES, Parts, Relation, Wrong, cut_of, has_order, scan,
@@ -124,6 +126,7 @@ def offers(dice, store, session, sent):
 def odd_lines(dice, sessions, sent):
     odd = [
         b"", b"nonsense", b'["round",4096,0,1]', b'["open",1,8]', b'["close"]', b"\xff\xfe",
+        b'["skip"]', b' [ "skip" ] ', b'["skip",0]', b'["skip"]]', b'"skip"',
         compact(["offer", sessions, 0, [[[], [5]]]]),
         compact(["offer", 0, sent[0] + 1, [[[], [5]]]]),
         compact(["offer", 0, 0, [[[], [5, 5]]]]),
@@ -175,6 +178,18 @@ def is_taken(command, version):
     return version == 2 or not tells_aborted(command)
 
 
+def items_of(lines, version):
+    """How many of the lines are items, and how many of these stand before the last line that asks
+    to skip rounds, if there is one."""
+    items, skipped = 0, None
+    for line in lines[1:]:
+        if asks_to_skip(line):
+            skipped = items
+        elif is_taken(command_of(line), version):
+            items += 1
+    return items, skipped
+
+
 def met_round(command):
     """What is told of a join that is right by itself and meets an open round."""
     if command[0] != "join":
@@ -196,6 +211,8 @@ class Judge:
         self.model.open(*opening[1:3], *opening[6:])
         self.history = [[] for _ in range(opening[1])]  # all that was accepted, in whole
         self.counted = [0] * opening[1]  # by the last report
+        self.items = 0  # that were answered
+        self.was_skipped = False  # the last round
         self.cuts = [None]  # of which one is owed now
         self.kinds = []
         self.told_cuts = 0
@@ -207,6 +224,7 @@ class Judge:
     def begin_anew(self):
         """A round may begin on what there is now, or on any state that comes."""
         self.states = [(self.counts(), self.model.parts.copy())]
+        self.least = self.items  # that it is about
 
     def take(self, told):
         """One more line that was told; raises Wrong."""
@@ -218,19 +236,44 @@ class Judge:
         self.cuts = [None]
         if told[0] == "report":
             self.take_report(told)
+        elif told[0] == "skipped":
+            self.take_skipped(told)
         elif told[0] != "end":
             self.take_answer(told)
-        elif self.counted != self.counts():
+        else:
+            self.take_end()
+
+    def take_skipped(self, told):
+        """A line asks for it, behind what the round may be about."""
+        _, skipped = items_of(self.lines, self.model.version)
+        if told[1:] != [16, NAMES[16]] or skipped is None or skipped < self.least:
+            raise Wrong(f"{told}, of a round about {self.least} items at least")
+        self.was_skipped = True
+        self.begin_anew()
+
+    def take_end(self):
+        """The last round was about all, unless a line behind all asks to skip it."""
+        items, skipped = items_of(self.lines, self.model.version)
+        if self.was_skipped != (items == skipped):
+            raise Wrong(f"the last round was {'' if self.was_skipped else 'not '}skipped")
+        if not self.was_skipped and self.counted != self.counts():
             raise Wrong(f"the last report counts {self.counted} of {self.counts()}")
+
+    def pass_skips(self):
+        """Goes on behind lines that aren't answered."""
+        while self.next < len(self.lines) and asks_to_skip(self.lines[self.next]):
+            self.next += 1
 
     def take_answer(self, told):
         """It is the one that the plain model owes to the next line."""
+        self.pass_skips()
         if self.next == len(self.lines):
             raise Wrong(f"{told} is about no line")
         line, self.next = self.lines[self.next], self.next + 1
         command = command_of(line)
         if not is_taken(command, self.model.version):
             command = None
+        self.items += command is not None
         if command is None or told != met_round(command):
             owed = self.owed_to(command)
             if told != owed:
@@ -269,7 +312,7 @@ class Judge:
         self.model.held = None
         is_yes = told[2] in ("serial", "pending")
         self.cuts = [cut_of(parts, Relation(parts)) for parts in states] if is_yes else [None]
-        self.counted = told[3]
+        self.counted, self.was_skipped = told[3], False
         self.kinds.append(told[2])
         self.begin_anew()
 
@@ -296,6 +339,7 @@ def judge(lines, told):
     judged = Judge(lines)
     for reply in replies:
         judged.take(json.loads(reply))
+    judged.pass_skips()
     if judged.next != len(lines):
         raise Wrong(f"line {judged.next + 1} isn't told of")
     return judged.kinds, judged.told_cuts

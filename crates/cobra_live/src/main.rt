@@ -24,7 +24,8 @@ standard input, answers none of them, and writes on standard output what comes o
 
 The first line tells how many sessions there are, how many transactions may remain at a time, and the
 budget, depth and workers of each round. All others offer transactions of a session, let one join, or
-close one. Here the first transaction of session 0 writes key 5:
+close one; a line ["skip"] gives up the round that is searched. Here the first transaction of session
+0 writes key 5:
 
   ["open",1,8,4096,0,1]
   ["offer",0,0,[[[],[5]]]]

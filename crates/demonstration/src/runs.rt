@@ -138,7 +138,12 @@ pub fn run<R: Threads + Wait + Sync, S: Solver + Sync>(
         desk,
         latest,
     };
-    let side = AuditorSide { pass, sender, seat };
+    let side = AuditorSide {
+        pass,
+        sender,
+        seat,
+        stops: None,
+    };
     let returned = run_threads(rt, alloc, &hall, engine, solver, passes, side, reader)?;
     outcome_of(rt, alloc, fault, hall, returned, &mut seats[0])
 }

@@ -320,7 +320,12 @@ fn run_held<R: Threads + Wait + Sync>(rt: &R, alloc: Global) -> Result<Outcome, 
                 desk,
                 latest,
             };
-            let side = AuditorSide { pass, sender, seat };
+            let side = AuditorSide {
+                pass,
+                sender,
+                seat,
+                stops: None,
+            };
             match run_threads(rt, alloc, &hall, engine, first, side, reader) {
                 Ok((is_made, heard)) => Ok(Outcome {
                     is_made,

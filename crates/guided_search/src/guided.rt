@@ -47,9 +47,10 @@ fn believed(alloc: Global, parts: &Parts, found: Found) -> Result<Answer, NoMemo
     }
 }
 
-/// The order of a store's run, or else what the search finds.
+/// The order of a store's run, or else what the search finds. The parts and the branch are the problem's.
 fn answer_from(
     alloc: Global,
+    problem: &Problem,
     parts: &Parts,
     branch: &mut Branch,
     budget: u64,
@@ -65,7 +66,7 @@ fn answer_from(
     if explains(alloc, parts, order.as_slice())? {
         return Ok(Answer::Yes(order));
     }
-    let found = search_within(alloc, branch, order.as_slice(), budget)?;
+    let found = search_within(alloc, problem, branch, order.as_slice(), budget)?;
     believed(alloc, parts, found)
 }
 
@@ -74,7 +75,7 @@ fn answer_within(alloc: Global, problem: &Problem, budget: u64) -> Result<Answer
     ensures { IfOk result (IsBelieved problem.now.known.parts) }
 {
     let mut branch = Branch::of(alloc, problem.known())?;
-    answer_from(alloc, problem.parts(), &mut branch, budget)
+    answer_from(alloc, problem, problem.parts(), &mut branch, budget)
 }
 
 /// The solver that asks another one, and where that is spent searches again, within the same budget: what its conflicts used comes first. It

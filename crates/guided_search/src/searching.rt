@@ -2,6 +2,7 @@
 use crate::choosing::{Places, Recent, is_choice, next_choice};
 use crate::conflicts::{Conflict, arc_of, other_side};
 use forced_choices::Branch;
+use polygraph::Problem;
 use refutation::Tree;
 use std::alloc::Global;
 use txn::{Choice, NoMemory, Sequence, Side, TxnId};
@@ -159,9 +160,11 @@ fn order_of(alloc: Global, branch: &Branch) -> Result<Sequence<TxnId>, NoMemory>
     Ok(Sequence::new(order))
 }
 
-/// Searches from where no side is assumed, within so many nodes; of two sides the one comes first that the order keeps.
+/// Searches from where no side is assumed, within so many nodes; of two sides the one comes first that the order keeps. Where the problem's search
+/// was given up, that counts as want of memory.
 pub fn search_within(
     alloc: Global,
+    problem: &Problem,
     branch: &mut Branch,
     order: &[TxnId],
     nodes: u64,
@@ -172,6 +175,7 @@ pub fn search_within(
         places: Places::of(alloc, order)?,
     };
     for _ in 0..nodes {
+        problem.go_on()?;
         match look(alloc, branch, &search)? {
             Node::Decided => return Ok(Found::Order(order_of(alloc, branch)?)),
             Node::Open(choice) => go_down(alloc, branch, &mut search, choice)?,

@@ -15,7 +15,7 @@ use crate::running::Running;
 use crate::searching::{solved, start};
 use fragment_intake::{AuditorPass, Desk};
 use order_check::Kind;
-use polygraph::{Answer, Problem, Solver};
+use polygraph::{Answer, Problem, Solver, StopWord};
 use report_queue::{Entry, Latest, PublisherSeat, ReportSender};
 use round_state::Engine;
 use std::alloc::Global;
@@ -32,12 +32,14 @@ pub struct Effort {
     pub workers: u64,
 }
 
-/// The auditor's side of the desk, of the ring and of the word.
+/// The auditor's side of the desk, of the ring and of the word, and what gives its rounds up, if anything does: those that began when fewer items had
+/// been taken, ends left out, than it says.
 #[derive(Drop)]
 pub struct AuditorSide {
     pub pass: AuditorPass,
     pub sender: ReportSender,
     pub seat: PublisherSeat,
+    pub stops: Option<StopWord>,
 }
 
 /// Sends the entry, once there is room for it.
@@ -295,7 +297,7 @@ fn take_all<'s, E, R: Threads + Wait, S: Solver + Sync>(
 /// Audits what four collectors hand in at the desk, until all of them have ended. Of each parcel it is sent whether it was accepted, of each round
 /// what it came to, and each cut; the latest report's round and kind stand in the word. A round is made where nothing waits at the desk and
 /// something was accepted since the last one, where much was accepted since, and at the end, on all that was accepted; where that last round
-/// is refused, what it was refused for is answered.
+/// is refused, what it was refused for is answered. A round that is given up is told as one for which memory was wanting.
 ///
 /// A round is searched in a thread of the scope, and parcels are taken meanwhile; the last one in this thread. Where the ring is full, it waits for
 /// its reader.
@@ -325,7 +327,8 @@ pub fn audit_live<'s, E, R: Threads + Wait, S: Solver + Sync>(
     ensures published { side.new.seat.published ≡ reports_in side.new.sender.sent }
     ensures same { (side.new.pass.0 ≡ side.old.pass.0) × (side.new.sender.ring ≡ side.old.sender.ring) × (side.new.seat.word ≡ side.old.seat.word) }
 {
-    let core = Core::new(alloc, engine, effort.budget, effort.depth);
+    let stops = side.stops.take();
+    let core = Core::new(alloc, engine, effort.budget, effort.depth, stops);
     let mut running = Running::new(core);
     let workers = effort.workers;
     take_all(

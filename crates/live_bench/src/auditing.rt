@@ -91,7 +91,7 @@ pub fn audit<'s, E, R: Threads + Wait>(
             );
             return;
         }
-        let mut core = Core::new(alloc, engine, EFFORT.budget, EFFORT.depth);
+        let mut core = Core::new(alloc, engine, EFFORT.budget, EFFORT.depth, None);
         take_all(rt, desk, &mut side, &mut core);
     }
     send(rt, &mut side.sender, Entry::End);

@@ -83,7 +83,12 @@ pub fn run<R: Threads + Wait + Sync>(
     let (desk, passes, pass) = Desk::new(alloc, places)?;
     let (sender, reader) = ring(alloc, places)?;
     let (latest, seat, _) = Latest::new(alloc, 1)?;
-    let side = AuditorSide { pass, sender, seat };
+    let side = AuditorSide {
+        pass,
+        sender,
+        seat,
+        stops: None,
+    };
     run_threads(
         rt, alloc, &desk, &latest, passes, side, reader, rounds, told,
     )

@@ -21,9 +21,10 @@ use Rattle.live_lines.specs.declared.failures.LiveFailure.{LiveFailure}
 use Rattle.live_lines.specs.declared.notes.About.TheVariants as about
 use Rattle.live_lines.specs.declared.notes.Note.{Note}
 use Rattle.live_lines.specs.declared.notes.Note.TheVariants as note
-use Rattle.live_lines.specs.Inputs.{AsksFor, Says, AreHandedIn, start, said, bad_line, AreAllHandedIn}
+use Rattle.live_lines.specs.Inputs.{AsksFor, Says, AreHandedIn, start, said, skipped, bad_line, AreAllHandedIn}
 use Rattle.live_lines.specs.Notes.{about_of}
-use Rattle.live_lines.specs.Threads.{HandsOn}
+use Rattle.live_lines.specs.Skips.{AsksToSkip}
+use Rattle.live_lines.specs.Threads.{HandsOn, PassesOver}
 use Rattle.live_lines.proofs.OtherCommands.{hands_only}
 
 -- an answer is no item
@@ -87,11 +88,13 @@ hands_said version next number who given parcels parcels_now notes notes_now fir
     let now : parcels_now ≡ parcels ++ parcel 0 (length parcels) given ∷ [] = more ∙ ap (λ (w : ℕ). parcels ++ parcel w (length parcels) given ∷ []) first in
     subst (λ (p : List Parcel × List Note). AreHandedIn version (before ++ line ∷ []) p.0 p.1) (λ i. (sym now i, sym noted i)) (said version before parcels notes line given handed (says line told))
 
--- or it is noted as none
-pub hands_none : (version : Version) (next : Next) (number : ℕ) (parcels parcels_now : List Parcel) (notes notes_now : List Note) → parcels_now ≡ parcels → notes_now ≡ notes ++ note.BadLine number ∷ [] → ((line : List ℕ) → IsTold line next → (given : Item) → ¬ Says version line given) → HandsOn version next number parcels notes parcels_now notes_now
-hands_none version next number parcels parcels_now notes notes_now same noted none before line told counted handed =
+-- or it asks to skip rounds, or is noted as none
+pub hands_passed : (version : Version) (next : Next) (number : ℕ) (parcels parcels_now : List Parcel) (notes notes_now : List Note) → parcels_now ≡ parcels → PassesOver next number notes notes_now → ((line : List ℕ) → IsTold line next → (given : Item) → ¬ Says version line given) → HandsOn version next number parcels notes parcels_now notes_now
+hands_passed version next number parcels parcels_now notes notes_now same (inl (skips, quiet)) none before line told counted handed =
+    subst (λ (p : List Parcel × List Note). AreHandedIn version (before ++ line ∷ []) p.0 p.1) (λ i. (sym same i, sym quiet i)) (skipped version before parcels notes line handed (skips line told))
+hands_passed version next number parcels parcels_now notes notes_now same (inr (no_skip, noted)) none before line told counted handed =
     let now : notes_now ≡ notes ++ note.BadLine (length before + 2) ∷ [] = noted ∙ ap (λ (n : ℕ). notes ++ note.BadLine n ∷ []) counted in
-    subst (λ (p : List Parcel × List Note). AreHandedIn version (before ++ line ∷ []) p.0 p.1) (λ i. (sym same i, sym now i)) (bad_line version before parcels notes line handed (none line told))
+    subst (λ (p : List Parcel × List Note). AreHandedIn version (before ++ line ∷ []) p.0 p.1) (λ i. (sym same i, sym now i)) (bad_line version before parcels notes line handed (none line told) (no_skip line told))
 
 -- The lines so far were handed in, and these are still to come.
 pub record IsReading (version : Version) (all : List (List ℕ)) (ahead : Option (List (List ℕ))) (parcels : List Parcel) (notes : List Note) (number : ℕ) : Type 0 where

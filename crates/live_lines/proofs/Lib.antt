@@ -5,5 +5,6 @@ pub mod NotedItems
 pub mod OpenedLines
 pub mod OtherCommands
 pub mod Sending
+pub mod SkippedLines
 pub mod ToldLines
 pub mod WholeRuns

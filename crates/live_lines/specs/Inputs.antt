@@ -19,6 +19,7 @@ use Rattle.live_lines.specs.declared.notes.Note.{Note}
 use Rattle.live_lines.specs.declared.notes.Note.TheVariants as note
 use Rattle.live_lines.specs.declared.openings.Opening.{Opening}
 use Rattle.live_lines.specs.Notes.{about_of}
+use Rattle.live_lines.specs.Skips.{AsksToSkip}
 
 -- a budget from 1 to 2^32, a depth up to 6, and 1 to 16 workers
 abbrev pub effort_at : Data → Data → Data → Option Effort
@@ -65,14 +66,18 @@ abbrev pub Says : Version → List ℕ → Item → Type 0
 Says version line said = (asked : Command) × Asks line asked × AsksFor version asked said
 
 -- What is handed in and noted of the lines behind the opening, each taken in its order: an item that a line says is the first collector's next
--- parcel, and is noted; of a line that says none its number is noted, where the opening's is 1. There is nothing else.
+-- parcel, and is noted; of a line that asks to skip rounds nothing is; and of any other its number is noted, where the opening's is 1. There is
+-- nothing else.
 pub data AreHandedIn : Version → List (List ℕ) → List Parcel → List Note → Type 0 where
   start : (version : Version) → AreHandedIn version [] [] []
   said : (version : Version) (lines : List (List ℕ)) (parcels : List Parcel) (notes : List Note) (line : List ℕ) (given : Item)
       → AreHandedIn version lines parcels notes → Says version line given
       → AreHandedIn version (lines ++ line ∷ []) (parcels ++ parcel 0 (length parcels) given ∷ []) (notes ++ note.Item (about_of given) ∷ [])
+  skipped : (version : Version) (lines : List (List ℕ)) (parcels : List Parcel) (notes : List Note) (line : List ℕ)
+      → AreHandedIn version lines parcels notes → AsksToSkip line
+      → AreHandedIn version (lines ++ line ∷ []) parcels notes
   bad_line : (version : Version) (lines : List (List ℕ)) (parcels : List Parcel) (notes : List Note) (line : List ℕ)
-      → AreHandedIn version lines parcels notes → ((given : Item) → ¬ Says version line given)
+      → AreHandedIn version lines parcels notes → ((given : Item) → ¬ Says version line given) → (AsksToSkip line → ⊥)
       → AreHandedIn version (lines ++ line ∷ []) parcels (notes ++ note.BadLine (length lines + 2) ∷ [])
 
 -- all these lines were handed in, and then an end

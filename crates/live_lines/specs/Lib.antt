@@ -4,6 +4,7 @@ pub mod Failures
 pub mod Inputs
 pub mod Notes
 pub mod Runs
+pub mod Skips
 pub mod Stations
 pub mod Tells
 pub mod Texts

@@ -1,5 +1,5 @@
 -- For private clauses: what the threads of a run come back with.
-use Rattle.std.specs.Prelude.{◌≡◌, ℕ, ◌+◌, List, [], ◌∷◌, ◌++◌, length, Option, Some, IfSome, OnOk}
+use Rattle.std.specs.Prelude.{◌≡◌, ℕ, ◌+◌, ◌⊎◌, List, [], ◌∷◌, ◌++◌, length, Option, Some, IfSome, OnOk}
 use Rattle.std.specs.Io.KnownBytes.{Appends}
 use Rattle.byte_lines.specs.LineReaders.{LineState}
 use Rattle.byte_lines.specs.declared.lines.Next.{Next}
@@ -12,6 +12,7 @@ use Rattle.report_queue.specs.Rings.{Receiving}
 use Rattle.live_lines.specs.declared.halls.Hall.{Hall}
 use Rattle.live_lines.specs.declared.reading.Read.{Read}
 use Rattle.live_lines.specs.declared.notes.Note.{Note}
+use Rattle.live_lines.specs.declared.notes.Note.TheVariants as note
 use Rattle.live_lines.specs.declared.writing.Written.{Written}
 use Rattle.live_audit.specs.declared.live.AuditorSide.{AuditorSide}
 use Rattle.live_lines.specs.declared.openings.Opening.{Opening}
@@ -20,6 +21,7 @@ use Rattle.live_lines.specs.Audits.{HasAudited, IsSameSide}
 use Rattle.live_lines.specs.Ends.{Noting, Noted}
 use Rattle.live_lines.specs.Inputs.{AreHandedIn, AreAllHandedIn, HaveOnlyEnds}
 use Rattle.live_lines.specs.Notes.{items_in, about_each}
+use Rattle.live_lines.specs.Skips.{AsksToSkip}
 use Rattle.live_lines.specs.Tells.{Tells}
 
 -- the pass is the collector's again
@@ -81,3 +83,9 @@ AreTaken taken passes = (of 0 taken ≡ passes.0.2) × (of 1 taken ≡ passes.1.
 -- Whatever lines were handed in so far, and these parcels and notes of them, the line that is told to be next is handed in now.
 abbrev pub HandsOn : Version → Next → ℕ → List Parcel → List Note → List Parcel → List Note → Type 0
 HandsOn version next number parcels notes parcels_now notes_now = (before : List (List ℕ)) (line : List ℕ) → IsTold line next → number ≡ length before + 2 → AreHandedIn version before parcels notes → AreHandedIn version (before ++ line ∷ []) parcels_now notes_now
+
+-- The line that is told to be next asks to skip rounds, and nothing is noted of it; or it doesn't, and its number is noted.
+abbrev pub PassesOver : Next → ℕ → List Note → List Note → Type 0
+PassesOver next number notes notes_now =
+    (((line : List ℕ) → IsTold line next → AsksToSkip line) × (notes_now ≡ notes))
+    ⊎ (((line : List ℕ) → IsTold line next → ¬ AsksToSkip line) × (notes_now ≡ notes ++ note.BadLine number ∷ []))

@@ -1,8 +1,9 @@
 ghost use Rattle.std.specs.Prelude.{◌≡◌};
 
 use fragment_intake::Desk;
+use polygraph::StopWord;
 use report_queue::Latest;
-use std::sync::atomic::{AtomicBool, Ordering};
+use std::sync::atomic::{AtomicBool, AtomicU64, Ordering};
 use std::sync::{OnceLock, Wait};
 
 /// What the threads of a run share.
@@ -14,10 +15,14 @@ pub(crate) struct Hall {
     called: OnceLock<bool>,
     /// Whether the reader is to stop, since nothing more can be written.
     stopped: AtomicBool,
+    /// What gives rounds up: those that began when fewer items had been taken than it says.
+    stops: StopWord,
+    /// How many items the reader has handed in.
+    handed_in: AtomicU64,
 }
 
 impl Hall {
-    pub(crate) fn new(desk: Desk, latest: Latest) -> Hall
+    pub(crate) fn new(desk: Desk, latest: Latest, stops: StopWord) -> Hall
         ensures { (result.desk ≡ desk) × (result.latest ≡ latest) }
     {
         Hall {
@@ -25,6 +30,8 @@ impl Hall {
             latest,
             called: OnceLock::new(),
             stopped: AtomicBool::new(false),
+            stops,
+            handed_in: AtomicU64::new(0),
         }
     }
 
@@ -45,5 +52,16 @@ impl Hall {
 
     pub(crate) fn is_stopped(&self) -> bool {
         self.stopped.load(Ordering::SeqCst)
+    }
+
+    /// Counts an item that the reader has handed in.
+    pub(crate) fn count_item(&self) {
+        self.handed_in.fetch_add(1, Ordering::SeqCst);
+    }
+
+    /// Gives up the rounds about no more than what is handed in so far: the one that is searched, and one that is yet to begin.
+    pub(crate) fn skip_rounds(&self) {
+        let items = self.handed_in.load(Ordering::SeqCst);
+        self.stops.give_up_below(items.saturating_add(1));
     }
 }

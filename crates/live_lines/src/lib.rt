@@ -8,6 +8,7 @@ mod notes;
 mod openings;
 mod reading;
 mod runs;
+mod skips;
 mod stations;
 mod telling;
 mod texts;

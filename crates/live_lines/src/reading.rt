@@ -6,11 +6,12 @@ ghost use Rattle.fragment_intake.specs.declared.rules.Item.{Item};
 ghost use Rattle.log_text.specs.declared.commands.Command.{Command};
 ghost use Rattle.live_lines.specs.Inputs.{AsksFor, Says, AreHandedIn, AreAllHandedIn, HaveOnlyEnds};
 ghost use Rattle.live_lines.specs.Notes.{items_in, about_each, about_of};
-ghost use Rattle.live_lines.specs.Threads.{IsSamePass, IsAtLine, AreFresh, HandsOn, HasRead};
+ghost use Rattle.live_lines.specs.Threads.{IsSamePass, IsAtLine, AreFresh, HandsOn, HasRead, PassesOver};
 
 use crate::failures::LiveFailure;
 use crate::halls::Hall;
 use crate::notes::{Note, NoteSender, about_of, send_note};
+use crate::skips::is_skip;
 use byte_lines::{ByteSource, LineReader, Next};
 use cobra::command_in;
 use fragment_intake::{CollectorPass, CollectorPasses, Item};
@@ -122,7 +123,29 @@ fn refuse<R: Wait>(rt: &R, notes: &mut NoteSender, number: u64)
     send_note(rt, notes, Note::BadLine(number));
 }
 
-/// Hands in what the line says, or tells the writer that it says nothing.
+/// Skips rounds, where the line asks for that; else tells the writer that it says nothing.
+fn pass_over<R: Wait>(
+    rt: &R,
+    alloc: Global,
+    hall: &Hall,
+    next: &Next,
+    number: u64,
+    notes: &mut NoteSender,
+) -> Result<(), NoMemory>
+    ensures ring { notes.new.ring ≡ notes.old.ring }
+    ensures noted { items_in notes.new.sent ≡ items_in notes.old.sent }
+    ensures passed { OnOk result (PassesOver next.now number notes.old.sent notes.new.sent) }
+{
+    let asks = is_skip(alloc, next)?;
+    if asks {
+        hall.skip_rounds();
+        return Ok(());
+    }
+    refuse(rt, notes, number);
+    Ok(())
+}
+
+/// Hands in what the line says, if it does; else passes it over.
 fn hand_in_line<R: Wait>(
     rt: &R,
     alloc: Global,
@@ -145,10 +168,11 @@ fn hand_in_line<R: Wait>(
     match item_in(alloc, version, next)? {
         Some(item) => {
             hand_in(rt, hall, pass, notes, item);
+            hall.count_item();
             Ok(())
         }
         None => {
-            refuse(rt, notes, number);
+            pass_over(rt, alloc, hall, next, number, notes)?;
             Ok(())
         }
     }

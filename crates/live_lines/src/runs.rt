@@ -91,11 +91,7 @@ fn is_whole<R: Wait>(
     ensures heard { IsTrue result → (reader.new.received ≡ side.sender.sent) × (coming.new.received ≡ notes.sent) }
     ensures taken { IsTrue result → AreTaken side.pass.1 passes }
 {
-    let AuditorSide {
-        pass,
-        sender,
-        seat: _,
-    } = side;
+    let AuditorSide { pass, sender, .. } = side;
     let mut notes = notes;
     let is_taken = has_taken_all(rt, desk, passes, pass);
     let is_heard = has_heard_all(sender, reader);

@@ -8,6 +8,7 @@ use crate::halls::Hall;
 use crate::notes::{NoteReader, NoteSender, note_queue};
 use fragment_intake::{AuditorPass, CollectorPasses, Desk};
 use live_audit::AuditorSide;
+use polygraph::StopWord;
 use report_queue::{Latest, PublisherSeat, ReportReader, ReportSender, ring};
 use std::alloc::Global;
 use txn::NoMemory;
@@ -54,21 +55,26 @@ fn open_queues(alloc: Global) -> Result<Queues, NoMemory>
     })
 }
 
-fn open_hall(alloc: Global) -> Result<(Hall, CollectorPasses, AuditorPass, PublisherSeat), NoMemory>
+fn open_hall(
+    alloc: Global,
+    stops: StopWord,
+) -> Result<(Hall, CollectorPasses, AuditorPass, PublisherSeat), NoMemory>
     ensures collectors { IfOk result (λ r. AreCollectorsOf r.0.desk r.1 × AreFresh r.1) }
     ensures auditor { IfOk result (λ r. (r.2.0 ≡ r.0.desk.0) × (r.2.1 ≡ [])) }
     ensures publisher { IfOk result (λ r. (r.3.word ≡ r.0.latest) × (r.3.published ≡ [])) }
 {
     let (desk, passes, pass) = Desk::new(alloc, DESK)?;
     let (latest, seat, _seats) = Latest::new(alloc, 1)?;
-    Ok((Hall::new(desk, latest), passes, pass, seat))
+    Ok((Hall::new(desk, latest, stops), passes, pass, seat))
 }
 
 /// A station at which nothing was done yet.
 pub(crate) fn open_station(alloc: Global) -> Result<Station, NoMemory>
     ensures { IfOk result IsFreshStation }
 {
-    let (hall, passes, pass, seat) = open_hall(alloc)?;
+    let stops = StopWord::new(alloc)?;
+    let rounds = stops.another()?;
+    let (hall, passes, pass, seat) = open_hall(alloc, stops)?;
     let queues = open_queues(alloc)?;
     let Queues {
         sender,
@@ -79,7 +85,12 @@ pub(crate) fn open_station(alloc: Global) -> Result<Station, NoMemory>
     Ok(Station {
         hall,
         passes,
-        side: AuditorSide { pass, sender, seat },
+        side: AuditorSide {
+            pass,
+            sender,
+            seat,
+            stops: Some(rounds),
+        },
         reader,
         notes,
         coming,

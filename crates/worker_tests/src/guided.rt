@@ -11,7 +11,7 @@ use std::test::*;
 use txn::NoMemory;
 
 /// The most nodes with which the plain search, split to this problem's depth, looks at none: fewer than there are cubes.
-fn few_nodes(problem: &Problem) -> u64
+pub fn few_nodes(problem: &Problem) -> u64
     ensures { (1 ≤ result) × (result ≤ 63) }
 {
     match problem.open_choices() {

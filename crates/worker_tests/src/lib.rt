@@ -17,3 +17,5 @@ mod histories;
 mod looks;
 #[cfg(test)]
 mod meetings;
+#[cfg(test)]
+mod stops;
