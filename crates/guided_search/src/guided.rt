@@ -58,11 +58,11 @@ fn answer_from(
     requires { IsGood parts.now }
     ensures { IfOk result (IsBelieved parts.now) }
 {
-    let order = run_of(alloc, branch, false)?;
+    let order = run_of(alloc, problem, branch, false)?;
     if explains(alloc, parts, order.as_slice())? {
         return Ok(Answer::Yes(order));
     }
-    let order = run_of(alloc, branch, true)?;
+    let order = run_of(alloc, problem, branch, true)?;
     if explains(alloc, parts, order.as_slice())? {
         return Ok(Answer::Yes(order));
     }

@@ -1,6 +1,7 @@
 //! A lucky order: what a store would do that takes one transaction after another. Nothing is promised of it.
 use forced_choices::Branch;
 use order_check::Parts;
+use polygraph::Problem;
 use std::alloc::Global;
 use std::collections::BTreeMap;
 use txn::{NoMemory, Sequence, Source, Txn, TxnId};
@@ -234,11 +235,17 @@ fn count_remaining(parts: &Parts) -> usize {
 }
 
 /// The order of a store's run: next comes what may by what is known, misses the fewest reads, where it is careful begins the fewest versions
-/// that others read, and stands foremost in its session.
-pub fn run_of(alloc: Global, branch: &Branch, careful: bool) -> Result<Sequence<TxnId>, NoMemory> {
+/// that others read, and stands foremost in its session. Where the problem's search was given up, that counts as want of memory.
+pub fn run_of(
+    alloc: Global,
+    problem: &Problem,
+    branch: &Branch,
+    careful: bool,
+) -> Result<Sequence<TxnId>, NoMemory> {
     let parts = branch.parts();
     let mut run = Run::new(alloc, parts)?;
     for _ in 0..count_remaining(parts) {
+        problem.go_on()?;
         let Some((session, id)) = run.best(branch, careful) else {
             break;
         };
