@@ -23,7 +23,7 @@ pub record IsSkip (line : List ℕ) : Type 0 where
   pub reads : read line ≡ Some said
   pub is : skips_of said ≡ true
 
--- and the line isn't too long for one
+-- and the line has 4,096 bytes at most
 pub record AsksToSkip (line : List ℕ) : Type 0 where
-  pub short : length line ≤ 8388608
+  pub short : length line ≤ 4096
   pub is : IsSkip line

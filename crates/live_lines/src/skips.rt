@@ -10,6 +10,9 @@ use std::alloc::{AllocError, Global};
 use std::str;
 use txn::NoMemory;
 
+/// The most bytes of a line that asks to skip rounds. No tree is made of longer ones, so that what they take is what they take as items.
+const LONGEST_SKIP: usize = 4096;
+
 #[tactic(auto, using(crate::proofs::SkippedLines::skips_longer))]
 fn skips_named(name: &str, parts: &[Value]) -> bool
     ensures { result ≡ skips_named name.now (items_view parts.now) }
@@ -65,6 +68,9 @@ pub(crate) fn is_skip(alloc: Global, next: &Next) -> Result<bool, NoMemory>
         Next::Line(line) => line,
         Next::TooLong | Next::End => return Ok(false),
     };
+    if line.len() > LONGEST_SKIP {
+        return Ok(false);
+    }
     let asks = is_skip_on(alloc, line)?;
     Ok(asks)
 }
