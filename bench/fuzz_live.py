@@ -7,11 +7,12 @@ program, or with COBRA_LIVE naming another one:
     python3 bench/fuzz_live.py [--runs N] [--seed S] [--minutes M] [--keep FILE]
 
 Each run is an opening, and then some hundred lines: offers, joins, closes, and lines that skip
-rounds, many of them with bytes mutated or changed by their grammar (`fuzz_lines.py`), in pieces that
-come whole or in the middle of a line, with pauses between them. All that it tells is judged as its tests judge it
-(collectors/python/tests/live_runs.py): one answer a line, in order, each report over what remained
-and over the whole history, each cut. It prints a table of what was told. At the first difference it
-stops, writes the run's lines to FILE (fuzz-live-difference.jsonl), and ends with status 1. Since
+rounds, many of them with bytes mutated or changed by their grammar (`fuzz_lines.py`), in pieces
+that come whole or in the middle of a line, with pauses between them. All that it tells is judged as
+its tests judge it (collectors/python/tests/live_runs.py): one answer a line but those that skip, in
+order, each report over what remained and over the whole history, each cut. It prints a table of
+what was told. At the first difference it stops, writes the run's lines to FILE
+(fuzz-live-difference.jsonl), and ends with status 1. Since
 moments decide which rounds are made, a seed gives the same lines again, and not the same rounds.
 """
 import argparse

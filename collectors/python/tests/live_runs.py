@@ -127,6 +127,7 @@ def odd_lines(dice, sessions, sent):
     odd = [
         b"", b"nonsense", b'["round",4096,0,1]', b'["open",1,8]', b'["close"]', b"\xff\xfe",
         b'["skip"]', b' [ "skip" ] ', b'["skip",0]', b'["skip"]]', b'"skip"',
+        b'["skip"]'.ljust(4096), b'["skip"]'.ljust(4097),
         compact(["offer", sessions, 0, [[[], [5]]]]),
         compact(["offer", 0, sent[0] + 1, [[[], [5]]]]),
         compact(["offer", 0, 0, [[[], [5, 5]]]]),

@@ -1,5 +1,5 @@
-"""Calls that may wait end all the same: runs in threads over queues of every size, and searches that
-are given up, each within a time limit. No proof says this (docs/PROVED.md)."""
+"""Calls that may wait end all the same: runs in threads over queues of every size, and searches
+that are given up, each within a time limit. No proof says this (docs/PROVED.md)."""
 import json
 import os
 import subprocess
@@ -160,6 +160,19 @@ class Searches(unittest.TestCase):
         live.give(self.SKIP)
         self.ended(live)
         self.assertEqual(live.told.count(self.SKIPPED), 2)
+
+    def test_how_long_it_may_be(self):
+        """One of more bytes is no such line, and its number is told. What stands behind is taken."""
+        lines = [OPEN, self.SKIP.ljust(4096), b'["offer",0,0,[[[],[5]]]]', self.SKIP.ljust(4097),
+                 b'["offer",1,0,[[[],[6]]]]']
+        live = Live()
+        live.give(*lines)
+        told, status, words = live.end()
+        self.assertEqual((status, words), (0, b""))
+        answers = [it for it in told.splitlines() if not it.startswith((b'["report"', b'["cut"'))]
+        self.assertEqual(answers, [b'["accepted",0,0]', b'["badline",4]', b'["accepted",1,0]',
+                                   b'["end"]'])
+        judge(lines, told)
 
     def test_where_no_round_goes_on_it_does_nothing(self):
         """It gives no later round up, that is about more."""

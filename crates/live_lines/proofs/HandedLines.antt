@@ -91,7 +91,7 @@ hands_said version next number who given parcels parcels_now notes notes_now fir
 -- or it asks to skip rounds, or is noted as none
 pub hands_passed : (version : Version) (next : Next) (number : ℕ) (parcels parcels_now : List Parcel) (notes notes_now : List Note) → parcels_now ≡ parcels → PassesOver next number notes notes_now → ((line : List ℕ) → IsTold line next → (given : Item) → ¬ Says version line given) → HandsOn version next number parcels notes parcels_now notes_now
 hands_passed version next number parcels parcels_now notes notes_now same (inl (skips, quiet)) none before line told counted handed =
-    subst (λ (p : List Parcel × List Note). AreHandedIn version (before ++ line ∷ []) p.0 p.1) (λ i. (sym same i, sym quiet i)) (skipped version before parcels notes line handed (skips line told))
+    subst (λ (p : List Parcel × List Note). AreHandedIn version (before ++ line ∷ []) p.0 p.1) (λ i. (sym same i, sym quiet i)) (skipped version before parcels notes line handed (none line told) (skips line told))
 hands_passed version next number parcels parcels_now notes notes_now same (inr (no_skip, noted)) none before line told counted handed =
     let now : notes_now ≡ notes ++ note.BadLine (length before + 2) ∷ [] = noted ∙ ap (λ (n : ℕ). notes ++ note.BadLine n ∷ []) counted in
     subst (λ (p : List Parcel × List Note). AreHandedIn version (before ++ line ∷ []) p.0 p.1) (λ i. (sym same i, sym now i)) (bad_line version before parcels notes line handed (none line told) (no_skip line told))

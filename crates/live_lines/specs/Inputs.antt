@@ -66,18 +66,18 @@ abbrev pub Says : Version → List ℕ → Item → Type 0
 Says version line said = (asked : Command) × Asks line asked × AsksFor version asked said
 
 -- What is handed in and noted of the lines behind the opening, each taken in its order: an item that a line says is the first collector's next
--- parcel, and is noted; of a line that asks to skip rounds nothing is; and of any other its number is noted, where the opening's is 1. There is
--- nothing else.
+-- parcel, and is noted; of a line that says none and asks to skip rounds nothing is handed in or noted; and of any other its number is noted, where
+-- the opening's is 1. There is nothing else.
 pub data AreHandedIn : Version → List (List ℕ) → List Parcel → List Note → Type 0 where
   start : (version : Version) → AreHandedIn version [] [] []
   said : (version : Version) (lines : List (List ℕ)) (parcels : List Parcel) (notes : List Note) (line : List ℕ) (given : Item)
       → AreHandedIn version lines parcels notes → Says version line given
       → AreHandedIn version (lines ++ line ∷ []) (parcels ++ parcel 0 (length parcels) given ∷ []) (notes ++ note.Item (about_of given) ∷ [])
   skipped : (version : Version) (lines : List (List ℕ)) (parcels : List Parcel) (notes : List Note) (line : List ℕ)
-      → AreHandedIn version lines parcels notes → AsksToSkip line
+      → AreHandedIn version lines parcels notes → ((given : Item) → ¬ Says version line given) → AsksToSkip line
       → AreHandedIn version (lines ++ line ∷ []) parcels notes
   bad_line : (version : Version) (lines : List (List ℕ)) (parcels : List Parcel) (notes : List Note) (line : List ℕ)
-      → AreHandedIn version lines parcels notes → ((given : Item) → ¬ Says version line given) → (AsksToSkip line → ⊥)
+      → AreHandedIn version lines parcels notes → ((given : Item) → ¬ Says version line given) → (¬ AsksToSkip line)
       → AreHandedIn version (lines ++ line ∷ []) parcels (notes ++ note.BadLine (length lines + 2) ∷ [])
 
 -- all these lines were handed in, and then an end
