@@ -13,8 +13,8 @@ until it has answered a line. Then it has to go one of these ways, and it prints
 how many went which way:
 
 - given again: cobra_audit has answered a line NoMemory. Then the state is told as it was before the
-  line, a round that was to be finished is still open, and one that was to begin isn't; and given
-  once more the line is answered as ever.
+  line, a round is open where one was open before, and only there; and given once more the line is
+  answered as ever.
 - ended: with status 1 and `out of memory`, after whole lines that are a front of what is owed.
 - nothing seen: where the library goes on without the room that was refused.
 
@@ -25,7 +25,8 @@ and cut, and that it ends with its end.
 The runs are the worked scripts of crates/cobra_examples/data, whole; four of them step by step,
 with workers, and handed over to another run; their stored replies for cobra_check; their offers for
 cobra_live; and the demonstration. --every takes each Nth allocation alone, --only the runs whose
-name has the word. The status is 1 where one went wrong.
+name has the word. At the end it tells which commands of cobra_audit were answered NoMemory, and how
+often while a round was open. The status is 1 where one went wrong.
 """
 import argparse
 import json
@@ -93,9 +94,10 @@ __attribute__((constructor)) static void start(void) {
     page = shared;
 }
 """
-NO_MEMORY, ROUND_OPEN, NO_ROUND = (b'["no",16,"NoMemory"]\n', b'["no",10,"RoundOpen"]\n',
-                                   b'["no",11,"NoRound"]\n')
+NO_MEMORY, ROUND_OPEN = b'["no",16,"NoMemory"]\n', b'["no",10,"RoundOpen"]\n'
 SHOW = b'["show"]\n'
+# No session joins by it, for want of an anchor; but where a round is open it is told that.
+PROBE = b'["join",63,[[[],[5]]]]\n'
 ENDED = (1, b"out of memory\n")
 FOR_EVER = 2**63
 SECONDS = 60.0  # within which a program has to end
@@ -156,6 +158,7 @@ class Audit:
     def __init__(self, name, lines, owed=None, is_judged=False):
         self.name, self.lines = name, [line + b"\n" for line in lines]
         self.owed, self.shows, self.is_judged = owed, None, is_judged
+        self.refused, self.in_rounds = Counter(), 0  # commands; those while a round was open
 
     def prepare(self, shim):
         """Has it run with nothing refused: how many allocations and threads there were."""
@@ -175,7 +178,7 @@ class Audit:
             replies, states, again = [], [], []
             for line in self.lines:
                 if shows:
-                    states.append(ask(running, SHOW))
+                    states.append(state_of(running))
                 reply = ask(running, line)
                 if reply == NO_MEMORY:
                     shim.lift()
@@ -192,16 +195,11 @@ class Audit:
 
     def look(self, running, place, line):
         """Nothing has changed by the line that was answered NoMemory."""
-        state = ask(running, SHOW)
-        if self.shows and state != self.shows[place]:
+        state = state_of(running)
+        if state != self.shows[place]:
             raise Wrong(f"behind {line!r} the state is {state!r}, before it {self.shows[place]!r}")
-        word = command_of(line[:-1])[0]
-        probe, owed = {"finish": (b'["begin"]\n', ROUND_OPEN),
-                       "begin": (b'["finish",1,0,1]\n', NO_ROUND),
-                       "round": (b'["finish",1,0,1]\n', NO_ROUND)}.get(word, (SHOW, state))
-        told = ask(running, probe)
-        if told != owed:
-            raise Wrong(f"behind {line!r} {probe!r} is answered {told!r}")
+        self.refused[command_of(line[:-1])[0]] += 1
+        self.in_rounds += state[1] == ROUND_OPEN
 
     def way(self, shim, **refused):
         """Which way it went; raises Wrong."""
@@ -218,6 +216,11 @@ class Audit:
         if found:
             raise Wrong(f"{found}: {replies}")
         return "ended" if ended == ENDED else "given again" if again else "nothing seen"
+
+
+def state_of(running):
+    """What is kept, and whether a round is open."""
+    return ask(running, SHOW), ask(running, PROBE)
 
 
 def ask(running, line):
@@ -351,14 +354,17 @@ def compact(told):
 
 def by_steps(lines):
     """A script with its rounds begun and finished, and with all else that takes memory behind."""
-    found = []
+    found, counts = [], Counter()
     for line in lines:
         command = command_of(line)
+        if command[0] == "offer":
+            counts[command[1]] += len(command[3])
         found += ([b'["begin"]', compact(["finish", *command[1:]])] if command[0] == "round"
                   else [line])
     return [*found, b'["rebuild"]', b'["begin"]', b'["finish",64,0,1]', b'["truncate"]',
             b'["save","marks"]', b'["save","last",0]', b'["save","remain",0,0]', b'["rebuild"]',
-            b'["round",64,0,1]', b'["begin"]', b'["close",0]', b'["finish",64,0,1]', b'["show"]']
+            b'["round",64,0,1]', b'["begin"]', compact(["offer", 1, counts[1], [[[], [9]]]]),
+            b'["close",0]', b'["finish",64,0,1]', b'["show"]']
 
 
 def with_workers(lines):
@@ -436,7 +442,7 @@ def main():
     asked.add_argument("--lasting", action="store_true", help="all are refused from the nth on")
     asked = asked.parse_args()
     how = {"is_lasting": True} if asked.lasting else {}
-    ways = Counter()
+    ways, words, in_rounds = Counter(), Counter(), 0
     with tempfile.TemporaryDirectory() as folder:
         shim = Shim(folder)
         for run in runs(os.path.join(HERE, "../crates/cobra_examples/data")):
@@ -453,6 +459,10 @@ def main():
             told = ", ".join(f"{count} {it}" for it, count in sorted(found.items()))
             print(f"{run.name}: {made} allocations, {threads} threads; {told}", *wrong[:5],
                   sep="\n  ", flush=True)
+            if isinstance(run, Audit):
+                words, in_rounds = words + run.refused, in_rounds + run.in_rounds
+    told = ", ".join(f"{count} {word}" for word, count in sorted(words.items()))
+    print(f"answered NoMemory: {told or 'none'}; {in_rounds} of them in an open round")
     print(f"{sum(ways.values())} refused, {ways['WRONG']} of them with a wrong end")
     sys.exit(1 if ways["WRONG"] else 0)
 
