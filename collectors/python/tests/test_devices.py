@@ -17,6 +17,10 @@ refused_memory.PROGRAMS.update((name, path_of(name)) for name in failing_devices
 # Allocations of each run that are refused, spread over all that the program makes for it; and those
 # from which on all are.
 REFUSALS, LASTING = 12, 3
+# Of this run each is refused. Each of these commands is then answered NoMemory, some of them while a
+# round is open, before it is answered as ever.
+WHOLE = "cobra_audit, first_cut by steps"
+COMMANDS = {"open", "offer", "begin", "finish", "round", "truncate", "rebuild"}
 
 
 def worked(name):
@@ -48,15 +52,19 @@ class Devices(unittest.TestCase):
             if not refused_memory.is_built(run):
                 continue
             made, threads = run.prepare(shim)
-            numbers = [("refused", each)
-                       for each in range(1, made + 1, max(made // REFUSALS, 1))]
+            every = 1 if run.name == WHOLE else max(made // REFUSALS, 1)
+            numbers = [("refused", each) for each in range(1, made + 1, every)]
             numbers += [("thread", each) for each in range(1, threads + 1)]
-            lasting = numbers[:len(numbers) - threads][::max(REFUSALS // LASTING, 1)]
+            lasting = numbers[:len(numbers) - threads]
+            lasting = lasting[::max(len(lasting) // LASTING, 1)]
             for asked, how in ((numbers, {}), (lasting, {"is_lasting": True})):
                 with self.subTest(run=run.name, **how):
                     ways, wrong = refused_memory.ways_of(shim, run, asked, **how)
                     self.assertEqual(wrong, [])
                     tried += sum(ways.values())
+            if run.name == WHOLE:
+                self.assertLessEqual(COMMANDS, set(run.refused))
+                self.assertGreater(run.in_rounds, 0)
         if not tried:
             self.skipTest("no program is built that takes its memory from the C library")
 
