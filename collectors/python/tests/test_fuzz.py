@@ -1,5 +1,5 @@
-"""The auditor beside a plain model of it: what bench/fuzz.py gives it, for a minute; and that what
-would be wrong is found, by lies that are told between the auditor and the model."""
+"""The auditor beside a plain model of it: what bench/fuzz.py gives it, for a quarter of a minute; and
+that what would be wrong is found, by lies that are told between the auditor and the model."""
 import json
 import multiprocessing
 import os
