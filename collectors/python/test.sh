@@ -80,4 +80,7 @@ fi
 if ! "$python" -c "import psycopg2" 2> /dev/null || ! "$python" -c "import sys; from zanteyard.cluster import program; sys.exit(not program('initdb'))"; then
     echo "skipped: what needs PostgreSQL and psycopg2, which aren't both installed (nothing was audited live)"
 fi
+if ! command -v cc > /dev/null; then
+    echo "skipped: what needs a C compiler, cc, which isn't installed (no device failed, and no memory was refused)"
+fi
 echo "the collectors' tests passed"
