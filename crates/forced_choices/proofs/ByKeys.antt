@@ -18,13 +18,13 @@ use Rattle.forced_choices.proofs.FreshArcs.{of_all}
 use Rattle.forced_choices.proofs.Members.{In, in_left, in_right, in_either}
 
 -- rows with more bits
-pub rows_kept : (parts : Parts) (nodes : List (Option TxnId)) (ids : List TxnId) (old new : ByKey) → ((key j : ℕ) → HasBit (mask_of old.rows key) j → HasBit (mask_of new.rows key) j) → AreRows parts nodes ids old → AreRows parts nodes ids new
-rows_kept parts nodes ids old new kept (columns, are) = (
+pub rows_kept : (Asked : ℕ → Type 0) (parts : Parts) (nodes : List (Option TxnId)) (ids : List TxnId) (old new : ByKey) → ((key j : ℕ) → HasBit (mask_of old.rows key) j → HasBit (mask_of new.rows key) j) → AreRows Asked parts nodes ids old → AreRows Asked parts nodes ids new
+rows_kept Asked parts nodes ids old new kept (columns, are) = (
   columns,
   record {
     counted = are.counted;
     placed = are.placed;
-    masked = λ k d key below writes. kept key (get_or columns k 0) (are.masked k d key below writes);
+    masked = λ k d key below asked writes. kept key (get_or columns k 0) (are.masked k d key below asked writes);
   },
 )
 

@@ -15,6 +15,7 @@ use Rattle.known_graph.specs.Sizes.{HasSize}
 use Rattle.forced_choices.specs.declared.tables.reads.Read.{Read}
 use Rattle.forced_choices.specs.declared.tables.table.Table.{Table}
 use Rattle.forced_choices.specs.Between.{AreDistinct}
+use Rattle.forced_choices.specs.ByKeys.{IsRead}
 use Rattle.forced_choices.specs.Listing.{writes_here}
 use Rattle.forced_choices.specs.Masks.{mask_of, is_third, choice_of, choices_in}
 use Rattle.forced_choices.specs.Ranks.{Counts, none, one_more, not_this}
@@ -80,7 +81,7 @@ third_undecided parts arcs read other after writes isnt und = by_part (not_third
     by_part (inr is) = und.writer_other (subst (λ id. Reaches arcs read.writer id) (sym is) after)
 
 -- the columns of a row that lies within the mask of a key are those of some of the key's writers, each of another one
-module _ (parts : Parts) (nodes : List (Option TxnId)) (arcs : List Arc) (table : Table) (mask row : List ℕ) (read : Read) (one : (i j : ℕ) (id : TxnId) → IsAt nodes i id → IsAt nodes j id → i ≡ j) (is_table : IsTable parts nodes table) (is : mask ≡ mask_of table.writers.masks read.key) where
+module _ (parts : Parts) (nodes : List (Option TxnId)) (arcs : List Arc) (table : Table) (mask row : List ℕ) (read : Read) (one : (i j : ℕ) (id : TxnId) → IsAt nodes i id → IsAt nodes j id → i ≡ j) (is_table : IsTable parts nodes table) (is : mask ≡ mask_of table.writers.masks read.key) (asked : IsRead table.reads.items read.key) where
   abbrev ids : List TxnId
   ids = table.ids.items
 
@@ -94,7 +95,7 @@ module _ (parts : Parts) (nodes : List (Option TxnId)) (arcs : List Arc) (table 
   column_at place = get_or table.writers.columns.items place 0
 
   writers : those_at ids places ≡ filter (writes_here parts read.key) ids
-  writers = is_table.places.listed read.key ∙ ap (filter (writes_here parts read.key)) (take_whole ids (length ids) (omega arith))
+  writers = is_table.places.listed read.key asked ∙ ap (filter (writes_here parts read.key)) (take_whole ids (length ids) (omega arith))
 
   below : (place : ℕ) → In places place → place < length ids
   below place there = below_in places (is_table.places.below read.key) place there
@@ -111,7 +112,7 @@ module _ (parts : Parts) (nodes : List (Option TxnId)) (arcs : List Arc) (table 
   told tells place there =
       let writes = (in_filter (writes_here parts read.key) ids (id_at place) (subst (λ xs. In xs (id_at place)) writers (map_in id_at places place there))).1 in
       tells (column_at place) (id_at place)
-      (subst (λ (m : List ℕ). HasBit m (column_at place)) (sym is) (is_table.writers.masked place no_id read.key (below place there) writes)) (at_column place there)
+      (subst (λ (m : List ℕ). HasBit m (column_at place)) (sym is) (is_table.writers.masked place no_id read.key (below place there) asked writes)) (at_column place there)
 
   apart : AllPairs (λ x y. x ≢ y) (map column_at places)
   apart i j d early late same =

@@ -18,13 +18,14 @@ use Rattle.forced_choices.specs.declared.tables.reads.Placed.{Placed}
 use Rattle.forced_choices.specs.declared.tables.reads.Read.{Read}
 use Rattle.forced_choices.specs.declared.tables.table.Table.{Table}
 use Rattle.forced_choices.specs.declared.tables.writers.Writers.{Writers}
-use Rattle.forced_choices.specs.ByKeys.{AreIndexed, AreRows}
+use Rattle.forced_choices.specs.ByKeys.{AreIndexed, AreRows, IsRead}
 use Rattle.forced_choices.specs.Growth.{AreMore, Brings, NodesStay}
 use Rattle.forced_choices.specs.KeptTables.{AreReadsOf, AreWritersOf, IsAmong, IsKeptTable, WereReadsOf}
 use Rattle.forced_choices.specs.Listing.{is_other, writes_here}
-use Rattle.forced_choices.specs.Masks.{AreWriters, choice_of, choices_in, is_third, mask_of}
+use Rattle.forced_choices.specs.Masks.{AreWriters, IsAnyKey, choice_of, choices_in, is_third, mask_of}
 use Rattle.forced_choices.specs.Tables.{IsLookup, IsPlaced, choices_at}
 use Rattle.forced_choices.specs.WriterPlaces.{ArePlaces}
+use Rattle.forced_choices.proofs.AskedKeys.{columns_asked, places_asked, rows_asked}
 use Rattle.forced_choices.proofs.ByKeys.{rows_kept}
 use Rattle.forced_choices.proofs.Distinct.{take_whole}
 use Rattle.forced_choices.proofs.Growing.{reads_less, reads_more, remains_more, writes_less, writes_more}
@@ -42,11 +43,11 @@ writers_grow parts more old_nodes nodes table remain are stay writers = record {
   writers = record {
     counted = writers.writers.counted;
     placed = λ k d below. stay (get_or table.writers.columns.items k 0) (get_or ids k d) (writers.writers.placed k d below);
-    masked = λ k d key below writes. writers.writers.masked k d key below (writes_less parts more (get_or ids k d) key are (remain (get_or ids k d) (in_place ids k d below)) writes);
+    masked = λ k d key below any writes. writers.writers.masked k d key below any (writes_less parts more (get_or ids k d) key are (remain (get_or ids k d) (in_place ids k d below)) writes);
   };
   places = record {
     below = writers.places.below;
-    listed = λ key. writers.places.listed key ∙ filter_same (writes_here parts key) (writes_here more key) (take (length ids) ids) (λ id h. ap (λ found. writes_key found key) (sym (are.same id (remain id (subst (λ (xs : List TxnId). In xs id) (take_whole ids (length ids) (omega arith)) h)))));
+    listed = λ key any. writers.places.listed key any ∙ filter_same (writes_here parts key) (writes_here more key) (take (length ids) ids) (λ id h. ap (λ found. writes_key found key) (sym (are.same id (remain id (subst (λ (xs : List TxnId). In xs id) (take_whole ids (length ids) (omega arith)) h)))));
   };
   rows = rows_grow writers.rows;
 }
@@ -54,13 +55,13 @@ writers_grow parts more old_nodes nodes table remain are stay writers = record {
     ids : List TxnId
     ids = table.ids.items
 
-    rows_grow : AreRows parts old_nodes ids table.by_key → AreRows more nodes ids table.by_key
+    rows_grow : AreRows IsAnyKey parts old_nodes ids table.by_key → AreRows IsAnyKey more nodes ids table.by_key
     rows_grow (columns, rows) = (
       columns,
       record {
         counted = rows.counted;
         placed = λ k d below. stay (get_or columns k 0) (get_or ids k d) (rows.placed k d below);
-        masked = λ k d key below writes. rows.masked k d key below (writes_less parts more (get_or ids k d) key are (remain (get_or ids k d) (in_place ids k d below)) writes);
+        masked = λ k d key below any writes. rows.masked k d key below any (writes_less parts more (get_or ids k d) key are (remain (get_or ids k d) (in_place ids k d below)) writes);
       },
     )
 
@@ -78,9 +79,9 @@ PutsReads parts nodes old new old_loose loose readers = record {
 -- its writers stay
 pub writers_stay : (parts : Parts) (nodes : List (Option TxnId)) (old new : Table) → ((key j : ℕ) → HasBit (mask_of old.by_key.rows key) j → HasBit (mask_of new.by_key.rows key) j) → new.ids ≡ old.ids → new.writers ≡ old.writers → new.places ≡ old.places → AreWritersOf parts nodes old → AreWritersOf parts nodes new
 writers_stay parts nodes old new rows same_ids same_writers same_places are = record {
-  writers = subst₂ (λ (ids : Vec TxnId Global) (writers : Writers). AreWriters parts nodes ids.items writers) (sym same_ids) (sym same_writers) are.writers;
-  places = subst₂ (λ (ids : Vec TxnId Global) (places : Places). ArePlaces parts ids.items places) (sym same_ids) (sym same_places) are.places;
-  rows = rows_kept parts nodes new.ids.items old.by_key new.by_key rows (subst (λ (ids : Vec TxnId Global). AreRows parts nodes ids.items old.by_key) (sym same_ids) are.rows);
+  writers = subst₂ (λ (ids : Vec TxnId Global) (writers : Writers). AreWriters IsAnyKey parts nodes ids.items writers) (sym same_ids) (sym same_writers) are.writers;
+  places = subst₂ (λ (ids : Vec TxnId Global) (places : Places). ArePlaces IsAnyKey parts ids.items places) (sym same_ids) (sym same_places) are.places;
+  rows = rows_kept IsAnyKey parts nodes new.ids.items old.by_key new.by_key rows (subst (λ (ids : Vec TxnId Global). AreRows IsAnyKey parts nodes ids.items old.by_key) (sym same_ids) are.rows);
 }
 
 -- and so are their reads, but that the writers of some may have come
@@ -116,11 +117,11 @@ of_choice parts ids choice is there =
 -- the kept table covers all choices
 pub kept_lookup : (parts : Parts) (nodes : List (Option TxnId)) (kept : KeptTable) → IsKeptTable parts nodes kept → IsLookup parts nodes kept.table
 kept_lookup parts nodes kept is = record {
-  writers = is.writers.writers;
-  places = is.writers.places;
+  writers = columns_asked IsAnyKey (IsRead kept.table.reads.items) (λ key read. tt) parts nodes kept.table.ids.items kept.table.writers.masks kept.table.writers.columns.items (length kept.table.ids.items) is.writers.writers;
+  places = places_asked IsAnyKey (IsRead kept.table.reads.items) (λ key read. tt) parts kept.table.ids.items kept.table.places.lists (length kept.table.ids.items) is.writers.places;
   placed = is.reads.placed;
   all = λ choice one. by_kept choice one (is.reads.each choice.reader choice.key (By choice.writer) ((is.listed choice.reader).1 (reader_remains parts choice.reader choice.key (By choice.writer) one.reads)) one.reads);
-  rows = is.writers.rows;
+  rows = rows_asked IsAnyKey (IsRead kept.table.reads.items) (λ key read. tt) parts nodes kept.table.ids.items kept.table.by_key is.writers.rows;
   indexed = is.indexed;
 }
   where

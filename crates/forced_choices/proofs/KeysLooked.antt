@@ -19,12 +19,12 @@ use Rattle.known_graph.specs.Bits.{HasBit}
 use Rattle.forced_choices.specs.declared.tables.reads.Placed.{Placed}
 use Rattle.forced_choices.specs.declared.tables.table.Table.{Table}
 use Rattle.forced_choices.specs.declared.saturation.touched.Touched.{Touched}
-use Rattle.forced_choices.specs.ByKeys.{AreIndexed, reads_at}
+use Rattle.forced_choices.specs.ByKeys.{AreIndexed, IsRead, reads_at}
 use Rattle.forced_choices.specs.Forcing.{AreAllSettledUnless, HasLooked, IsThere, Stage}
 use Rattle.forced_choices.specs.Masks.{AreColumns, AreThere, choices_in, mask_of, words_in}
 use Rattle.forced_choices.specs.Tables.{IsLookup, choices_at}
 use Rattle.forced_choices.specs.WriterPlaces.{places_at}
-use Rattle.forced_choices.proofs.Members.{In, in_either, in_left, in_right, in_flat_map, flat_map_in, map_in}
+use Rattle.forced_choices.proofs.Members.{In, in_either, in_left, in_right, in_flat_map, flat_map_in, in_place, map_in}
 use Rattle.forced_choices.proofs.TableReads.{no_read, untouched_by}
 
 -- one more place
@@ -61,8 +61,8 @@ key_untouched parts nodes arcs table since key row is settled same none = there_
     reads : List Placed
     reads = table.reads.items
 
-    one : (k : ℕ) → In (places_at table.by_key.reads.lists key) k → (columns : List ℕ) × AreColumns parts nodes ids table.by_key.rows columns (length ids) → AreThere arcs (choices_in parts ids (get_or reads k no_read).read)
-    one k h (columns, are) = untouched_by parts nodes arcs ids table.by_key.rows columns since placed (is.placed k no_read within) are settled (λ has. bare placed.reader_at reader has.1) (λ j bit has. bare j bit has.1) (λ j bit has. bare placed.reader_at reader has.1)
+    one : (k : ℕ) → In (places_at table.by_key.reads.lists key) k → (columns : List ℕ) × AreColumns (IsRead reads) parts nodes ids table.by_key.rows columns (length ids) → AreThere arcs (choices_in parts ids (get_or reads k no_read).read)
+    one k h (columns, are) = untouched_by (IsRead reads) parts nodes arcs ids table.by_key.rows columns since placed (is.placed k no_read within) are (placed, in_place reads k no_read within, refl) settled (λ has. bare placed.reader_at reader has.1) (λ j bit has. bare j bit has.1) (λ j bit has. bare placed.reader_at reader has.1)
       where
         placed : Placed
         placed = get_or reads k no_read
@@ -83,7 +83,7 @@ key_untouched parts nodes arcs table since key row is settled same none = there_
 key_done : (parts : Parts) (ids : List TxnId) (reads : List Placed) (places : List ℕ) (k : ℕ) (choice : Choice) → In places k → In (choices_in parts ids (get_or reads k no_read).read) choice → In (choices_at parts ids (reads_at reads places)) choice
 key_done parts ids reads places k choice h here = flat_map_in (λ (placed : Placed). choices_in parts ids placed.read) (reads_at reads places) (get_or reads k no_read) choice (map_in (λ place. get_or reads place no_read) places k h) here
 
-index_in : (xs : List Placed) (x : Placed) → In xs x → (k : ℕ) × (k < length xs) × (get_or xs k no_read ≡ x)
+pub index_in : (xs : List Placed) (x : Placed) → In xs x → (k : ℕ) × (k < length xs) × (get_or xs k no_read ≡ x)
 index_in [] x h = absurd h
 index_in (y ∷ xs) x (inl same) = (0, omega arith, same)
 index_in (y ∷ xs) x (inr h) = more (index_in xs x h)

@@ -13,6 +13,7 @@ pub mod PlacesOfWriters
 pub mod WriterRows
 pub mod TableReads
 pub mod Lookups
+pub mod AskedKeys
 pub mod SaturationLaws
 pub mod Distinct
 pub mod Keeping

@@ -76,21 +76,21 @@ tells_open nodes arcs read mask after_writer before_reader before_writer after_r
     }
 
 -- the columns of the ids tell
-pub told_by_writers : (parts : Parts) (nodes : List (Option TxnId)) (arcs : List Arc) (ids : List TxnId) (writers : Writers) (mask row : List ℕ) (read : Read) → AreWriters parts nodes ids writers → mask ≡ mask_of writers.masks read.key →
+pub told_by_writers : (Asked : ℕ → Type 0) (parts : Parts) (nodes : List (Option TxnId)) (arcs : List Arc) (ids : List TxnId) (writers : Writers) (mask row : List ℕ) (read : Read) → AreWriters Asked parts nodes ids writers → Asked read.key → mask ≡ mask_of writers.masks read.key →
     ((j : ℕ) (other : TxnId) → HasBit mask j → IsAt nodes j other → TellsOpen arcs row j (choice_of read other)) → AreTold parts arcs ids writers.columns.items row read
-told_by_writers parts nodes arcs ids writers mask row read are is tells k d within third =
+told_by_writers Asked parts nodes arcs ids writers mask row read are asked is tells k d within third =
     let other = get_or ids k d in
     let column = get_or writers.columns.items k 0 in
-    tells column other (subst (λ (mask : List ℕ). HasBit mask column) (sym is) (are.masked k d read.key within (third_writes parts read other third))) (are.placed k d within)
+    tells column other (subst (λ (mask : List ℕ). HasBit mask column) (sym is) (are.masked k d read.key within asked (third_writes parts read other third))) (are.placed k d within)
 
 -- where no writer of the mask is undecided, none is
-pub decided_all : (parts : Parts) (nodes : List (Option TxnId)) (arcs : List Arc) (ids : List TxnId) (writers : Writers) (mask : List ℕ) (read : Read) → AreWriters parts nodes ids writers → mask ≡ mask_of writers.masks read.key →
+pub decided_all : (Asked : ℕ → Type 0) (parts : Parts) (nodes : List (Option TxnId)) (arcs : List Arc) (ids : List TxnId) (writers : Writers) (mask : List ℕ) (read : Read) → AreWriters Asked parts nodes ids writers → Asked read.key → mask ≡ mask_of writers.masks read.key →
     ((j : ℕ) (other : TxnId) → HasBit mask j → IsAt nodes j other → ¬ IsUndecided arcs (choice_of read other)) → AreAllDecided arcs (choices_in parts ids read)
-decided_all parts nodes arcs ids writers mask read are is none = each_choice parts read (λ c. ¬ IsUndecided arcs c) ids (λ k d within choice h und.
+decided_all Asked parts nodes arcs ids writers mask read are asked is none = each_choice parts read (λ c. ¬ IsUndecided arcs c) ids (λ k d within choice h und.
     let other = get_or ids k d in
     let column = get_or writers.columns.items k 0 in
     let facts = third_parts parts read other choice h in
-    let masked = subst (λ (mask : List ℕ). HasBit mask column) (sym is) (are.masked k d read.key within (third_writes parts read other facts.1)) in
+    let masked = subst (λ (mask : List ℕ). HasBit mask column) (sym is) (are.masked k d read.key within asked (third_writes parts read other facts.1)) in
     none column other masked (are.placed k d within) (subst (IsUndecided arcs) facts.0 und))
 
 -- what ascends has its front below its rest

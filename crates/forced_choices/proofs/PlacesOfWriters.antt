@@ -18,7 +18,7 @@ use Rattle.order_check.specs.Good.{IsGood}
 use Rattle.forced_choices.specs.declared.tables.reads.Read.{Read}
 use Rattle.forced_choices.specs.FreshArcs.{AreAllWritten}
 use Rattle.forced_choices.specs.Listing.{writes_here, is_other, base_arcs}
-use Rattle.forced_choices.specs.Masks.{is_third, choice_of, choices_in}
+use Rattle.forced_choices.specs.Masks.{IsAnyKey, is_third, choice_of, choices_in}
 use Rattle.forced_choices.specs.WriterPlaces.{places_at, those_at, AreWriterPlaces}
 use Rattle.forced_choices.proofs.Members.{In, Ascends, ascends_of, in_either}
 use Rattle.forced_choices.proofs.ListedChoices.{and_parts}
@@ -75,11 +75,12 @@ pub writes_ascend : (parts : Parts) (id : TxnId) (txn : Txn) → IsGood parts �
 writes_ascend parts id txn good e = ascends_of nat_lt below_through txn.writes (good.well_formed id.session (id.number - mark_of parts id.session) txn (looked_up parts id txn e).1).lists.writes_rise
 
 -- the writers among one more of the ids
-pub places_more : (parts : Parts) (ids : List TxnId) (old new : BTreeMap ℕ (Vec ℕ Global)) (n : ℕ) → n < length ids → ((key : ℕ) → places_at new key ≡ places_at old key ++ cond (writes_here parts key (get_or ids n no_id)) (n ∷ []) []) → AreWriterPlaces parts ids old n → AreWriterPlaces parts ids new (n + 1)
-places_more parts ids old new n within more are = record {
-  below = λ key. subst (λ (xs : List ℕ). All (λ place. place < n + 1) xs) (sym (more key)) (by_below key (writes_here parts key (get_or ids n no_id)));
-  listed = λ key. ap (those_at ids) (more key) ∙ map-append at (places_at old key) (cond (writes_here parts key (get_or ids n no_id)) (n ∷ []) []) ∙ ap (λ xs. xs ++ those_at ids (cond (writes_here parts key (get_or ids n no_id)) (n ∷ []) [])) (are.listed key)
-      ∙ ap (λ xs. filter (writes_here parts key) (take n ids) ++ xs) (by_test (writes_here parts key (get_or ids n no_id))) ∙ sym (filter_more (writes_here parts key) ids n no_id within);
+pub places_more : (Asked : ℕ → Type 0) (parts : Parts) (ids : List TxnId) (old new : BTreeMap ℕ (Vec ℕ Global)) (n : ℕ) → n < length ids → (adds : ℕ → Bool) → ((key : ℕ) → places_at new key ≡ places_at old key ++ cond (adds key) (n ∷ []) []) →
+    ((key : ℕ) → Asked key → adds key ≡ writes_here parts key (get_or ids n no_id)) → AreWriterPlaces Asked parts ids old n → AreWriterPlaces Asked parts ids new (n + 1)
+places_more Asked parts ids old new n within adds more tells are = record {
+  below = λ key. subst (λ (xs : List ℕ). All (λ place. place < n + 1) xs) (sym (more key)) (by_below key (adds key));
+  listed = λ key asked. ap (those_at ids) (more key) ∙ map-append at (places_at old key) (cond (adds key) (n ∷ []) []) ∙ ap (λ xs. xs ++ those_at ids (cond (adds key) (n ∷ []) [])) (are.listed key asked)
+      ∙ ap (λ xs. filter (writes_here parts key) (take n ids) ++ xs) (by_test (adds key) ∙ ap (λ t. cond t (get_or ids n no_id ∷ []) []) (tells key asked)) ∙ sym (filter_more (writes_here parts key) ids n no_id within);
 }
   where
     at : ℕ → TxnId
@@ -108,17 +109,17 @@ filter_both {X} p q implied (x ∷ xs) = by_test (p x) refl (q x) refl (filter_b
     by_test false e false f rest = rest
 
 -- the writers of the key are all that count
-writers_at : (parts : Parts) (ids : List TxnId) (lists : BTreeMap ℕ (Vec ℕ Global)) (key : ℕ) → AreWriterPlaces parts ids lists (length ids) → those_at ids (places_at lists key) ≡ filter (writes_here parts key) ids
-writers_at parts ids lists key are = are.listed key ∙ ap (filter (writes_here parts key)) (take_whole ids (length ids) (omega arith))
+writers_at : (Asked : ℕ → Type 0) (parts : Parts) (ids : List TxnId) (lists : BTreeMap ℕ (Vec ℕ Global)) (key : ℕ) → Asked key → AreWriterPlaces Asked parts ids lists (length ids) → those_at ids (places_at lists key) ≡ filter (writes_here parts key) ids
+writers_at Asked parts ids lists key asked are = are.listed key asked ∙ ap (filter (writes_here parts key)) (take_whole ids (length ids) (omega arith))
 
-pub choices_at_places : (parts : Parts) (ids : List TxnId) (lists : BTreeMap ℕ (Vec ℕ Global)) (read : Read) → AreWriterPlaces parts ids lists (length ids) → choices_in parts (those_at ids (places_at lists read.key)) read ≡ choices_in parts ids read
-choices_at_places parts ids lists read are =
-    ap (λ xs. choices_in parts xs read) (writers_at parts ids lists read.key are)
+pub choices_at_places : (Asked : ℕ → Type 0) (parts : Parts) (ids : List TxnId) (lists : BTreeMap ℕ (Vec ℕ Global)) (read : Read) → Asked read.key → AreWriterPlaces Asked parts ids lists (length ids) → choices_in parts (those_at ids (places_at lists read.key)) read ≡ choices_in parts ids read
+choices_at_places Asked parts ids lists read asked are =
+    ap (λ xs. choices_in parts xs read) (writers_at Asked parts ids lists read.key asked are)
     ∙ ap (map (choice_of read)) (filter_both (writes_here parts read.key) (is_third parts read) (third_writes parts read) ids)
 
-pub base_at_places : (parts : Parts) (ids : List TxnId) (lists : BTreeMap ℕ (Vec ℕ Global)) (reader : TxnId) (key : ℕ) → AreWriterPlaces parts ids lists (length ids) → base_arcs parts (those_at ids (places_at lists key)) reader key ≡ base_arcs parts ids reader key
+pub base_at_places : (parts : Parts) (ids : List TxnId) (lists : BTreeMap ℕ (Vec ℕ Global)) (reader : TxnId) (key : ℕ) → AreWriterPlaces IsAnyKey parts ids lists (length ids) → base_arcs parts (those_at ids (places_at lists key)) reader key ≡ base_arcs parts ids reader key
 base_at_places parts ids lists reader key are =
-    ap (λ xs. base_arcs parts xs reader key) (writers_at parts ids lists key are)
+    ap (λ xs. base_arcs parts xs reader key) (writers_at IsAnyKey parts ids lists key tt are)
     ∙ ap (map (Base key reader)) (filter_both (writes_here parts key) (is_other parts reader key) (λ other is. (and_parts (not (same_id other reader)) (writes_here parts key other) is).1) ids)
 
 -- no arc of the base leads to a writer, where the key has none
@@ -126,7 +127,7 @@ pub no_length : (places : List ℕ) → length places ≡ 0 → places ≡ []
 no_length [] e = refl
 no_length (place ∷ places) e = absurd (omega (arith, e))
 
-pub no_base_arcs : (parts : Parts) (ids : List TxnId) (lists : BTreeMap ℕ (Vec ℕ Global)) (reader : TxnId) (key : ℕ) → AreWriterPlaces parts ids lists (length ids) → length (places_at lists key) ≡ 0 → (t : Bool) → cond t (base_arcs parts ids reader key) [] ≡ []
+pub no_base_arcs : (parts : Parts) (ids : List TxnId) (lists : BTreeMap ℕ (Vec ℕ Global)) (reader : TxnId) (key : ℕ) → AreWriterPlaces IsAnyKey parts ids lists (length ids) → length (places_at lists key) ≡ 0 → (t : Bool) → cond t (base_arcs parts ids reader key) [] ≡ []
 no_base_arcs parts ids lists reader key are e true = sym (base_at_places parts ids lists reader key are) ∙ ap (λ xs. base_arcs parts (those_at ids xs) reader key) (no_length (places_at lists key) e)
 no_base_arcs parts ids lists reader key are e false = refl
 

@@ -76,22 +76,22 @@ there_of arcs read other settled Second = settled.after
 there_of arcs read other settled First = settled.before
 
 -- where the row hasn't an id's column, its choice is settled
-settled_but : (parts : Parts) (nodes : List (Option TxnId)) (arcs : List Arc) (ids : List TxnId) (writers : Writers) (row : List ℕ) (read : Read) → AreWriters parts nodes ids writers →
+settled_but : (Asked : ℕ → Type 0) (parts : Parts) (nodes : List (Option TxnId)) (arcs : List Arc) (ids : List TxnId) (writers : Writers) (row : List ℕ) (read : Read) → AreWriters Asked parts nodes ids writers → Asked read.key →
     ((j : ℕ) (other : TxnId) → HasBit (mask_of writers.masks read.key) j → IsAt nodes j other → (¬ HasBit row j) → other ≢ read.reader → other ≢ read.writer → IsSettled arcs read other) →
     AreSettledBut parts arcs ids writers.columns.items row read
-settled_but parts nodes arcs ids writers row read are tells k d within bare choice side h =
+settled_but Asked parts nodes arcs ids writers row read are asked tells k d within bare choice side h =
     let other = get_or ids k d in
     let facts = third_parts parts read other choice h in
     let first = and_parts (not_same other read.writer) (is_other parts read.reader read.key other) facts.1 in
     let second = and_parts (not_same other read.reader) (writes_here parts read.key other) first.1 in
-    let settled = tells (get_or writers.columns.items k 0) other (are.masked k d read.key within second.1) (are.placed k d within) bare (apart_from_test other read.reader second.0) (apart_from_test other read.writer first.0) in
+    let settled = tells (get_or writers.columns.items k 0) other (are.masked k d read.key within asked second.1) (are.placed k d within) bare (apart_from_test other read.reader second.0) (apart_from_test other read.writer first.0) in
     subst (λ c. IsThere arcs (record { choice = c; side = side })) (sym facts.0) (there_of arcs read other settled side)
 
 -- the same, where the mask is the row of the key
-pub settled_by_mask : (parts : Parts) (nodes : List (Option TxnId)) (arcs : List Arc) (ids : List TxnId) (writers : Writers) (mask row : List ℕ) (read : Read) → AreWriters parts nodes ids writers → mask ≡ mask_of writers.masks read.key →
+pub settled_by_mask : (Asked : ℕ → Type 0) (parts : Parts) (nodes : List (Option TxnId)) (arcs : List Arc) (ids : List TxnId) (writers : Writers) (mask row : List ℕ) (read : Read) → AreWriters Asked parts nodes ids writers → Asked read.key → mask ≡ mask_of writers.masks read.key →
     ((j : ℕ) (other : TxnId) → HasBit mask j → IsAt nodes j other → (¬ HasBit row j) → other ≢ read.reader → other ≢ read.writer → IsSettled arcs read other) →
     AreSettledBut parts arcs ids writers.columns.items row read
-settled_by_mask parts nodes arcs ids writers mask row read are is tells = settled_but parts nodes arcs ids writers row read are (subst (λ (mask : List ℕ). (j : ℕ) (other : TxnId) → HasBit mask j → IsAt nodes j other → (¬ HasBit row j) → other ≢ read.reader → other ≢ read.writer → IsSettled arcs read other) is tells)
+settled_by_mask Asked parts nodes arcs ids writers mask row read are asked is tells = settled_but Asked parts nodes arcs ids writers row read are asked (subst (λ (mask : List ℕ). (j : ℕ) (other : TxnId) → HasBit mask j → IsAt nodes j other → (¬ HasBit row j) → other ≢ read.reader → other ≢ read.writer → IsSettled arcs read other) is tells)
 
 -- what holds of the choices with each is so of all
 pub each_choice : (parts : Parts) (read : Read) (P : Choice → Type 0) (ids : List TxnId) → ((k : ℕ) (d : TxnId) → k < length ids → (choice : Choice) → In (choices_in parts (get_or ids k d ∷ []) read) choice → P choice) → (choice : Choice) → In (choices_in parts ids read) choice → P choice
@@ -109,11 +109,11 @@ pub no_bit_of_none : (j : ℕ) → ¬ HasBit [] j
 no_bit_of_none j has = omega (arith, has, bit_at-zero (j % 64))
 
 -- where each writer of the mask is settled, all choices are
-pub settled_all : (parts : Parts) (nodes : List (Option TxnId)) (arcs : List Arc) (ids : List TxnId) (writers : Writers) (mask : List ℕ) (read : Read) → AreWriters parts nodes ids writers → mask ≡ mask_of writers.masks read.key →
+pub settled_all : (Asked : ℕ → Type 0) (parts : Parts) (nodes : List (Option TxnId)) (arcs : List Arc) (ids : List TxnId) (writers : Writers) (mask : List ℕ) (read : Read) → AreWriters Asked parts nodes ids writers → Asked read.key → mask ≡ mask_of writers.masks read.key →
     ((j : ℕ) (other : TxnId) → HasBit mask j → IsAt nodes j other → other ≢ read.reader → other ≢ read.writer → IsSettled arcs read other) →
     AreThere arcs (choices_in parts ids read)
-settled_all parts nodes arcs ids writers mask read are is tells choice side h =
-    let but = settled_by_mask parts nodes arcs ids writers mask [] read are is (λ j other masked at bare. tells j other masked at) in
+settled_all Asked parts nodes arcs ids writers mask read are asked is tells choice side h =
+    let but = settled_by_mask Asked parts nodes arcs ids writers mask [] read are asked is (λ j other masked at bare. tells j other masked at) in
     each_choice parts read (λ c. IsThere arcs (record { choice = c; side = side })) ids (λ k d within c. but k d within (no_bit_of_none (get_or writers.columns.items k 0)) c side) choice h
 
 -- the other writer writes the key

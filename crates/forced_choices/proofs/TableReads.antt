@@ -55,22 +55,22 @@ of_read parts ids read choice reads written h = each_choice parts read (λ c. Is
     (subst (λ (x : Choice). IsChoice parts x) (sym facts.0) is, ap (λ (x : Choice). x.writer) facts.0, ap (λ (x : Choice). x.reader) facts.0)) choice h
 
 -- those of a read of which nothing was joined are settled
-pub untouched_by : (parts : Parts) (nodes : List (Option TxnId)) (arcs : List Arc) (ids : List TxnId) (masks : BTreeMap ℕ (Vec ℕ Global)) (columns : List ℕ) (some : Touched) (placed : Placed) → IsPlaced parts nodes placed → AreColumns parts nodes ids masks columns (length ids) → AreAllSettledUnless parts nodes arcs some → (¬ MayBeJoined some placed.writer_at placed.reader_at) → ((k : ℕ) → HasBit (mask_of masks placed.read.key) k → ¬ MayBeJoined some placed.writer_at k) → ((k : ℕ) → HasBit (mask_of masks placed.read.key) k → ¬ MayBeJoined some k placed.reader_at) → AreThere arcs (choices_in parts ids placed.read)
-untouched_by parts nodes arcs ids masks columns some placed is are settled no_read no_after no_before choice side h =
+pub untouched_by : (Asked : ℕ → Type 0) (parts : Parts) (nodes : List (Option TxnId)) (arcs : List Arc) (ids : List TxnId) (masks : BTreeMap ℕ (Vec ℕ Global)) (columns : List ℕ) (some : Touched) (placed : Placed) → IsPlaced parts nodes placed → AreColumns Asked parts nodes ids masks columns (length ids) → Asked placed.read.key → AreAllSettledUnless parts nodes arcs some → (¬ MayBeJoined some placed.writer_at placed.reader_at) → ((k : ℕ) → HasBit (mask_of masks placed.read.key) k → ¬ MayBeJoined some placed.writer_at k) → ((k : ℕ) → HasBit (mask_of masks placed.read.key) k → ¬ MayBeJoined some k placed.reader_at) → AreThere arcs (choices_in parts ids placed.read)
+untouched_by Asked parts nodes arcs ids masks columns some placed is are asked settled no_read no_after no_before choice side h =
     each_choice parts placed.read (λ c. IsThere arcs (record { choice = c; side = side })) ids (λ k d within c here.
     let other = get_or ids k d in
     let facts = third_parts parts placed.read other c here in
     let of = third_is_choice parts placed.read other is.reads is.written facts.1 in
     let column = get_or columns k 0 in
-    let bit = are.masked k d placed.read.key within (third_writes parts placed.read other facts.1) in
+    let bit = are.masked k d placed.read.key within asked (third_writes parts placed.read other facts.1) in
     subst (λ (x : Choice). IsThere arcs (record { choice = x; side = side })) (sym facts.0) (settled (choice_of placed.read other) of placed.writer_at placed.reader_at column is.columns.writer is.columns.reader (are.placed k d within) no_read (no_after column bit) (no_before column bit) side)) choice h
 
 -- and where a column may have been joined, but is settled by now
-pub looked_since : (parts : Parts) (nodes : List (Option TxnId)) (start then : Stage) (ids : List TxnId) (writers : Writers) (mask : List ℕ) (some : Touched) (placed : Placed) (before : List Choice) → IsPlaced parts nodes placed → AreWriters parts nodes ids writers → mask ≡ mask_of writers.masks placed.read.key →
+pub looked_since : (Asked : ℕ → Type 0) (parts : Parts) (nodes : List (Option TxnId)) (start then : Stage) (ids : List TxnId) (writers : Writers) (mask : List ℕ) (some : Touched) (placed : Placed) (before : List Choice) → IsPlaced parts nodes placed → AreWriters Asked parts nodes ids writers → Asked placed.read.key → mask ≡ mask_of writers.masks placed.read.key →
     HasLooked parts nodes start then before → AreAllSettledUnless parts nodes start.arcs some → (¬ MayBeJoined some placed.writer_at placed.reader_at) →
     ((j : ℕ) (other : TxnId) → HasBit mask j → IsAt nodes j other → other ≢ placed.read.reader → other ≢ placed.read.writer → IsUntouchedAt some placed j ⊎ IsSettled then.arcs placed.read other) →
     HasLooked parts nodes start then (before ++ choices_in parts ids placed.read)
-looked_since parts nodes start then ids writers mask some placed before is are same looked settled no_read others = record {
+looked_since Asked parts nodes start then ids writers mask some placed before is are asked same looked settled no_read others = record {
   continues = looked.continues;
   settled = λ choice h. by_part choice (in_either before (choices_in parts ids read) choice h);
 }
@@ -88,7 +88,7 @@ looked_since parts nodes start then ids writers mask some placed before is are s
         let facts = third_parts parts read other c here in
         let of = third_is_choice parts read other is.reads is.written facts.1 in
         let column = get_or writers.columns.items k 0 in
-        let bit = subst (λ (row : List ℕ). HasBit row column) (sym same) (are.masked k d read.key within (third_writes parts read other facts.1)) in
+        let bit = subst (λ (row : List ℕ). HasBit row column) (sym same) (are.masked k d read.key within asked (third_writes parts read other facts.1)) in
         let at = are.placed k d within in
         let settled_here = by_column other column of at (others column other bit at (third_apart parts read other facts.1).0 (third_apart parts read other facts.1).1) in
         subst (λ (x : Choice). IsSettledUnless nodes then.arcs then.touched x) (sym facts.0) settled_here) choice h

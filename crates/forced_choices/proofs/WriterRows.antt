@@ -55,13 +55,13 @@ any_place key (x ∷ xs) h = by_test (nat_eq key x) refl h (any_place key xs)
     by_test false e h rest = more (rest h)
 
 -- one more column
-pub columns_more : (parts : Parts) (nodes : List (Option TxnId)) (ids : List TxnId) (masks more : BTreeMap ℕ (Vec ℕ Global)) (columns : List ℕ) (n column : ℕ) → n < length ids → IsAt nodes column (get_or ids n no_id) →
-    ((key j : ℕ) → HasBit (mask_of masks key) j → HasBit (mask_of more key) j) → ((key : ℕ) → writes_here parts key (get_or ids n no_id) ≡ true → HasBit (mask_of more key) column) →
-    AreColumns parts nodes ids masks columns n → AreColumns parts nodes ids more (columns ++ column ∷ []) (n + 1)
-columns_more parts nodes ids masks more columns n column within at kept added are = record {
+pub columns_more : (Asked : ℕ → Type 0) (parts : Parts) (nodes : List (Option TxnId)) (ids : List TxnId) (masks more : BTreeMap ℕ (Vec ℕ Global)) (columns : List ℕ) (n column : ℕ) → n < length ids → IsAt nodes column (get_or ids n no_id) →
+    ((key j : ℕ) → HasBit (mask_of masks key) j → HasBit (mask_of more key) j) → ((key : ℕ) → Asked key → writes_here parts key (get_or ids n no_id) ≡ true → HasBit (mask_of more key) column) →
+    AreColumns Asked parts nodes ids masks columns n → AreColumns Asked parts nodes ids more (columns ++ column ∷ []) (n + 1)
+columns_more Asked parts nodes ids masks more columns n column within at kept added are = record {
   counted = let counted = are.counted in omega (arith, length-append columns (column ∷ []));
   placed = λ k d below. placed k d (cases_lt k n) below;
-  masked = λ k d key below writes. masked k d key (cases_lt k n) below writes;
+  masked = λ k d key below asked writes. masked k d key (cases_lt k n) below asked writes;
 }
   where
     front : (k : ℕ) → k < n → get_or (columns ++ column ∷ []) k 0 ≡ get_or columns k 0
@@ -80,9 +80,9 @@ columns_more parts nodes ids masks more columns n column within at kept added ar
     placed k d (inl early) below = subst (λ c. IsAt nodes c (get_or ids k d)) (sym (front k early)) (are.placed k d early)
     placed k d (inr up) below = let late = last k below up in subst (λ c. IsAt nodes c (get_or ids k d)) (sym late.1) (subst (λ id. IsAt nodes column id) (id_at k d late.0) at)
 
-    masked : (k : ℕ) (d : TxnId) (key : ℕ) → (k < n) ⊎ (n ≤ k) → k < n + 1 → writes_here parts key (get_or ids k d) ≡ true → HasBit (mask_of more key) (get_or (columns ++ column ∷ []) k 0)
-    masked k d key (inl early) below writes = subst (λ c. HasBit (mask_of more key) c) (sym (front k early)) (kept key (get_or columns k 0) (are.masked k d key early writes))
-    masked k d key (inr up) below writes = let late = last k below up in subst (λ c. HasBit (mask_of more key) c) (sym late.1) (added key (subst (λ id. writes_here parts key id ≡ true) (sym (id_at k d late.0)) writes))
+    masked : (k : ℕ) (d : TxnId) (key : ℕ) → (k < n) ⊎ (n ≤ k) → k < n + 1 → Asked key → writes_here parts key (get_or ids k d) ≡ true → HasBit (mask_of more key) (get_or (columns ++ column ∷ []) k 0)
+    masked k d key (inl early) below asked writes = subst (λ c. HasBit (mask_of more key) c) (sym (front k early)) (kept key (get_or columns k 0) (are.masked k d key early asked writes))
+    masked k d key (inr up) below asked writes = let late = last k below up in subst (λ c. HasBit (mask_of more key) c) (sym late.1) (added key asked (subst (λ id. writes_here parts key id ≡ true) (sym (id_at k d late.0)) writes))
 
 -- the columns that are added to the rows of some keys, as they are added to one more, and to all
 pub only_more : (old before new : BTreeMap ℕ (Vec ℕ Global)) (keys : List ℕ) (column i : ℕ) → i < length keys →

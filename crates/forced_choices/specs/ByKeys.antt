@@ -9,9 +9,13 @@ use Rattle.forced_choices.specs.declared.tables.reads.Placed.{Placed}
 use Rattle.forced_choices.specs.Masks.{AreColumns, mask_of}
 use Rattle.forced_choices.specs.WriterPlaces.{places_at}
 
--- the row of each key has the columns of the ids that write it
-abbrev pub AreRows : Parts → List (Option TxnId) → List TxnId → ByKey → Type 0
-AreRows parts nodes ids by_key = (columns : List ℕ) × AreColumns parts nodes ids by_key.rows columns (length ids)
+-- one of the reads is of the key
+abbrev pub IsRead : List Placed → ℕ → Type 0
+IsRead reads key = (placed : Placed) × In reads placed × (placed.read.key ≡ key)
+
+-- the row of each key that is asked for has the columns of the ids that write it
+abbrev pub AreRows : (ℕ → Type 0) → Parts → List (Option TxnId) → List TxnId → ByKey → Type 0
+AreRows Asked parts nodes ids by_key = (columns : List ℕ) × AreColumns Asked parts nodes ids by_key.rows columns (length ids)
 
 -- the places of each key are those of its reads, and the key's row has the columns of their readers
 pub record AreIndexed (reads : List Placed) (by_key : ByKey) : Type 0 where

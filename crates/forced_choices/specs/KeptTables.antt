@@ -13,15 +13,15 @@ use Rattle.forced_choices.specs.declared.tables.table.Table.{Table}
 use Rattle.forced_choices.specs.Ascending.{In}
 use Rattle.forced_choices.specs.ByKeys.{AreIndexed, AreRows}
 use Rattle.forced_choices.specs.Listing.{writes_here}
-use Rattle.forced_choices.specs.Masks.{AreWriters}
+use Rattle.forced_choices.specs.Masks.{AreWriters, IsAnyKey}
 use Rattle.forced_choices.specs.Tables.{IsPlaced}
 use Rattle.forced_choices.specs.WriterPlaces.{ArePlaces}
 
 -- the writers of each key among the table's ids, and where they stand
 pub record AreWritersOf (parts : Parts) (nodes : List (Option TxnId)) (table : Table) : Type 0 where
-  pub writers : AreWriters parts nodes table.ids.items table.writers
-  pub places : ArePlaces parts table.ids.items table.places
-  pub rows : AreRows parts nodes table.ids.items table.by_key
+  pub writers : AreWriters IsAnyKey parts nodes table.ids.items table.writers
+  pub places : ArePlaces IsAnyKey parts table.ids.items table.places
+  pub rows : AreRows IsAnyKey parts nodes table.ids.items table.by_key
 
 -- the read is among these
 pub record IsAmong (reads : List Placed) (reader : TxnId) (key : ℕ) (source : Source) : Type 0 where

@@ -1,5 +1,5 @@
 -- For private clauses: the writers of each key as rows of bits, a column for each transaction: its key in the graph.
-use Rattle.std.specs.Prelude.{◌≡◌, ◌<◌, ℕ, Bool, true, not, ◌&&◌, List, [], ◌∷◌, length, slice_index, slice_index_or, Option, Some, None, Vec}
+use Rattle.std.specs.Prelude.{◌≡◌, ◌<◌, ℕ, ⊤, Bool, true, not, ◌&&◌, List, [], ◌∷◌, length, slice_index, slice_index_or, Option, Some, None, Vec}
 use Rattle.std.specs.declared.alloc.Global.{Global}
 use Rattle.std.specs.BTreeMap.{BTreeMap, get}
 use Rattle.std.specs.Ordering.{nat_cmp}
@@ -27,19 +27,23 @@ words_in (Some row) = row.items
 abbrev pub mask_of : BTreeMap ℕ (Vec ℕ Global) → ℕ → List ℕ
 mask_of masks key = words_in (get nat_cmp masks key)
 
--- so many of the ids have their columns, and stand in the rows of the keys that they write
-pub record AreColumns (parts : Parts) (nodes : List (Option TxnId)) (ids : List TxnId) (masks : BTreeMap ℕ (Vec ℕ Global)) (columns : List ℕ) (n : ℕ) : Type 0 where
+-- all keys
+abbrev pub IsAnyKey : ℕ → Type 0
+IsAnyKey key = ⊤
+
+-- so many of the ids have their columns, and stand in the rows of those keys that they write and that are asked for
+pub record AreColumns (Asked : ℕ → Type 0) (parts : Parts) (nodes : List (Option TxnId)) (ids : List TxnId) (masks : BTreeMap ℕ (Vec ℕ Global)) (columns : List ℕ) (n : ℕ) : Type 0 where
   pub counted : length columns ≡ n
   pub placed : (k : ℕ) (d : TxnId) → k < n → IsAt nodes (slice_index columns k) (slice_index_or ids k d)
-  pub masked : (k : ℕ) (d : TxnId) (key : ℕ) → k < n → writes_here parts key (slice_index_or ids k d) ≡ true → HasBit (mask_of masks key) (slice_index columns k)
+  pub masked : (k : ℕ) (d : TxnId) (key : ℕ) → k < n → Asked key → writes_here parts key (slice_index_or ids k d) ≡ true → HasBit (mask_of masks key) (slice_index columns k)
 
 -- each column in the row of a key is that of one of the first so many ids, which writes the key
 abbrev pub AreAllWriters : Parts → List TxnId → BTreeMap ℕ (Vec ℕ Global) → List ℕ → ℕ → Type 0
 AreAllWriters parts ids masks columns n = (key j : ℕ) → HasBit (mask_of masks key) j → (k : ℕ) × (k < n) × (slice_index columns k ≡ j) × ((d : TxnId) → writes_here parts key (slice_index_or ids k d) ≡ true)
 
 -- all of them
-abbrev pub AreWriters : Parts → List (Option TxnId) → List TxnId → Writers → Type 0
-AreWriters parts nodes ids writers = AreColumns parts nodes ids writers.masks writers.columns.items (length ids)
+abbrev pub AreWriters : (ℕ → Type 0) → Parts → List (Option TxnId) → List TxnId → Writers → Type 0
+AreWriters Asked parts nodes ids writers = AreColumns Asked parts nodes ids writers.masks writers.columns.items (length ids)
 
 -- whether the transaction is another writer of the key than the reader and the writer
 abbrev pub is_third : Parts → Read → TxnId → Bool

@@ -12,7 +12,7 @@ use Rattle.forced_choices.specs.declared.tables.reads.Placed.{Placed}
 use Rattle.forced_choices.specs.Ascending.{In}
 use Rattle.forced_choices.specs.declared.tables.table.Table.{Table}
 use Rattle.forced_choices.specs.Listing.{all_ids, choices_of}
-use Rattle.forced_choices.specs.ByKeys.{AreIndexed, AreRows}
+use Rattle.forced_choices.specs.ByKeys.{AreIndexed, AreRows, IsRead}
 use Rattle.forced_choices.specs.Masks.{AreAllWriters, AreWriters, choices_in}
 use Rattle.forced_choices.specs.Undecided.{AreAllDecided}
 use Rattle.forced_choices.specs.WriterPlaces.{ArePlaces}
@@ -41,24 +41,24 @@ pub record AreReads (parts : Parts) (nodes : List (Option TxnId)) (ids : List Tx
 abbrev pub AreAtColumns : List (Option TxnId) → Table → Type 0
 AreAtColumns nodes table = (k : ℕ) (d : TxnId) → k < length table.ids.items → IsAt nodes (slice_index table.writers.columns.items k) (slice_index_or table.ids.items k d)
 
--- all ids, the writers of each key among them and where they stand, and all reads from what remains, also by their keys
+-- all ids, all reads from what remains, also by their keys, and of each key that is read the writers among the ids and where they stand
 pub record IsTable (parts : Parts) (nodes : List (Option TxnId)) (table : Table) : Type 0 where
   pub ids : table.ids.items ≡ all_ids parts
-  pub writers : AreWriters parts nodes table.ids.items table.writers
+  pub writers : AreWriters (IsRead table.reads.items) parts nodes table.ids.items table.writers
   pub only : AreAllWriters parts table.ids.items table.writers.masks table.writers.columns.items (length table.ids.items)
-  pub places : ArePlaces parts table.ids.items table.places
+  pub places : ArePlaces (IsRead table.reads.items) parts table.ids.items table.places
   pub reads : AreReads parts nodes table.ids.items table.reads.items (choices_of parts table.ids.items table.ids.items)
-  pub rows : AreRows parts nodes table.ids.items table.by_key
+  pub rows : AreRows (IsRead table.reads.items) parts nodes table.ids.items table.by_key
   pub indexed : AreIndexed table.reads.items table.by_key
 
--- What a saturation looks up: writers of each key, and where they stand among the ids; and reads, also by their keys, whose choices
--- with the ids are all that there are.
+-- What a saturation looks up: reads, also by their keys, whose choices with the ids are all that there are; and of each key that is read
+-- the writers, and where they stand among the ids.
 pub record IsLookup (parts : Parts) (nodes : List (Option TxnId)) (table : Table) : Type 0 where
-  pub writers : AreWriters parts nodes table.ids.items table.writers
-  pub places : ArePlaces parts table.ids.items table.places
+  pub writers : AreWriters (IsRead table.reads.items) parts nodes table.ids.items table.writers
+  pub places : ArePlaces (IsRead table.reads.items) parts table.ids.items table.places
   pub placed : All (IsPlaced parts nodes) table.reads.items
   pub all : (choice : Choice) → IsChoice parts choice → In (choices_at parts table.ids.items table.reads.items) choice
-  pub rows : AreRows parts nodes table.ids.items table.by_key
+  pub rows : AreRows (IsRead table.reads.items) parts nodes table.ids.items table.by_key
   pub indexed : AreIndexed table.reads.items table.by_key
 
 -- the first so many reads have no undecided choice

@@ -8,6 +8,7 @@ ghost use Rattle.order_check.specs.Known.{ReadsKey, WritesKey};
 ghost use Rattle.known_graph.specs.Bits.{HasBit};
 ghost use Rattle.known_graph.specs.Reach.{Reaches};
 ghost use Rattle.known_graph.specs.Sizes.{HasSize};
+ghost use Rattle.forced_choices.specs.ByKeys.{IsRead};
 ghost use Rattle.forced_choices.specs.CountedChoices.{AreFirstOpen};
 ghost use Rattle.forced_choices.specs.KeptLists.{IsListed};
 ghost use Rattle.forced_choices.specs.Listing.{all_ids, choices_of};
@@ -97,7 +98,9 @@ fn push_open_within(
     read: Read,
     row: &[u64],
 ) -> Result<(), NoMemory>
-    requires places { ArePlaces lookup.now.parts.now lookup.now.table.now.ids.items lookup.now.table.now.places }
+    requires read { IsRead lookup.now.table.now.reads.items read.key }
+    requires places { ArePlaces (IsRead lookup.now.table.now.reads.items) lookup.now.parts.now lookup.now.table.now.ids.items
+        lookup.now.table.now.places }
     requires told { AreTold lookup.now.parts.now graph.now.arcs lookup.now.table.now.ids.items lookup.now.table.now.writers.columns.items row.now read }
     ensures { OnOk result ((front all own : List Choice) → AreFound graph.now.arcs front all → IsFrontOf most first.old.items all
         → AreFound graph.now.arcs (choices_in lookup.now.parts.now lookup.now.table.now.ids.items read) own → IsFrontOf most first.new.items (all ++ own)) }
@@ -119,6 +122,7 @@ fn count_open_of_read(
     placed: Placed,
 ) -> Result<(), NoMemory>
     requires placed { IsPlaced lookup.now.parts.now graph.now.nodes placed }
+    requires read { IsRead lookup.now.table.now.reads.items placed.read.key }
     requires table { IsTable lookup.now.parts.now graph.now.nodes lookup.now.table.now }
     requires after { Reaches graph.now.arcs placed.read.writer placed.read.reader }
     ensures { OnOk result ((front : List Choice) → AreCounted graph.now.arcs front most tally.old.first.items tally.old.count

@@ -4,6 +4,7 @@ ghost use Rattle.txn.specs.declared.transactions.TxnId.{TxnId};
 ghost use Rattle.txn.specs.declared.choices.Choice.{Choice};
 ghost use Rattle.known_graph.specs.Bits.{HasBit};
 ghost use Rattle.known_graph.specs.Graphs.{IsAt};
+ghost use Rattle.forced_choices.specs.ByKeys.{IsRead};
 ghost use Rattle.forced_choices.specs.Listing.{all_ids, choices_of};
 ghost use Rattle.forced_choices.specs.Masks.{AreTold, choice_of, choices_in};
 ghost use Rattle.forced_choices.specs.Tables.{ArePassed, IsAtColumns, IsPlaced, IsTable};
@@ -72,7 +73,9 @@ pub fn push_open_columns(
     read: Read,
     row: &[u64],
 ) -> Result<(), NoMemory>
-    requires places { ArePlaces lookup.now.parts.now lookup.now.table.now.ids.items lookup.now.table.now.places }
+    requires read { IsRead lookup.now.table.now.reads.items read.key }
+    requires places { ArePlaces (IsRead lookup.now.table.now.reads.items) lookup.now.parts.now lookup.now.table.now.ids.items
+        lookup.now.table.now.places }
     requires told { AreTold lookup.now.parts.now graph.now.arcs lookup.now.table.now.ids.items lookup.now.table.now.writers.columns.items row.now read }
     ensures { OnOk result ((front : List Choice) → AreFound graph.now.arcs front found.old.items
         → AreFound graph.now.arcs (front ++ choices_in lookup.now.parts.now lookup.now.table.now.ids.items read) found.new.items) }
@@ -95,6 +98,7 @@ fn push_open_of_read(
     placed: Placed,
 ) -> Result<(), NoMemory>
     requires placed { IsPlaced lookup.now.parts.now graph.now.nodes placed }
+    requires read { IsRead lookup.now.table.now.reads.items placed.read.key }
     requires table { IsTable lookup.now.parts.now graph.now.nodes lookup.now.table.now }
     ensures { OnOk result ((front : List Choice) → AreFound graph.now.arcs front found.old.items
         → AreFound graph.now.arcs (front ++ choices_in lookup.now.parts.now lookup.now.table.now.ids.items placed.read) found.new.items) }
@@ -127,6 +131,7 @@ fn open_of_read(
     placed: Placed,
 ) -> Result<Vec<Choice>, NoMemory>
     requires placed { IsPlaced lookup.now.parts.now graph.now.nodes placed }
+    requires read { IsRead lookup.now.table.now.reads.items placed.read.key }
     requires table { IsTable lookup.now.parts.now graph.now.nodes lookup.now.table.now }
     ensures { IfOk result (λ found. AreFound graph.now.arcs (choices_in lookup.now.parts.now lookup.now.table.now.ids.items placed.read) found.items) }
 {

@@ -5,6 +5,7 @@ ghost use Rattle.order_check.specs.declared.remainder.Parts.{Parts};
 ghost use Rattle.order_check.specs.Good.{IsGood};
 ghost use Rattle.forced_choices.specs.FreshArcs.{AreAllWritten, arcs_of_loose, new_arcs};
 ghost use Rattle.forced_choices.specs.Listing.{arcs_of_read, arcs_of_reads};
+ghost use Rattle.forced_choices.specs.Masks.{IsAnyKey};
 ghost use Rattle.forced_choices.specs.WriterPlaces.{ArePlaces};
 
 use crate::tables::kept::Loose;
@@ -23,7 +24,7 @@ fn push_arcs_of_readers(
     places: &Places,
     readers: &[TxnId],
 ) -> Result<(), NoMemory>
-    requires { ArePlaces parts.now ids.now places.now }
+    requires { ArePlaces IsAnyKey parts.now ids.now places.now }
     ensures { OnOk result (arcs.new.items ≡ arcs.old.items ++ arcs_of_reads parts.now ids.now readers.now) }
 {
     for reader in readers {
@@ -63,7 +64,7 @@ fn push_arcs_of_one(
     written: &[u64],
     one: &Loose,
 ) -> Result<(), NoMemory>
-    requires places { ArePlaces parts.now new.now places.now }
+    requires places { ArePlaces IsAnyKey parts.now new.now places.now }
     requires written { AreAllWritten parts.now new.now written.now }
     ensures { OnOk result (arcs.new.items ≡ arcs.old.items ++ arcs_of_read parts.now new.now one.now.reader (one.now.key, one.now.source)) }
 {
@@ -82,7 +83,7 @@ fn push_arcs_of_loose(
     written: &[u64],
     loose: &[Loose],
 ) -> Result<(), NoMemory>
-    requires places { ArePlaces parts.now new.now places.now }
+    requires places { ArePlaces IsAnyKey parts.now new.now places.now }
     requires written { AreAllWritten parts.now new.now written.now }
     ensures { OnOk result (arcs.new.items ≡ arcs.old.items ++ arcs_of_loose parts.now new.now loose.now) }
 {
@@ -101,7 +102,7 @@ pub fn fresh_arcs(
     new: &[TxnId],
 ) -> Result<Vec<Arc>, NoMemory>
     requires good { IsGood parts.now }
-    requires places { ArePlaces parts.now table.now.ids.items table.now.places }
+    requires places { ArePlaces IsAnyKey parts.now table.now.ids.items table.now.places }
     ensures { IfOk result (λ fresh. fresh.items ≡ new_arcs parts.now table.now.ids.items new.now loose.now) }
 {
     let among_new = places_among(alloc, parts, new)?;

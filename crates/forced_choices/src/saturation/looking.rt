@@ -7,6 +7,7 @@ ghost use Rattle.order_check.specs.declared.remainder.Parts.{Parts};
 ghost use Rattle.order_check.specs.Based.{Remains};
 ghost use Rattle.order_check.specs.Known.{IsChoice};
 ghost use Rattle.known_graph.specs.Graphs.{HasNode, last_mark};
+ghost use Rattle.forced_choices.specs.ByKeys.{IsRead};
 ghost use Rattle.forced_choices.specs.Forcing.{stage_of, IsLeft, IsOn, IsStepOf, HasLookedAt, HasLooked, taken_arc};
 ghost use Rattle.forced_choices.specs.Masks.{AreSettledBut, is_third, choice_of, choices_in};
 ghost use Rattle.forced_choices.specs.Rules.{premise, conclusion};
@@ -122,7 +123,9 @@ fn look_at_columns(
     read: Read,
     row: &[u64],
 ) -> Result<(), NoMemory>
-    requires places { ArePlaces lookup.now.parts.now lookup.now.table.now.ids.items lookup.now.table.now.places }
+    requires read { IsRead lookup.now.table.now.reads.items read.key }
+    requires places { ArePlaces (IsRead lookup.now.table.now.reads.items) lookup.now.parts.now lookup.now.table.now.ids.items
+        lookup.now.table.now.places }
     requires choices { (other : TxnId) → is_third lookup.now.parts.now read other ≡ true → IsChoice lookup.now.parts.now (choice_of read other) }
     requires nodes { (id : TxnId) → Remains lookup.now.parts.now id → HasNode graph.old id }
     requires settled { AreSettledBut lookup.now.parts.now graph.old.arcs lookup.now.table.now.ids.items lookup.now.table.now.writers.columns.items row.now read }
@@ -149,6 +152,7 @@ pub fn look_at_read(
     placed: Placed,
 ) -> Result<(), NoMemory>
     requires placed { IsPlaced lookup.now.parts.now graph.old.nodes placed }
+    requires read { IsRead lookup.now.table.now.reads.items placed.read.key }
     requires nodes { (id : TxnId) → Remains lookup.now.parts.now id → HasNode graph.old id }
     requires table { IsLookup lookup.now.parts.now graph.old.nodes lookup.now.table.now }
     ensures looked { OnOk result (HasLooked lookup.now.parts.now graph.old.nodes (stage_of graph.old trail.old) (stage_of graph.new trail.new)

@@ -1,15 +1,16 @@
 // Reads by their keys, so that those of a key at which nothing is touched are passed in one step.
-ghost use Rattle.std.specs.Prelude.{◌≡◌, ◌⊎◌, ◌↔◌, ◌≤◌, ◌∷◌, [], ◌++◌, ℕ, length, take, All, IfOk, OnOk, nat_eq, if◌then◌else◌};
+ghost use Rattle.std.specs.Prelude.{◌≡◌, ◌⊎◌, ◌↔◌, ◌≤◌, ◌∷◌, [], ◌++◌, ℕ, List, length, take, All, IfOk, OnOk, nat_eq, if◌then◌else◌};
 ghost use Rattle.txn.specs.declared.transactions.TxnId.{TxnId};
 ghost use Rattle.known_graph.specs.Bits.{HasBit};
 ghost use Rattle.known_graph.specs.Graphs.{HasNode};
+ghost use Rattle.forced_choices.specs.declared.tables.reads.Placed.{Placed};
 ghost use Rattle.forced_choices.specs.ByKeys.{AreIndexed, AreRows};
 ghost use Rattle.forced_choices.specs.Masks.{mask_of};
-ghost use Rattle.forced_choices.specs.WriterPlaces.{places_at};
+ghost use Rattle.forced_choices.specs.WriterPlaces.{places_at, HasPlace};
 
-use crate::tables::places::{Places, add_place};
+use crate::tables::places::{Places, add_place, keys_with_place};
 use crate::tables::reads::Placed;
-use crate::tables::writers::{add_column, writers_of};
+use crate::tables::writers::{add_column, add_writes, column_of, writes_of};
 use known_graph::Graph;
 use order_check::Parts;
 use std::alloc::Global;
@@ -50,7 +51,27 @@ pub fn add_reads_from(
     Ok(())
 }
 
-/// The reads by their keys, of these ids.
+/// Puts these ids to the rows of those keys that they write and that have a read.
+fn add_writers_to_rows(
+    alloc: Global,
+    by_key: &mut ByKey,
+    parts: &Parts,
+    graph: &Graph,
+    ids: &[TxnId],
+) -> Result<(), NoMemory>
+    requires { All (HasNode graph.now) ids.now }
+    ensures rows { OnOk result (AreRows (HasPlace by_key.new.reads.lists) parts.now graph.now.nodes ids.now by_key.new) }
+    ensures indexed { OnOk result ((reads : List Placed) → AreIndexed reads by_key.old → AreIndexed reads by_key.new) }
+{
+    for id in ids {
+        let column = column_of(graph, *id);
+        let keys = keys_with_place(alloc, &by_key.reads, writes_of(parts, *id))?;
+        add_writes(alloc, &mut by_key.rows, keys.as_slice(), column)?;
+    }
+    Ok(())
+}
+
+/// The reads by their keys, and the rows of those keys.
 pub fn by_key_of(
     alloc: Global,
     parts: &Parts,
@@ -59,16 +80,16 @@ pub fn by_key_of(
     reads: &[Placed],
 ) -> Result<ByKey, NoMemory>
     requires { All (HasNode graph.now) ids.now }
-    ensures rows { IfOk result (λ by_key. AreRows parts.now graph.now.nodes ids.now by_key) }
+    ensures rows { IfOk result (λ by_key. AreRows (HasPlace by_key.reads.lists) parts.now graph.now.nodes ids.now by_key) }
     ensures indexed { IfOk result (AreIndexed reads.now) }
 {
-    let writers = writers_of(alloc, parts, graph, ids)?;
     let mut by_key = ByKey {
-        rows: writers.masks,
+        rows: BTreeMap::new(alloc),
         reads: Places {
             lists: BTreeMap::new(alloc),
         },
     };
     add_reads_from(alloc, &mut by_key, reads, 0)?;
+    add_writers_to_rows(alloc, &mut by_key, parts, graph, ids)?;
     Ok(by_key)
 }

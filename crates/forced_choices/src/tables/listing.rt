@@ -4,7 +4,7 @@ ghost use Rattle.std.specs.List.{flat_map};
 ghost use Rattle.order_check.specs.Based.{remaining_at, remaining_ids};
 ghost use Rattle.order_check.specs.Good.{IsGood};
 ghost use Rattle.forced_choices.specs.Listing.{all_ids, writes_here, is_other, reads_of, session_arc, session_arcs, base_arcs, is_base_source, arcs_from_writer, arcs_of_read, arcs_of_reads};
-ghost use Rattle.forced_choices.specs.Masks.{is_third};
+ghost use Rattle.forced_choices.specs.Masks.{IsAnyKey, is_third};
 ghost use Rattle.forced_choices.specs.WriterPlaces.{those_at, ArePlaces};
 
 use crate::tables::places::{Places, places_among};
@@ -159,7 +159,7 @@ pub fn push_arcs_of_read(
     reader: TxnId,
     read: (u64, Source),
 ) -> Result<(), NoMemory>
-    requires { ArePlaces parts.now ids.now places.now }
+    requires { ArePlaces IsAnyKey parts.now ids.now places.now }
     ensures { OnOk result (arcs.new.items ≡ arcs.old.items ++ arcs_of_read parts.now ids.now reader read) }
 {
     push_arc_from_writer(arcs, parts, reader, read)?;
@@ -180,7 +180,7 @@ pub fn push_arcs_of_reader(
     places: &Places,
     reader: TxnId,
 ) -> Result<(), NoMemory>
-    requires { ArePlaces parts.now ids.now places.now }
+    requires { ArePlaces IsAnyKey parts.now ids.now places.now }
     ensures { OnOk result (arcs.new.items ≡ arcs.old.items ++ flat_map (arcs_of_read parts.now ids.now reader) (reads_of parts.now reader)) }
 {
     for read in reads_of(parts, reader) {

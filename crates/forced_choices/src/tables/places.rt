@@ -1,10 +1,11 @@
 // Where the writers of each key stand among the ids, so that no other id is looked at.
-ghost use Rattle.std.specs.Prelude.{◌≡◌, ◌≢◌, ℕ, ◌∷◌, [], ◌++◌, nat_eq, nat_lt, if◌then◌else◌, IfOk, OnOk};
+ghost use Rattle.std.specs.Prelude.{◌≡◌, ◌≢◌, ℕ, ◌∷◌, [], ◌++◌, nat_eq, nat_lt, filter, if◌then◌else◌, IfOk, OnOk};
 ghost use Rattle.std.specs.List.{list_any};
 ghost use Rattle.order_check.specs.Good.{IsGood};
 ghost use Rattle.forced_choices.specs.Ascending.{Ascends};
 ghost use Rattle.forced_choices.specs.Listing.{writes_here};
-ghost use Rattle.forced_choices.specs.WriterPlaces.{places_at, ArePlaces};
+ghost use Rattle.forced_choices.specs.Masks.{IsAnyKey};
+ghost use Rattle.forced_choices.specs.WriterPlaces.{places_at, has_place, ArePlaces, HasPlace};
 
 use order_check::Parts;
 use std::alloc::Global;
@@ -27,6 +28,22 @@ impl Places {
             None => &[],
         }
     }
+
+    /// Whether the key has a place.
+    pub fn has(&self, key: u64) -> bool
+        ensures { result ≡ has_place self.now.lists key }
+    {
+        !self.of_key(key).is_empty()
+    }
+}
+
+/// Those of the keys that have a place.
+pub fn keys_with_place(alloc: Global, places: &Places, keys: &[u64]) -> Result<Vec<u64>, NoMemory>
+    ensures { IfOk result (λ some. some.items ≡ filter (has_place places.now.lists) keys.now) }
+{
+    let mut some = Vec::from_slice(alloc, keys)?;
+    some.retain(|key| places.has(*key));
+    Ok(some)
 }
 
 /// Takes out the places of a key.
@@ -99,12 +116,30 @@ pub fn written_by(parts: &Parts, id: TxnId) -> &[u64]
 /// The places of the writers of each key among these ids.
 pub fn places_among(alloc: Global, parts: &Parts, ids: &[TxnId]) -> Result<Places, NoMemory>
     requires { IsGood parts.now }
-    ensures { IfOk result (ArePlaces parts.now ids.now) }
+    ensures { IfOk result (ArePlaces IsAnyKey parts.now ids.now) }
 {
     let mut lists = BTreeMap::new(alloc);
     for place in 0..ids.len() {
         let keys = written_by(parts, ids[place]);
         add_to_each(alloc, &mut lists, keys, place)?;
+    }
+    Ok(Places { lists })
+}
+
+/// The places among these ids of the writers of each key that has a place among those of reads.
+pub fn places_of_read_keys(
+    alloc: Global,
+    parts: &Parts,
+    ids: &[TxnId],
+    reads: &Places,
+) -> Result<Places, NoMemory>
+    requires { IsGood parts.now }
+    ensures { IfOk result (ArePlaces (HasPlace reads.now.lists) parts.now ids.now) }
+{
+    let mut lists = BTreeMap::new(alloc);
+    for place in 0..ids.len() {
+        let keys = keys_with_place(alloc, reads, written_by(parts, ids[place]))?;
+        add_to_each(alloc, &mut lists, keys.as_slice(), place)?;
     }
     Ok(Places { lists })
 }

@@ -17,7 +17,7 @@ ghost use Rattle.forced_choices.specs.WriterPlaces.{those_at};
 
 use crate::tables::by_key::{ByKey, by_key_of};
 use crate::tables::listing::{is_third, reads_of, remaining_ids_of, writes};
-use crate::tables::places::{Places, places_among};
+use crate::tables::places::{Places, places_of_read_keys};
 use crate::tables::reads::{Placed, Read};
 use crate::tables::writers::{Writers, column_of, writers_of};
 use known_graph::{Graph, has_bit};
@@ -151,17 +151,17 @@ fn reads_among(
     Ok(reads)
 }
 
-/// The table of the parts, on a graph that has all that remains.
+/// The table of the parts, on a graph that has all that remains. A key that nobody reads from a remaining writer takes no memory.
 pub fn table_of(alloc: Global, parts: &Parts, graph: &Graph) -> Result<Table, NoMemory>
     requires good { IsGood parts.now }
     requires nodes { (id : TxnId) → Remains parts.now id → HasNode graph.now id }
     ensures { IfOk result (IsTable parts.now graph.now.nodes) }
 {
     let ids = remaining_ids_of(alloc, parts)?;
-    let writers = writers_of(alloc, parts, graph, ids.as_slice())?;
-    let places = places_among(alloc, parts, ids.as_slice())?;
     let reads = reads_among(alloc, parts, graph, ids.as_slice())?;
     let by_key = by_key_of(alloc, parts, graph, ids.as_slice(), reads.as_slice())?;
+    let writers = writers_of(alloc, parts, graph, ids.as_slice(), &by_key.reads)?;
+    let places = places_of_read_keys(alloc, parts, ids.as_slice(), &by_key.reads)?;
     Ok(Table {
         ids,
         writers,

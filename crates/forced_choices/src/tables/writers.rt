@@ -5,7 +5,9 @@ ghost use Rattle.known_graph.specs.Bits.{HasBit};
 ghost use Rattle.known_graph.specs.Graphs.{HasNode, IsAt};
 ghost use Rattle.forced_choices.specs.Listing.{writes_here};
 ghost use Rattle.forced_choices.specs.Masks.{mask_of, AreAllWriters, AreWriters};
+ghost use Rattle.forced_choices.specs.WriterPlaces.{HasPlace};
 
+use crate::tables::places::{Places, keys_with_place};
 use known_graph::{Graph, set_bit};
 use order_check::Parts;
 use std::alloc::Global;
@@ -138,22 +140,24 @@ pub fn writes_of(parts: &Parts, id: TxnId) -> &[u64]
     }
 }
 
-/// The columns of these ids, and the writers among them.
+/// The columns of these ids, and the writers among them of each key that has a place among those of reads.
 pub fn writers_of(
     alloc: Global,
     parts: &Parts,
     graph: &Graph,
     ids: &[TxnId],
+    reads: &Places,
 ) -> Result<Writers, NoMemory>
     requires { All (HasNode graph.now) ids.now }
-    ensures writers { IfOk result (AreWriters parts.now graph.now.nodes ids.now) }
+    ensures writers { IfOk result (AreWriters (HasPlace reads.now.lists) parts.now graph.now.nodes ids.now) }
     ensures only { IfOk result (λ writers. AreAllWriters parts.now ids.now writers.masks writers.columns.items (length ids.now)) }
 {
     let mut masks = BTreeMap::new(alloc);
     let mut columns = Vec::new(alloc);
     for id in ids {
         let column = column_of(graph, *id);
-        add_writes(alloc, &mut masks, writes_of(parts, *id), column)?;
+        let keys = keys_with_place(alloc, reads, writes_of(parts, *id))?;
+        add_writes(alloc, &mut masks, keys.as_slice(), column)?;
         columns.push(column)?;
     }
     Ok(Writers { masks, columns })

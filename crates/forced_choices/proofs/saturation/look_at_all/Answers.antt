@@ -7,11 +7,19 @@ use Rattle.forced_choices.specs.Masks.{choices_in}
 use Rattle.forced_choices.specs.Tables.{IsLookup, IsPlaced, choices_at}
 use Rattle.forced_choices.proofs.Distinct.{take_whole}
 use Rattle.forced_choices.proofs.Forced.{looked_both, looked_none}
+use Rattle.forced_choices.proofs.Members.{In, in_place}
 use Rattle.forced_choices.proofs.TableReads.{no_read, at_more}
 use Rattle.forced_choices.proofs.saturation.look_at_all.Goals as goal
 
 pub loop-placed-init : goal.loop-placed-init
 loop-placed-init c = record { looked = looked_none c.args.lookup.now.parts.now c.args.graph.now.nodes (stage_of c.args.graph.now c.args.trail.now); nodes = refl; mark = refl }
+
+pub look_at_read-requires-clause-read : goal.look_at_read-requires-clause-read
+look_at_read-requires-clause-read c =
+    let all = c.args.lookup.now.table.now.reads.items in
+    let reads = c.as_slice-reads.result.now in
+    let k = c.loop-placed.placed-index in
+    (get_or reads k no_read, subst (λ (xs : List Placed). In all (get_or xs k no_read)) (sym c.as_slice-reads.ensures.value) (in_place all k no_read (subst (λ (xs : List Placed). k < length xs) c.as_slice-reads.ensures.value c.loop-placed-test.true)), refl)
 
 pub look_at_read-requires-clause-placed : goal.look_at_read-requires-clause-placed
 look_at_read-requires-clause-placed c =

@@ -1,9 +1,9 @@
-use Rattle.std.proofs.Common.{◌≡◌, ◌≢◌, ◌⊎◌, ◌++◌, ◌<◌, ◌∙◌, ℕ, List, Option, length, get_or, take, sym, ap, subst, subst₂}
+use Rattle.std.proofs.Common.{◌≡◌, ◌≢◌, ◌⊎◌, ◌++◌, ◌<◌, ◌∙◌, ℕ, List, Option, length, get_or, take, refl, sym, ap, subst, subst₂}
 use Rattle.txn.specs.declared.transactions.TxnId.{TxnId}
 use Rattle.known_graph.specs.Bits.{HasBit}
 use Rattle.known_graph.specs.Graphs.{IsAt}
 use Rattle.forced_choices.specs.declared.tables.reads.Placed.{Placed}
-use Rattle.forced_choices.specs.ByKeys.{reads_at}
+use Rattle.forced_choices.specs.ByKeys.{IsRead, reads_at}
 use Rattle.forced_choices.specs.Forcing.{stage_of, HasLooked}
 use Rattle.forced_choices.specs.Masks.{IsSettled, choices_in, mask_of}
 use Rattle.forced_choices.specs.Tables.{IsPlaced, choices_at}
@@ -36,14 +36,24 @@ loop-place-preserved-then-are_settled_since c =
     let is : IsPlaced parts nodes placed = subst (λ (xs : List Placed). IsPlaced parts nodes (get_or xs place no_read)) (sym c.as_slice-reads.ensures.value) (c.requires.table.placed place no_read within) in
     let same : placed.read.key ≡ c.args.key = ap (λ (xs : List Placed). (get_or xs place no_read).read.key) c.as_slice-reads.ensures.value ∙ c.requires.table.indexed.keyed c.args.key place no_read among in
     let mask = c.mask-mask.ensures ∙ ap (λ key. mask_of table.writers.masks key) (sym same) in
+    let read : IsRead table.reads.items placed.read.key = (placed, subst (λ (xs : List Placed). In table.reads.items (get_or xs place no_read)) (sym c.as_slice-reads.ensures.value) (in_place table.reads.items place no_read within), refl) in
     let others = subst (λ (nodes : List (Option TxnId)). (j : ℕ) (other : TxnId) → HasBit c.mask-mask.result.now j → IsAt nodes j other → other ≢ placed.read.reader → other ≢ placed.read.writer → IsUntouchedAt since placed j ⊎ IsSettled c.loop-place.graph.arcs placed.read other) c.loop-place.invariant.nodes (c.are_settled_since.ensures.others yes) in
     record {
       looked = λ start before looked settled.
           let front = before ++ choices_at parts ids (reads_at reads (take k places)) in
-          looked_more parts nodes start middle ids reads places k before c.loop-place-test.true (looked_since parts nodes start middle ids table.writers c.mask-mask.result.now since placed front is c.requires.table.writers mask (c.loop-place.invariant.looked start before looked settled) settled (c.are_settled_since.ensures.read yes) others);
+          looked_more parts nodes start middle ids reads places k before c.loop-place-test.true (looked_since (IsRead table.reads.items) parts nodes start middle ids table.writers c.mask-mask.result.now since placed front is c.requires.table.writers read mask (c.loop-place.invariant.looked start before looked settled) settled (c.are_settled_since.ensures.read yes) others);
       nodes = c.loop-place.invariant.nodes;
       mark = c.loop-place.invariant.mark;
     }
+
+pub look_at_read-requires-clause-read : goal.look_at_read-requires-clause-read
+look_at_read-requires-clause-read c =
+    let table = c.args.lookup.now.table.now in
+    let reads = c.as_slice-reads.result.now in
+    let place = get_or c.of_key-place-items.result.now c.loop-place.place-index 0 in
+    let among = subst (λ (xs : List ℕ). In xs place) c.of_key-place-items.ensures (in_place c.of_key-place-items.result.now c.loop-place.place-index 0 c.loop-place-test.true) in
+    let within : place < length table.reads.items = all_in (λ place. place < length table.reads.items) (places_at table.by_key.reads.lists c.args.key) place (c.requires.table.indexed.within c.args.key) among in
+    (get_or reads place no_read, subst (λ (xs : List Placed). In table.reads.items (get_or xs place no_read)) (sym c.as_slice-reads.ensures.value) (in_place table.reads.items place no_read within), refl)
 
 pub loop-place-preserved : goal.loop-place-preserved
 loop-place-preserved c =

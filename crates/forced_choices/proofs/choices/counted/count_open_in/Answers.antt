@@ -1,4 +1,4 @@
-use Rattle.std.proofs.Common.{◌∙◌, ◌<◌, ◌≤◌, ◌++◌, [], List, length, get_or, take, sym, ap, subst}
+use Rattle.std.proofs.Common.{◌∙◌, ◌<◌, ◌≤◌, ◌++◌, [], List, length, get_or, take, refl, sym, ap, subst}
 use Rattle.txn.specs.declared.transactions.TxnId.{TxnId}
 use Rattle.txn.specs.declared.choices.Choice.{Choice}
 use Rattle.forced_choices.specs.declared.tables.reads.Placed.{Placed}
@@ -9,6 +9,7 @@ use Rattle.forced_choices.specs.Undecided.{AreCounted}
 use Rattle.forced_choices.proofs.CountedChoices.{counted_none, counted_skip}
 use Rattle.forced_choices.proofs.Distinct.{take_whole}
 use Rattle.forced_choices.proofs.OpenReads.{found_nothing}
+use Rattle.forced_choices.proofs.Members.{In, in_place}
 use Rattle.forced_choices.proofs.TableReads.{no_read, at_more}
 use Rattle.forced_choices.proofs.choices.counted.count_open_in.Goals as goal
 
@@ -18,6 +19,13 @@ loop-place-init c =
     let passed = choices_at c.args.lookup.now.parts.now c.args.lookup.now.table.now.ids.items (take c.args.passed c.args.lookup.now.table.now.reads.items) in
     let first = c.new-first.result.items in
     counted_skip arcs [] passed c.args.most first 0 (found_nothing arcs passed c.requires.passed) (counted_none arcs c.args.most first c.new-first.ensures.items)
+
+pub count_open_of_read-requires-clause-read : goal.count_open_of_read-requires-clause-read
+count_open_of_read-requires-clause-read c =
+    let all = c.args.lookup.now.table.now.reads.items in
+    let reads = c.as_slice-reads.result.now in
+    let k = c.loop-place.place in
+    (get_or reads k no_read, subst (λ (xs : List Placed). In all (get_or xs k no_read)) (sym c.as_slice-reads.ensures.value) (in_place all k no_read (subst (λ (xs : List Placed). k < length xs) c.as_slice-reads.ensures.value c.loop-place-test.true)), refl)
 
 pub count_open_of_read-requires-clause-placed : goal.count_open_of_read-requires-clause-placed
 count_open_of_read-requires-clause-placed c =

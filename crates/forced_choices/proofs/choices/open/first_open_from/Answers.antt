@@ -1,4 +1,4 @@
-use Rattle.std.proofs.Common.{◌≡◌, ◌∙◌, ◌<◌, ◌≤◌, ◌∷◌, [], List, drop, length, get_or, take, sym, ap, subst}
+use Rattle.std.proofs.Common.{◌≡◌, ◌∙◌, ◌<◌, ◌≤◌, ◌∷◌, [], List, drop, length, get_or, take, refl, sym, ap, subst}
 use Rattle.txn.specs.declared.transactions.TxnId.{TxnId}
 use Rattle.txn.specs.declared.choices.Choice.{Choice}
 use Rattle.forced_choices.specs.declared.tables.reads.Placed.{Placed}
@@ -8,11 +8,19 @@ use Rattle.forced_choices.specs.Tables.{IsPlaced, choices_at}
 use Rattle.forced_choices.specs.Undecided.{AreAllDecided, AreFound, IsFirstFound}
 use Rattle.forced_choices.proofs.Distinct.{take_whole}
 use Rattle.forced_choices.proofs.OpenReads.{decided_both, decided_found}
+use Rattle.forced_choices.proofs.Members.{In, in_place}
 use Rattle.forced_choices.proofs.TableReads.{no_read, at_more, first_at}
 use Rattle.forced_choices.proofs.choices.open.first_open_from.Goals as goal
 
 pub loop-place-init : goal.loop-place-init
 loop-place-init c = c.requires.passed
+
+pub open_of_read-requires-clause-read : goal.open_of_read-requires-clause-read
+open_of_read-requires-clause-read c =
+    let all = c.args.lookup.now.table.now.reads.items in
+    let reads = c.as_slice-reads.result.now in
+    let k = c.loop-place.place in
+    (get_or reads k no_read, subst (λ (xs : List Placed). In all (get_or xs k no_read)) (sym c.as_slice-reads.ensures.value) (in_place all k no_read (subst (λ (xs : List Placed). k < length xs) c.as_slice-reads.ensures.value c.loop-place-test.true)), refl)
 
 pub open_of_read-requires-clause-placed : goal.open_of_read-requires-clause-placed
 open_of_read-requires-clause-placed c =

@@ -1,4 +1,4 @@
-use Rattle.std.proofs.Common.{◌∙◌, ◌<◌, ◌≤◌, ◌++◌, [], List, length, get_or, take, sym, ap, subst}
+use Rattle.std.proofs.Common.{◌∙◌, ◌<◌, ◌≤◌, ◌++◌, [], List, length, get_or, take, refl, sym, ap, subst}
 use Rattle.txn.specs.declared.transactions.TxnId.{TxnId}
 use Rattle.txn.specs.declared.choices.Choice.{Choice}
 use Rattle.forced_choices.specs.declared.tables.reads.Placed.{Placed}
@@ -8,11 +8,19 @@ use Rattle.forced_choices.specs.Tables.{IsPlaced, choices_at}
 use Rattle.forced_choices.specs.Undecided.{AreFound}
 use Rattle.forced_choices.proofs.Distinct.{take_whole}
 use Rattle.forced_choices.proofs.OpenReads.{found_none}
+use Rattle.forced_choices.proofs.Members.{In, in_place}
 use Rattle.forced_choices.proofs.TableReads.{no_read, at_more}
 use Rattle.forced_choices.proofs.choices.open.open_in.Goals as goal
 
 pub loop-placed-init : goal.loop-placed-init
 loop-placed-init c = subst (λ items. AreFound c.args.graph.now.arcs [] items) (sym c.new-found.ensures.items) (found_none c.args.graph.now.arcs)
+
+pub push_open_of_read-requires-clause-read : goal.push_open_of_read-requires-clause-read
+push_open_of_read-requires-clause-read c =
+    let all = c.args.lookup.now.table.now.reads.items in
+    let reads = c.as_slice-placed-items.result.now in
+    let k = c.loop-placed.placed-index in
+    (get_or reads k no_read, subst (λ (xs : List Placed). In all (get_or xs k no_read)) (sym c.as_slice-placed-items.ensures.value) (in_place all k no_read (subst (λ (xs : List Placed). k < length xs) c.as_slice-placed-items.ensures.value c.loop-placed-test.true)), refl)
 
 pub push_open_of_read-requires-clause-placed : goal.push_open_of_read-requires-clause-placed
 push_open_of_read-requires-clause-placed c =

@@ -1,5 +1,6 @@
 use Rattle.std.proofs.Common.{◌++◌, ◌∷◌, [], ◌∙◌, List, ℕ, get_or, take, inl, inr, refl, sym, ap, subst, subst₂, append_assoc, append-nil}
 use Rattle.txn.specs.declared.transactions.TxnId.{TxnId}
+use Rattle.forced_choices.specs.ByKeys.{IsRead}
 use Rattle.forced_choices.specs.Masks.{choices_in}
 use Rattle.forced_choices.specs.Undecided.{AreAllDecided, AreFound, IsUndecided}
 use Rattle.forced_choices.specs.WriterPlaces.{places_at, those_at}
@@ -60,5 +61,5 @@ returns c = λ front so.
     let table = c.args.lookup.now.table.now in
     let read = c.args.read in
     let whole = take_whole c.of_key-place-items.result.now c.loop-place.place-index c.loop-place-test.false ∙ c.of_key-place-items.ensures in
-    let is = ap (λ (xs : List ℕ). choices_in parts (those_at table.ids.items xs) read) whole ∙ choices_at_places parts table.ids.items table.places.lists read c.requires.places in
+    let is = ap (λ (xs : List ℕ). choices_in parts (those_at table.ids.items xs) read) whole ∙ choices_at_places (IsRead table.reads.items) parts table.ids.items table.places.lists read c.requires.read c.requires.places in
     subst (λ choices. AreFound c.args.graph.now.arcs (front ++ choices) c.loop-place.found.items) is (c.loop-place.invariant front so)

@@ -3,6 +3,7 @@ use Rattle.txn.specs.declared.transactions.TxnId.{TxnId}
 use Rattle.order_check.specs.Known.{IsChoice}
 use Rattle.known_graph.specs.Graphs.{HasKey}
 use Rattle.forced_choices.specs.Forcing.{stage_of, HasLooked}
+use Rattle.forced_choices.specs.ByKeys.{IsRead}
 use Rattle.forced_choices.specs.Masks.{AreThere, choices_in}
 use Rattle.forced_choices.specs.WriterPlaces.{places_at, those_at}
 use Rattle.forced_choices.proofs.Distinct.{take_whole}
@@ -82,5 +83,5 @@ returns-clause-looked c =
     let table = c.args.lookup.now.table.now in
     let read = c.args.read in
     let whole = take_whole c.of_key-place-items.result.now c.loop-place.place-index c.loop-place-test.false ∙ c.of_key-place-items.ensures in
-    let is = ap (λ (xs : List ℕ). choices_in parts (those_at table.ids.items xs) read) whole ∙ choices_at_places parts table.ids.items table.places.lists read c.requires.places in
+    let is = ap (λ (xs : List ℕ). choices_in parts (those_at table.ids.items xs) read) whole ∙ choices_at_places (IsRead table.reads.items) parts table.ids.items table.places.lists read c.requires.read c.requires.places in
     subst (λ choices. HasLooked parts c.args.graph.now.nodes (stage_of c.args.graph.now c.args.trail.now) (stage_of c.loop-place.graph c.loop-place.trail) choices) is c.loop-place.invariant.looked

@@ -2,7 +2,7 @@ use Rattle.std.proofs.Common.{◌≡◌, ◌++◌, ◌∷◌, ◌∙◌, ℕ, Li
 use Rattle.txn.specs.declared.transactions.TxnId.{TxnId}
 use Rattle.known_graph.specs.Bits.{HasBit}
 use Rattle.forced_choices.specs.Listing.{writes_here}
-use Rattle.forced_choices.specs.Masks.{AreColumns, mask_of}
+use Rattle.forced_choices.specs.Masks.{AreColumns, IsAnyKey, mask_of}
 use Rattle.forced_choices.specs.WriterPlaces.{AreWriterPlaces, places_at}
 use Rattle.forced_choices.proofs.ByKeys.{indexed_wider}
 use Rattle.forced_choices.proofs.KeptWriters.{column_pushed, place_pushed}
@@ -36,10 +36,10 @@ returns-clause-writers c = λ are.
     ∙ ap (λ (p : ℕ). places_at old.places.lists key ++ cond (writes_here parts key id) (p ∷ []) []) place) in
     let places = place_pushed parts old.ids.items id old.places.lists lists listed are.places in
     record {
-      writers = subst (λ (columns : List ℕ). AreColumns parts nodes c.push-2.new.self.items more columns (length c.push-2.new.self.items)) (sym c.in_ok-push.ensures.items)
-          (subst (λ (ids : List TxnId). AreColumns parts nodes ids more (old.writers.columns.items ++ column ∷ []) (length ids)) (sym c.in_ok-push-2.ensures.items) writers);
-      places = subst (λ (ids : List TxnId). AreWriterPlaces parts ids lists (length ids)) (sym c.in_ok-push-2.ensures.items) places;
-      rows = (columns ++ column ∷ [], subst (λ (ids : List TxnId). AreColumns parts nodes ids rows (columns ++ column ∷ []) (length ids)) (sym c.in_ok-push-2.ensures.items) readers);
+      writers = subst (λ (columns : List ℕ). AreColumns IsAnyKey parts nodes c.push-2.new.self.items more columns (length c.push-2.new.self.items)) (sym c.in_ok-push.ensures.items)
+          (subst (λ (ids : List TxnId). AreColumns IsAnyKey parts nodes ids more (old.writers.columns.items ++ column ∷ []) (length ids)) (sym c.in_ok-push-2.ensures.items) writers);
+      places = subst (λ (ids : List TxnId). AreWriterPlaces IsAnyKey parts ids lists (length ids)) (sym c.in_ok-push-2.ensures.items) places;
+      rows = (columns ++ column ∷ [], subst (λ (ids : List TxnId). AreColumns IsAnyKey parts nodes ids rows (columns ++ column ∷ []) (length ids)) (sym c.in_ok-push-2.ensures.items) readers);
     }
 
 pub returns-clause-indexed : goal.returns-clause-indexed
