@@ -18,7 +18,8 @@ pub mod SaturationLaws
 pub mod Distinct
 pub mod Keeping
 pub mod Stacked
-pub mod Passed
+pub mod Seen
+pub mod NewCycles
 pub mod SessionOrder
 pub mod KnownRemain
 pub mod FirstOpen

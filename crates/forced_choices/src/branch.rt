@@ -13,7 +13,7 @@ ghost use Rattle.order_check.specs.Good.{IsGood};
 ghost use Rattle.forced_choices.specs.Forcing.{IsClosed};
 ghost use Rattle.forced_choices.specs.Tables.{AreAtColumns, IsTable};
 ghost use Rattle.forced_choices.specs.BranchState.{assumed, all_taken, last_steps, taken_with, AreForcedBy};
-ghost use Rattle.forced_choices.specs.Stacks.{IsRelationAt, IsMoreBy, last_passed, passed_onto};
+ghost use Rattle.forced_choices.specs.Stacks.{AddsNoCycle, AreAcyclic, IsRelationAt, IsMoreBy, IsSeen, last_seen, seen_onto};
 
 use crate::choices::open::first_open_from;
 use crate::relation::saturated::Saturated;
@@ -29,14 +29,22 @@ use std::alloc::Global;
 use std::marker::Model;
 use txn::{Arc, Choice, ForceStep, NoMemory, Sequence, Side, TxnId};
 
+/// What was seen of the relation before a side was assumed.
+#[derive(Clone, Copy, Debug)]
+struct Seen {
+    /// How many reads at the front had no open choice.
+    passed: usize,
+    /// How many arcs at the front lead from nothing back to itself.
+    acyclic: usize,
+}
+
 /// A side that is assumed, and the steps that it forces.
 #[derive(Drop, Debug)]
 struct Top {
     choice: Choice,
     side: Side,
     steps: Sequence<ForceStep>,
-    /// How many reads at the front had no open choice before it was assumed.
-    passed: usize,
+    seen: Seen,
 }
 
 /// The known relation where sides of choices are assumed, one after another. All are on one graph, which has a mark for each
@@ -111,13 +119,13 @@ fn take_side(
     graph: &mut Graph,
     tops: &mut Vec<Top>,
     rule: Rule,
-    passed: usize,
+    seen: Seen,
 ) -> Result<(), NoMemory>
     requires choice { IsChoice lookup.now.parts.now rule.choice }
     requires nodes { (id : TxnId) → Remains lookup.now.parts.now id → HasNode graph.old id }
     requires table { IsTable lookup.now.parts.now graph.old.nodes lookup.now.table.now }
     requires closed { IsClosed lookup.now.parts.now graph.old.arcs }
-    ensures ok { OnOk result ((steps : List ForceStep) × (tops.new.items ≡ tops.old.items ++ record { choice = rule.choice; side = rule.side; steps = steps; passed = passed } ∷ [])
+    ensures ok { OnOk result ((steps : List ForceStep) × (tops.new.items ≡ tops.old.items ++ record { choice = rule.choice; side = rule.side; steps = steps; seen = seen } ∷ [])
         × IsMoreBy lookup.now.parts.now graph.old graph.new rule.choice rule.side steps) }
     ensures err { OnErr result (tops.new.items ≡ tops.old.items) }
     ensures nodes { OnOk result (graph.new.nodes ≡ graph.old.nodes) }
@@ -128,19 +136,22 @@ fn take_side(
         choice: rule.choice,
         side: rule.side,
         steps: Sequence::new(steps),
-        passed,
+        seen,
     })?;
     Ok(())
 }
 
-/// How many reads at the front are known to have no open choice: those that had none before the last side was assumed, which
-/// leaves no more open; where none is assumed, so many as had none from the start.
-fn passed_by(front: usize, tops: &[Top]) -> usize
-    ensures { result ≡ last_passed front (passed_onto [] tops.now) }
+/// What is known to hold of the relation: what was seen before the last side was assumed, which leaves no more open and takes no arc
+/// away; where none is assumed, that so many reads at the front have no open choice.
+fn seen_by(front: usize, tops: &[Top]) -> Seen
+    ensures { result ≡ last_seen front (seen_onto [] tops.now) }
 {
     match tops.last() {
-        Some(top) => top.passed,
-        None => front,
+        Some(top) => top.seen,
+        None => Seen {
+            passed: front,
+            acyclic: 0,
+        },
     }
 }
 
@@ -157,6 +168,62 @@ fn on_cycle(graph: &Graph, table: &Table) -> Option<TxnId>
         }
     }
     None
+}
+
+/// One that reaches itself, if an arc from this place on closes a cycle.
+fn on_new_cycle(graph: &Graph, from: usize) -> Option<TxnId>
+    ensures { MatchOption result (AddsNoCycle graph.now.arcs from) (λ id. Reaches graph.now.arcs id id) }
+{
+    let arcs = graph.arcs();
+    for place in from..arcs.len() {
+        let arc = arcs[place];
+        if graph.reaches(arc.end(), arc.start()) {
+            return Some(arc.start());
+        }
+    }
+    None
+}
+
+/// The first that reaches itself, where it is known how many arcs at the front have no cycle: all are gone through only where an arc behind
+/// them closes one.
+fn on_any_cycle(graph: &Graph, table: &Table, acyclic: usize) -> Option<TxnId>
+    requires columns { AreAtColumns graph.now.nodes table.now }
+    requires acyclic { AreAcyclic graph.now.arcs table.now.ids.items acyclic }
+    ensures { MatchOption result (All (λ id. ¬ Reaches graph.now.arcs id id) table.now.ids.items) (λ id. Reaches graph.now.arcs id id) }
+{
+    if acyclic == 0 {
+        return on_cycle(graph, table);
+    }
+    match on_new_cycle(graph, acyclic) {
+        None => None,
+        Some(_) => on_cycle(graph, table),
+    }
+}
+
+/// How many arcs at the front are seen to have no cycle: all, where so many have none and none was closed since.
+fn acyclic_in(graph: &Graph, table: &Table, acyclic: usize) -> usize
+    requires columns { AreAtColumns graph.now.nodes table.now }
+    requires acyclic { AreAcyclic graph.now.arcs table.now.ids.items acyclic }
+    ensures { AreAcyclic graph.now.arcs table.now.ids.items result }
+{
+    match on_any_cycle(graph, table, acyclic) {
+        Some(_) => acyclic,
+        None => graph.arcs().len(),
+    }
+}
+
+/// What is seen of the relation, where so much is known of it.
+fn seen_in(alloc: Global, lookup: &Lookup, graph: &Graph, known: Seen) -> Result<Seen, NoMemory>
+    requires table { IsTable lookup.now.parts.now graph.now.nodes lookup.now.table.now }
+    requires known { IsSeen lookup.now.parts.now graph.now.arcs lookup.now.table.now known }
+    ensures { IfOk result (IsSeen lookup.now.parts.now graph.now.arcs lookup.now.table.now) }
+{
+    let first = first_open_from(alloc, lookup, graph, known.passed)?;
+    let acyclic = acyclic_in(graph, lookup.table, known.acyclic);
+    Ok(Seen {
+        passed: first.passed,
+        acyclic,
+    })
 }
 
 impl Branch {
@@ -198,7 +265,8 @@ impl Branch {
             (λ arcs. HasCycle self.now.parts (assumed self.now.levels) × IsCycle self.now.parts (all_taken self.now.log self.now.levels) arcs)) }
     {
         let table = self.table.get();
-        let Some(id) = on_cycle(&self.graph, table) else {
+        let known = seen_by(self.table.passed, &self.tops);
+        let Some(id) = on_any_cycle(&self.graph, table, known.acyclic) else {
             return Ok(None);
         };
         let found = self.graph.path(alloc, id, id)?;
@@ -211,12 +279,12 @@ impl Branch {
             ((choice : Choice) → ¬ IsOpen self.now.parts (assumed self.now.levels) choice)
             (IsFirstOpen self.now.parts (assumed self.now.levels))) }
     {
-        let passed = passed_by(self.table.passed, &self.tops);
+        let known = seen_by(self.table.passed, &self.tops);
         let lookup = Lookup {
             parts: &self.parts,
             table: self.table.get(),
         };
-        let first = first_open_from(alloc, &lookup, &self.graph, passed)?;
+        let first = first_open_from(alloc, &lookup, &self.graph, known.passed)?;
         Ok(first.choice)
     }
 
@@ -228,22 +296,15 @@ impl Branch {
         ensures new { OnOk result (AreNew self.new.parts (taken_with self.old choice side) (last_steps self.new.log self.new.levels)) }
         ensures err { OnErr result (self.new ≡ self.old) }
     {
-        let passed = passed_by(self.table.passed, &self.tops);
+        let known = seen_by(self.table.passed, &self.tops);
         let lookup = Lookup {
             parts: &self.parts,
             table: self.table.get(),
         };
-        let first = first_open_from(alloc, &lookup, &self.graph, passed)?;
+        let seen = seen_in(alloc, &lookup, &self.graph, known)?;
         self.graph.mark()?;
         let rule = Rule { choice, side };
-        match take_side(
-            alloc,
-            &lookup,
-            &mut self.graph,
-            &mut self.tops,
-            rule,
-            first.passed,
-        ) {
+        match take_side(alloc, &lookup, &mut self.graph, &mut self.tops, rule, seen) {
             Ok(()) => Ok(()),
             Err(error) => {
                 self.graph.back();

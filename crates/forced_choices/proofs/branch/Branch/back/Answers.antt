@@ -5,7 +5,7 @@ use Rattle.forced_choices.specs.Tables.{IsTable}
 use Rattle.forced_choices.specs.BranchState.{BranchState, Level}
 use Rattle.forced_choices.specs.SharedTables.{table_in}
 use Rattle.forced_choices.specs.Stacks.{AreStacked, levels_onto}
-use Rattle.forced_choices.proofs.Passed.{passed_less}
+use Rattle.forced_choices.proofs.Seen.{seen_less}
 use Rattle.forced_choices.proofs.Stacked.{stacked_marks, stacked_less, back_nodes, levels_back, state_of, state_back}
 use Rattle.forced_choices.proofs.branch.Branch.back.Goals as goal
 
@@ -25,7 +25,7 @@ invariant_of-self c =
       table = subst (λ (nodes : List (Option TxnId)). IsTable c.self.inside.parts nodes (table_in c.self.inside.table)) (sym (ap (λ (g : GraphState). g.nodes) c.back.ensures ∙ back_nodes c.self.inside.graph.nodes c.self.inside.graph.arcs c.self.inside.graph.marks)) c.self.invariant.table;
       stacked = subst (λ (levels : List Level). AreStacked c.self.inside.parts c.self.inside.log levels c.back.new.self) (sym levels)
           (stacked_less c.self.inside.parts c.self.inside.log (levels_onto [] old.items) c.self.inside.graph c.back.new.self some c.self.invariant.stacked c.back.ensures);
-      passed = passed_less c.self.inside.parts (table_in c.self.inside.table) c.self.inside.table.passed old.items c.pop-last.new.self.items c.pop-last.result old.len c.pop-last.new.self.len c.self.inside.graph c.back.new.self old.ok.0 c.pop-last.ensures.cases c.pop-last.ensures.items some c.self.invariant.passed c.back.ensures;
+      seen = seen_less c.self.inside.parts (table_in c.self.inside.table) c.self.inside.table.passed old.items c.pop-last.new.self.items c.pop-last.result old.len c.pop-last.new.self.len c.self.inside.graph c.back.new.self old.ok.0 c.pop-last.ensures.cases c.pop-last.ensures.items some c.self.invariant.seen c.back.ensures;
     }
 
 pub returns : goal.returns

@@ -9,13 +9,19 @@ use Rattle.forced_choices.specs.SharedTables.{table_in}
 use Rattle.forced_choices.specs.Tables.{AreAtColumns}
 use Rattle.forced_choices.specs.declared.tables.table.Table.{Table}
 use Rattle.known_graph.specs.Reach.{Reaches}
-use Rattle.forced_choices.specs.Stacks.{levels_onto}
+use Rattle.forced_choices.specs.Stacks.{AreAcyclic, levels_onto}
 use Rattle.forced_choices.proofs.KnownRemain.{cycle_found, none_on_cycle, known_listed}
+use Rattle.forced_choices.proofs.Seen.{seen_before}
 use Rattle.forced_choices.proofs.Stacked.{stacked_here}
 use Rattle.forced_choices.proofs.branch.Branch.cycle.Goals as goal
 
-pub on_cycle-requires : goal.on_cycle-requires
-on_cycle-requires c = subst (λ (table : Table). AreAtColumns c.self.inside.graph.nodes table) (sym c.get-table.ensures) c.self.invariant.table.writers.placed
+pub on_any_cycle-requires-clause-columns : goal.on_any_cycle-requires-clause-columns
+on_any_cycle-requires-clause-columns c = subst (λ (table : Table). AreAtColumns c.self.inside.graph.nodes table) (sym c.get-table.ensures) c.self.invariant.table.writers.placed
+
+pub on_any_cycle-requires-clause-acyclic : goal.on_any_cycle-requires-clause-acyclic
+on_any_cycle-requires-clause-acyclic c =
+    let known = seen_before c.self.inside.parts (table_in c.self.inside.table) c.self.inside.table.passed c.self.inside.tops.items c.deref.result.now c.seen_by-known.result c.self.inside.graph c.deref.ensures.value c.seen_by-known.ensures c.self.invariant.seen in
+    subst (λ (table : Table). AreAcyclic c.self.inside.graph.arcs table.ids.items c.seen_by-known.result.acyclic) (sym c.get-table.ensures) known.acyclic
 
 pub returns-in_default : goal.returns-in_default
 returns-in_default c =

@@ -9,14 +9,14 @@ use Rattle.forced_choices.specs.Tables.{ArePassed, IsTable}
 use Rattle.forced_choices.specs.declared.tables.table.Table.{Table}
 use Rattle.forced_choices.specs.Stacks.{levels_onto}
 use Rattle.forced_choices.proofs.FirstOpen.{first_found}
-use Rattle.forced_choices.proofs.Passed.{passed_before}
+use Rattle.forced_choices.proofs.Seen.{seen_before}
 use Rattle.forced_choices.proofs.Stacked.{stacked_here}
 use Rattle.forced_choices.proofs.branch.Branch.first_open.Goals as goal
 
 pub first_open_from-requires-clause-passed : goal.first_open_from-requires-clause-passed
 first_open_from-requires-clause-passed c =
-    let passed = passed_before c.self.inside.parts (table_in c.self.inside.table) c.self.inside.table.passed c.self.inside.tops.items c.deref.result.now c.passed_by-passed.result c.self.inside.graph c.deref.ensures.value c.passed_by-passed.ensures c.self.invariant.passed in
-    subst (λ (table : Table). ArePassed c.self.inside.parts c.self.inside.graph.arcs table c.passed_by-passed.result) (sym c.get.ensures) passed
+    let known = seen_before c.self.inside.parts (table_in c.self.inside.table) c.self.inside.table.passed c.self.inside.tops.items c.deref.result.now c.seen_by-known.result c.self.inside.graph c.deref.ensures.value c.seen_by-known.ensures c.self.invariant.seen in
+    subst (λ (table : Table). ArePassed c.self.inside.parts c.self.inside.graph.arcs table c.seen_by-known.result.passed) (sym c.get.ensures) known.passed
 
 pub first_open_from-requires-clause-table : goal.first_open_from-requires-clause-table
 first_open_from-requires-clause-table c = subst (λ (table : Table). IsTable c.self.inside.parts c.self.inside.graph.nodes table) (sym c.get.ensures) c.self.invariant.table
