@@ -56,22 +56,35 @@ def largest():
         yield f"largest offer, {about}, {len(line) / 2**20:.1f} MiB", opened([[]]), line
 
 
+def filled(begin, item, end):
+    """The list of as many of these items as a line has room for."""
+    count = (LONGEST - len(begin) - len(end) + 1) // (len(item) + 1)
+    return begin + b",".join([item] * count) + end
+
+
 def longest():
     """Lines of as many bytes as are looked at."""
     fills = {
         "white space": b'["show"]' + b" " * (LONGEST - 8),
         "numbers": (b'["offer",0,0,[[[],[' + b"7," * (LONGEST // 2))[:LONGEST - 5] + b"7]]]]",
         "brackets": b"[" * LONGEST,
-        "empty lists": (b'["offer",0,0,[' + b"[]," * (LONGEST // 3))[:LONGEST - 4] + b"[]]]",
+        "empty lists": filled(b'["offer",0,0,[', b"[]", b"]]"),
+        "empty lists, cut off": filled(b'["offer",0,0,[', b"[]", b","),
         "transactions": b'["offer",0,0,[' + b"[[],[]]," * ((LONGEST - 24) // 8) + b"[[],[]]]]",
+        "transactions of one write": filled(b'["offer",0,0,[', b"[[],[7]]", b"]]"),
+        "transactions of one read": filled(b'["offer",0,0,[', b"[[[7,0,0]],[]]", b"]]"),
+        "transactions of a read and a write": filled(b'["offer",0,0,[', b"[[[7,0,0]],[7]]", b"]]"),
+        "reads": filled(b'["offer",0,0,[[[', b"[7,0,0]", b"],[]]]]"),
+        "an order": filled(b'["answer","order",[', b"[0,0]", b"]]"),
+        "splits": filled(b'["answer","refuted",[', b'["split",[0,0,0,0,0,0,0]]', b"]]"),
+        "lists as deep as a command's": filled(b"[", b"[[[[0]]]]", b"]"),
         "lists in lists": b"[" + b",".join(
             [b"[" * 100 + b"0" + b"]" * 100] * (LONGEST // 202)) + b"]",
         "objects in objects, too deep": b'{"":' * (LONGEST // 5),
         "objects in objects": b"[" + b",".join(
             [b'{"":' * 100 + b"0" + b"}" * 100] * (LONGEST // 502)) + b"]",
         "small objects": b"[" + b'{"":0},' * (LONGEST // 7 - 1) + b"0]",
-        "lists, and then an object": (b'["offer",0,0,[' + b"[]," * (LONGEST // 3))[:LONGEST - 4]
-                                     + b"{}]]",
+        "lists, and then an object": filled(b'["offer",0,0,[', b"[]", b",{}]]"),
         "members": b"{" + b",".join(b'"%d":{}' % at for at in range(LONGEST // 12)) + b"}",
         "a word": b'["' + b"x" * (LONGEST - 4) + b'"]',
         "escapes": b'["' + b"\\u0041" * ((LONGEST - 4) // 6) + b'"]',
