@@ -7,8 +7,8 @@ use std::alloc::Global;
 use std::process::Abort;
 use std::test::*;
 use test_histories::{EMPTY, ID_0_0, ID_1_0, ID_2_0, ID_3_0, Table};
-use txn::NoMemory;
 use txn::Source::{By, Init};
+use txn::{NoMemory, TxnId};
 
 /// Four writers and four readers: each way to order the writers of key 1 and those of key 2 fails one of the readers.
 const REAL_SPLIT: Table = Table {
@@ -27,6 +27,142 @@ const REAL_SPLIT: Table = Table {
     ..EMPTY
 };
 
+/// Ten keys, each written in two sessions and read in a third from the first one: ten choices that nothing else decides.
+const TEN_CHOICES: Table = Table {
+    marks: &[0; 3],
+    remain: &[
+        &[
+            (&[], &[10]),
+            (&[], &[11]),
+            (&[], &[12]),
+            (&[], &[13]),
+            (&[], &[14]),
+            (&[], &[15]),
+            (&[], &[16]),
+            (&[], &[17]),
+            (&[], &[18]),
+            (&[], &[19]),
+        ],
+        &[
+            (&[], &[10]),
+            (&[], &[11]),
+            (&[], &[12]),
+            (&[], &[13]),
+            (&[], &[14]),
+            (&[], &[15]),
+            (&[], &[16]),
+            (&[], &[17]),
+            (&[], &[18]),
+            (&[], &[19]),
+        ],
+        &[
+            (
+                &[(
+                    10,
+                    By(TxnId {
+                        session: 0,
+                        number: 0,
+                    }),
+                )],
+                &[],
+            ),
+            (
+                &[(
+                    11,
+                    By(TxnId {
+                        session: 0,
+                        number: 1,
+                    }),
+                )],
+                &[],
+            ),
+            (
+                &[(
+                    12,
+                    By(TxnId {
+                        session: 0,
+                        number: 2,
+                    }),
+                )],
+                &[],
+            ),
+            (
+                &[(
+                    13,
+                    By(TxnId {
+                        session: 0,
+                        number: 3,
+                    }),
+                )],
+                &[],
+            ),
+            (
+                &[(
+                    14,
+                    By(TxnId {
+                        session: 0,
+                        number: 4,
+                    }),
+                )],
+                &[],
+            ),
+            (
+                &[(
+                    15,
+                    By(TxnId {
+                        session: 0,
+                        number: 5,
+                    }),
+                )],
+                &[],
+            ),
+            (
+                &[(
+                    16,
+                    By(TxnId {
+                        session: 0,
+                        number: 6,
+                    }),
+                )],
+                &[],
+            ),
+            (
+                &[(
+                    17,
+                    By(TxnId {
+                        session: 0,
+                        number: 7,
+                    }),
+                )],
+                &[],
+            ),
+            (
+                &[(
+                    18,
+                    By(TxnId {
+                        session: 0,
+                        number: 8,
+                    }),
+                )],
+                &[],
+            ),
+            (
+                &[(
+                    19,
+                    By(TxnId {
+                        session: 0,
+                        number: 9,
+                    }),
+                )],
+                &[],
+            ),
+        ],
+    ],
+    closed: &[false; 3],
+    limit: 64,
+    ..EMPTY
+};
+
 /// A word for what is answered.
 pub type Said = &'static str;
 
@@ -38,7 +174,7 @@ struct Row {
     said: Said,
 }
 
-static ROWS: [Row; 25] = [
+static ROWS: [Row; 29] = [
     Row {
         table: EMPTY,
         open: 0,
@@ -248,6 +384,34 @@ static ROWS: [Row; 25] = [
         budget: 16,
         depth: 6,
         said: "no",
+    },
+    Row {
+        table: TEN_CHOICES,
+        open: 10,
+        budget: 1,
+        depth: 0,
+        said: "spent",
+    },
+    Row {
+        table: TEN_CHOICES,
+        open: 10,
+        budget: 63,
+        depth: 6,
+        said: "spent",
+    },
+    Row {
+        table: TEN_CHOICES,
+        open: 10,
+        budget: 2048,
+        depth: 0,
+        said: "yes",
+    },
+    Row {
+        table: TEN_CHOICES,
+        open: 10,
+        budget: 2048,
+        depth: 6,
+        said: "yes",
     },
 ];
 
