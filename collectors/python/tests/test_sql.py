@@ -5,6 +5,7 @@ from __future__ import annotations
 import atexit
 import os
 import unittest
+from concurrent.futures import ThreadPoolExecutor
 from typing import Any, List
 
 from zanteyard import RATHER_WAIT, Auditor
@@ -336,6 +337,16 @@ class Unfit(OverAServer):
                 prepare(dsn, names)
         with self.assertRaisesRegex(StoreUnfitError, "prepare"):
             connect(dsn, self.auditor, ["t"])
+
+    def test_programs_that_prepare_at_the_same_time(self) -> None:
+        for level in ("read committed", "serializable"):
+            dsn = self.database("CREATE TABLE t (id int PRIMARY KEY)", None)
+            name = dsn.split("dbname=")[1].split()[0]
+            default = f"SET default_transaction_isolation = '{level}'"
+            self.run_sql(dsn, f"ALTER DATABASE {name} {default}")
+            with self.subTest(level), ThreadPoolExecutor(8) as programs:
+                for each in [programs.submit(prepare, dsn, ["t"]) for _ in range(8)]:
+                    each.result()
 
     def test_what_is_added_later_ends_the_audit_and_tells_why(self) -> None:
         function = "CREATE FUNCTION f() RETURNS trigger LANGUAGE plpgsql AS 'BEGIN RETURN NULL; END';"

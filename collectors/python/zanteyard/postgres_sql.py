@@ -18,6 +18,7 @@ from typing import Any, Sequence
 
 import psycopg2
 
+from .postgres_store import ONE_AT_A_TIME
 from .postgres_store import prepare as prepare_store
 from .sql_audit import Audit
 from .sql_connection import REFUSE
@@ -33,7 +34,9 @@ def prepare(dsn: str, tables: Sequence[str]) -> None:
     prepare_store(dsn)
     connection = psycopg2.connect(dsn)
     try:
+        connection.set_session(isolation_level="READ COMMITTED")  # to see what was waited for
         with connection, connection.cursor() as cursor:
+            cursor.execute(ONE_AT_A_TIME)
             make(cursor, tables)
             look(cursor, tables)
     finally:

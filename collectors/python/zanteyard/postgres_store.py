@@ -93,13 +93,20 @@ def quoted(table: str) -> str:
     return ".".join(parts)
 
 
+# Who makes the audit's tables waits for who does so: IF NOT EXISTS alone lets both begin, and one
+# of them fail. The number is of no meaning.
+ONE_AT_A_TIME = "SELECT pg_catalog.pg_advisory_xact_lock(7161637279617264)"
+
+
 def prepare(dsn: str, table: str = "zanteyard") -> None:
     """Makes the table, where it isn't there; one that is there and wasn't prepared before is read
     once, for the names of its runs."""
     connection = psycopg2.connect(dsn)
     try:
+        connection.set_session(isolation_level="READ COMMITTED")  # to see what was waited for
         with connection:
             cursor, its = connection.cursor(), quoted(table)
+            cursor.execute(ONE_AT_A_TIME)
             cursor.execute(TABLE.format(table=its))
             cursor.execute(FIRST.format(table=its), (RUNS, "", "", -1, 0))
             if cursor.fetchone() is not None:
