@@ -1,4 +1,4 @@
-"""The auditor beside a plain model of it: what bench/fuzz.py gives it, for a quarter of a minute; and
+"""The auditor beside a plain model of it: what bench/fuzz.py gives it, for a minute; and
 that what would be wrong is found, by lies that are told between the auditor and the model."""
 import json
 import multiprocessing
@@ -23,7 +23,7 @@ import judge  # noqa: E402
 from plain_proofs import check_tree  # noqa: E402
 from plain_verdicts import Wrong  # noqa: E402
 
-LINES, SECONDS = 15000, 15.0  # what is tried, at most; bench/fuzz.py tries more
+LINES, SECONDS = 300000, 60.0  # what is tried, at most; bench/fuzz.py tries more
 SEED = 3
 FOUND = 1500  # lines within which each lie is found
 LEFT = 3  # lines, at most, that the script of a lie is made small to
