@@ -2,6 +2,8 @@
 import io
 import os
 import re
+import subprocess
+import sys
 import tempfile
 import unittest
 from contextlib import redirect_stderr, redirect_stdout
@@ -48,6 +50,37 @@ class Commands(unittest.TestCase):
 
     def check(self, *lines, command=("check",)):
         return run(*command, self.script(*lines))
+
+    def test_mistakes_are_told_in_words(self):
+        """Those that are made first: no file, one that is none, and one without a script."""
+        begins = 'a script begins with ["open",..], or by ["resume",..] up to ["resumed"]'
+        not_open = f"mistake: no audit is open where the script ends: {begins}\n"
+        missing = os.path.join(self.folder, "missing.jsonl")
+        for path, told in (
+            (missing, f"mistake: {missing}: No such file or directory\n"),
+            (self.folder, f"mistake: {self.folder}: Is a directory\n"),
+            (self.script(), not_open),
+            (self.script("", ""), not_open),
+        ):
+            with self.subTest(path=path):
+                self.assertEqual(run("check", path), (2, "", told))
+
+    def test_output_that_nobody_reads_is_no_mistake(self):
+        """As in `zanteyard demo | head`, whether the pipe ends before or behind what is told."""
+        for command in (["demo", "--no-html"], ["check", self.script(*LOST, '["round",32,0,1]')]):
+            with self.subTest(command=command):
+                reading, writing = os.pipe()
+                os.close(reading)
+                with open(writing, "wb") as nobody:
+                    ended = subprocess.run(
+                        [sys.executable, "-m", "zanteyard", *command],
+                        stdout=nobody,
+                        stderr=subprocess.PIPE,
+                        timeout=60,
+                        check=False,
+                    )
+                told = b"undecided: nobody reads what it tells\n"
+                self.assertEqual((ended.returncode, ended.stderr), (4, told))
 
     def test_five_statuses_over_five_scripts(self):
         spent = ("check", "--nodes", "1")

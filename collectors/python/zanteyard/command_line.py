@@ -35,17 +35,30 @@ def main(words: Optional[Sequence[str]] = None) -> int:
     try:
         asked = parser().parse_args(words)
         status: int = asked.run(asked)
+        sys.stdout.flush()
         return status
     except ProgramEndedError as error:
         return _told(UNDECIDED, f"undecided: {error}")
     except ImportRefusedError as error:
         return _told(MISTAKE, f"refused: {error}")
-    except (ZanteyardError, OSError) as error:
+    except ZanteyardError as error:
         return _told(MISTAKE, f"mistake: {error}")
+    except BrokenPipeError:
+        _let_go_of_output()
+        return _told(UNDECIDED, "undecided: nobody reads what it tells")
+    except OSError as error:
+        why = f"{error.filename}: {error.strerror}" if error.filename else str(error)
+        return _told(MISTAKE, f"mistake: {why}")
     except KeyboardInterrupt:
         return _told(UNDECIDED, "undecided: it was interrupted")
     except Exception:  # Python's own status would be 1, which says violated
         return _told(UNDECIDED, traceback.format_exc().rstrip())
+
+
+def _let_go_of_output() -> None:
+    """What is left of it would be written as Python ends, which would make another error of it."""
+    with contextlib.suppress(OSError), open(os.devnull, "w", encoding="utf-8") as nowhere:
+        os.dup2(nowhere.fileno(), sys.stdout.fileno())
 
 
 def _told(status: int, words: str) -> int:

@@ -123,14 +123,17 @@ class JournalVersionError(JournalError):
 
 
 class ScriptMistakeError(ZanteyardError):
-    """A line of a script was refused: the script is wrong, and nothing is said of the store."""
+    """A line of a script was refused, or none opens an audit (`refusal` is "nothing"): the script
+    is wrong, and nothing is said of the store."""
 
     def __init__(self, line_number: int, refusal: str, advice: str = "") -> None:
         self.line_number = line_number
         self.refusal = refusal
         self.advice = advice
-        more = f": {advice}" if advice else ""
-        super().__init__(f"line {line_number} was answered {refusal}{more}")
+        what = f"line {line_number} was answered {refusal}"
+        if refusal == "nothing":
+            what = "no audit is open where the script ends"
+        super().__init__(f"{what}: {advice}" if advice else what)
 
 
 class ImportRefusedError(ZanteyardError):
