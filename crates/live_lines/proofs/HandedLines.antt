@@ -23,7 +23,6 @@ use Rattle.live_lines.specs.declared.notes.Note.{Note}
 use Rattle.live_lines.specs.declared.notes.Note.TheVariants as note
 use Rattle.live_lines.specs.Inputs.{AsksFor, Says, AreHandedIn, start, said, skipped, bad_line, AreAllHandedIn}
 use Rattle.live_lines.specs.Notes.{about_of}
-use Rattle.live_lines.specs.Skips.{AsksToSkip}
 use Rattle.live_lines.specs.Threads.{HandsOn, PassesOver}
 use Rattle.live_lines.proofs.OtherCommands.{hands_only}
 
