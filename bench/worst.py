@@ -148,6 +148,18 @@ def wide_fences(count):
     return [[*txns, [[[0, "init"]], [0]]]]
 
 
+def handed_on(count):
+    """Pairs, of which the one writes 256 keys of their own, and the other reads and overwrites
+    them."""
+    sessions = [[] for _ in range(64)]
+    for pair in range(count // 2):
+        first, keys = pair % 32 * 2, list(range(1 + pair * MOST, 1 + (pair + 1) * MOST))
+        place = len(sessions[first])
+        sessions[first].append([[], keys])
+        sessions[first + 1].append([[[key, first, place] for key in keys], keys])
+    return sessions
+
+
 def one_reader(count):
     """One key, one writer that is read, and as many other writers as there is room for, each of
     which may stand on either side: the search goes as deep as it may."""
@@ -220,6 +232,7 @@ def rounds(size, some):
         "chain of 256 keys, half as long": partial(chain, size // 2, MOST),
         "chain of 256 keys": partial(chain, size, MOST, 64),
         "keys that no other writes": partial(wide_fences, size),
+        "keys that two write, one behind the other": partial(handed_on, size),
         "blind, 1 key": partial(blind, size, 1),
         "blind, 1 key, one writer read": partial(blind, size, 1, is_one=True),
         "blind, 16 keys": partial(blind, size, 16),
