@@ -164,11 +164,13 @@ const NO_COMMANDS: [&str; 18] = [
 ];
 
 #[test]
-fn first_run(rt: HostRuntime) -> Result<(), Fail> {
-    let mut sink = sink(rt.alloc());
-    let ran = demo_run(&rt, rt.alloc(), Fault::None, 1, 1, &mut sink);
-    assert_eq!(rt; ran, Ok(()));
-    assert_eq!(rt; text_in(&sink), HONEST);
+fn first_runs(rt: HostRuntime) -> Result<(), Fail> {
+    for (fault, wanted) in [(Fault::None, HONEST), (Fault::LostUpdate, LOST)] {
+        let mut sink = sink(rt.alloc());
+        let ran = demo_run(&rt, rt.alloc(), fault, 1, 1, &mut sink);
+        assert_eq!(rt; ran, Ok(()));
+        assert_eq!(rt; text_in(&sink), wanted);
+    }
     Ok(())
 }
 
