@@ -77,6 +77,9 @@ def longest():
         "reads": filled(b'["offer",0,0,[[[', b"[7,0,0]", b"],[]]]]"),
         "an order": filled(b'["answer","order",[', b"[0,0]", b"]]"),
         "splits": filled(b'["answer","refuted",[', b'["split",[0,0,0,0,0,0,0]]', b"]]"),
+        "a tree of splits": filled(b'["answer","refuted",[',
+                                   b'["split",[0,0,0,0,0,0,0]],["gone",0,0,0]',
+                                   b',["gone",0,0,0]]]'),
         "lists as deep as a command's": filled(b"[", b"[[[[0]]]]", b"]"),
         "lists in lists": b"[" + b",".join(
             [b"[" * 100 + b"0" + b"]" * 100] * (LONGEST // 202)) + b"]",
@@ -183,6 +186,17 @@ def split_pairs(count):
     return sessions
 
 
+def open_chain(size):
+    """A chain of 256 keys, and behind it six pairs of writers that nothing orders, of other keys:
+    each worker that searches them has a relation over all of it."""
+    pairs, made = split_pairs(18), chain(size - 18, MOST, 63)
+    behind = [len(txns) for txns in made]
+    for session, txns in enumerate(pairs):
+        made[session] += [[[[key + MOST, at, place + behind[at]] for key, at, place in reads],
+                           [key + MOST for key in writes]] for reads, writes in txns]
+    return made
+
+
 def stores(size):
     """Stores of 64 sessions whose clients write what they haven't read, some with stale reads."""
     for keys, blind, stale, behind in ((16, 0.9, 0.0, 0), (256, 0.9, 0.0, 0), (64, 0.5, 0.0, 0),
@@ -243,6 +257,7 @@ def rounds(size, some):
         "nothing but its sessions": lambda: [[[[], []]] * (size // 64) for _ in range(64)],
         "one read, all others blind": partial(one_reader, size),
         "pairs that nothing orders": partial(split_pairs, size),
+        "chain of 256 keys and open pairs": partial(open_chain, size),
         **dict(stores(size)),
         **dict(contradictions(size)),
         **dict(refuted_stores(size)),
@@ -251,7 +266,7 @@ def rounds(size, some):
              for what in made for budget in BUDGETS]
     asked += [(f"round of 65536, depth 6, 16 workers, {what}", what, [65536, 6, 16])
               for what in ("blind, 1 key", "one read, all others blind",
-                           "pairs that nothing orders")]
+                           "pairs that nothing orders", "chain of 256 keys and open pairs")]
     for name, what, effort in asked:
         if some in name:
             yield name, opened(made[what]()), compact(["round", *effort])
