@@ -7,6 +7,7 @@ use Rattle.std.specs.BTreeMap.{BTreeMap}
 use Rattle.std.proofs.lemmas.Bool.{eqb-true, false≢true}
 use Rattle.txn.specs.declared.transactions.TxnId.{TxnId}
 use Rattle.order_check.specs.declared.remainder.Parts.{Parts}
+use Rattle.known_graph.specs.declared.sparse.Word.{Word}
 use Rattle.forced_choices.specs.declared.tables.by_key.ByKey.{ByKey}
 use Rattle.forced_choices.specs.declared.tables.reads.Placed.{Placed}
 use Rattle.forced_choices.specs.ByKeys.{AreIndexed, AreRows, IsRead}
@@ -17,7 +18,7 @@ use Rattle.forced_choices.proofs.Members.{In, filter_in, in_filter, in_place}
 use Rattle.forced_choices.proofs.TableReads.{no_read}
 
 -- what holds of more keys
-pub columns_asked : (Wide Asked : ℕ → Type 0) → ((key : ℕ) → Asked key → Wide key) → (parts : Parts) (nodes : List (Option TxnId)) (ids : List TxnId) (masks : BTreeMap ℕ (Vec ℕ Global)) (columns : List ℕ) (n : ℕ) → AreColumns Wide parts nodes ids masks columns n → AreColumns Asked parts nodes ids masks columns n
+pub columns_asked : (Wide Asked : ℕ → Type 0) → ((key : ℕ) → Asked key → Wide key) → (parts : Parts) (nodes : List (Option TxnId)) (ids : List TxnId) (masks : BTreeMap ℕ (Vec Word Global)) (columns : List ℕ) (n : ℕ) → AreColumns Wide parts nodes ids masks columns n → AreColumns Asked parts nodes ids masks columns n
 columns_asked Wide Asked wider parts nodes ids masks columns n are = record {
   counted = are.counted;
   placed = are.placed;

@@ -9,6 +9,7 @@ use Rattle.txn.specs.declared.transactions.TxnId.{TxnId}
 use Rattle.order_check.specs.declared.remainder.Parts.{Parts}
 use Rattle.known_graph.specs.Bits.{HasBit}
 use Rattle.known_graph.specs.Graphs.{IsAt}
+use Rattle.known_graph.specs.declared.sparse.Word.{Word}
 use Rattle.forced_choices.specs.Listing.{writes_here}
 use Rattle.forced_choices.specs.Masks.{AreColumns, IsAnyKey, mask_of}
 use Rattle.forced_choices.specs.WriterPlaces.{AreWriterPlaces, places_at, those_at}
@@ -16,7 +17,7 @@ use Rattle.forced_choices.proofs.PlacesOfWriters.{places_more}
 use Rattle.forced_choices.proofs.WriterRows.{no_id, columns_more}
 
 -- what holds of the first so many ids holds where more follow
-columns_wider : (parts : Parts) (nodes : List (Option TxnId)) (ids more : List TxnId) (masks : BTreeMap ℕ (Vec ℕ Global)) (columns : List ℕ) (n : ℕ) → n ≤ length ids → AreColumns IsAnyKey parts nodes ids masks columns n → AreColumns IsAnyKey parts nodes (ids ++ more) masks columns n
+columns_wider : (parts : Parts) (nodes : List (Option TxnId)) (ids more : List TxnId) (masks : BTreeMap ℕ (Vec Word Global)) (columns : List ℕ) (n : ℕ) → n ≤ length ids → AreColumns IsAnyKey parts nodes ids masks columns n → AreColumns IsAnyKey parts nodes (ids ++ more) masks columns n
 columns_wider parts nodes ids more masks columns n low are = record {
   counted = are.counted;
   placed = λ k d below. subst (λ id. IsAt nodes (get_or columns k 0) id) (same k d below) (are.placed k d below);
@@ -45,7 +46,7 @@ one_longer : (ids : List TxnId) (id : TxnId) → length ids + 1 ≡ length (ids 
 one_longer ids id = omega (arith, length-append ids (id ∷ []))
 
 -- one more id, with its column
-pub column_pushed : (parts : Parts) (nodes : List (Option TxnId)) (ids : List TxnId) (id : TxnId) (masks more : BTreeMap ℕ (Vec ℕ Global)) (columns : List ℕ) (column : ℕ) → IsAt nodes column id →
+pub column_pushed : (parts : Parts) (nodes : List (Option TxnId)) (ids : List TxnId) (id : TxnId) (masks more : BTreeMap ℕ (Vec Word Global)) (columns : List ℕ) (column : ℕ) → IsAt nodes column id →
     ((key j : ℕ) → HasBit (mask_of masks key) j → HasBit (mask_of more key) j) → ((key : ℕ) → writes_here parts key id ≡ true → HasBit (mask_of more key) column) →
     AreColumns IsAnyKey parts nodes ids masks columns (length ids) → AreColumns IsAnyKey parts nodes (ids ++ id ∷ []) more (columns ++ column ∷ []) (length (ids ++ id ∷ []))
 column_pushed parts nodes ids id masks more columns column at kept added are =

@@ -16,12 +16,13 @@ use Rattle.txn.specs.declared.choices.Arc.{Arc}
 use Rattle.txn.specs.declared.choices.Choice.{Choice}
 use Rattle.order_check.specs.declared.remainder.Parts.{Parts}
 use Rattle.known_graph.specs.Bits.{HasBit}
+use Rattle.known_graph.specs.declared.sparse.Word.{Word}
 use Rattle.forced_choices.specs.declared.tables.reads.Placed.{Placed}
 use Rattle.forced_choices.specs.declared.tables.table.Table.{Table}
 use Rattle.forced_choices.specs.declared.saturation.touched.Touched.{Touched}
 use Rattle.forced_choices.specs.ByKeys.{AreIndexed, IsRead, reads_at}
 use Rattle.forced_choices.specs.Forcing.{AreAllSettledUnless, HasLooked, IsThere, Stage}
-use Rattle.forced_choices.specs.Masks.{AreColumns, AreThere, choices_in, mask_of, words_in}
+use Rattle.forced_choices.specs.Masks.{AreColumns, AreThere, choices_in, mask_of, row_in}
 use Rattle.forced_choices.specs.Tables.{IsLookup, choices_at}
 use Rattle.forced_choices.specs.WriterPlaces.{places_at}
 use Rattle.forced_choices.proofs.Members.{In, in_either, in_left, in_right, in_flat_map, flat_map_in, in_place, map_in}
@@ -117,20 +118,20 @@ same_key : (key other : ℕ) → is_at (nat_cmp key) other ≡ true → other �
 same_key key other at = sym (exact_unsigned key other (is_equal (nat_cmp key other) at))
 
 -- a key with a bit in its row is one of the keys
-pub row_key : (key j : ℕ) (es : List (ℕ × Vec ℕ Global)) → HasBit (words_in (lookup (is_at (nat_cmp key)) es)) j → In (keys_of es) key
+pub row_key : (key j : ℕ) (es : List (ℕ × Vec Word Global)) → HasBit (row_in (lookup (is_at (nat_cmp key)) es)) j → In (keys_of es) key
 row_key key j [] has = absurd (no_bit_here j has)
 row_key key j (e ∷ es) has = by_test (is_at (nat_cmp key) e.0) refl has (row_key key j es)
   where
-    by_test : (t : Bool) → is_at (nat_cmp key) e.0 ≡ t → HasBit (words_in (cond t (Some e.1) (lookup (is_at (nat_cmp key)) es))) j → (HasBit (words_in (lookup (is_at (nat_cmp key)) es)) j → In (keys_of es) key) → In (e.0 ∷ keys_of es) key
+    by_test : (t : Bool) → is_at (nat_cmp key) e.0 ≡ t → HasBit (row_in (cond t (Some e.1) (lookup (is_at (nat_cmp key)) es))) j → (HasBit (row_in (lookup (is_at (nat_cmp key)) es)) j → In (keys_of es) key) → In (e.0 ∷ keys_of es) key
     by_test true at has rest = inl (same_key key e.0 at)
     by_test false at has rest = inr (rest has)
 
 -- the keys that are left, after one more
-keys_left : (left new : List (ℕ × Vec ℕ Global)) (entry : ℕ × Vec ℕ Global) (key : ℕ) → left ≡ entry ∷ new → In (keys_of left) key → (entry.0 ≡ key) ⊎ In (keys_of new) key
-keys_left left new entry key is h = subst (λ (es : List (ℕ × Vec ℕ Global)). In (keys_of es) key) is h
+keys_left : (left new : List (ℕ × Vec Word Global)) (entry : ℕ × Vec Word Global) (key : ℕ) → left ≡ entry ∷ new → In (keys_of left) key → (entry.0 ≡ key) ⊎ In (keys_of new) key
+keys_left left new entry key is h = subst (λ (es : List (ℕ × Vec Word Global)). In (keys_of es) key) is h
 
 -- after one more key each read was looked at, or its key is left
-pub looked_or_left : (parts : Parts) (table : Table) (done : List Choice) (left new : List (ℕ × Vec ℕ Global)) (entry : ℕ × Vec ℕ Global) (k : ℕ) → AreIndexed table.reads.items table.by_key → left ≡ entry ∷ new → k < length table.reads.items →
+pub looked_or_left : (parts : Parts) (table : Table) (done : List Choice) (left new : List (ℕ × Vec Word Global)) (entry : ℕ × Vec Word Global) (k : ℕ) → AreIndexed table.reads.items table.by_key → left ≡ entry ∷ new → k < length table.reads.items →
     ((choice : Choice) → In (choices_in parts table.ids.items (get_or table.reads.items k no_read).read) choice → In done choice) ⊎ In (keys_of left) (get_or table.reads.items k no_read).read.key →
     ((choice : Choice) → In (choices_in parts table.ids.items (get_or table.reads.items k no_read).read) choice → In (done ++ choices_at parts table.ids.items (reads_at table.reads.items (places_at table.by_key.reads.lists entry.0))) choice) ⊎ In (keys_of new) (get_or table.reads.items k no_read).read.key
 looked_or_left parts table done left new entry k indexed is within (inl was) = inl (λ choice h. in_left done (choices_at parts table.ids.items (reads_at table.reads.items (places_at table.by_key.reads.lists entry.0))) choice (was choice h))

@@ -15,6 +15,7 @@ use Rattle.order_check.specs.declared.remainder.Parts.{Parts}
 use Rattle.order_check.specs.Known.{IsChoice, ReadsKey, WritesKey}
 use Rattle.known_graph.specs.Bits.{HasBit}
 use Rattle.known_graph.specs.Graphs.{IsAt}
+use Rattle.known_graph.specs.declared.sparse.Word.{Word}
 use Rattle.forced_choices.specs.declared.tables.reads.Read.{Read}
 use Rattle.forced_choices.specs.declared.tables.reads.Placed.{Placed}
 use Rattle.forced_choices.specs.declared.saturation.touched.Touched.{Touched}
@@ -55,7 +56,7 @@ of_read parts ids read choice reads written h = each_choice parts read (λ c. Is
     (subst (λ (x : Choice). IsChoice parts x) (sym facts.0) is, ap (λ (x : Choice). x.writer) facts.0, ap (λ (x : Choice). x.reader) facts.0)) choice h
 
 -- those of a read of which nothing was joined are settled
-pub untouched_by : (Asked : ℕ → Type 0) (parts : Parts) (nodes : List (Option TxnId)) (arcs : List Arc) (ids : List TxnId) (masks : BTreeMap ℕ (Vec ℕ Global)) (columns : List ℕ) (some : Touched) (placed : Placed) → IsPlaced parts nodes placed → AreColumns Asked parts nodes ids masks columns (length ids) → Asked placed.read.key → AreAllSettledUnless parts nodes arcs some → (¬ MayBeJoined some placed.writer_at placed.reader_at) → ((k : ℕ) → HasBit (mask_of masks placed.read.key) k → ¬ MayBeJoined some placed.writer_at k) → ((k : ℕ) → HasBit (mask_of masks placed.read.key) k → ¬ MayBeJoined some k placed.reader_at) → AreThere arcs (choices_in parts ids placed.read)
+pub untouched_by : (Asked : ℕ → Type 0) (parts : Parts) (nodes : List (Option TxnId)) (arcs : List Arc) (ids : List TxnId) (masks : BTreeMap ℕ (Vec Word Global)) (columns : List ℕ) (some : Touched) (placed : Placed) → IsPlaced parts nodes placed → AreColumns Asked parts nodes ids masks columns (length ids) → Asked placed.read.key → AreAllSettledUnless parts nodes arcs some → (¬ MayBeJoined some placed.writer_at placed.reader_at) → ((k : ℕ) → HasBit (mask_of masks placed.read.key) k → ¬ MayBeJoined some placed.writer_at k) → ((k : ℕ) → HasBit (mask_of masks placed.read.key) k → ¬ MayBeJoined some k placed.reader_at) → AreThere arcs (choices_in parts ids placed.read)
 untouched_by Asked parts nodes arcs ids masks columns some placed is are asked settled no_read no_after no_before choice side h =
     each_choice parts placed.read (λ c. IsThere arcs (record { choice = c; side = side })) ids (λ k d within c here.
     let other = get_or ids k d in

@@ -12,6 +12,7 @@ use Rattle.txn.specs.declared.transactions.TxnId.{TxnId}
 use Rattle.order_check.specs.declared.remainder.Parts.{Parts}
 use Rattle.known_graph.specs.Bits.{HasBit}
 use Rattle.known_graph.specs.Graphs.{IsAt}
+use Rattle.known_graph.specs.declared.sparse.Word.{Word}
 use Rattle.forced_choices.specs.Listing.{writes_here}
 use Rattle.forced_choices.specs.Masks.{AreAllWriters, AreColumns, mask_of}
 
@@ -19,7 +20,7 @@ abbrev pub no_id : TxnId
 no_id = record { session = 0; number = 0 }
 
 -- the row of a key is taken out, and put back with one more bit
-pub put_bit : (old mid new : BTreeMap ℕ (Vec ℕ Global)) (key column : ℕ) (mask more : List ℕ) → mask ≡ mask_of old key → ((other : ℕ) → other ≢ key → mask_of mid other ≡ mask_of old other) → ((j : ℕ) → HasBit more j ↔ (HasBit mask j ⊎ (j ≡ column))) → mask_of new key ≡ more → ((other : ℕ) → other ≢ key → mask_of new other ≡ mask_of mid other) →
+pub put_bit : (old mid new : BTreeMap ℕ (Vec Word Global)) (key column : ℕ) (mask more : List ℕ) → mask ≡ mask_of old key → ((other : ℕ) → other ≢ key → mask_of mid other ≡ mask_of old other) → ((j : ℕ) → HasBit more j ↔ (HasBit mask j ⊎ (j ≡ column))) → mask_of new key ≡ more → ((other : ℕ) → other ≢ key → mask_of new other ≡ mask_of mid other) →
     (other j : ℕ) → HasBit (mask_of new other) j ↔ (HasBit (mask_of old other) j ⊎ ((other ≡ key) × (j ≡ column)))
 put_bit old mid new key column mask more taken others bits put rest other j = by_key (cases_eq other key)
   where
@@ -55,7 +56,7 @@ any_place key (x ∷ xs) h = by_test (nat_eq key x) refl h (any_place key xs)
     by_test false e h rest = more (rest h)
 
 -- one more column
-pub columns_more : (Asked : ℕ → Type 0) (parts : Parts) (nodes : List (Option TxnId)) (ids : List TxnId) (masks more : BTreeMap ℕ (Vec ℕ Global)) (columns : List ℕ) (n column : ℕ) → n < length ids → IsAt nodes column (get_or ids n no_id) →
+pub columns_more : (Asked : ℕ → Type 0) (parts : Parts) (nodes : List (Option TxnId)) (ids : List TxnId) (masks more : BTreeMap ℕ (Vec Word Global)) (columns : List ℕ) (n column : ℕ) → n < length ids → IsAt nodes column (get_or ids n no_id) →
     ((key j : ℕ) → HasBit (mask_of masks key) j → HasBit (mask_of more key) j) → ((key : ℕ) → Asked key → writes_here parts key (get_or ids n no_id) ≡ true → HasBit (mask_of more key) column) →
     AreColumns Asked parts nodes ids masks columns n → AreColumns Asked parts nodes ids more (columns ++ column ∷ []) (n + 1)
 columns_more Asked parts nodes ids masks more columns n column within at kept added are = record {
@@ -85,7 +86,7 @@ columns_more Asked parts nodes ids masks more columns n column within at kept ad
     masked k d key (inr up) below asked writes = let late = last k below up in subst (λ c. HasBit (mask_of more key) c) (sym late.1) (added key asked (subst (λ id. writes_here parts key id ≡ true) (sym (id_at k d late.0)) writes))
 
 -- the columns that are added to the rows of some keys, as they are added to one more, and to all
-pub only_more : (old before new : BTreeMap ℕ (Vec ℕ Global)) (keys : List ℕ) (column i : ℕ) → i < length keys →
+pub only_more : (old before new : BTreeMap ℕ (Vec Word Global)) (keys : List ℕ) (column i : ℕ) → i < length keys →
     ((other j : ℕ) → HasBit (mask_of before other) j → (HasBit (mask_of old other) j ⊎ ((j ≡ column) × ((k : ℕ) × (k < i) × (get_or keys k 0 ≡ other))))) →
     ((other j : ℕ) → HasBit (mask_of new other) j ↔ (HasBit (mask_of before other) j ⊎ ((other ≡ get_or keys i 0) × (j ≡ column)))) →
     (other j : ℕ) → HasBit (mask_of new other) j → (HasBit (mask_of old other) j ⊎ ((j ≡ column) × ((k : ℕ) × (k < i + 1) × (get_or keys k 0 ≡ other))))
@@ -99,7 +100,7 @@ only_more old before new keys column i within only tells other j has = by_part (
     by_part (inl had) = earlier (only other j had)
     by_part (inr (at, is)) = inr (is, (i, omega arith, sym at))
 
-pub only_within : (old new : BTreeMap ℕ (Vec ℕ Global)) (keys : List ℕ) (column i : ℕ) → i ≤ length keys →
+pub only_within : (old new : BTreeMap ℕ (Vec Word Global)) (keys : List ℕ) (column i : ℕ) → i ≤ length keys →
     ((other j : ℕ) → HasBit (mask_of new other) j → (HasBit (mask_of old other) j ⊎ ((j ≡ column) × ((k : ℕ) × (k < i) × (get_or keys k 0 ≡ other))))) →
     (other j : ℕ) → HasBit (mask_of new other) j → (HasBit (mask_of old other) j ⊎ ((j ≡ column) × ((k : ℕ) × (k < length keys) × (get_or keys k 0 ≡ other))))
 only_within old new keys column i low only other j has = by_part (only other j has)
@@ -109,7 +110,7 @@ only_within old new keys column i low only other j has = by_part (only other j h
     by_part (inr (is, (k, below, at))) = inr (is, (k, omega (arith, below, low), at))
 
 -- those of one more id
-pub only_writers : (parts : Parts) (ids : List TxnId) (masks more : BTreeMap ℕ (Vec ℕ Global)) (keys columns : List ℕ) (n column : ℕ) → n < length ids → length columns ≡ n →
+pub only_writers : (parts : Parts) (ids : List TxnId) (masks more : BTreeMap ℕ (Vec Word Global)) (keys columns : List ℕ) (n column : ℕ) → n < length ids → length columns ≡ n →
     ((key j : ℕ) → HasBit (mask_of more key) j → (HasBit (mask_of masks key) j ⊎ ((j ≡ column) × ((k : ℕ) × (k < length keys) × (get_or keys k 0 ≡ key))))) →
     ((k : ℕ) → k < length keys → writes_here parts (get_or keys k 0) (get_or ids n no_id) ≡ true) →
     AreAllWriters parts ids masks columns n → AreAllWriters parts ids more (columns ++ column ∷ []) (n + 1)

@@ -12,6 +12,8 @@ use Rattle.order_check.specs.declared.remainder.Parts.{Parts}
 use Rattle.known_graph.specs.Bits.{HasBit}
 use Rattle.known_graph.specs.Graphs.{IsAt}
 use Rattle.known_graph.specs.Reach.{Reaches}
+use Rattle.known_graph.specs.Sparse.{dense}
+use Rattle.known_graph.specs.declared.sparse.Word.{Word}
 use Rattle.forced_choices.specs.declared.tables.reads.Read.{Read}
 use Rattle.forced_choices.specs.declared.tables.writers.Writers.{Writers}
 use Rattle.forced_choices.specs.Ascending.{In}
@@ -23,22 +25,27 @@ abbrev pub words_in : Option (Vec ℕ Global) → List ℕ
 words_in None = []
 words_in (Some row) = row.items
 
+-- the whole row, of which the words that have bits are kept
+abbrev pub row_in : Option (Vec Word Global) → List ℕ
+row_in None = []
+row_in (Some words) = dense words.items
+
 -- the row of a key, which has no word where none writes it
-abbrev pub mask_of : BTreeMap ℕ (Vec ℕ Global) → ℕ → List ℕ
-mask_of masks key = words_in (get nat_cmp masks key)
+abbrev pub mask_of : BTreeMap ℕ (Vec Word Global) → ℕ → List ℕ
+mask_of masks key = row_in (get nat_cmp masks key)
 
 -- all keys
 abbrev pub IsAnyKey : ℕ → Type 0
 IsAnyKey key = ⊤
 
 -- so many of the ids have their columns, and stand in the rows of those keys that they write and that are asked for
-pub record AreColumns (Asked : ℕ → Type 0) (parts : Parts) (nodes : List (Option TxnId)) (ids : List TxnId) (masks : BTreeMap ℕ (Vec ℕ Global)) (columns : List ℕ) (n : ℕ) : Type 0 where
+pub record AreColumns (Asked : ℕ → Type 0) (parts : Parts) (nodes : List (Option TxnId)) (ids : List TxnId) (masks : BTreeMap ℕ (Vec Word Global)) (columns : List ℕ) (n : ℕ) : Type 0 where
   pub counted : length columns ≡ n
   pub placed : (k : ℕ) (d : TxnId) → k < n → IsAt nodes (slice_index columns k) (slice_index_or ids k d)
   pub masked : (k : ℕ) (d : TxnId) (key : ℕ) → k < n → Asked key → writes_here parts key (slice_index_or ids k d) ≡ true → HasBit (mask_of masks key) (slice_index columns k)
 
 -- each column in the row of a key is that of one of the first so many ids, which writes the key
-abbrev pub AreAllWriters : Parts → List TxnId → BTreeMap ℕ (Vec ℕ Global) → List ℕ → ℕ → Type 0
+abbrev pub AreAllWriters : Parts → List TxnId → BTreeMap ℕ (Vec Word Global) → List ℕ → ℕ → Type 0
 AreAllWriters parts ids masks columns n = (key j : ℕ) → HasBit (mask_of masks key) j → (k : ℕ) × (k < n) × (slice_index columns k ≡ j) × ((d : TxnId) → writes_here parts key (slice_index_or ids k d) ≡ true)
 
 -- all of them

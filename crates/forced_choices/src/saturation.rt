@@ -17,9 +17,9 @@ pub mod touched;
 
 use crate::saturation::looking::{Trail, look_at_read};
 use crate::saturation::since::{Delta, are_settled_since};
-use crate::saturation::touched::{Touched, meets, spans_of, untouched};
+use crate::saturation::touched::{Touched, spans_of, untouched};
 use crate::tables::table::Lookup;
-use known_graph::Graph;
+use known_graph::{Graph, row_of_words, words_meet};
 use std::alloc::Global;
 use std::mem;
 use txn::{ForceStep, NoMemory};
@@ -64,7 +64,8 @@ fn look_at_key(
     ensures nodes { OnOk result (graph.new.nodes ≡ graph.old.nodes) }
     ensures mark { last_mark graph.new ≡ last_mark graph.old }
 {
-    let mask = lookup.table.writers.mask(key);
+    let row = row_of_words(alloc, lookup.table.writers.mask(key))?;
+    let mask = row.as_slice();
     let reads = lookup.table.reads.as_slice();
     for place in lookup.table.by_key.reads.of_key(key) {
         let placed = reads[*place];
@@ -96,7 +97,7 @@ fn look_at_touched(
     let spans = spans_of(touched);
     let delta = Delta { touched, spans };
     for (key, row) in &lookup.table.by_key.rows {
-        if !meets(row.as_slice(), &touched.targets, spans.targets) {
+        if !words_meet(row.as_slice(), &touched.targets) {
             continue;
         }
         look_at_key(alloc, lookup, graph, trail, &delta, *key)?;

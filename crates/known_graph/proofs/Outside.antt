@@ -127,31 +127,3 @@ within_none row other within but all j is = elim (all j is.0 is.1) [
   | inl has ↦ is.2 has
   | inr same ↦ is.3 same
 ]
-
--- the columns of a row that none of four has
-abbrev pub IsUncovered : List ℕ → List ℕ → List ℕ → List ℕ → List ℕ → ℕ → Type 0
-IsUncovered row a b c d j = HasBit row j × (¬ HasBit a j) × (¬ HasBit b j) × (¬ HasBit c j) × (¬ HasBit d j)
-
-pub uncovered_word : (row a b c d : List ℕ) (place word first second third fourth j : ℕ) → word ≡ get_or row place 0 → first ≡ get_or a place 0 → second ≡ get_or b place 0 → third ≡ get_or c place 0 → fourth ≡ get_or d place 0 →
-    first < 2 ^ 64 → second < 2 ^ 64 → third < 2 ^ 64 → fourth < 2 ^ 64 → j / 64 ≡ place →
-    (bit_at (bit_and (bit_and (bit_and (bit_and word (18446744073709551615 - first)) (18446744073709551615 - second)) (18446744073709551615 - third)) (18446744073709551615 - fourth)) (j % 64) ≡ 1) ↔ IsUncovered row a b c d j
-uncovered_word row a b c d place word first second third fourth j is is_first is_second is_third is_fourth fits_first fits_second fits_third fits_fourth here =
-    let one = bit_and word (18446744073709551615 - first) in
-    let two = bit_and one (18446744073709551615 - second) in
-    let three = bit_and two (18446744073709551615 - third) in
-    let in_row = bits_at row word place j is here in
-    let less_a = bits_less a first place j is_first here word fits_first in
-    let less_b = bits_less b second place j is_second here one fits_second in
-    let less_c = bits_less c third place j is_third here two fits_third in
-    let less_d = bits_less d fourth place j is_fourth here three fits_fourth in (
-      λ has. let fourth_less = less_d.0 has in let third_less = less_c.0 fourth_less.0 in let second_less = less_b.0 third_less.0 in let first_less = less_a.0 second_less.0 in (in_row.0 first_less.0, first_less.1, second_less.1, third_less.1, fourth_less.1),
-      λ was. less_d.1 (less_c.1 (less_b.1 (less_a.1 (in_row.1 was.0, was.1), was.2), was.3), was.4),
-    )
-
-pub covered_none : (row a b c d : List ℕ) → ((j : ℕ) → HasBit row j → HasBit a j ⊎ HasBit b j ⊎ HasBit c j ⊎ HasBit d j) → (j : ℕ) → ¬ IsUncovered row a b c d j
-covered_none row a b c d all j is = elim (all j is.0) [
-  | inl has ↦ is.1 has
-  | inr (inl has) ↦ is.2 has
-  | inr (inr (inl has)) ↦ is.3 has
-  | inr (inr (inr has)) ↦ is.4 has
-]

@@ -8,7 +8,7 @@ use crate::bits::word_of;
 use crate::spans::Span;
 
 /// The word at the place, less the column's bit, which is no other word's.
-fn word_but(word: u64, place: usize, column: usize) -> u64
+pub(crate) fn word_but(word: u64, place: usize, column: usize) -> u64
     ensures { (j : ℕ) → j / 64 ≡ place → (bit_at result (j % 64) ≡ 1) ↔ ((bit_at word (j % 64) ≡ 1) × (j ≢ column)) }
 {
     if column / 64 == place {
@@ -71,26 +71,6 @@ pub fn meet_within_among(
 {
     for k in span.front..span.behind {
         if outside_among(few, row, other, within, but, k) != 0 {
-            return false;
-        }
-    }
-    true
-}
-
-/// Of the word at the place the bits of the row's columns that none of the four has.
-fn uncovered_at(row: &[u64], a: &[u64], b: &[u64], c: &[u64], d: &[u64], place: usize) -> u64
-    ensures { (j : ℕ) → j / 64 ≡ place → (bit_at result (j % 64) ≡ 1) ↔ (HasBit row.now j × (¬ HasBit a.now j) × (¬ HasBit b.now j) × (¬ HasBit c.now j) × (¬ HasBit d.now j)) }
-{
-    let first = word_of(row, place) & !word_of(a, place) & !word_of(b, place);
-    first & !word_of(c, place) & !word_of(d, place)
-}
-
-/// Whether each column of the row is in one of the four.
-pub fn is_covered(row: &[u64], a: &[u64], b: &[u64], c: &[u64], d: &[u64]) -> bool
-    ensures { IsTrue result ↔ ((j : ℕ) → HasBit row.now j → (HasBit a.now j ⊎ HasBit b.now j ⊎ HasBit c.now j ⊎ HasBit d.now j)) }
-{
-    for k in 0..row.len() {
-        if row[k] != 0 && uncovered_at(row, a, b, c, d, k) != 0 {
             return false;
         }
     }

@@ -14,9 +14,13 @@ mod numbers;
 mod paths;
 mod rows;
 mod spans;
+mod sparse;
 mod trail;
 
 pub use bits::{bit_count, clear_bit, clear_bits, has_bit, is_clear, keep_bits, or_into, set_bit};
 pub use digraph::{Addition, Graph};
-pub use inclusion::{is_covered, meet_within, meet_within_among};
+pub use inclusion::{meet_within, meet_within_among};
 pub use spans::{Span, span_of};
+pub use sparse::{
+    Word, are_words_covered, put_column, row_of_words, words_meet, words_meet_within,
+};

@@ -4,6 +4,7 @@ ghost use Rattle.txn.specs.declared.transactions.TxnId.{TxnId};
 ghost use Rattle.txn.specs.declared.choices.Choice.{Choice};
 ghost use Rattle.known_graph.specs.Bits.{HasBit};
 ghost use Rattle.known_graph.specs.Graphs.{IsAt};
+ghost use Rattle.known_graph.specs.Sparse.{dense};
 ghost use Rattle.forced_choices.specs.ByKeys.{IsRead};
 ghost use Rattle.forced_choices.specs.Listing.{all_ids, choices_of};
 ghost use Rattle.forced_choices.specs.Masks.{AreTold, choice_of, choices_in};
@@ -13,17 +14,17 @@ ghost use Rattle.forced_choices.specs.WriterPlaces.{ArePlaces};
 
 use crate::tables::reads::{Placed, Read};
 use crate::tables::table::Lookup;
-use known_graph::{Graph, clear_bits, is_covered};
+use known_graph::{Graph, Word, are_words_covered, clear_bits, row_of_words};
 use std::alloc::Global;
 use txn::{Choice, NoMemory};
 
 /// Whether each column of the mask is reached by the writer or by the reader, or reaches one of them. Nearly all reads are so, and no
 /// row is made for them.
-pub fn are_decided(graph: &Graph, mask: &[u64], placed: Placed) -> bool
+pub fn are_decided(graph: &Graph, mask: &[Word], placed: Placed) -> bool
     requires { IsAtColumns graph.now.nodes placed }
-    ensures { result ≡ true → (j : ℕ) (other : TxnId) → HasBit mask.now j → IsAt graph.now.nodes j other → ¬ IsUndecided graph.now.arcs (choice_of placed.read other) }
+    ensures { result ≡ true → (j : ℕ) (other : TxnId) → HasBit (dense mask.now) j → IsAt graph.now.nodes j other → ¬ IsUndecided graph.now.arcs (choice_of placed.read other) }
 {
-    is_covered(
+    are_words_covered(
         mask,
         graph.row_at(placed.writer_at),
         graph.row_of_sources_at(placed.reader_at),
@@ -47,14 +48,14 @@ fn clear_four(row: &mut [u64], a: &[u64], b: &[u64], c: &[u64], d: &[u64])
 pub fn open_columns(
     alloc: Global,
     graph: &Graph,
-    mask: &[u64],
+    mask: &[Word],
     placed: Placed,
 ) -> Result<Vec<u64>, NoMemory>
     requires { IsAtColumns graph.now.nodes placed }
-    ensures told { IfOk result (λ row. (j : ℕ) (other : TxnId) → HasBit mask.now j → IsAt graph.now.nodes j other → TellsOpen graph.now.arcs row.items j (choice_of placed.read other)) }
-    ensures within { IfOk result (λ row. (j : ℕ) → HasBit row.items j → HasBit mask.now j) }
+    ensures told { IfOk result (λ row. (j : ℕ) (other : TxnId) → HasBit (dense mask.now) j → IsAt graph.now.nodes j other → TellsOpen graph.now.arcs row.items j (choice_of placed.read other)) }
+    ensures within { IfOk result (λ row. (j : ℕ) → HasBit row.items j → HasBit (dense mask.now) j) }
 {
-    let mut open = Vec::from_slice(alloc, mask)?;
+    let mut open = row_of_words(alloc, mask)?;
     clear_four(
         &mut open,
         graph.row_at(placed.writer_at),

@@ -11,7 +11,7 @@ ghost use Rattle.forced_choices.specs.WriterPlaces.{places_at, HasPlace};
 use crate::tables::places::{Places, add_place, keys_with_place};
 use crate::tables::reads::Placed;
 use crate::tables::writers::{add_column, add_writes, column_of, writes_of};
-use known_graph::Graph;
+use known_graph::{Graph, Word};
 use order_check::Parts;
 use std::alloc::Global;
 use std::collections::BTreeMap;
@@ -20,8 +20,8 @@ use txn::{NoMemory, TxnId};
 /// For each key the columns of its writers and of its readers, and where its reads stand.
 #[derive(Drop, Debug)]
 pub struct ByKey {
-    /// A bit for each column.
-    pub rows: BTreeMap<u64, Vec<u64>>,
+    /// The words that have a bit for a column.
+    pub rows: BTreeMap<u64, Vec<Word>>,
     pub reads: Places,
 }
 

@@ -1,14 +1,16 @@
-// The writers of each key as rows of bits, so that 64 of them are looked at in one step.
+// The writers of each key as rows of bits, so that up to 64 of them are looked at in one step. Of a row only the words that have bits
+// are kept: a key with few writers takes few, however many transactions there are.
 ghost use Rattle.std.specs.Prelude.{◌≡◌, ◌≢◌, ◌⊎◌, ◌↔◌, ℕ, ◌+◌, ◌/◌, ◌<◌, ◌≤◌, All, Contains, IfOk, OnOk, true, List, length, slice_index, slice_index_or};
 ghost use Rattle.txn.specs.declared.transactions.TxnId.{TxnId};
 ghost use Rattle.known_graph.specs.Bits.{HasBit};
 ghost use Rattle.known_graph.specs.Graphs.{HasNode, IsAt};
+ghost use Rattle.known_graph.specs.Sparse.{dense};
 ghost use Rattle.forced_choices.specs.Listing.{writes_here};
 ghost use Rattle.forced_choices.specs.Masks.{mask_of, AreAllWriters, AreWriters};
 ghost use Rattle.forced_choices.specs.WriterPlaces.{HasPlace};
 
 use crate::tables::places::{Places, keys_with_place};
-use known_graph::{Graph, set_bit};
+use known_graph::{Graph, Word, put_column, set_bit};
 use order_check::Parts;
 use std::alloc::Global;
 use std::collections::BTreeMap;
@@ -18,19 +20,19 @@ use txn::{NoMemory, TxnId};
 /// The columns of transactions, which are their keys in a graph, and the writers of each key.
 #[derive(Drop, Debug)]
 pub struct Writers {
-    /// For each key a bit for each column, up to that of its last writer.
-    pub masks: BTreeMap<u64, Vec<u64>>,
+    /// For each key the words that have a bit for the column of a writer.
+    pub masks: BTreeMap<u64, Vec<Word>>,
     /// The column of each id, in the order of the ids.
     pub columns: Vec<usize>,
 }
 
 impl Writers {
     /// The bits of the writers of a key.
-    pub fn mask(&self, key: u64) -> &[u64]
-        ensures { result.now ≡ mask_of self.now.masks key }
+    pub fn mask(&self, key: u64) -> &[Word]
+        ensures { dense result.now ≡ mask_of self.now.masks key }
     {
         match self.masks.get(&key) {
-            Some(mask) => mask.as_slice(),
+            Some(words) => words.as_slice(),
             None => &[],
         }
     }
@@ -78,8 +80,8 @@ pub fn with_bit(mut row: Vec<u64>, column: usize) -> Result<Vec<u64>, NoMemory>
 }
 
 /// Takes out the row of a key. Its place is kept, with an empty row: to remove it and to insert it anew would move other keys twice.
-fn take_mask(alloc: Global, masks: &mut BTreeMap<u64, Vec<u64>>, key: u64) -> Vec<u64>
-    ensures taken { result.items ≡ mask_of masks.old key }
+fn take_mask(alloc: Global, masks: &mut BTreeMap<u64, Vec<Word>>, key: u64) -> Vec<Word>
+    ensures taken { dense result.items ≡ mask_of masks.old key }
     ensures others { (other : ℕ) → other ≢ key → mask_of masks.new other ≡ mask_of masks.old other }
 {
     match masks.get_mut(&key) {
@@ -89,8 +91,8 @@ fn take_mask(alloc: Global, masks: &mut BTreeMap<u64, Vec<u64>>, key: u64) -> Ve
 }
 
 /// Puts in the row of a key.
-fn put_mask(masks: &mut BTreeMap<u64, Vec<u64>>, key: u64, mask: Vec<u64>) -> Result<(), NoMemory>
-    ensures put { OnOk result (mask_of masks.new key ≡ mask.items) }
+fn put_mask(masks: &mut BTreeMap<u64, Vec<Word>>, key: u64, mask: Vec<Word>) -> Result<(), NoMemory>
+    ensures put { OnOk result (mask_of masks.new key ≡ dense mask.items) }
     ensures others { OnOk result ((other : ℕ) → other ≢ key → mask_of masks.new other ≡ mask_of masks.old other) }
 {
     masks.insert(key, mask)?;
@@ -100,22 +102,22 @@ fn put_mask(masks: &mut BTreeMap<u64, Vec<u64>>, key: u64, mask: Vec<u64>) -> Re
 /// Adds a column to the row of a key.
 pub fn add_column(
     alloc: Global,
-    masks: &mut BTreeMap<u64, Vec<u64>>,
+    masks: &mut BTreeMap<u64, Vec<Word>>,
     key: u64,
     column: usize,
 ) -> Result<(), NoMemory>
     ensures { OnOk result ((other j : ℕ) → HasBit (mask_of masks.new other) j ↔ (HasBit (mask_of masks.old other) j ⊎ ((other ≡ key) × (j ≡ column)))) }
 {
-    let mask = take_mask(alloc, masks, key);
-    let more = with_bit(mask, column)?;
-    put_mask(masks, key, more)?;
+    let mut mask = take_mask(alloc, masks, key);
+    put_column(&mut mask, column)?;
+    put_mask(masks, key, mask)?;
     Ok(())
 }
 
 /// Adds a writer to the rows of these keys.
 pub fn add_writes(
     alloc: Global,
-    masks: &mut BTreeMap<u64, Vec<u64>>,
+    masks: &mut BTreeMap<u64, Vec<Word>>,
     keys: &[u64],
     column: usize,
 ) -> Result<(), NoMemory>

@@ -35,13 +35,13 @@ loop-place-preserved-then-are_settled_since c =
     let within : place < length table.reads.items = all_in (λ place. place < length table.reads.items) (places_at table.by_key.reads.lists c.args.key) place (c.requires.table.indexed.within c.args.key) among in
     let is : IsPlaced parts nodes placed = subst (λ (xs : List Placed). IsPlaced parts nodes (get_or xs place no_read)) (sym c.as_slice-reads.ensures.value) (c.requires.table.placed place no_read within) in
     let same : placed.read.key ≡ c.args.key = ap (λ (xs : List Placed). (get_or xs place no_read).read.key) c.as_slice-reads.ensures.value ∙ c.requires.table.indexed.keyed c.args.key place no_read among in
-    let mask = c.mask-mask.ensures ∙ ap (λ key. mask_of table.writers.masks key) (sym same) in
+    let mask = c.as_slice-mask.ensures.value ∙ c.in_ok-row.ensures ∙ c.mask.ensures ∙ ap (λ key. mask_of table.writers.masks key) (sym same) in
     let read : IsRead table.reads.items placed.read.key = (placed, subst (λ (xs : List Placed). In table.reads.items (get_or xs place no_read)) (sym c.as_slice-reads.ensures.value) (in_place table.reads.items place no_read within), refl) in
-    let others = subst (λ (nodes : List (Option TxnId)). (j : ℕ) (other : TxnId) → HasBit c.mask-mask.result.now j → IsAt nodes j other → other ≢ placed.read.reader → other ≢ placed.read.writer → IsUntouchedAt since placed j ⊎ IsSettled c.loop-place.graph.arcs placed.read other) c.loop-place.invariant.nodes (c.are_settled_since.ensures.others yes) in
+    let others = subst (λ (nodes : List (Option TxnId)). (j : ℕ) (other : TxnId) → HasBit c.as_slice-mask.result.now j → IsAt nodes j other → other ≢ placed.read.reader → other ≢ placed.read.writer → IsUntouchedAt since placed j ⊎ IsSettled c.loop-place.graph.arcs placed.read other) c.loop-place.invariant.nodes (c.are_settled_since.ensures.others yes) in
     record {
       looked = λ start before looked settled.
           let front = before ++ choices_at parts ids (reads_at reads (take k places)) in
-          looked_more parts nodes start middle ids reads places k before c.loop-place-test.true (looked_since (IsRead table.reads.items) parts nodes start middle ids table.writers c.mask-mask.result.now since placed front is c.requires.table.writers read mask (c.loop-place.invariant.looked start before looked settled) settled (c.are_settled_since.ensures.read yes) others);
+          looked_more parts nodes start middle ids reads places k before c.loop-place-test.true (looked_since (IsRead table.reads.items) parts nodes start middle ids table.writers c.as_slice-mask.result.now since placed front is c.requires.table.writers read mask (c.loop-place.invariant.looked start before looked settled) settled (c.are_settled_since.ensures.read yes) others);
       nodes = c.loop-place.invariant.nodes;
       mark = c.loop-place.invariant.mark;
     }

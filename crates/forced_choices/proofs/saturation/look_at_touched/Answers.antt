@@ -4,14 +4,17 @@ use Rattle.std.specs.declared.alloc.Global.{Global}
 use Rattle.std.specs.Map.{keys_of}
 use Rattle.std.specs.Map.Iter.{deref_pair}
 use Rattle.std.specs.Cmp.{nat_cmp_total}
+use Rattle.std.proofs.lemmas.Bool.{false≢true}
 use Rattle.std.proofs.lemmas.Map.Iter.{btree_map_turn, rest_more, rest_all}
 use Rattle.txn.specs.declared.transactions.TxnId.{TxnId}
 use Rattle.txn.specs.declared.choices.Choice.{Choice}
 use Rattle.known_graph.specs.Bits.{HasBit}
 use Rattle.known_graph.specs.Graphs.{HasKey}
+use Rattle.known_graph.specs.Sparse.{dense}
+use Rattle.known_graph.specs.declared.sparse.Word.{Word}
 use Rattle.forced_choices.specs.ByKeys.{reads_at}
 use Rattle.forced_choices.specs.Forcing.{Stage, stage_of, HasLooked, AreAllSettledUnless}
-use Rattle.forced_choices.specs.Masks.{words_in}
+use Rattle.forced_choices.specs.Masks.{row_in}
 use Rattle.forced_choices.specs.Tables.{IsLookup, choices_at}
 use Rattle.forced_choices.specs.WriterPlaces.{places_at}
 use Rattle.forced_choices.proofs.Forced.{looked_none}
@@ -29,7 +32,7 @@ loop-key-init c =
       looked = looked_none c.args.lookup.now.parts.now c.args.graph.now.nodes (stage_of c.args.graph.now c.args.trail.now);
       each = λ k within.
           let placed = get_or table.reads.items k no_read in
-          inr (subst (λ (es : List (ℕ × Vec ℕ Global)). In (keys_of es) placed.read.key) (sym c.into_iter-key-iterator.ensures.into_iter_gives.0) (row_key placed.read.key placed.reader_at table.by_key.rows.entries (c.requires.table.indexed.readers k no_read within)));
+          inr (subst (λ (es : List (ℕ × Vec Word Global)). In (keys_of es) placed.read.key) (sym c.into_iter-key-iterator.ensures.into_iter_gives.0) (row_key placed.read.key placed.reader_at table.by_key.rows.entries (c.requires.table.indexed.readers k no_read within)));
       nodes = refl;
       mark = refl;
     }
@@ -60,21 +63,21 @@ loop-key-preserved c =
     }
 
 -- where nobody of the key's row is reached by more
-pub loop-key-preserved-then-not-meets : goal.loop-key-preserved-then-not-meets
-loop-key-preserved-then-not-meets c =
+pub loop-key-preserved-then-not-words_meet : goal.loop-key-preserved-then-not-words_meet
+loop-key-preserved-then-not-words_meet c =
     let parts = c.args.lookup.now.parts.now in
     let table = c.args.lookup.now.table.now in
     let nodes = c.args.graph.now.nodes in
     let key = c.in-Some.key.now in
-    let row = c.as_slice.result.now in
+    let row = dense c.as_slice.result.now in
     let touched = c.args.touched.now in
     let start = stage_of c.args.graph.now c.args.trail.now in
     let middle = stage_of c.loop-key.graph c.loop-key.trail in
     let done = c.loop-key.invariant.done in
     let own = choices_at parts table.ids.items (reads_at table.reads.items (places_at table.by_key.reads.lists key)) in
     let turn = btree_map_turn deref_pair c.loop-key.yielded c.into_iter-key-iterator.result c.loop-key.key-iterator c.next.new.self c.next.result (c.in-Some.key, c.in-Some.row) c.loop-key.yielded_by c.in-Some.is c.next.ensures.steps nat_cmp_total table.by_key.rows (search rules) (search rules) in
-    let same = c.as_slice.ensures.value ∙ ap (λ (found : Option (Vec ℕ Global)). words_in found) (sym turn.1) in
-    let bare : (j : ℕ) → HasBit row j → ¬ HasBit touched.targets.items j = λ j has. subst (λ (row : List ℕ). ¬ HasBit row j) c.deref.ensures.value (c.meets.ensures c.if-not-meets.true j has) in
+    let same = ap dense c.as_slice.ensures.value ∙ ap (λ (found : Option (Vec Word Global)). row_in found) (sym turn.1) in
+    let bare : (j : ℕ) → HasBit row j → ¬ HasBit touched.targets.items j = λ j has also. absurd (false≢true (sym c.if-not-words_meet.true ∙ c.words_meet.ensures.1 (j, has, subst (λ (row : List ℕ). HasBit row j) (sym c.deref.ensures.value) also))) in
     let left = rest_more deref_pair c.loop-key.key-iterator c.next.new.self c.next.result (c.in-Some.key, c.in-Some.row) c.in-Some.is c.next.ensures.steps in
     record {
       done = done ++ own;
@@ -93,5 +96,5 @@ returns-clause-looked c =
     all_done parts c.args.graph.now.nodes (stage_of c.args.graph.now c.args.trail.now) (stage_of c.loop-key.graph c.loop-key.trail) table.ids.items reads c.loop-key.invariant.done c.loop-key.invariant.looked
     (λ k within choice h. elim (c.loop-key.invariant.each k within) [
       | inl was ↦ was choice h
-      | inr still ↦ absurd (subst (λ (es : List (ℕ × Vec ℕ Global)). In (keys_of es) (get_or reads k no_read).read.key) none still)
+      | inr still ↦ absurd (subst (λ (es : List (ℕ × Vec Word Global)). In (keys_of es) (get_or reads k no_read).read.key) none still)
     ])

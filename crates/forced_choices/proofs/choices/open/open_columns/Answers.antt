@@ -1,6 +1,7 @@
 use Rattle.std.proofs.Common.{◌∙◌, ◌↔◌, ℕ, List, ap, arith, length, sym, subst}
 use Rattle.std.proofs.lemmas.List.{with_items_is}
 use Rattle.known_graph.specs.Bits.{HasBit}
+use Rattle.known_graph.specs.Sparse.{dense}
 use Rattle.forced_choices.specs.Masks.{choice_of}
 use Rattle.forced_choices.specs.Undecided.{TellsOpen}
 use Rattle.forced_choices.proofs.OpenReads.{tells_open}
@@ -9,8 +10,8 @@ use Rattle.forced_choices.proofs.choices.open.open_columns.Goals as goal
 pub returns-clause-told : goal.returns-clause-told
 returns-clause-told c =
     let read = c.args.placed.read in
-    let mask = c.args.mask.now in
-    let same = c.deref_mut.ensures.value ∙ c.in_ok-open.ensures.items in
+    let mask = dense c.args.mask.now in
+    let same = c.deref_mut.ensures.value ∙ c.in_ok-open.ensures in
     let is = with_items_is c.in_ok-open.open c.clear_four.new.row (omega (arith, c.clear_four.ensures.len, ap length c.deref_mut.ensures.value, c.in_ok-open.open.ok.0)) in
     λ j other masked at.
     let bits = subst (λ old. HasBit c.clear_four.new.row j ↔ (HasBit old j × (¬ HasBit c.row_at.result.now j) × (¬ HasBit c.row_of_sources_at.result.now j) × (¬ HasBit c.row_of_sources_at-2.result.now j) × (¬ HasBit c.row_at-2.result.now j))) same (c.clear_four.ensures.bits j) in
@@ -19,6 +20,6 @@ returns-clause-told c =
 
 pub returns-clause-within : goal.returns-clause-within
 returns-clause-within c =
-    let same = c.deref_mut.ensures.value ∙ c.in_ok-open.ensures.items in
+    let same = c.deref_mut.ensures.value ∙ c.in_ok-open.ensures in
     let is = with_items_is c.in_ok-open.open c.clear_four.new.row (omega (arith, c.clear_four.ensures.len, ap length c.deref_mut.ensures.value, c.in_ok-open.open.ok.0)) in
     λ j has. subst (λ (row : List ℕ). HasBit row j) same ((c.clear_four.ensures.bits j).0 (subst (λ (row : List ℕ). HasBit row j) is has)).0

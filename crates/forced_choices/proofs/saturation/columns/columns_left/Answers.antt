@@ -2,6 +2,7 @@ use Rattle.std.proofs.Common.{ap, arith, length, sym, subst, inl, inr}
 use Rattle.std.proofs.lemmas.List.{with_items_is}
 use Rattle.known_graph.specs.Bits.{HasBit}
 use Rattle.known_graph.specs.Reach.{Reaches}
+use Rattle.known_graph.specs.Sparse.{dense}
 use Rattle.forced_choices.proofs.SettledReads.{told_by_rows}
 use Rattle.forced_choices.proofs.TableReads.{apart_columns}
 use Rattle.forced_choices.proofs.saturation.columns.columns_left.Goals as goal
@@ -24,6 +25,6 @@ returns c = λ j other masked at bare not_reader not_writer.
     let none_left : ¬ HasBit left j = λ has. gone (c.join_others.ensures.kept j (inl (subst (λ row. HasBit row j) (sym c.deref_mut.ensures.value) has)) no_reader no_writer) in
     let none_before : ¬ HasBit before j = λ has. gone (c.join_others.ensures.kept j (inr (subst (λ row. HasBit row j) (sym c.deref.ensures.value) has)) no_reader no_writer) in
     record {
-      after = told_by_rows nodes (Reaches arcs read.writer) (Reaches arcs read.reader) c.args.mask.now c.row_at-after_writer.result.now c.row_at-after_reader.result.now left j other masked at (c.row_at-after_writer.ensures read.writer c.requires.writer j) (c.row_at-after_reader.ensures read.reader c.requires.reader j) (c.in_ok-left.ensures.bits j) none_left;
-      before = told_by_rows nodes (λ a. Reaches arcs a read.reader) (λ a. Reaches arcs a read.writer) c.args.mask.now c.row_of_sources_at-before_reader.result.now c.row_of_sources_at-before_writer.result.now before j other masked at (c.row_of_sources_at-before_reader.ensures read.reader c.requires.reader j) (c.row_of_sources_at-before_writer.ensures read.writer c.requires.writer j) (c.in_ok-before.ensures.bits j) none_before;
+      after = told_by_rows nodes (Reaches arcs read.writer) (Reaches arcs read.reader) (dense c.args.mask.now) c.row_at-after_writer.result.now c.row_at-after_reader.result.now left j other masked at (c.row_at-after_writer.ensures read.writer c.requires.writer j) (c.row_at-after_reader.ensures read.reader c.requires.reader j) (c.in_ok-left.ensures.bits j) none_left;
+      before = told_by_rows nodes (λ a. Reaches arcs a read.reader) (λ a. Reaches arcs a read.writer) (dense c.args.mask.now) c.row_of_sources_at-before_reader.result.now c.row_of_sources_at-before_writer.result.now before j other masked at (c.row_of_sources_at-before_reader.ensures read.reader c.requires.reader j) (c.row_of_sources_at-before_writer.ensures read.writer c.requires.writer j) (c.in_ok-before.ensures.bits j) none_before;
     }
