@@ -3,6 +3,7 @@ pub mod BuiltTrees
 pub mod EachItem
 pub mod GainedData
 pub mod HandedAnswers
+pub mod HeldWhole
 pub mod PlainCommands
 pub mod ReadObjects
 pub mod ReportsRead

@@ -1,5 +1,6 @@
 pub mod Building
 pub mod Commands
+pub mod Held
 pub mod Items
 pub mod Lists
 pub mod Numbers

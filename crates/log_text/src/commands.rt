@@ -2,12 +2,14 @@ ghost use Rattle.std.specs.Prelude.{◌≡◌, ◌⊎◌, IfOk, IfErr, IfSome, I
 ghost use Rattle.serde_json.specs.View.{view, items_view};
 ghost use Rattle.order_check.specs.Effort.{IsEffort};
 ghost use Rattle.log_text.specs.declared.commands.Command.{Command};
+ghost use Rattle.log_text.specs.Held.{held};
 ghost use Rattle.log_text.specs.Items.{alone, list_of, one_item, two_items};
 ghost use Rattle.log_text.specs.Numbers.{whole_number, session_of};
 ghost use Rattle.log_text.specs.Commands.{start_in, fragment_at, fragment_in, offer_in, joined_in, join_in, txn_of, close_in, effort_in, finish_in, round_in, resume_in, marks_in, last_in, save_named, save_in, command_named, command_in, command_of, IsCommand, HasLimits};
 
 use crate::fragments::txns_of;
 use crate::handed::{flags_of, marks_of, writers_of};
+use crate::held::held;
 use crate::numbers::{number_within, session_of, whole_number};
 use crate::objects::has_object;
 use crate::shown::{Shown, answer_of};
@@ -414,5 +416,18 @@ pub fn read_line(alloc: Global, line: &[u8]) -> Result<Command, Refusal>
     match answer_of(alloc, &value)? {
         Some(shown) => Ok(Command::Answer(shown)),
         None => Err(Refusal::BadLine),
+    }
+}
+
+/// The same, of which no more than so many transactions are held, where there is a bound.
+pub fn read_line_within(alloc: Global, line: &[u8], most: Option<usize>) -> Result<Command, Refusal>
+    ensures ok { IfOk result (λ given. (whole : Command) × IsCommand line.now whole × (given ≡ held most whole)) }
+    ensures limits { IfOk result HasLimits }
+    ensures err { IfErr result (λ refusal. ((refusal ≡ Refusal.NoMemory) × IsUtf8 line.now)
+        ⊎ ((refusal ≡ Refusal.BadLine) × ((command : Command) → ¬ IsCommand line.now command))) }
+{
+    match read_line(alloc, line) {
+        Ok(command) => Ok(held(command, most)),
+        Err(refusal) => Err(refusal),
     }
 }

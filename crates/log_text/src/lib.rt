@@ -5,6 +5,7 @@ mod building;
 mod commands;
 mod fragments;
 mod handed;
+mod held;
 mod lists;
 mod numbers;
 mod objects;
@@ -15,7 +16,7 @@ mod tree_items;
 mod trees;
 mod versions;
 
-pub use commands::{Command, Wanted, read_line};
+pub use commands::{Command, Wanted, read_line, read_line_within};
 pub use replies::{Reply, write_reply};
 pub use saved::Saved;
 pub use shown::{Shown, read_shown};
