@@ -2,6 +2,7 @@ pub mod AskedLines
 pub mod Checkpoints
 pub mod GivenOut
 pub mod HandedWriters
+pub mod HeldCommands
 pub mod LastTold
 pub mod LineCounts
 pub mod OtherCommands

@@ -1,5 +1,6 @@
 pub mod Checkpoints
 pub mod HandOver
+pub mod Held
 pub mod LastTold
 pub mod Outputs
 pub mod Programs

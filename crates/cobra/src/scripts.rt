@@ -2,6 +2,7 @@ ghost use Rattle.std.specs.Prelude.{◌≡◌, ℕ, List, IfOk, IfSome, IfNone, 
 ghost use Rattle.log_text.specs.Commands.{HasLimits};
 ghost use Rattle.log_text.specs.Replies.{HasKindOfOrder};
 ghost use Rattle.order_check.specs.Effort.{IsEffort};
+ghost use Rattle.cobra.specs.Held.{AsksWithin};
 ghost use Rattle.cobra.specs.Outputs.{Asks, IsTold, AnswersNext, RepliesTo};
 ghost use Rattle.cobra.specs.Scripts.{EndsRound, IsRound, IsStep, IsTakenIn, AnswersOpen, Answers};
 ghost use Rattle.cobra.specs.declared.stages.Stage.{Stage};
@@ -13,7 +14,7 @@ use crate::saving::saved_told;
 use crate::showing::state_told;
 use crate::stages::Stage;
 use byte_lines::Next;
-use log_text::{Command, Reply, Version, read_line, write_reply};
+use log_text::{Command, Reply, Version, read_line_within, write_reply};
 use logged_fragments::LoggedFragment;
 use polygraph::Solver;
 use round_state::{Step, StepReply};
@@ -204,9 +205,13 @@ fn answered<S: Solver>(
     }
 }
 
-/// The command that was read, where it was one.
-pub fn command_in(alloc: Global, next: &Next) -> Result<Option<Command>, NoMemory>
-    ensures some { IfOk result (λ found. IfSome found (λ command. (line : List ℕ) → IsTold line next.now → Asks line command)) }
+/// What is held of the command that was read, where it was one.
+fn command_within(
+    alloc: Global,
+    next: &Next,
+    most: Option<usize>,
+) -> Result<Option<Command>, NoMemory>
+    ensures some { IfOk result (λ found. IfSome found (λ command. (line : List ℕ) → IsTold line next.now → AsksWithin most line command)) }
     ensures none { IfOk result (λ found. IfNone found ((line : List ℕ) → IsTold line next.now → (command : Command) → ¬ Asks line command)) }
     ensures limits { IfOk result (λ found. IfSome found HasLimits) }
 {
@@ -214,13 +219,22 @@ pub fn command_in(alloc: Global, next: &Next) -> Result<Option<Command>, NoMemor
         Next::Line(line) => line,
         Next::TooLong | Next::End => return Ok(None),
     };
-    match read_line(alloc, line) {
+    match read_line_within(alloc, line, most) {
         Ok(command) => Ok(Some(command)),
         Err(refusal) => match refusal {
             Refusal::NoMemory => Err(AllocError),
             _ => Ok(None),
         },
     }
+}
+
+/// The command that was read, where it was one.
+pub fn command_in(alloc: Global, next: &Next) -> Result<Option<Command>, NoMemory>
+    ensures some { IfOk result (λ found. IfSome found (λ command. (line : List ℕ) → IsTold line next.now → Asks line command)) }
+    ensures none { IfOk result (λ found. IfNone found ((line : List ℕ) → IsTold line next.now → (command : Command) → ¬ Asks line command)) }
+    ensures limits { IfOk result (λ found. IfSome found HasLimits) }
+{
+    command_within(alloc, next, None)
 }
 
 impl Script {
@@ -258,7 +272,8 @@ impl Script {
         ensures answers { IfOk result (λ answer. AnswersNext self.old.stage next.now answer self.new.stage) }
         ensures kind { IfOk result HasKindOfOrder }
     {
-        match command_in(alloc, next)? {
+        let most = self.stage.most_held();
+        match command_within(alloc, next, most)? {
             Some(command) => self.answer(alloc, command, solver),
             None => Ok(Reply::No(Refusal::BadLine)),
         }

@@ -1,6 +1,12 @@
+ghost use Rattle.std.specs.Prelude.{◌≤◌, IfSome, IfNone};
+ghost use Rattle.cobra.specs.Held.{IsHanding, IsEnough};
+
 use crate::handing::Handing;
 use crate::open_engine::OpenEngine;
 use log_text::Version;
+
+/// One more than a fragment may have.
+const TOO_MANY: usize = 257;
 
 /// How far a script is.
 #[derive(Drop)]
@@ -23,4 +29,19 @@ pub(crate) enum Stage {
         engine: OpenEngine,
         version: Version,
     },
+}
+
+impl Stage {
+    /// How many transactions of an offer or a join are held, where not all are. One that has more than a fragment may have is refused
+    /// whatever they are, so too many of them are as good as all; but what is handed over may have any number.
+    pub(crate) fn most_held(&self) -> Option<usize>
+        ensures enough { IsEnough self.now result }
+        ensures few { IfSome result (λ most. most ≤ 257) }
+        ensures all { IfNone result (IsHanding self.now) }
+    {
+        match self {
+            Stage::Handing { .. } => None,
+            _ => Some(TOO_MANY),
+        }
+    }
 }

@@ -1,9 +1,11 @@
-use Rattle.cobra.proofs.AskedLines.{asks_none}
+use Rattle.std.proofs.Common.{ℕ, List, None, IfSome}
+use Rattle.std.proofs.lemmas.Result.{IfOk-weaker}
+use Rattle.cobra.specs.Held.{AsksWithin}
+use Rattle.cobra.specs.Outputs.{Asks, IsTold}
+use Rattle.cobra.proofs.AskedLines.{asks_whole}
 use Rattle.cobra.proofs.scripts.command_in.Goals as goal
 
-pub returns-in_default : goal.returns-in_default
-returns-in_default c = record {
-  some = tt;
-  none = rw c.in-Line.is (asks_none c.in-Line.line c.deref.result.now c.in-Err.refusal c.deref.ensures.value c.in_default.not-NoMemory c.in-Err.ensures.err);
-  limits = tt;
-}
+pub returns-clause-some : goal.returns-clause-some
+returns-clause-some c =
+    IfOk-weaker c.command_within.result (λ found. IfSome found (λ command. (line : List ℕ) → IsTold line c.args.next.now → AsksWithin None line command)) (λ found. IfSome found (λ command. (line : List ℕ) → IsTold line c.args.next.now → Asks line command))
+    (λ found. asks_whole c.args.next.now found) c.command_within.ensures.some

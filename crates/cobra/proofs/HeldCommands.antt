@@ -1,0 +1,162 @@
+-- A command of which only the first transactions are held is answered as the whole one is, where more than an offer may have are held
+-- and no parts are handed over.
+use Rattle.std.proofs.Common.{◌≡◌, ◌≢◌, ℕ, ◌<◌, ◌≤◌, ◌⊎◌, Bool, not, Some, List, length, take, refl, sym, ap, subst, ◌∙◌, inl, inr, ⊎_elim, arith}
+use Rattle.std.specs.List.{list_any}
+use Rattle.std.proofs.lemmas.Bool.{cases_lt}
+use Rattle.std.proofs.lemmas.List.{length-take-le, take_all}
+use Rattle.txn.specs.declared.transactions.Txn.{Txn}
+use Rattle.txn.specs.declared.transactions.Fragment.{Fragment}
+use Rattle.txn.specs.declared.refusals.Refusal.{Refusal}
+use Rattle.txn.specs.declared.refusals.Refusal.TheVariants.{BadSession, TooLong, RoundOpen, NoMemory}
+use Rattle.txn.specs.Transactions.{HasGoodLengths, FragmentFault}
+use Rattle.order_check.specs.declared.remainder.Parts.{Parts}
+use Rattle.logged_fragments.specs.declared.logged.LoggedFragment.{LoggedFragment}
+use Rattle.log_text.specs.declared.commands.Command.{Command}
+use Rattle.log_text.specs.declared.commands.Command.TheVariants.{Offer, Join}
+use Rattle.log_text.specs.declared.replies.Reply.{Reply}
+use Rattle.log_text.specs.declared.versions.Version.{Version}
+use Rattle.log_text.specs.declared.versions.Version.TheVariants.{One, Two}
+use Rattle.log_text.specs.Held.{held}
+use Rattle.log_text.specs.Versions.{has_form}
+use Rattle.round_state.specs.EngineState.{EngineState}
+use Rattle.round_state.specs.Steps.{IsOfferRefusal, IsJoinRefusal}
+use Rattle.round_state.specs.declared.steps.Step.{Step}
+use Rattle.round_state.specs.declared.steps.Step.TheVariants as step
+use Rattle.round_state.specs.declared.steps.StepReply.{StepReply}
+use Rattle.round_state.specs.declared.steps.StepReply.TheVariants as reply
+use Rattle.cobra.specs.Held.{IsEnough}
+use Rattle.cobra.specs.Scripts.{Goes, IsStep, IsTakenIn, AnswersOpen, BeginsAnew, AnswersResuming}
+use Rattle.cobra.specs.declared.handing.Handing.{Handing}
+use Rattle.cobra.specs.declared.stages.Stage.{Stage}
+use Rattle.cobra.specs.declared.stages.Stage.TheVariants as stage
+
+-- Two fragments of a session, with the same flags, have more transactions than an offer may have.
+record AreTooLong (front whole : LoggedFragment) : Type 0 where
+  session : front.fragment.session ≡ whole.fragment.session
+  flags : front.aborted ≡ whole.aborted
+  front_long : 256 < length front.fragment.txns
+  whole_long : 256 < length whole.fragment.txns
+
+no_good_lengths : (fragment : Fragment) → 256 < length fragment.txns → HasGoodLengths fragment → ⊥
+no_good_lengths fragment long good = let few : length fragment.txns ≤ 256 = good.few in omega arith
+
+-- neither of them is well formed, and each is refused for the same
+long_fault : (front whole : LoggedFragment) (refusal : Refusal) → AreTooLong front whole → FragmentFault front.fragment refusal → FragmentFault whole.fragment refusal
+long_fault front whole BadSession long fault = subst (λ (s : ℕ). 64 ≤ s) long.session fault
+long_fault front whole TooLong long fault = (subst (λ (s : ℕ). s < 64) long.session fault.0, no_good_lengths whole.fragment long.whole_long)
+long_fault front whole refusal long fault = absurd (no_good_lengths front.fragment long.front_long fault.1)
+
+-- no step takes a fragment in that is too long, and each is refused as the other
+offer_refusal : (parts : Parts) (front whole : LoggedFragment) (refusal : Refusal) → AreTooLong front whole → IsOfferRefusal parts front refusal → IsOfferRefusal parts whole refusal
+offer_refusal parts front whole NoMemory long why = absurd (no_good_lengths front.fragment long.front_long why.0.lengths)
+offer_refusal parts front whole refusal long why =
+    ⊎_elim (λ fault. inl (long_fault front whole refusal long fault)) (λ good. absurd (no_good_lengths front.fragment long.front_long good.0.lengths)) why
+
+join_refusal : (engine : EngineState) (front whole : LoggedFragment) (refusal : Refusal) → AreTooLong front whole → IsJoinRefusal engine front refusal → IsJoinRefusal engine whole refusal
+join_refusal engine front whole RoundOpen long why = absurd (no_good_lengths front.fragment long.front_long why.0.lengths)
+join_refusal engine front whole NoMemory long why = absurd (no_good_lengths front.fragment long.front_long why.0.lengths)
+join_refusal engine front whole refusal long why =
+    ⊎_elim (λ fault. inl (long_fault front whole refusal long fault)) (λ good. absurd (no_good_lengths front.fragment long.front_long good.0.lengths)) why
+
+offer_goes : (old new : EngineState) (front whole : LoggedFragment) (said : StepReply) → AreTooLong front whole → Goes old (step.Offer front) said new → Goes old (step.Offer whole) said new
+offer_goes old new front whole reply.Done long goes = absurd (no_good_lengths front.fragment long.front_long goes.right.0.lengths)
+offer_goes old new front whole (reply.Refused refusal) long goes = record {
+  right = (offer_refusal old.parts front whole refusal long goes.right.0, goes.right.1);
+  legal = λ before holds. let all = goes.legal before holds in (
+    all.0,
+    record {
+      engine = (offer_refusal before.engine.parts front whole refusal long all.1.engine.0, all.1.engine.1);
+      true_reply = all.1.true_reply;
+      whole = all.1.whole;
+      asked = all.1.asked;
+    },
+    all.2,
+  );
+}
+offer_goes old new front whole (reply.Report report) long goes = absurd goes.right
+offer_goes old new front whole (reply.Cut cut) long goes = absurd goes.right
+
+join_goes : (old new : EngineState) (front whole : LoggedFragment) (said : StepReply) → AreTooLong front whole → Goes old (step.Join front) said new → Goes old (step.Join whole) said new
+join_goes old new front whole reply.Done long goes = absurd (no_good_lengths front.fragment long.front_long goes.right.0.lengths)
+join_goes old new front whole (reply.Refused refusal) long goes = record {
+  right = (join_refusal old front whole refusal long goes.right.0, goes.right.1);
+  legal = λ before holds. let all = goes.legal before holds in (
+    all.0,
+    record {
+      engine = (join_refusal before.engine front whole refusal long all.1.engine.0, all.1.engine.1);
+      true_reply = all.1.true_reply;
+      whole = all.1.whole;
+      asked = all.1.asked;
+    },
+    all.2,
+  );
+}
+join_goes old new front whole (reply.Report report) long goes = absurd goes.right
+join_goes old new front whole (reply.Cut cut) long goes = absurd goes.right
+
+-- where one step leads to what another one leads to, so does the reply that tells it
+step_told : (old new : EngineState) (one other : Step) (answer : Reply) → ((said : StepReply) → Goes old one said new → Goes old other said new) → IsStep old one answer new → IsStep old other answer new
+step_told old new one other answer goes is = (is.0, goes is.0 is.1, is.2)
+
+-- whether a fragment may stand in a script is told by its flags
+form_alike : (version : Version) (front whole : LoggedFragment) → front.aborted ≡ whole.aborted → has_form version whole ≡ has_form version front
+form_alike One front whole flags = ap (λ (fs : List Bool). not (list_any (λ aborted. aborted) fs)) (sym flags)
+form_alike Two front whole flags = refl
+
+taken_alike : {X : Type 0} (version : Version) (front whole : LoggedFragment) (old new : X) (answer : Reply) (Taken Other : Type 0) → front.aborted ≡ whole.aborted → (Taken → Other) → IsTakenIn version front old answer new Taken → IsTakenIn version whole old answer new Other
+taken_alike version front whole old new answer Taken Other flags goes is =
+    let same : has_form version whole ≡ has_form version front = form_alike version front whole flags in
+    ⊎_elim (λ taken. inl (same ∙ taken.0, goes taken.1)) (λ bad. inr (same ∙ bad.0, bad.1)) is
+
+-- with so many of its transactions
+abbrev front_of : ℕ → LoggedFragment → LoggedFragment
+front_of most logged = record logged { fragment = record logged.fragment { txns = take most logged.fragment.txns } }
+
+-- where more are held than an offer may have, either all of them are, or too many
+held_or_long : (most : ℕ) (logged : LoggedFragment) → 256 < most → (front_of most logged ≡ logged) ⊎ AreTooLong (front_of most logged) logged
+held_or_long most logged above =
+    let txns : List Txn = logged.fragment.txns in
+    ⊎_elim
+    (λ more. inr (record {
+      session = refl;
+      flags = refl;
+      front_long = let held_is : length (take most txns) ≡ most = length-take-le most txns (omega (arith, more)) in omega (arith, held_is, above);
+      whole_long = omega (arith, more, above);
+    }))
+    (λ few. inl (ap (λ (ts : List Txn). record logged { fragment = record logged.fragment { txns = ts } }) (take_all most txns few))) (cases_lt most (length txns))
+
+offer_answers : (most : ℕ) (logged : LoggedFragment) (version : Version) (old new : EngineState) (answer : Reply) → 256 < most → AnswersOpen version old (Offer (front_of most logged)) answer new → AnswersOpen version old (Offer logged) answer new
+offer_answers most logged version old new answer above is =
+    let front : LoggedFragment = front_of most logged in
+    ⊎_elim (λ same. subst (λ (given : LoggedFragment). AnswersOpen version old (Offer given) answer new) same is)
+    (λ long. taken_alike version front logged old new answer (IsStep old (step.Offer front) answer new) (IsStep old (step.Offer logged) answer new) long.flags
+    (step_told old new (step.Offer front) (step.Offer logged) answer (λ said. offer_goes old new front logged said long)) is)
+    (held_or_long most logged above)
+
+join_answers : (most : ℕ) (logged : LoggedFragment) (version : Version) (old new : EngineState) (answer : Reply) → 256 < most → AnswersOpen version old (Join (front_of most logged)) answer new → AnswersOpen version old (Join logged) answer new
+join_answers most logged version old new answer above is =
+    let front : LoggedFragment = front_of most logged in
+    ⊎_elim (λ same. subst (λ (given : LoggedFragment). AnswersOpen version old (Join given) answer new) same is)
+    (λ long. taken_alike version front logged old new answer (IsStep old (step.Join front) answer new) (IsStep old (step.Join logged) answer new) long.flags
+    (step_told old new (step.Join front) (step.Join logged) answer (λ said. join_goes old new front logged said long)) is)
+    (held_or_long most logged above)
+
+open_answers : (most : ℕ) (version : Version) (old new : EngineState) (command : Command) (answer : Reply) → 256 < most → AnswersOpen version old (held (Some most) command) answer new → AnswersOpen version old command answer new
+open_answers most version old new (Offer logged) answer above is = offer_answers most logged version old new answer above is
+open_answers most version old new (Join logged) answer above is = join_answers most logged version old new answer above is
+open_answers most version old new command answer above is = is
+
+-- where no engine is open, no offer and no join is taken
+anew_answers : (most : ℕ) (old : Stage) (command : Command) (answer : Reply) (new : Stage) → BeginsAnew old (held (Some most) command) answer new → BeginsAnew old command answer new
+anew_answers most old (Offer logged) answer new is = is
+anew_answers most old command answer new is = is
+
+resuming_answers : (most sessions limit : ℕ) (version : Version) (command : Command) (answer : Reply) (new : Stage) → AnswersResuming sessions limit version (held (Some most) command) answer new → AnswersResuming sessions limit version command answer new
+resuming_answers most sessions limit version (Offer logged) answer new is = is
+resuming_answers most sessions limit version command answer new is = is
+
+pub enough_held : (most : ℕ) (old : Stage) → 256 < most → ((handed : Handing) (version : Version) → old ≢ stage.Handing handed version) → IsEnough old (Some most)
+enough_held most stage.Nothing above none command answer new is = anew_answers most stage.Nothing command answer new is
+enough_held most (stage.Resuming sessions limit version) above none command answer new is = resuming_answers most sessions limit version command answer new is
+enough_held most (stage.Handing handed version) above none command answer new is = absurd (none handed version refl)
+enough_held most (stage.Open old version) above none command answer new is = (is.0, open_answers most version old is.0 command answer above is.1, is.2)

@@ -1,0 +1,22 @@
+-- For private clauses: how much of a command is held while it is answered.
+use Rattle.std.specs.Prelude.{◌≡◌, ℕ, ⊤, List, Option}
+use Rattle.log_text.specs.declared.commands.Command.{Command}
+use Rattle.log_text.specs.declared.replies.Reply.{Reply}
+use Rattle.log_text.specs.Held.{held}
+use Rattle.cobra.specs.Outputs.{Asks}
+use Rattle.cobra.specs.Scripts.{Answers}
+use Rattle.cobra.specs.declared.stages.Stage.{Stage}
+use Rattle.cobra.specs.declared.stages.Stage.TheVariants as stage
+
+-- parts are handed over
+abbrev pub IsHanding : Stage → Type 0
+IsHanding (stage.Handing handed version) = ⊤
+IsHanding other = ⊥
+
+-- With this bound enough of each command is held: the reply to what is held, and what that leads to, are right for the whole command.
+abbrev pub IsEnough : Stage → Option ℕ → Type 0
+IsEnough old most = (command : Command) (answer : Reply) (new : Stage) → Answers old (held most command) answer new → Answers old command answer new
+
+-- this is what is held of a command that the line asks for
+abbrev pub AsksWithin : Option ℕ → List ℕ → Command → Type 0
+AsksWithin most line command = (whole : Command) × Asks line whole × (command ≡ held most whole)
