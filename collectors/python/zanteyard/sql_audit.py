@@ -8,6 +8,7 @@ import weakref
 from typing import Any, Optional, Sequence
 
 from .postgres_store import PATIENCE
+from .repeats import Repeats
 from .sessions import Session
 from .sql_connection import REFUSE, RUN, leave_dropped
 from .sql_store import SqlStore
@@ -33,7 +34,7 @@ class Audit:
         if unaudited not in (REFUSE, RUN):
             raise ValueError(f"{unaudited} is neither {REFUSE} nor {RUN}")
         self.auditor, self.tables, self.patience = auditor, tuple(tables), patience
-        self.unaudited = unaudited
+        self.unaudited, self.repeats = unaudited, Repeats()
         self.wait: float = auditor.policy.wait if wait is None else wait
 
     def session(self, store: SqlStore) -> Session:

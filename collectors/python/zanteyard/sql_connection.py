@@ -8,7 +8,7 @@ import os
 import queue
 import threading
 import weakref
-from typing import Any, Callable, Optional, Sequence, Tuple, Type
+from typing import Any, Callable, Optional, Sequence, Set, Tuple, Type
 
 import psycopg2
 
@@ -17,9 +17,10 @@ from .errors import StoreUnfitError, ZanteyardError
 from .foreign import is_foreign
 from .forks import is_forked
 from .locks import give_back
+from .repeats import Unaudited
 from .sessions import Session, Transaction
 from .sql_commit import Commit
-from .sql_cursor import STRICT
+from .sql_cursor import STRICT, place_of
 from .sql_notes import ENDED, Notes
 from .sql_shapes import Shapes
 from .sql_statements import Statement
@@ -28,6 +29,7 @@ from .sql_tables import Tables, look
 
 logger = logging.getLogger("zanteyard")
 REFUSE, RUN = "refuse", "run"
+REFUSED, NOT_AUDITED = "refused", "run, and not audited"  # as the log tells it of a statement
 DEFAULT = "default_transaction_isolation"
 IDLE, ACTIVE = 0, 2  # what libpq calls a transaction's status, and each driver of it
 PAST = "statements were run past the audit"
@@ -133,6 +135,7 @@ class Audits:
         self.is_plain = False  # whether statements go to the server as they are
         self.folder = os.getcwd() + os.sep
         self.turn = threading.RLock()  # around a statement and what is noted of it
+        self.told: Set[str] = set()  # why statements of it weren't audited, of what the log says
 
     def join_audit(self, dsn: str) -> None:
         """As the connection stands. What goes wrong closes it."""
@@ -186,11 +189,21 @@ class Audits:
             return self.shapes.parsed(text, self.tables, kinds)
         except StatementRefusedError as error:
             is_run = self.audit.unaudited == RUN and error.may_run
-            told = "run, and not audited" if is_run else "refused"
-            logger.error("%s, since %s: %s", told, error.why, error.statement)
+            why = self.advised(error.why)
+            told = error.statement + place_of(self)
+            self.tell_unaudited(NOT_AUDITED if is_run else REFUSED, why, told)
             if is_run:
                 return None
-            raise self.refusal(error.statement, error.why) from None
+            raise self.refusal(error.statement, why) from None
+
+    def advised(self, why: str) -> str:
+        """Why a statement is refused, with what may be written instead, where that is known."""
+        return why
+
+    def tell_unaudited(self, done: str, why: str, text: str, level: int = logging.ERROR) -> None:
+        """To the log: what became of a statement, whole at first, and then how many there are."""
+        its = Unaudited(done, why, text)
+        self.audit.repeats.tell(self.told, f"session {self.session.number}", its, level)
 
     def begin_audited(self, text: str) -> None:
         """Before the first statement of a transaction, which is this text. Where the audit can't,
@@ -237,7 +250,7 @@ class Audits:
         why = f"at {level} nothing is audited: set isolation_level, or the server's {DEFAULT}, to"
         why += f" one of {', '.join(STRICT)}"
         is_run = self.audit.unaudited == RUN
-        logger.error("%s, since %s: %s", "run" if is_run else "refused", why, text)
+        self.tell_unaudited(NOT_AUDITED if is_run else REFUSED, why, text + place_of(self))
         if is_run:
             return why
         self.send_rollback()  # of the SHOW

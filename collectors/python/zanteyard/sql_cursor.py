@@ -282,11 +282,15 @@ def _texts(parts: Own) -> Key:
 
 def told_of(connection: Any, text: str, values: str = "") -> str:
     """A statement as who is told of a violation sees it, and from where it was run."""
+    return brief_statement(text) + values[:LETTERS] + place_of(connection)
+
+
+def place_of(connection: Any) -> str:
+    """From where a statement is run, as it is told behind it."""
     place = caller()
     if place.startswith(connection.folder):  # told from there on
         place = place[len(connection.folder) :]
-    told = brief_statement(text) + values[:LETTERS]
-    return told + (f"  -- {place}" if place else "")
+    return f"  -- {place}" if place else ""
 
 
 def brief_statement(text: str) -> str:

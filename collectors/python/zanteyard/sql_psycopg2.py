@@ -13,12 +13,11 @@ from psycopg2 import extensions
 from . import sql_savepoints
 from .circumstances import brief_row
 from .errors import StatementRefusedError
-from .sql_connection import NO_AUTOCOMMIT, Audits
+from .sql_connection import NO_AUTOCOMMIT, NOT_AUDITED, Audits
 from .sql_cursor import gives_rows, is_as_it_is, is_there, note, own_columns, pending, sent
 from .sql_cursor import status_of, told_of
 from .sql_statements import Statement
 
-logger = logging.getLogger("zanteyard")
 TEXT = 25  # the type's number
 AS_TEXT: Any = (psycopg2.STRING, extensions.UNICODE)  # both give a str
 STRICT_LEVELS = (
@@ -111,7 +110,7 @@ class AuditedCursor(extensions.cursor):
     def _ask(self, connection: Any, statement: Statement, told: str) -> None:
         """The statement, with what is asked beside."""
         super().execute(sent(statement, connection.notes))
-        rows, unfit = self._fetched()
+        rows, unfit = self._fetched(connection, told)
         described: Any = super().description
         columns = len(described or ()) - own_columns(statement)
         found = unfit or [row for row in rows if is_there(row[columns:])]
@@ -129,7 +128,7 @@ class AuditedCursor(extensions.cursor):
 
     _noted = staticmethod(note)
 
-    def _fetched(self) -> Tuple[List[Any], List[Any]]:
+    def _fetched(self, connection: Any, told: str) -> Tuple[List[Any], List[Any]]:
         """All rows, and nothing; or nothing and all, where one can't be read here either."""
         try:
             return super().fetchall(), []
@@ -139,7 +138,8 @@ class AuditedCursor(extensions.cursor):
             rows = [self._fetched_one() for _ in range(super().rowcount)]
             if not any(isinstance(row, Unfit) for row in rows):
                 raise  # it was no value, as where a signal's handler raises
-            logger.warning("a row can't be read, and isn't audited: %r", error)
+            why = f"a row of it can't be read: {error!r}"
+            connection.tell_unaudited(NOT_AUDITED, why, told, logging.WARNING)
         return [], rows
 
     def _fetched_one(self) -> Any:

@@ -3,14 +3,14 @@ for what SQLAlchemy does over them by itself, as it connects and pings."""
 
 from __future__ import annotations
 
-from typing import Any, Optional, Tuple
+from typing import Any
 
 from psycopg2 import extensions
 
 from .postgres_sql import Audited
 from .sql_connection import ACTIVE, NO_AUTOCOMMIT
 from .sql_psycopg2 import AuditedConnection, AuditedCursor, NotAuditedError
-from .sql_statements import BESIDE, Statement
+from .sql_statements import BESIDE
 
 LEVEL = "give create_engine isolation_level='REPEATABLE READ' or 'SERIALIZABLE'"
 # What may be written instead, by what stands in the reason of a refusal.
@@ -30,12 +30,16 @@ ADVICE = {
 }
 
 
-def advised(error: NotAuditedError) -> NotAuditedError:
+def advised_why(why: str) -> str:
     """The same, with what may be written instead."""
     for part, advice in ADVICE.items():
-        if part in error.why:
-            return NotAuditedError(error.statement, f"{error.why} ({advice})")
-    return error
+        if part in why:
+            return f"{why} ({advice})"
+    return why
+
+
+def advised(error: NotAuditedError) -> NotAuditedError:
+    return NotAuditedError(error.statement, advised_why(error.why))
 
 
 class EngineConnection(AuditedConnection):
@@ -95,11 +99,8 @@ class EngineConnection(AuditedConnection):
         except NotAuditedError as error:
             raise advised(error) from None
 
-    def parse(self, text: str, kinds: Tuple[str, ...] = ()) -> Optional[Statement]:
-        try:
-            return super().parse(text, kinds)
-        except NotAuditedError as error:
-            raise advised(error) from None
+    def advised(self, why: str) -> str:
+        return advised_why(why)
 
 
 class EngineCursor(AuditedCursor):
