@@ -12,9 +12,11 @@ from .repeats import Repeats
 from .sessions import Session
 from .sql_connection import REFUSE, RUN, leave_dropped
 from .sql_store import SqlStore
+from .sql_unlogged import Unlogged
 
 # Of each auditor that gives out no sessions by itself, the numbers that are left.
 _numbers: weakref.WeakKeyDictionary[Any, Any] = weakref.WeakKeyDictionary()
+_unlogged: weakref.WeakKeyDictionary[Any, Unlogged] = weakref.WeakKeyDictionary()  # of each auditor
 
 
 class Audit:
@@ -35,6 +37,7 @@ class Audit:
             raise ValueError(f"{unaudited} is neither {REFUSE} nor {RUN}")
         self.auditor, self.tables, self.patience = auditor, tuple(tables), patience
         self.unaudited, self.repeats = unaudited, Repeats()
+        self.unlogged = _unlogged.setdefault(auditor, Unlogged())
         self.wait: float = auditor.policy.wait if wait is None else wait
 
     def session(self, store: SqlStore) -> Session:

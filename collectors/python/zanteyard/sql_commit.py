@@ -36,7 +36,8 @@ PUT_BACK = f"; SELECT {', '.join(KEPT.format(to=it, of=OWN[it]) for it in OWN)}"
 DONE = "; RELEASE SAVEPOINT zanteyard"
 UNDO = "ROLLBACK TO SAVEPOINT zanteyard; RELEASE SAVEPOINT zanteyard"
 ENTRY = "(%s, %s, %s, pg_catalog.pg_current_xact_id(), %s, %s, %s, %s, %s)"
-NUMBER = "SELECT pg_catalog.pg_current_xact_id_if_assigned()::pg_catalog.text"
+NUMBER = """SAVEPOINT zanteyard;
+    SELECT pg_catalog.pg_current_xact_id_if_assigned()::pg_catalog.text"""
 NONE = ""  # in place of the number of a transaction that has written nothing
 IDLE, ACTIVE = 0, 2  # what libpq calls a transaction's status, and each driver of it
 NO_TRANSACTION = "25P01"  # the server's code where there is none
@@ -65,7 +66,17 @@ class Commit:
         if status == ACTIVE:
             self._fill_in()
         why = notes.unclear
-        self.transaction.unclear = None if why is None else AuditLostError(why)
+        self.transaction.unclear = None if why is None else AuditLostError(self._told(why))
+
+    def _told(self, why: str) -> str:
+        """In one line, with the names by which it is told of where its writes are read; and keeps
+        it for that."""
+        why, number = " ".join(why.split()), self.store.number
+        _, session, its = self.transaction.name
+        unlogged = self.connection.audit.unlogged
+        self.store.writer = unlogged.note((session, its), self.notes, number, why)
+        at_server = f", the server's transaction {number}" if number else ""
+        return f"{why} (of {session}.{its}{at_server})"
 
     def _fill_in(self) -> None:
         notes = self.notes
@@ -79,8 +90,10 @@ class Commit:
             notes.doubt(f"what it did couldn't be looked up: {error!r}")
             writes = ()
         self._append(writes)
-        if notes.unclear is not None and notes.transaction is None:
-            self._ask_number()
+        if notes.unclear is None:
+            return
+        if notes.transaction is None or self.store.side.is_away:
+            self._ask_number()  # which finds a connection that is lost before a commit is sent
 
     def _found(self) -> Sequence[Write]:
         """What it has written; the transaction then has that too, and what it has read."""
@@ -149,8 +162,18 @@ class Commit:
         return str(notes.transaction) if is_known else None
 
     def _ask_number(self) -> None:
-        ((number,),) = self.connection.run_plain(NUMBER) or ((None,),)
-        self.store.number = NONE if number is None else str(number)
+        """What fails here, as by a timeout of the application's, is undone alone."""
+        run = self.connection.run_plain
+        try:
+            ((number,),) = run(NUMBER) or ((None,),)
+        except Exception as error:
+            if self.connection.closed or is_foreign(error):
+                raise
+            if self.connection.code_of(error) != NO_TRANSACTION:  # else by a forked child, unseen
+                run(UNDO)
+            return
+        if self.notes.transaction is None:
+            self.store.number = NONE if number is None else str(number)
 
     def _renew(self, fit: Tuple[str, ...]) -> None:
         """What the catalog says by now, for the transactions that come."""

@@ -26,6 +26,7 @@ from .sql_shapes import Shapes
 from .sql_statements import Statement
 from .sql_store import SqlStore
 from .sql_tables import Tables, look
+from .sql_unlogged import INTERRUPTED
 
 logger = logging.getLogger("zanteyard")
 REFUSE, RUN = "refuse", "run"
@@ -146,7 +147,9 @@ class Audits:
             its, auditor = self.tables.database, self.audit.auditor
             if _databases.setdefault(auditor, its) != its:
                 raise StoreUnfitError("the auditor is about another database")
-            self.store = SqlStore(self, dsn, self.audit.patience, self.audit.wait)
+            its_audit = self.audit
+            waits = (its_audit.patience, its_audit.wait)
+            self.store = SqlStore(self, dsn, *waits, its_audit.unlogged)
             self._join()
         except BaseException:
             self.close_plain()
@@ -278,9 +281,19 @@ class Audits:
             except (AbortedError, OutcomeUnknownError):
                 if self.store.error is None:  # a statement had failed: the driver says nothing
                     return
+            except BaseException:  # as Ctrl-C: the server may have committed, or may do so yet
+                self._may_be_unlogged(transaction, INTERRUPTED)
+                raise
             error, self.store.error = self.store.error, None
             if error is not None:
                 raise error
+
+    def _may_be_unlogged(self, transaction: Transaction, why: str) -> None:
+        """What it has written may be there without an entry in the log of writes."""
+        number = self.notes.transaction
+        its = None if number is None else str(number)
+        name = (self.session.number, transaction.number)
+        self.audit.unlogged.note(name, self.notes, its, why).doubt = why
 
     def look_up(self, transaction: Transaction) -> None:
         """What a commit comes to first, by the session's call."""
@@ -302,6 +315,7 @@ class Audits:
             finally:
                 if transaction is not None and not transaction.is_over:
                     if was_ended:  # and may be committed
+                        self._may_be_unlogged(transaction, ENDED)
                         transaction.unclear = AuditLostError(ENDED)
                         transaction.log((), (), "unknown")
                     else:

@@ -18,6 +18,7 @@ from .postgres_store import PostgresStore
 from .records import Found
 from .sql_notes import Row, RowKey
 from .sql_tables import ALL, Table, Tables, quoted
+from .sql_unlogged import Unlogged
 from .sql_versions import FEW, Entry, History, UnclearError
 
 # In one transaction by itself, so that no level of the user's default comes in.
@@ -67,8 +68,9 @@ class Side:
     """For who holds the session's turn. What is asked while the application's transaction is open
     is answered within so many seconds, or isn't."""
 
-    def __init__(self, store: PostgresStore, seconds: float) -> None:
+    def __init__(self, store: PostgresStore, seconds: float, unlogged: Unlogged) -> None:
         self.store, self.seconds, self.ends = store, seconds, 0.0
+        self.unlogged = unlogged
         self._prepared_for: Any = None  # the connection that has these statements
         self._prepared: Dict[str, str] = {}
 
@@ -148,7 +150,10 @@ class Side:
                 fit.append(first)
             else:
                 own[at] = (first, (name, int(session), int(number)))
-        histories = {key: History(run, its, len(its) >= most) for key, its in entries.items()}
+        histories = {
+            key: History(run, its, len(its) >= most, whose=self.unlogged.whose(key))
+            for key, its in entries.items()
+        }
         return Answer(histories, versions, tuple(sorted(fit)), own)
 
     def _planned(self, text: str, values: Sequence[Any]) -> Tuple[str, Sequence[Any]]:

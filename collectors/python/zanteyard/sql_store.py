@@ -19,6 +19,7 @@ from .postgres_store import asked as asked_beside
 from .records import Found, Name
 from .sessions import Transaction
 from .sql_side import Side
+from .sql_unlogged import LOST, Unlogged, Writer
 
 ITS_ENTRY = """SELECT 1 FROM {table}
     WHERE relation = %s AND key = %s AND run = %s AND session = %s AND number = %s"""
@@ -32,18 +33,22 @@ class SqlStore:
 
     `number` is the server's of the application's transaction, as text, once it is known; "" where
     there is none, and nothing was written. `entry` is one of those that it has appended to the log
-    of writes: the row's key, and the transaction's name."""
+    of writes: the row's key, and the transaction's name. `writer` is that transaction, where it
+    may leave what isn't in that log."""
 
-    def __init__(self, connection: Any, dsn: str, patience: float, wait: float) -> None:
+    def __init__(
+        self, connection: Any, dsn: str, patience: float, wait: float, unlogged: Unlogged
+    ) -> None:
         self._connection = weakref.ref(connection)  # which ends as its last user drops it
         self.driver_error: Type[Exception] = connection.error
         self.errors = (*PostgresStore.errors, self.driver_error)
         self.beside = PostgresStore(dsn, "serializable", patience=patience)
-        self.side = Side(self.beside, wait)
+        self.side = Side(self.beside, wait, unlogged)
         self.dsn, self.is_alone, self.made_in = dsn, False, os.getpid()
         self.error: Optional[Exception] = None  # what the application's commit has raised
         self.number: Optional[str] = None
         self.entry: Optional[Tuple[Any, ...]] = None
+        self.writer: Optional[Writer] = None
         # Of the application's connection the server's process, and since when, and the server's
         # life, for who asks from outside.
         self.life: Tuple[Any, ...] = (0, None, None)
@@ -89,6 +94,7 @@ class SqlStore:
     def begin(self) -> None:
         """The server is told by the driver, with the first statement."""
         self.is_alone, self.error, self.number, self.entry = False, None, None, None
+        self.writer = None
 
     def look_up(self, transaction: Transaction) -> None:
         try:
@@ -106,8 +112,21 @@ class SqlStore:
         except self.driver_error as error:
             self.error = error
             if self.has_answered(error):
+                self._tell_writer("aborted")
                 raise AbortedError(str(error).strip()) from error
+            self._tell_writer("unknown")
             raise OutcomeUnknownError(str(error).strip()) from error
+        self._tell_writer("committed")
+
+    def _tell_writer(self, outcome: str) -> None:
+        """What became of who may have left what isn't in the log of writes."""
+        writer = self.writer
+        if writer is None:
+            return
+        if outcome == "aborted":
+            self.side.unlogged.drop(writer)
+        else:
+            writer.doubt = LOST if outcome == "unknown" else None
 
     def has_answered(self, error: BaseException) -> bool:
         """Whether the server has refused a commit by this."""
@@ -142,7 +161,9 @@ class SqlStore:
             return "unknown"
         text = STATUS.format(table=self.connection.tables.writes.replace("%", "%%"))
         values = (self.number, *(self.entry or (0, "", "", 0, 0)))
-        return outcome_told(self.dsn, text, values, seconds)
+        outcome = outcome_told(self.dsn, text, values, seconds)
+        self._tell_writer(outcome)
+        return outcome
 
     # for who finds this process killed
 

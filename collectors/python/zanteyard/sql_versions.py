@@ -10,13 +10,16 @@ later, since entries never change. docs/SQL.md says why that is exact.
 from __future__ import annotations
 
 from dataclasses import dataclass
-from typing import Iterable, List, NamedTuple, Optional, Sequence, Tuple
+from typing import Callable, Iterable, List, NamedTuple, Optional, Sequence, Tuple
 
 from .forks import UNAUDITED
 from .records import Source
 
 INIT = "init"  # what was there before anybody of this run had written it
 FEW, MOST = 8, 2000  # of a row's entries that are looked through, the newest first
+# Who has left a version that isn't in the log, in words: of its xmin, or of None for one that is
+# gone.
+Whose = Callable[[Optional[int]], str]
 
 
 class UnclearError(Exception):
@@ -73,14 +76,25 @@ class Snapshot:
         return transaction < self.behind and transaction not in self.open
 
 
+def nobody(version: Optional[int]) -> str:
+    """As far as is known."""
+    its = "" if version is None else f" (the server's transaction {version})"
+    return f"who isn't audited{its}"
+
+
 class History:
     """A row's entries, of all runs, as one run sees them; the newest come first. `is_cut` says that
     there are older ones, and `is_new` that none of all is of this run."""
 
     def __init__(
-        self, run: str, entries: Iterable[Entry], is_cut: bool = False, is_new: bool = False
+        self,
+        run: str,
+        entries: Iterable[Entry],
+        is_cut: bool = False,
+        is_new: bool = False,
+        whose: Whose = nobody,
     ) -> None:
-        self.run, self.is_cut, self.is_new = run, is_cut, is_new
+        self.run, self.is_cut, self.is_new, self.whose = run, is_cut, is_new, whose
         self.entries: List[Entry] = sorted(entries, reverse=True)
         numbers = [entry.number for entry in self.entries]
         self.is_row = len(set(numbers)) == len(numbers)  # else two had the row's lock at a time
@@ -102,7 +116,7 @@ class History:
                 if entry.is_absent:
                     raise UnclearError("a row is there that its last writer has deleted")
                 return entry.source
-        return self._init(self.entries if seen is None else self._shown(seen))
+        return self._init(self.entries if seen is None else self._shown(seen), version)
 
     def of_absence(self, seen: Snapshot) -> Source:
         """Of a row that wasn't in this snapshot."""
@@ -130,14 +144,14 @@ class History:
     def _absent(self, entries: Sequence[Entry]) -> Source:
         if entries and entries[0].run == self.run:
             if not entries[0].is_absent:
-                raise UnclearError("it was deleted by who isn't audited")
+                raise UnclearError(f"it was deleted by {self.whose(None)}")
             return entries[0].source
         return self._init(entries)
 
-    def _init(self, entries: Sequence[Entry]) -> Source:
+    def _init(self, entries: Sequence[Entry], version: Optional[int] = None) -> Source:
         """Where nobody of this run has written it before, it is as it was at first."""
         if self.is_cut and not self.is_new:
             raise CutError
         if any(entry.run == self.run for entry in entries):
-            raise UnclearError("it was written by who isn't audited")
+            raise UnclearError(f"it was written by {self.whose(version)}")
         return INIT
