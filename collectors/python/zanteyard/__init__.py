@@ -23,6 +23,8 @@
 
 docs/COLLECTORS.md says what is logged, and why.
 """
+import logging as _logging
+
 from .apart import AuditorApart
 from .audit_client import AuditClient
 from .audit_server import AuditServer
@@ -53,6 +55,7 @@ from .errors import (
 )
 from .explain import Explanation, explain_history, reasons
 from .live import LiveAuditor, Lost
+from .log_guard import guard as _guard
 from .outcome import RATHER_LOSE_THE_AUDIT, RATHER_WAIT, Outcome, Policy
 from .picture import dot_text, draw
 from .pipes import Ended
@@ -62,6 +65,8 @@ from .shrinking import audited, from_start, smaller, words
 from .taking import Full
 from .telling import tell_violation
 from .version import VERSION as __version__
+
+_guard(_logging.getLogger("zanteyard"))
 
 __all__ = [
     # what runs

@@ -1,0 +1,167 @@
+"""A log that can't be written, as where its folder is gone or the disk is full, harms no application:
+what can't be told there is told on standard error."""
+
+from __future__ import annotations
+
+import contextlib
+import functools
+import io
+import logging
+import logging.handlers
+import os
+import shutil
+import signal
+import tempfile
+import unittest
+from typing import Any, Iterator
+from unittest import mock
+
+from zanteyard import LiveAuditor
+from zanteyard.apart import AuditorApart
+from zanteyard.auditor import PROGRAM
+from zanteyard.log_guard import guard
+from zanteyard.memory_store import MemoryStore
+
+try:
+    import psycopg2
+except ImportError:
+    psycopg2 = None  # type: ignore[assignment]
+
+from tests.test_sql import LACKING, OverAServer
+from tests.waiting import wait_until
+
+LOGGER = logging.getLogger("zanteyard")
+SCHEMA = "CREATE TABLE t (id int PRIMARY KEY, v int); INSERT INTO t VALUES (1, 10), (2, 20)"
+
+
+class Raising(logging.Handler):
+    def __init__(self, error: BaseException) -> None:
+        super().__init__()
+        self.error = error
+
+    def emit(self, record: logging.LogRecord) -> None:
+        raise self.error
+
+
+@contextlib.contextmanager
+def handled(handler: logging.Handler) -> Iterator[io.StringIO]:
+    """By this, too; gives what comes to standard error."""
+    LOGGER.addHandler(handler)
+    try:
+        with contextlib.redirect_stderr(io.StringIO()) as told:
+            yield told
+    finally:
+        LOGGER.removeHandler(handler)
+
+
+@contextlib.contextmanager
+def without_folder() -> Iterator[io.StringIO]:
+    """The file of the log is gone while it is used, and can't be made again."""
+    folder = tempfile.mkdtemp()
+    handler = logging.handlers.WatchedFileHandler(os.path.join(folder, "the.log"))
+    try:
+        with handled(handler) as told:
+            shutil.rmtree(folder)
+            yield told
+    finally:
+        handler.close()
+
+
+class Guarded(unittest.TestCase):
+    def test_what_a_handler_raises_reaches_nobody(self) -> None:
+        for error in (OSError(28, "No space left on device"), ValueError("closed"), MemoryError()):
+            with self.subTest(error), handled(Raising(error)) as told:
+                LOGGER.error("%s ends", "the audit")
+                self.assertIn("the audit ends", told.getvalue())
+                self.assertIn(repr(error), told.getvalue())
+
+    def test_python_s_own_handlers(self) -> None:
+        with without_folder() as told:
+            LOGGER.error("one")
+            LOGGER.error("two")
+            self.assertEqual(told.getvalue().count("FileNotFoundError"), 2)
+        late = logging.FileHandler("/nowhere/at/all.log", delay=True)
+        with handled(late) as told:
+            LOGGER.error("one")
+            self.assertIn("one (the log can't be written: FileNotFoundError", told.getvalue())
+
+    def test_without_standard_error(self) -> None:
+        class Full(io.StringIO):
+            def write(self, _: str) -> int:
+                raise OSError(28, "No space left on device")
+
+        for its in (None, Full()):
+            with handled(Raising(ValueError())), mock.patch("sys.stderr", its):
+                LOGGER.error("one")
+
+    def test_what_ends_the_program_goes_on(self) -> None:
+        for error in (KeyboardInterrupt(), SystemExit()):
+            with handled(Raising(error)), self.assertRaises(type(error)):
+                LOGGER.error("one")
+
+    def test_what_a_signals_handler_raises_is_the_applications(self) -> None:
+        class Ringing(logging.Handler):
+            def emit(self, record: logging.LogRecord) -> None:
+                os.kill(os.getpid(), signal.SIGUSR1)
+
+        class Handler:
+            def __call__(self, *_: Any) -> None:
+                raise TimeoutError("the time is up")
+
+            def ring(self, *_: Any) -> None:
+                self()
+
+        def ring(_: Any, *__: Any) -> None:
+            raise TimeoutError("the time is up")
+
+        its = (Handler(), Handler().ring, functools.partial(ring, 1), lambda *_: ring(1))
+        before = signal.getsignal(signal.SIGUSR1)
+        self.addCleanup(signal.signal, signal.SIGUSR1, before)
+        for each in its:
+            signal.signal(signal.SIGUSR1, each)
+            with handled(Ringing()), self.assertRaisesRegex(TimeoutError, "the time is up"):
+                LOGGER.error("one")
+
+    def test_to_guard_it_again_changes_nothing(self) -> None:
+        before = LOGGER.handle
+        guard(LOGGER)
+        self.assertIs(LOGGER.handle, before)
+
+
+@unittest.skipUnless(os.path.isfile(PROGRAM), f"{PROGRAM} is not built")
+class Audits(unittest.TestCase):
+    def test_one_that_ends_is_followed_by_another(self) -> None:
+        with without_folder() as told, LiveAuditor(AuditorApart(2)) as live:
+            session = live.session(MemoryStore().connect())
+            live.lose(ValueError("for a test"))
+            self.assertTrue(wait_until(lambda: len(live.earlier) == 1))
+            session.run(lambda transaction: transaction.put("x", 1))
+            self.assertIs(live.failure, None)
+        self.assertIn("for a test (the log can't be written", told.getvalue())
+
+
+@unittest.skipIf(LACKING, f"not installed or not built: {', '.join(LACKING)}")
+class Applications(OverAServer):
+    def test_a_commit_that_isnt_audited_is_no_failure(self) -> None:
+        place = self.database(SCHEMA, ["t"])
+        (client,) = self.clients(place, "serializable", ["t"], 1)
+        cursor = client.cursor()
+        cursor.execute("SELECT v FROM t WHERE id = 1")
+        client.commit()
+        cursor.execute("UPDATE t SET v = v + 1 WHERE id = 1")
+        client.store.beside.connection.close()
+        with without_folder() as told:
+            client.commit()
+            with self.assertRaises(psycopg2.NotSupportedError):
+                cursor.execute("SELECT v FROM t WHERE v > 3")
+            client.rollback()
+        self.assertIn("nothing more of session 0 is audited", told.getvalue())
+        self.assertIn("session 0: refused, since", told.getvalue())
+        cursor.execute("SELECT v FROM t WHERE id = 1")
+        self.assertEqual(cursor.fetchall(), [(11,)])
+        client.commit()
+        self.assertEqual(self.auditor.outcome().kind, "incomplete")
+
+
+if __name__ == "__main__":
+    unittest.main()
