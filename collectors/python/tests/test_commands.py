@@ -7,11 +7,13 @@ import sys
 import tempfile
 import unittest
 from contextlib import redirect_stderr, redirect_stdout
+from unittest import mock
 
 from zanteyard import demo
 from zanteyard.auditor import PROGRAM
 from zanteyard.cluster import program
 from zanteyard.command_line import main
+from zanteyard.outcome import Outcome
 from zanteyard.programs import Origin, find_program, found_live, program_path
 from zanteyard.version import VERSION
 
@@ -233,6 +235,20 @@ class Commands(unittest.TestCase):
                 self.assertIn(f'<span class="verdict {kind}">', page)
                 self.assertIn('<svg class="chart"', page)
         self.assertEqual(run("audit", "mysql")[0], 2)
+
+    def test_a_page_that_can_not_be_written_is_no_verdict(self):
+        """A run that was violated ends so, wherever its page is to be."""
+        try:
+            from zanteyard import postgres_audit
+        except ImportError:
+            self.skipTest("psycopg2 is not installed")
+        for kind, wanted in (("violated", 1), ("serial", 0)):
+            ran = mock.Mock(outcome=Outcome(kind))
+            ran.lines.return_value, ran.page.return_value = ["what came of it"], "a page"
+            with mock.patch.object(postgres_audit, "run", return_value=ran):
+                status, out, err = run("audit", "postgres", "--html", self.folder)
+            self.assertEqual((status, out), (wanted, "what came of it\n"), err)
+            self.assertEqual(err, f"{self.folder} can't be written: Is a directory\n")
 
     def test_an_error_of_ours_never_looks_like_a_verdict(self):
         told = demo.STORIES

@@ -1,6 +1,7 @@
 """`zanteyard serve` on one machine, its exit statuses, and what it tells Prometheus."""
 import os
 import re
+import shutil
 import signal
 import socket
 import subprocess
@@ -37,7 +38,8 @@ class Serving(unittest.TestCase):
         call = [sys.executable, "-m", "zanteyard", "serve", "--journal", f"{self.folder}/audit", "--sessions", "4", "--every", "20", *more]
         log = open(f"{self.folder}/log", "wb")
         self.addCleanup(log.close)
-        daemon = subprocess.Popen(call, stderr=log, env={**os.environ, "PYTHONPATH": PLACE})
+        path = os.pathsep.join([*filter(None, [os.environ.get("FAILING")]), PLACE])
+        daemon = subprocess.Popen(call, stderr=log, env={**os.environ, "PYTHONPATH": path})
         self.addCleanup(daemon.wait)
         self.addCleanup(daemon.kill)
         return daemon
@@ -140,7 +142,7 @@ class Serving(unittest.TestCase):
         self.assertIsNone(daemon.poll(), log)
         self.assertEqual(sorted(os.listdir(f"{self.folder}/audit")), there)
 
-    def test_a_violation_ends_it(self):
+    def test_a_violation_ends_it(self, is_explained=True):
         daemon, store = self.begun(), MemoryStore("stale-read")
         with AuditClient(self.socket) as client:
             sessions = [client.session(store.connect()) for _ in range(2)]
@@ -151,8 +153,28 @@ class Serving(unittest.TestCase):
                 time.sleep(0.02)
         self.wait_for(lambda: daemon.poll() is not None)
         self.assertEqual(daemon.returncode, 1, self.said())
-        self.assertIn("violated: of what was logged, no order explains this part", self.said())
-        self.assertTrue(os.path.exists(f"{self.folder}/audit/violation.jsonl"))
+        self.assertIn("violated: ", self.said())
+        if is_explained:
+            self.assertIn("violated: of what was logged, no order explains this part", self.said())
+            self.assertTrue(os.path.exists(f"{self.folder}/audit/violation.jsonl"))
+
+    def test_a_violation_that_can_not_be_written_ends_it_with_its_status(self):
+        for place in ("violation.txt", "violation.jsonl", "violation.dot"):
+            with self.subTest(place):
+                shutil.rmtree(f"{self.folder}/audit", ignore_errors=True)
+                os.makedirs(f"{self.folder}/audit/{place}")
+                self.test_a_violation_ends_it()
+                self.assertNotIn("Traceback", self.said())
+                self.assertIn(f"{place}", self.said())
+
+    def test_a_violation_that_can_not_be_explained_ends_it_with_its_status(self):
+        """As where there is no memory for another program."""
+        failing = f"{self.folder}/failing"
+        os.makedirs(failing)
+        with open(f"{failing}/sitecustomize.py", "w", encoding="utf-8") as file:
+            file.write("import zanteyard.serving as it\ndef fail(*_): raise MemoryError\nit.tell_violation = fail\n")
+        with mock.patch.dict(os.environ, {"FAILING": failing}):
+            self.test_a_violation_ends_it(is_explained=False)
 
     def test_what_can_not_begin(self):
         for more in (("--sessions", "65"), ("--redis", "redis://127.0.0.1:1/0"), ("--metrics", "127.0.0.1:none"), ("--metrics", "127.0.0.1:65536"),

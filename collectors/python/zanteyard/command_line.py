@@ -233,9 +233,13 @@ def _audit(asked: Any) -> int:
     ran = postgres_audit.run(asked)
     for line in ran.lines():
         print(line)
+    status = STATUSES.get(ran.outcome.whole.kind, UNDECIDED)
     if asked.html:
-        _write(ran.page(_origin()), asked.html)
-    return STATUSES.get(ran.outcome.whole.kind, UNDECIDED)
+        try:
+            _write(ran.page(_origin()), asked.html)
+        except OSError as error:  # what came of the run has been told, and won't come again
+            _told(status, f"{asked.html} can't be written: {error.strerror}")
+    return status
 
 
 def _journal(asked: Any) -> int:

@@ -199,16 +199,23 @@ def _end(server: Any, live: LiveAuditor) -> Outcome:
 
 
 def _tell(asked: Any, auditor: Auditor, outcome: Outcome) -> None:
-    """What can't be, in the log and in files."""
+    """What can't be, in the log and in files. Where that fails, as on a full disk, it is violated
+    all the same."""
     path = os.path.join(asked.journal, VIOLATION)
-    history, called = from_start(auditor)
     lines: List[str] = []
 
     def tell(line: str) -> None:
         lines.append(line)
         logger.error("%s", line)
 
-    known = refuted(auditor, outcome.certificate)
-    tell_violation(history, path, called, tell, TELLING, auditor.path, known)
-    with open(f"{path}.txt", "w", encoding="utf-8") as file:
-        file.write("\n".join(lines) + "\n")
+    try:
+        history, called = from_start(auditor)
+        known = refuted(auditor, outcome.certificate)
+        tell_violation(history, path, called, tell, TELLING, auditor.path, known)
+    except Exception as error:
+        tell(f"violated, and why can't be told: {error!r}")
+    try:
+        with open(f"{path}.txt", "w", encoding="utf-8") as file:
+            file.write("\n".join(lines) + "\n")
+    except OSError as error:
+        logger.error("%s.txt can't be written, and has been told here: %s", path, error)
