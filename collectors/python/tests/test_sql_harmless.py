@@ -246,10 +246,36 @@ class Commits(Harmless):
         self.assert_incomplete("couldn't be asked")
 
     def test_a_connection_beside_it_that_is_lost(self) -> None:
+        """Another one tells the same, where it can be had in time."""
+        client, admin = self.client(self.place), psycopg2.connect(self.place)
+        self.addCleanup(admin.close)
+        admin.autocommit = True
+        pid = lambda: client.store.beside.connection.info.backend_pid
+        end = "SELECT pg_terminate_backend(%s, 5000)"
+        for lose in (
+            lambda: client.store.beside.close(),
+            client.store.hang_up,
+            lambda: admin.cursor().execute(end, (pid(),)),
+        ):
+            self.do(client, "UPDATE t SET v = v + 1 WHERE id = 1")
+            lose()
+            client.commit()
+            self.do(client, "SELECT v FROM t WHERE id = 1")
+            client.commit()
+        self.assertEqual(self.value(self.place), 13)
+        self.assertEqual(self.auditor.outcome().kind, "serial")
+        self.assertEqual(self.logged(0, 5)[0], {("t 1", (0, 4))})
+
+    def test_a_connection_beside_it_that_is_lost_and_no_other_is_had(self) -> None:
         client = self.client(self.place)
         self.do(client, "UPDATE t SET v = v + 1 WHERE id = 1")
         client.store.beside.close()
-        client.commit()
+        came = time.monotonic()
+        client.audit.wait = 0.5
+        late = lambda *_, **__: time.sleep(20.0)
+        with mock.patch("zanteyard.postgres_connection.psycopg2.connect", late):
+            client.commit()
+        self.assertLess(time.monotonic() - came, 10.0)
         self.assertEqual(self.value(self.place), 11)
         self.assert_incomplete("couldn't be asked")
         self.do(client, "UPDATE t SET v = v + 1 WHERE id = 1")  # over another one

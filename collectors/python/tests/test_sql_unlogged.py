@@ -12,6 +12,7 @@ try:
     import psycopg2
 
     from zanteyard import sql_commit
+    from zanteyard.errors import AuditLostError
     from zanteyard.sql_notes import Notes
     from zanteyard.sql_psycopg2 import AuditedConnection
     from zanteyard.sql_unlogged import LOST, MOST, Unlogged
@@ -88,6 +89,11 @@ class OverConnections(OverAServer):
             client.commit()
         return [record.getMessage() for record in log.records]
 
+    def unlogged(self, client: Any) -> Any:
+        """It can't be asked what its transaction does."""
+        why = AuditLostError("there is no server\nthat answers\n")
+        return mock.patch.object(client.store.side, "ask", side_effect=why)
+
     def told_of_row(self, client: Any, key: int = 1) -> str:
         """What a session is told whose transaction reads a row that somebody has left."""
         self.do(client, f"SELECT v FROM t WHERE id = {key}")
@@ -99,8 +105,8 @@ class OverConnections(OverAServer):
 class Told(OverConnections):
     def test_one_whose_log_couldnt_be_asked(self) -> None:
         self.do(self.one, "UPDATE t SET v = v + 1 WHERE id = 1")
-        self.end_beside(self.one)
-        (first, *_) = self.commit_told(self.one)
+        with self.unlogged(self.one):
+            (first, *_) = self.commit_told(self.one)
         self.assertIn("the log of writes couldn't be asked: ", first)
         self.assertRegex(first, r" \(of 0\.1, the server's transaction \d+\)$")
         self.assertNotIn("\n", first)
@@ -112,13 +118,12 @@ class Told(OverConnections):
 
     def test_one_that_has_deleted_a_row(self) -> None:
         self.do(self.one, "DELETE FROM t WHERE id = 1")
-        self.end_beside(self.one)
-        self.commit_told(self.one)
+        with self.unlogged(self.one):
+            self.commit_told(self.one)
         self.assertIn("deleted by 0.1 of this audit", self.told_of_row(self.two))
 
     def test_one_whose_commit_wasnt_answered(self) -> None:
         self.do(self.one, "UPDATE t SET v = v + 1 WHERE id = 1")
-        self.end_beside(self.one)
         commit = AuditedConnection.send_commit
 
         def lose_the_answer(connection: Any) -> None:
@@ -126,9 +131,9 @@ class Told(OverConnections):
             connection.close_plain()
             raise psycopg2.OperationalError("server closed the connection unexpectedly")
 
-        with mock.patch.object(AuditedConnection, "send_commit", lose_the_answer):
-            with self.assertRaises(psycopg2.OperationalError):
-                self.one.commit()
+        lost = mock.patch.object(AuditedConnection, "send_commit", lose_the_answer)
+        with lost, self.unlogged(self.one), self.assertRaises(psycopg2.OperationalError):
+            self.one.commit()
         told = self.told_of_row(self.two)
         self.assertIn("by 0.1, a transaction of session 0 of this audit whose outcome", told)
         self.assertIn(f"isn't known ({LOST})", told)
@@ -166,8 +171,8 @@ class Told(OverConnections):
     def test_what_another_process_is_told_has_the_same_number(self) -> None:
         """As it doesn't know of the transactions of this one."""
         self.do(self.one, "UPDATE t SET v = v + 1 WHERE id = 1")
-        self.end_beside(self.one)
-        first = self.commit_told(self.one)[0]
+        with self.unlogged(self.one):
+            first = self.commit_told(self.one)[0]
         self.two.audit.unlogged._writers.clear()
         number = re.findall(r"the server's transaction \d+", first)
         self.assertEqual(re.findall(r"the server's transaction \d+", self.told_of_row(self.two)), number)
@@ -178,22 +183,46 @@ class Told(OverConnections):
         self.addCleanup(client.close)
         client.isolation_level = psycopg.IsolationLevel.SERIALIZABLE
         client.execute("UPDATE t SET v = v + 1 WHERE id = 1")
-        self.end_beside(client)
-        self.commit_told(client)
+        with self.unlogged(client):
+            self.commit_told(client)
         self.assertIn("written by 2.0 of this audit, whose writes", self.told_of_row(self.two))
 
 
 class Ends(OverConnections):
     def test_where_both_connections_are_lost_it_is_aborted(self) -> None:
-        """Before a commit was sent: so nothing of it is unclear."""
+        """Before a commit was sent: so nothing of it is unclear, wherever the server is."""
         self.do(self.one, "UPDATE t SET v = v + 1 WHERE id = 1")
         self.end_beside(self.one)
         self.end(self.one.info.backend_pid)
-        with self.assertRaises(psycopg2.OperationalError):
-            self.one.commit()
+        gone = psycopg2.OperationalError("the server is gone")
+        with mock.patch("zanteyard.postgres_store.connected", side_effect=gone):
+            with self.assertRaises(psycopg2.OperationalError):
+                self.one.commit()
         self.assertTrue(self.one.closed)
         self.assertEqual(self.auditor.history[0][1].outcome, "aborted")
         self.assertEqual(self.do(self.two, "SELECT v FROM t WHERE id = 1"), [(12,)])
+        self.two.commit()
+        self.assertEqual(self.auditor.outcome().kind, "serial")
+
+    def test_one_whose_connection_beside_it_is_lost_is_audited(self) -> None:
+        """Over another one; by either driver."""
+        clients = [self.one]
+        if psycopg is not None:
+            clients.append(audited3(self.auditor, ["t"]).connect(self.place))
+            clients[-1].isolation_level = psycopg.IsolationLevel.SERIALIZABLE
+            self.addCleanup(clients[-1].close)
+            self.do(clients[-1], "SELECT v FROM t WHERE id = 1")
+            clients[-1].commit()
+        for client in clients:
+            self.do(client, "UPDATE t SET v = v + 1 WHERE id = 1")
+            self.end_beside(client)
+            client.commit()
+            self.do(client, "SAVEPOINT a")
+            self.do(client, "UPDATE t SET v = v + 1 WHERE id = 2")
+            self.end_beside(client)
+            self.do(client, "ROLLBACK TO a")
+            client.commit()
+        self.do(self.two, "SELECT v FROM t WHERE id = 1")
         self.two.commit()
         self.assertEqual(self.auditor.outcome().kind, "serial")
 

@@ -13,6 +13,8 @@ import re
 import time
 from typing import Any, Dict, List, NamedTuple, Optional, Sequence, Tuple
 
+import psycopg2
+
 from .errors import AbortedError, AuditLostError
 from .postgres_store import PostgresStore
 from .records import Found
@@ -83,19 +85,27 @@ class Side:
         most: int = FEW,
     ) -> Answer:
         """Of these rows the entries; of those, the version that others see. Raises psycopg2's
-        errors, and AuditLostError where there is no connection, or no time left."""
-        if self.is_away:
-            raise AuditLostError("the connection beside the application's is gone")
+        errors, and AuditLostError where there is no time left."""
         text, values = self._text(tables, keys, overwritten, most)
         text += CATALOG
         values.append(tables.oids)
-        answered = self._answer(self._run(*self._planned(text, values)), run, keys, most)
+        answered = self._answer(self._rows(text, values), run, keys, most)
         for key in keys:
             history = answered.histories[key]
             if history.is_cut and not history.has_own:
                 text = OWN_ENTRY.format(writes=tables.writes)
                 history.is_new = not self._run(text, (*key, run))[0][0]
         return answered
+
+    def _rows(self, text: str, values: Sequence[Any]) -> List[Any]:
+        """Asked once more, over another connection, where it turns out that this one is lost:
+        nothing is changed by it, and any connection sees the same."""
+        try:
+            return self._run(*self._planned(text, values))
+        except psycopg2.Error:
+            if not self.is_away:
+                raise
+        return self._run(*self._planned(text, values))
 
     def read_all(self, tables: Tables, run: str, keys: Sequence[str]) -> Dict[str, Found]:
         """What a meeting reads: keys of rows, and of the collector's own table, at once. Raises
@@ -159,7 +169,7 @@ class Side:
     def _planned(self, text: str, values: Sequence[Any]) -> Tuple[str, Sequence[Any]]:
         """The same by a statement that the server has planned already: to plan what looks through
         the catalog takes longer than to run it."""
-        self.store.begin_alone(self.seconds)  # which may be another connection
+        self.store.begin_alone(self._left())  # which may be another connection
         if self._prepared_for is not self.store.connection or len(self._prepared) >= PREPARED:
             self._prepared_for, self._prepared = None, {}
             self._send("DEALLOCATE ALL; SET plan_cache_mode = force_generic_plan")
@@ -177,7 +187,7 @@ class Side:
         return f"EXECUTE {name} ({', '.join(['%s'] * len(values))})", values
 
     def _run(self, text: str, values: Sequence[Any]) -> List[Any]:
-        self.store.begin_alone(self.seconds)
+        self.store.begin_alone(self._left())
         rows: List[Any] = self._send(text, values).fetchall()
         return rows
 
@@ -192,7 +202,11 @@ class Side:
             self.store.begin_alone(1.0)
 
     def _send(self, text: str, values: Sequence[Any] = ()) -> Any:
+        return self.store.send(ALONE + limits(self._left()) + text, values)
+
+    def _left(self) -> float:
+        """Seconds."""
         left = min(self.seconds, self.ends - time.monotonic())
         if left <= 0:
             raise AuditLostError("there is no time left to ask")
-        return self.store.send(ALONE + limits(left) + text, values)
+        return left

@@ -19,7 +19,7 @@ from .postgres_store import asked as asked_beside
 from .records import Found, Name
 from .sessions import Transaction
 from .sql_side import Side
-from .sql_unlogged import LOST, Unlogged, Writer
+from .sql_unlogged import INTERRUPTED, LOST, Unlogged, Writer
 
 ITS_ENTRY = """SELECT 1 FROM {table}
     WHERE relation = %s AND key = %s AND run = %s AND session = %s AND number = %s"""
@@ -114,19 +114,20 @@ class SqlStore:
             if self.has_answered(error):
                 self._tell_writer("aborted")
                 raise AbortedError(str(error).strip()) from error
-            self._tell_writer("unknown")
+            self._tell_writer("unknown", LOST)
             raise OutcomeUnknownError(str(error).strip()) from error
+        except BaseException:
+            self._tell_writer("unknown", INTERRUPTED)
+            raise
         self._tell_writer("committed")
 
-    def _tell_writer(self, outcome: str) -> None:
+    def _tell_writer(self, outcome: str, doubt: Optional[str] = None) -> None:
         """What became of who may have left what isn't in the log of writes."""
         writer = self.writer
-        if writer is None:
-            return
-        if outcome == "aborted":
+        if writer is not None and outcome == "aborted":
             self.side.unlogged.drop(writer)
-        else:
-            writer.doubt = LOST if outcome == "unknown" else None
+        elif writer is not None and (outcome == "committed" or doubt is not None):
+            writer.doubt = doubt
 
     def has_answered(self, error: BaseException) -> bool:
         """Whether the server has refused a commit by this."""

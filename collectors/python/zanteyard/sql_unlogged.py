@@ -18,6 +18,7 @@ from .sql_versions import Whose, nobody
 
 MOST = 1000  # transactions that are kept, the last ones
 INTERRUPTED, LOST = "it was interrupted", "its connection was lost"
+UNANSWERED = "its commit isn't answered yet"
 
 
 @dataclass
@@ -30,7 +31,7 @@ class Writer:
     why: str
     versions: FrozenSet[int]  # the xmins that it may have left, as far as they are known
     gone: FrozenSet[RowKey]  # the rows that it has deleted
-    doubt: Optional[str] = INTERRUPTED
+    doubt: Optional[str] = UNANSWERED
 
     def __str__(self) -> str:
         name = f"{self.session}.{self.number}"
