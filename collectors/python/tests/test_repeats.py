@@ -139,6 +139,18 @@ class OfAnApplication(OverAServer):
         (client,) = self.clients(place, "repeatable read", ["t"], 1)
         self.assert_few(self.retried(client, "UPDATE t SET v = v + 1 WHERE v > 3"), WHOLE_KEY)
 
+    def test_each_is_a_line_however_long_the_statement_is(self) -> None:
+        place = self.database(SCHEMA, ["t"])
+        (client,) = self.clients(place, "repeatable read", ["t"], 1)
+        rows = ",\n".join(f"({number}, 1)" for number in range(2000))
+        told = self.retried(client, f"SELECT v\nFROM t WHERE (id,\n v) IN ({rows}\n)", 10)
+        self.assertEqual([line.count("\n") for line in told], [0, 0])
+        self.assertLess(len(told[0]), 2500)
+        self.assertLess(len(told[1]), 500)
+        for line in told:
+            self.assertIn("SELECT v FROM t WHERE (id, v) IN ((0, 1), (1, 1)", line)
+            self.assertIn("(1999, 1) )  -- tests/test_repeats.py:", line)
+
     def test_what_is_run_all_the_same(self) -> None:
         place, done = self.database(SCHEMA, ["t"]), "run, and not audited"
         for level, why in (("read committed", LEVEL), ("repeatable read", WHOLE_KEY)):

@@ -20,14 +20,12 @@ FROM_HERE_ON = "more of the kind are counted, and told at 10, 100, 1,000 and so 
 
 
 class Unaudited(NamedTuple):
-    """What became of a statement, why, and which it was."""
+    """What became of a statement, why, and which it was; and the same in short."""
 
     done: str
     why: str
     statement: str
-
-    def __str__(self) -> str:
-        return f"since {self.why}: {self.statement}"
+    brief: str = ""
 
 
 class _Counted:
@@ -57,10 +55,11 @@ class Repeats:
         is_new = reason not in known
         known.add(reason)
         if is_new and next(counted.connections) <= FEW:
-            told = f"{its.done}, {its} ({FROM_HERE_ON})"
+            told = f"{its.done}, since {its.why}: {its.statement} ({FROM_HERE_ON})"
         elif counted.is_due(count):
             of = f" for {OTHERS}" if reason == OTHERS else ""
-            told = f"{its.done} {count:,} times by now{of}, the last {its}"
+            last = f"{its.why}: {its.brief or its.statement}"
+            told = f"{its.done} {count:,} times by now{of}, the last since {last}"
         else:
             return
         counted.told_at = time.monotonic()

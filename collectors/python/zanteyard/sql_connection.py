@@ -20,7 +20,7 @@ from .locks import give_back
 from .repeats import Unaudited
 from .sessions import Session, Transaction
 from .sql_commit import Commit
-from .sql_cursor import STRICT, place_of
+from .sql_cursor import STRICT, brief_statement, place_of
 from .sql_notes import ENDED, Notes
 from .sql_shapes import Shapes
 from .sql_statements import Statement
@@ -31,6 +31,7 @@ from .sql_unlogged import INTERRUPTED
 logger = logging.getLogger("zanteyard")
 REFUSE, RUN = "refuse", "run"
 REFUSED, NOT_AUDITED = "refused", "run, and not audited"  # as the log tells it of a statement
+WHOLE = 2000  # letters of one that the log tells whole
 DEFAULT = "default_transaction_isolation"
 IDLE, ACTIVE = 0, 2  # what libpq calls a transaction's status, and each driver of it
 PAST = "statements were run past the audit"
@@ -193,8 +194,7 @@ class Audits:
         except StatementRefusedError as error:
             is_run = self.audit.unaudited == RUN and error.may_run
             why = self.advised(error.why)
-            told = error.statement + place_of(self)
-            self.tell_unaudited(NOT_AUDITED if is_run else REFUSED, why, told)
+            self.tell_unaudited(NOT_AUDITED if is_run else REFUSED, why, error.statement)
             if is_run:
                 return None
             raise self.refusal(error.statement, why) from None
@@ -203,9 +203,14 @@ class Audits:
         """Why a statement is refused, with what may be written instead, where that is known."""
         return why
 
-    def tell_unaudited(self, done: str, why: str, text: str, level: int = logging.ERROR) -> None:
-        """To the log: what became of a statement, whole at first, and then how many there are."""
-        its = Unaudited(done, why, text)
+    def tell_unaudited(self, done: str, why: str, text: str) -> None:
+        """To the log: what became of a statement; in one line, whatever it has."""
+        place = place_of(self)
+        whole, brief = brief_statement(text, WHOLE) + place, brief_statement(text) + place
+        self.tell_counted(Unaudited(done, " ".join(why.split()), whole, brief))
+
+    def tell_counted(self, its: Unaudited, level: int = logging.ERROR) -> None:
+        """Whole at first, and then how many there are."""
         self.audit.repeats.tell(self.told, f"session {self.session.number}", its, level)
 
     def begin_audited(self, text: str) -> None:
@@ -253,7 +258,7 @@ class Audits:
         why = f"at {level} nothing is audited: set isolation_level, or the server's {DEFAULT}, to"
         why += f" one of {', '.join(STRICT)}"
         is_run = self.audit.unaudited == RUN
-        self.tell_unaudited(NOT_AUDITED if is_run else REFUSED, why, text + place_of(self))
+        self.tell_unaudited(NOT_AUDITED if is_run else REFUSED, why, text)
         if is_run:
             return why
         self.send_rollback()  # of the SHOW

@@ -293,13 +293,14 @@ def place_of(connection: Any) -> str:
     return f"  -- {place}" if place else ""
 
 
-def brief_statement(text: str) -> str:
+def brief_statement(text: str, letters: int = LETTERS) -> str:
     """In one line; of a long one the front, which says what it does, and the end, which tells of
-    which rows."""
+    which rows: so many letters."""
     line = " ".join(text.split())
-    if len(line) <= LETTERS:
+    if len(line) <= letters:
         return line
-    return f"{line[:FRONT]} .. {line[FRONT - LETTERS:]}"
+    front = letters * FRONT // LETTERS
+    return f"{line[:front]} .. {line[front - letters:]}"
 
 
 @contextmanager

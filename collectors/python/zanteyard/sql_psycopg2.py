@@ -13,6 +13,7 @@ from psycopg2 import extensions
 from . import sql_savepoints
 from .circumstances import brief_row
 from .errors import StatementRefusedError
+from .repeats import Unaudited
 from .sql_connection import NO_AUTOCOMMIT, NOT_AUDITED, Audits
 from .sql_cursor import gives_rows, is_as_it_is, is_there, note, own_columns, pending, sent
 from .sql_cursor import status_of, told_of
@@ -138,8 +139,8 @@ class AuditedCursor(extensions.cursor):
             rows = [self._fetched_one() for _ in range(super().rowcount)]
             if not any(isinstance(row, Unfit) for row in rows):
                 raise  # it was no value, as where a signal's handler raises
-            why = f"a row of it can't be read: {error!r}"
-            connection.tell_unaudited(NOT_AUDITED, why, told, logging.WARNING)
+            its = Unaudited(NOT_AUDITED, f"a row of it can't be read: {error!r}", told)
+            connection.tell_counted(its, logging.WARNING)
         return [], rows
 
     def _fetched_one(self) -> Any:
