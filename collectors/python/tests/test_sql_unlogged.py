@@ -4,6 +4,7 @@ transaction of this audit's own isn't taken for a program that isn't audited."""
 from __future__ import annotations
 
 import re
+import time
 import unittest
 from typing import Any, List
 from unittest import mock
@@ -132,7 +133,9 @@ class Told(OverConnections):
             raise psycopg2.OperationalError("server closed the connection unexpectedly")
 
         lost = mock.patch.object(AuditedConnection, "send_commit", lose_the_answer)
-        with lost, self.unlogged(self.one), self.assertRaises(psycopg2.OperationalError):
+        nobody = mock.patch("zanteyard.sql_store.outcome_told", return_value="unknown")
+        self.one.session.patience = 0.2
+        with lost, nobody, self.unlogged(self.one), self.assertRaises(psycopg2.OperationalError):
             self.one.commit()
         told = self.told_of_row(self.two)
         self.assertIn("by 0.1, a transaction of session 0 of this audit whose outcome", told)
@@ -203,6 +206,28 @@ class Ends(OverConnections):
         self.assertEqual(self.do(self.two, "SELECT v FROM t WHERE id = 1"), [(12,)])
         self.two.commit()
         self.assertEqual(self.auditor.outcome().kind, "serial")
+
+    def test_one_whose_commit_wasnt_answered_is_asked_for(self) -> None:
+        """As where the server is started again: where nothing was committed, nothing is unclear."""
+        commit = AuditedConnection.send_commit
+
+        def lose(connection: Any) -> None:
+            if is_there:
+                commit(connection)
+            connection.close_plain()
+            raise psycopg2.OperationalError("server closed the connection unexpectedly")
+
+        for is_there, kind in ((False, "serial"), (True, "incomplete")):
+            (client,) = self.clients(self.place, "serializable", ["t"], 1)
+            self.do(client, "UPDATE t SET v = v + 1 WHERE id = 1")
+            lost, began = mock.patch.object(AuditedConnection, "send_commit", lose), time.monotonic()
+            with lost, self.unlogged(client), self.assertRaises(psycopg2.OperationalError):
+                client.commit()
+            self.assertLess(time.monotonic() - began, client.audit.patience)
+            self.do(self.two, "SELECT v FROM t WHERE id = 1")
+            self.two.commit()
+            self.assertEqual(self.auditor.outcome().kind, kind)
+        self.assertEqual([it.outcome for it in self.auditor.history[2]], ["aborted"])
 
     def test_one_whose_connection_beside_it_is_lost_is_audited(self) -> None:
         """Over another one; by either driver."""

@@ -20,12 +20,13 @@ with this token, and OutcomeUnknown where it hasn't said so after so many second
 `has_answered(error)` says that what `commit` raised is the store's own answer: nothing of it was
 committed, and nobody has to ask. `look_up(transaction)` comes before a client's commit is noted and
 sent, and raises Aborted alone: a store whose clients don't read and write by a Transaction says
-there what they did, or, as its `unclear`, why that isn't known. `statement` is what it has run
-last, as who is told of a violation should see it. `tried` gives the keys that a client has written
-by statements of its own, for an attempt that was aborted. `errors` are the classes of what its
-driver raises: a client joins by a statement of the collector's own, in the application's thread,
-and what comes of that is kept from the application, unless it is of none of these, nor of this
-package's, as what a handler of SIGALRM raises.
+there what they did, or, as its `unclear`, why that isn't known; `has_number` says that the store
+may be asked all the same what became of that. `statement` is what it has run last, as who is told
+of a violation should see it. `tried` gives the keys that a client has written by statements of its
+own, for an attempt that was aborted. `errors` are the classes of what its driver raises: a client
+joins by a statement of the collector's own, in the application's thread, and what comes of that is
+kept from the application, unless it is of none of these, nor of this package's, as what a handler
+of SIGALRM raises.
 """
 
 from __future__ import annotations
@@ -734,7 +735,7 @@ class Transaction:
         the last of its session."""
         until = time.monotonic() + (self.session.patience if self.holds else 0.0)
         try:
-            while self.written:
+            while self.may_be_told:
                 outcome = self.outcome_within(max(LEAST, until - time.monotonic()))
                 if outcome == "committed":
                     return self.log(self.reads, self.written, "committed")
@@ -751,6 +752,13 @@ class Transaction:
             raise
         self.log((), self.written, "unknown", is_last=bool(self.written))
         raise OutcomeUnknown(f"{self.session.number}.{self.number}")
+
+    @property
+    def may_be_told(self) -> bool:
+        """Whether the store may say what became of it. Where nothing was committed, nothing is
+        unclear."""
+        has_number = self.unclear is not None and getattr(self.store, "has_number", False)
+        return bool(self.written or has_number)
 
     def outcome_within(self, seconds: float) -> str:
         bounded = getattr(self.store, "outcome_within", None)

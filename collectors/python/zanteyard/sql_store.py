@@ -24,6 +24,9 @@ from .sql_unlogged import INTERRUPTED, LOST, Unlogged, Writer
 ITS_ENTRY = """SELECT 1 FROM {table}
     WHERE relation = %s AND key = %s AND run = %s AND session = %s AND number = %s"""
 STATUS = f"SELECT pg_xact_status(%s::text::xid8), EXISTS ({ITS_ENTRY})"
+# Of one that isn't handed in, whatever it is but aborted: a number that is another's by now harms
+# nothing.
+STATUS_ALONE = "SELECT pg_xact_status(%s::text::xid8), true"
 BESIDE, OWN = "beside", "own"  # whose transaction a ticket is of
 
 
@@ -152,6 +155,10 @@ class SqlStore:
         written: Sequence[str] = its.notes.written if its is not None else ()
         return written
 
+    @property
+    def has_number(self) -> bool:
+        return bool(self.number) and not self.is_alone
+
     def outcome(self) -> str:
         return self.outcome_within(self.beside.patience)
 
@@ -161,7 +168,9 @@ class SqlStore:
         if not self.number:
             return "unknown"
         text = STATUS.format(table=self.connection.tables.writes.replace("%", "%%"))
-        values = (self.number, *(self.entry or (0, "", "", 0, 0)))
+        values: Tuple[Any, ...] = (self.number, *(self.entry or (0, "", "", 0, 0)))
+        if self.writer is not None and self.entry is None:
+            text, values = STATUS_ALONE, (self.number,)
         outcome = outcome_told(self.dsn, text, values, seconds)
         self._tell_writer(outcome)
         return outcome
