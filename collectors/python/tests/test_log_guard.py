@@ -19,6 +19,7 @@ from unittest import mock
 from zanteyard import LiveAuditor
 from zanteyard.apart import AuditorApart
 from zanteyard.auditor import PROGRAM
+from zanteyard.errors import AuditLostError
 from zanteyard.log_guard import guard
 from zanteyard.memory_store import MemoryStore
 
@@ -149,9 +150,10 @@ class Applications(OverAServer):
         cursor.execute("SELECT v FROM t WHERE id = 1")
         client.commit()
         cursor.execute("UPDATE t SET v = v + 1 WHERE id = 1")
-        client.store.beside.connection.close()
+        lost = AuditLostError("there is no server that answers")
         with without_folder() as told:
-            client.commit()
+            with mock.patch.object(client.store.side, "ask", side_effect=lost):
+                client.commit()
             with self.assertRaises(psycopg2.NotSupportedError):
                 cursor.execute("SELECT v FROM t WHERE v > 3")
             client.rollback()
