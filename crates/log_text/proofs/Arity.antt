@@ -4,9 +4,9 @@ use Rattle.serde_json.specs.Data.{Data}
 use Rattle.serde_json.specs.View.{items_view}
 use Rattle.serde_json.specs.declared.value.Value.{Value}
 use Rattle.log_text.specs.Items.{alone, one_item, two_items, three_items}
-use Rattle.log_text.specs.Commands.{source_in, aborted_in, txn_in, start_in, resume_in, fragment_in, joined_in}
+use Rattle.log_text.specs.Commands.{source_in, aborted_in, start_in, resume_in}
 use Rattle.log_text.specs.Refutations.{choice_in, ends_in}
-use Rattle.log_text.specs.Shown.{HandsIn, Reports}
+use Rattle.log_text.specs.Shown.{Reports}
 use Rattle.log_text.specs.Versions.{version_in}
 use Rattle.log_text.specs.declared.shown.Shown.{Shown}
 
@@ -32,13 +32,6 @@ three_items_none make f g h (a ∷ b ∷ []) other = refl
 three_items_none make f g h (a ∷ b ∷ c ∷ []) other = absurd (omega (arith, other))
 three_items_none make f g h (a ∷ b ∷ c ∷ d ∷ vs) other = refl
 
--- a join that doesn't have two parts is of the longer form, or none
-pub joined_longer : (vs : List Value) → length vs ≢ 2 → fragment_in (items_view vs) ≡ joined_in (items_view vs)
-joined_longer [] other = refl
-joined_longer (a ∷ []) other = refl
-joined_longer (a ∷ b ∷ []) other = absurd (omega (arith, other))
-joined_longer (a ∷ b ∷ c ∷ vs) other = refl
-
 -- behind the writes of a transaction stands one item or none
 pub aborted_none : (vs : List Value) → length vs ≢ 0 → length vs ≢ 1 → None ≡ aborted_in (items_view vs)
 aborted_none [] none one = absurd (omega (arith, none))
@@ -51,12 +44,7 @@ version_none [] none one = absurd (omega (arith, none))
 version_none (a ∷ []) none one = absurd (omega (arith, one))
 version_none (a ∷ b ∷ vs) none one = refl
 
--- both have two items before that
-pub txn_none : (vs : List Value) → length vs < 2 → None ≡ txn_in (items_view vs)
-txn_none [] few = refl
-txn_none (a ∷ []) few = refl
-txn_none (a ∷ b ∷ vs) few = absurd (omega (arith, few))
-
+-- and two items before that
 pub start_none : (vs : List Value) → length vs < 2 → None ≡ start_in (items_view vs)
 start_none [] few = refl
 start_none (a ∷ []) few = refl
@@ -94,15 +82,7 @@ ends_none (a ∷ b ∷ c ∷ []) h = refl
 ends_none (a ∷ b ∷ c ∷ d ∷ []) h = absurd (omega (arith, h))
 ends_none (a ∷ b ∷ c ∷ d ∷ e ∷ vs) h = refl
 
--- a line that hands an answer in has three
-pub hands_none : (vs : List Value) → length vs ≢ 3 → (shown : Shown) → ¬ HandsIn (items_view vs) shown
-hands_none [] other shown hands = hands
-hands_none (a ∷ []) other shown hands = hands
-hands_none (a ∷ b ∷ []) other shown hands = hands
-hands_none (a ∷ b ∷ c ∷ []) other shown hands = absurd (omega (arith, other))
-hands_none (a ∷ b ∷ c ∷ d ∷ vs) other shown hands = hands
-
--- and a report that shows something has five
+-- a report that shows something has five
 pub reports_none : (vs : List Value) → length vs ≢ 5 → (shown : Shown) → ¬ Reports (items_view vs) shown
 reports_none [] other shown reports = reports
 reports_none (a ∷ []) other shown reports = reports

@@ -1,6 +1,6 @@
 -- The items of a list, one after another.
-use Rattle.std.proofs.Common.{◌≡◌, ℕ, zero, suc, ◌+◌, ◌<◌, List, [], ◌∷◌, ◌++◌, length, take, get_or, map, Option, Some, None, option_map, option_and_then, refl, sym, ap, ◌∙◌, arith}
-use Rattle.std.proofs.lemmas.List.{map-append, take_more}
+use Rattle.std.proofs.Common.{◌≡◌, ℕ, zero, suc, ◌+◌, ◌<◌, List, [], ◌∷◌, ◌++◌, length, take, get_or, Option, Some, None, option_map, option_and_then, refl, sym, ap, ◌∙◌, arith}
+use Rattle.std.proofs.lemmas.List.{take_more}
 use Rattle.serde_json.specs.Data.{Data, null, boolean, number, string, array, object}
 use Rattle.serde_json.specs.Find.{as_array}
 use Rattle.serde_json.specs.View.{view, items_view}
@@ -32,27 +32,6 @@ pub each_of-more : {X : Type 0} (form : Data → Option X) (vs : List Value) (i 
 each_of-more form vs i v xs ys x before within is found new =
     let here = ap (λ us. each_of form (items_view us)) (take_more vs i v within ∙ ap (λ u. take i vs ++ u ∷ []) (sym is)) in
     here ∙ each_of-push form (take i vs) v ∙ rw (before, found) (ap Some (sym new))
-
--- the same of pairs, in a list of their firsts and one of their seconds
-abbrev pub apart : {A B : Type 0} → List (A × B) → List A × List B
-apart {A} {B} pairs = (map (λ (x : A × B). x.0) pairs, map (λ (x : A × B). x.1) pairs)
-
-apart-push : {A B : Type 0} (pairs : Option (List (A × B))) (firsts : List A) (seconds : List B) (x : A × B) → option_map apart pairs ≡ Some (firsts, seconds) → option_map apart (joined pairs (Some x)) ≡ Some (firsts ++ x.0 ∷ [], seconds ++ x.1 ∷ [])
-apart-push {A} {B} None firsts seconds x before = absurd (let no : ⊥ = cc in no)
-apart-push {A} {B} (Some pairs) firsts seconds x before =
-    let both : apart pairs ≡ (firsts, seconds) = cc in
-    ap (λ (ls : List A × List B). Some ls)
-    (ap (λ (ls : List A). (ls, map (λ (y : A × B). y.1) (pairs ++ x ∷ []))) (map-append (λ (y : A × B). y.0) pairs (x ∷ []) ∙ ap (λ (ls : List A × List B). ls.0 ++ x.0 ∷ []) both)
-    ∙ ap (λ (ls : List B). (firsts ++ x.0 ∷ [], ls)) (map-append (λ (y : A × B). y.1) pairs (x ∷ []) ∙ ap (λ (ls : List A × List B). ls.1 ++ x.1 ∷ []) both))
-
-pub each_of-apart : {A B : Type 0} (form : Data → Option (A × B)) (vs : List Value) (i : ℕ) (v : Value) (firsts firsts_now : List A) (seconds seconds_now : List B) (x : A × B) → option_map apart (each_of form (items_view (take i vs))) ≡ Some (firsts, seconds) → i < length vs → v ≡ get_or vs i v
-    → form (view v) ≡ Some x → firsts_now ≡ firsts ++ x.0 ∷ [] → seconds_now ≡ seconds ++ x.1 ∷ [] → option_map apart (each_of form (items_view (take (i + 1) vs))) ≡ Some (firsts_now, seconds_now)
-each_of-apart {A} {B} form vs i v firsts firsts_now seconds seconds_now x before within is found first_more second_more =
-    let here : each_of form (items_view (take (i + 1) vs)) ≡ joined (each_of form (items_view (take i vs))) (form (view v)) =
-    ap (λ us. each_of form (items_view us)) (take_more vs i v within ∙ ap (λ u. take i vs ++ u ∷ []) (sym is)) ∙ each_of-push form (take i vs) v in
-    ap (option_map apart) (here ∙ ap (joined (each_of form (items_view (take i vs)))) found)
-    ∙ apart-push (each_of form (items_view (take i vs))) firsts seconds x before
-    ∙ ap (λ (ls : List A × List B). Some ls) (ap (λ (ls : List A). (ls, seconds ++ x.1 ∷ [])) (sym first_more) ∙ ap (λ (ls : List B). (firsts_now, ls)) (sym second_more))
 
 -- one that isn't leaves none
 pub each_of-none : {X : Type 0} (form : Data → Option X) (vs : List Value) (i : ℕ) (v : Value) → i < length vs → v ≡ get_or vs i v → None ≡ form (view v) → None ≡ each_of form (items_view vs)

@@ -18,7 +18,7 @@ use Rattle.log_text.specs.Replies.{HasKindOfOrder, kind_name}
 use Rattle.log_text.specs.Saved.{number_data}
 use Rattle.log_text.specs.Shown.{id_of, Shows, ShowsAs, Reports, ReportsBy, IsReportOf, ShowsIn, IsShownIn}
 use Rattle.log_text.specs.Told.{id_data, reply_data}
-use Rattle.log_text.proofs.HandedAnswers.{is_word}
+use Rattle.log_text.proofs.WordData.{is_word}
 use Rattle.log_text.proofs.SameTrees.{same_tree}
 use Rattle.log_text.proofs.SavedRead.{each_read, session_read, list_depth, number_depth}
 use Rattle.log_text.proofs.TreesRead.{nodes_read, violated_depth}

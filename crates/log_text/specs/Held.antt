@@ -1,10 +1,9 @@
--- What is held of a command whose line is read with a bound on the transactions.
-use Rattle.std.specs.Prelude.{ℕ, Option, Some, None, take}
+-- What is kept of a command where only so many transactions of a fragment are.
+use Rattle.std.specs.Prelude.{ℕ, take, Option, Some, None}
 use Rattle.log_text.specs.declared.commands.Command.{Command}
 use Rattle.log_text.specs.declared.commands.Command.TheVariants.{Offer, Join}
 
--- Of an offer and of a join the first transactions, so many at most, and all flags; any other command is held whole. Where there is no
--- bound, each command is.
+-- of an offer or a join the first so many transactions and every flag; of each other command all
 abbrev pub held : Option ℕ → Command → Command
 held None command = command
 held (Some n) (Offer logged) = Offer (record logged { fragment = record logged.fragment { txns = take n logged.fragment.txns } })

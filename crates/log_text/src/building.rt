@@ -110,6 +110,7 @@ fn put_split(alloc: Global, choice: Choice, built: Built) -> Result<Option<Built
         second,
     };
     let front = Some(front_of(alloc, split));
+    give_back_behind(&mut behind);
     Ok(Some(Built { front, behind }))
 }
 
@@ -125,6 +126,24 @@ fn put_item(alloc: Global, item: TreeItem, built: Built) -> Result<Option<Built>
     }
 }
 
+/// Gives back the room that popped items leave, so that a large tree doesn't stand in memory beside all of its items.
+fn give_back(items: &mut Vec<TreeItem>)
+    ensures { items.new.items ≡ items.old.items }
+{
+    if items.len() < items.capacity() - items.capacity() / 8 {
+        items.shrink_to_fit();
+    }
+}
+
+/// The same of the trees behind the foremost one.
+fn give_back_behind(behind: &mut Vec<Tree>)
+    ensures { behind.new.items ≡ behind.old.items }
+{
+    if behind.len() < behind.capacity() / 2 {
+        behind.shrink_to_fit();
+    }
+}
+
 /// The tree whose items these are, where they are those of one.
 pub(crate) fn tree_of_items(alloc: Global, items: Vec<TreeItem>) -> Result<Option<Tree>, NoMemory>
     ensures { IfOk result (λ found. MatchOption found ((tree : Tree) → ¬ AreNodesOf items.items tree) (AreNodesOf items.items)) }
@@ -135,6 +154,7 @@ pub(crate) fn tree_of_items(alloc: Global, items: Vec<TreeItem>) -> Result<Optio
         behind: Vec::new(alloc),
     };
     while let Some(item) = items.pop() {
+        give_back(&mut items);
         match put_item(alloc, item, built)? {
             Some(made) => built = made,
             None => return Ok(None),

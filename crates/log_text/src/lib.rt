@@ -1,22 +1,25 @@
 //! The text of a script's lines and of the replies to them, as JSON.
 #![tactic(auto)]
 
+mod answers;
 mod building;
 mod commands;
 mod fragments;
 mod handed;
-mod held;
+mod lines;
 mod lists;
 mod numbers;
-mod objects;
 mod replies;
 mod saved;
 mod shown;
+mod streams;
 mod tree_items;
+mod tree_tokens;
 mod trees;
 mod versions;
 
-pub use commands::{Command, Wanted, read_line, read_line_within};
+pub use commands::{Command, Wanted};
+pub use lines::{read_line, read_line_within};
 pub use replies::{Reply, write_reply};
 pub use saved::Saved;
 pub use shown::{Shown, read_shown};

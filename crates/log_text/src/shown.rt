@@ -6,7 +6,7 @@ ghost use Rattle.refutation.specs.declared.trees.Tree.{Tree};
 ghost use Rattle.log_text.specs.Items.{list_of};
 ghost use Rattle.log_text.specs.Refutations.{IsTree};
 ghost use Rattle.log_text.specs.ReadBack.{IsSameShown};
-ghost use Rattle.log_text.specs.Shown.{id_in, id_of, Shows, ShowsAs, HandsIn, HandsInBy, IsAnswer, Reports, ReportsBy, IsReportOf, IsShownIn};
+ghost use Rattle.log_text.specs.Shown.{id_in, id_of, Shows, ShowsAs, Reports, ReportsBy, IsReportOf, IsShownIn};
 ghost use Rattle.log_text.specs.declared.shown.Shown.{Shown};
 
 use crate::building::tree_of_items;
@@ -84,57 +84,6 @@ fn tree_shown(alloc: Global, given: &Value) -> Result<Option<Shown>, NoMemory>
 {
     match tree_of(alloc, given)? {
         Some(tree) => Ok(Some(Shown::Refuted(tree))),
-        None => Ok(None),
-    }
-}
-
-/// What is shown behind this word.
-fn shown_as(alloc: Global, word: &str, given: &Value) -> Result<Option<Shown>, NoMemory>
-    ensures { IfOk result (λ found. MatchOption found ((shown : Shown) → ¬ Shows (string word.now) (view given.now) shown) (Shows (string word.now) (view given.now))) }
-{
-    match word {
-        "order" => order_shown(alloc, given),
-        "refuted" => tree_shown(alloc, given),
-        _ => Ok(None),
-    }
-}
-
-fn handed_in(
-    alloc: Global,
-    name: &Value,
-    word: &Value,
-    given: &Value,
-) -> Result<Option<Shown>, NoMemory>
-    ensures { IfOk result (λ found. MatchOption found ((shown : Shown) → ¬ HandsInBy (view name.now) (view word.now) (view given.now) shown) (HandsInBy (view name.now) (view word.now) (view given.now))) }
-{
-    let Some(name) = name.as_str() else {
-        return Ok(None);
-    };
-    let Some(word) = word.as_str() else {
-        return Ok(None);
-    };
-    if name != "answer" {
-        return Ok(None);
-    }
-    shown_as(alloc, word, given)
-}
-
-#[tactic(auto, using(crate::proofs::Arity::hands_none))]
-fn answer_in(alloc: Global, items: &[Value]) -> Result<Option<Shown>, NoMemory>
-    ensures { IfOk result (λ found. MatchOption found ((shown : Shown) → ¬ HandsIn (items_view items.now) shown) (HandsIn (items_view items.now))) }
-{
-    match items {
-        [name, word, given] => handed_in(alloc, name, word, given),
-        _ => Ok(None),
-    }
-}
-
-/// What is handed in by a line, where it is one that hands an answer in.
-pub(crate) fn answer_of(alloc: Global, value: &Value) -> Result<Option<Shown>, NoMemory>
-    ensures { IfOk result (λ found. MatchOption found ((shown : Shown) → ¬ IsAnswer (view value.now) shown) (IsAnswer (view value.now))) }
-{
-    match value.as_array() {
-        Some(items) => answer_in(alloc, items.as_slice()),
         None => Ok(None),
     }
 }

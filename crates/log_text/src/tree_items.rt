@@ -33,7 +33,7 @@ fn id_at(session: &Value, number: &Value) -> Option<TxnId>
 }
 
 #[tactic(auto, using(crate::proofs::Arity::choice_none))]
-fn choice_in(items: &[Value]) -> Option<Choice>
+pub(crate) fn choice_in(items: &[Value]) -> Option<Choice>
     ensures { result ≡ choice_in (items_view items.now) }
 {
     match items {
@@ -53,7 +53,7 @@ fn choice_of(value: &Value) -> Option<Choice>
     choice_in(value.as_array()?.as_slice())
 }
 
-fn side_numbered(number: u64) -> Option<Side>
+pub(crate) fn side_numbered(number: u64) -> Option<Side>
     ensures { result ≡ side_numbered number }
 {
     if number == 1 {
@@ -114,7 +114,7 @@ fn arc_named(name: &str, parts: &[Value]) -> Option<Arc>
     }
 }
 
-fn arc_in(items: &[Value]) -> Option<Arc>
+pub(crate) fn arc_in(items: &[Value]) -> Option<Arc>
     ensures { result ≡ arc_in (items_view items.now) }
 {
     let [name, parts @ ..] = items else {
@@ -166,7 +166,7 @@ fn step_in(alloc: Global, items: &[Value]) -> Result<Option<ForceStep>, NoMemory
 }
 
 #[tactic(auto, using(crate::proofs::Arity::three_items_none))]
-fn reader_in(items: &[Value]) -> Option<(TxnId, u64)>
+pub(crate) fn reader_in(items: &[Value]) -> Option<(TxnId, u64)>
     ensures { result ≡ reader_in (items_view items.now) }
 {
     match items {

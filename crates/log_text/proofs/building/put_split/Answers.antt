@@ -1,4 +1,4 @@
-use Rattle.std.proofs.Common.{Option, ◌∷◌, ◌++◌, sym, ap, subst, arith, ◌∙◌}
+use Rattle.std.proofs.Common.{List, [], Option, ◌∷◌, ◌++◌, sym, ap, subst, arith, ◌∙◌}
 use Rattle.std.proofs.lemmas.List.{nil_from_length}
 use Rattle.refutation.specs.declared.trees.Tree.{Tree}
 use Rattle.log_text.specs.Building.{AreBuilt}
@@ -15,8 +15,8 @@ returns-in_default-pop-clause-none c nodes built =
 
 pub returns-clause-some : goal.returns-clause-some
 returns-clause-some c nodes built =
-    split_built c.args.choice c.in-Some.front c.front_of.result c.in_ok-first.first c.in-Some-pop.second _ c.args.built.behind.items c.pop.new.self.items nodes
-    c.in_ok-first.ensures.nodes c.in_ok-first.ensures.merged c.in-Some-pop.ensures.items c.front_of.ensures.steps c.front_of.ensures.rest
+    split_built c.args.choice c.in-Some.front c.front_of.result c.in_ok-first.first c.in-Some-pop.second _ c.args.built.behind.items c.give_back_behind.new.behind.items nodes
+    c.in_ok-first.ensures.nodes c.in_ok-first.ensures.merged (c.in-Some-pop.ensures.items ∙ ap (λ (trees : List Tree). trees ++ c.in-Some-pop.second ∷ []) (sym c.give_back_behind.ensures)) c.front_of.ensures.steps c.front_of.ensures.rest
     (ap (λ (tree : Tree). node.Split c.args.choice ∷ (nodes_of tree ++ nodes_of c.in_ok-second.second.value)) c.in_ok-first-2.ensures.ok ∙ ap (λ (tree : Tree). node.Split c.args.choice ∷ (nodes_of c.in_ok-first.first ++ nodes_of tree)) c.in_ok-second.ensures.ok)
     tt (λ one two. (subst IsMerged (sym c.in_ok-first-2.ensures.ok) one, subst IsMerged (sym c.in_ok-second.ensures.ok) two))
     (subst (λ (f : Option Front). AreBuilt f c.args.built.behind.items nodes) c.in-Some.is built)

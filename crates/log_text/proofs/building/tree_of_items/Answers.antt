@@ -1,13 +1,15 @@
-use Rattle.std.proofs.Common.{◌≡◌, ◌≢◌, ℕ, Bool, true, false, Option, Some, None, length, refl, ap, ◌∙◌, arith}
+use Rattle.std.proofs.Common.{◌≡◌, ◌≢◌, ℕ, Bool, true, false, List, [], ◌∷◌, ◌++◌, Option, Some, None, length, refl, sym, ap, ◌∙◌, arith}
 use Rattle.std.specs.Prelude.{◌==◌}
 use Rattle.std.proofs.lemmas.List.{nil_from_length}
 use Rattle.log_text.specs.declared.building.Front.{Front}
+use Rattle.log_text.specs.declared.tree_items.TreeItem.{TreeItem}
 use Rattle.log_text.proofs.BuiltTrees.{building_more, building_stuck, built_nothing, built_many}
 use Rattle.log_text.proofs.building.tree_of_items.Goals as goal
 
 pub loop-item-preserved : goal.loop-item-preserved
 loop-item-preserved c =
-    building_more c.args.items.items c.loop-item.items.items c.pop.new.self.items c.in-Some.item c.loop-item.built.front c.in-Some-2.made.front c.loop-item.built.behind.items c.in-Some-2.made.behind.items c.loop-item.invariant c.in-Some.ensures.items
+    building_more c.args.items.items c.loop-item.items.items c.give_back.new.items.items c.in-Some.item c.loop-item.built.front c.in-Some-2.made.front c.loop-item.built.behind.items c.in-Some-2.made.behind.items c.loop-item.invariant
+    (c.in-Some.ensures.items ∙ ap (λ (ns : List TreeItem). ns ++ c.in-Some.item ∷ []) (sym c.give_back.ensures))
     (rw c.in-Some-2.is at c.in_ok-made.ensures.some)
 
 pub returns-in-None : goal.returns-in-None

@@ -1,8 +1,0 @@
-use Rattle.std.proofs.Common.{◌≡◌, Some, take}
-use Rattle.serde_json.specs.View.{items_view}
-use Rattle.log_text.specs.Items.{each_of}
-use Rattle.log_text.specs.Commands.{read_of}
-use Rattle.log_text.proofs.fragments.reads_of.Given as goal
-
-abbrev pub invariant-loop-item : goal.invariant-loop-item
-invariant-loop-item l = each_of read_of (items_view (take l.item-index l.item-items)) ≡ Some l.reads.items
