@@ -8,7 +8,9 @@ ghost use Rattle.log_text.specs.Streams.{IsRead, AreRead};
 ghost use Rattle.log_text.specs.Kept.{has_room, with_one_more, kept, txns_of, made, behind_in, behind_of, joined_within};
 
 use crate::numbers::{session_of, whole_number};
-use crate::streams::{atoms, few, number, number_at, numbers, opens_array, session, takes_array};
+use crate::streams::{
+    atoms, exact, few, number, number_at, numbers, opens_array, session, takes_array,
+};
 use json::Reader;
 use logged_fragments::LoggedFragment;
 use serde_json::Value;
@@ -79,7 +81,7 @@ fn rest_of_reads(
             None => return Ok(None),
         }
     }
-    reads.shrink_to_fit();
+    let reads = exact(alloc, reads)?;
     Ok(Some(Sequence::new(reads)))
 }
 

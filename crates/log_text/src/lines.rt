@@ -154,7 +154,7 @@ fn text_within(alloc: Global, text: &str, most: Option<usize>) -> Result<Option<
 }
 
 /// What is kept of the command that a line is, as `read_line` reads it: of an offer or a join the first so many transactions and every
-/// flag. What isn't kept is read all the same, and takes no room.
+/// flag. What isn't kept is read all the same, and let go at once. NoMemory comes as there.
 pub fn read_line_within(alloc: Global, line: &[u8], most: Option<usize>) -> Result<Command, Refusal>
     ensures ok { IfOk result (λ given. (whole : Command) × IsCommand line.now whole × (given ≡ held most whole)) }
     ensures limits { IfOk result HasLimits }
@@ -172,7 +172,7 @@ pub fn read_line_within(alloc: Global, line: &[u8], most: Option<usize>) -> Resu
 }
 
 /// The command that a line is, without its line feed; BadLine where it is none. NoMemory may take the place of either where the
-/// line is UTF-8: it is answered where room for a long string of the line or for what is kept of it is refused, which no clause says.
+/// line is UTF-8: it is answered where room for the line's text once more, or for what is read of it, is refused, which no clause says.
 pub fn read_line(alloc: Global, line: &[u8]) -> Result<Command, Refusal>
     ensures ok { IfOk result (IsCommand line.now) }
     ensures limits { IfOk result HasLimits }

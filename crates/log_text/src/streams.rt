@@ -15,6 +15,9 @@ use serde_json::Value;
 use std::alloc::Global;
 use txn::{NoMemory, Sequence};
 
+/// So many items are cut to their room where they stand.
+const MANY: usize = 64;
+
 fn has_minus(bytes: &[u8]) -> bool
     ensures { result ≡ (slice_index bytes.now 0 == minus) }
 {
@@ -161,6 +164,20 @@ pub(crate) fn few(
     }
 }
 
+/// The items in room for just them. A few are copied, so that what they were gathered in is free again as a whole.
+pub(crate) fn exact<T: Copy + Drop>(alloc: Global, mut items: Vec<T>) -> Result<Vec<T>, NoMemory>
+    ensures { IfOk result (λ kept. kept.items ≡ items.items) }
+{
+    if items.len() < MANY {
+        let mut kept = Vec::with_capacity(alloc, items.len())?;
+        kept.extend_from_slice(items.as_slice())?;
+        Ok(kept)
+    } else {
+        items.shrink_to_fit();
+        Ok(items)
+    }
+}
+
 /// Numbers up to the end of an array.
 fn rest_of_numbers(
     alloc: Global,
@@ -175,7 +192,7 @@ fn rest_of_numbers(
             None => return Ok(None),
         }
     }
-    numbers.shrink_to_fit();
+    let numbers = exact(alloc, numbers)?;
     Ok(Some(Sequence::new(numbers)))
 }
 

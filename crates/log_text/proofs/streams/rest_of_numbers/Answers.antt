@@ -13,4 +13,4 @@ pub returns-in-None : goal.returns-in-None
 returns-in-None c = so_far_none whole_number 0 0 _ _ _ _ _ _ (omega arith) c.loop-reader.invariant c.loop-reader-test.ensures.0 c.loop-reader-test.ensures.1 c.in-None.ensures
 
 pub returns : goal.returns
-returns c = so_far_ends whole_number 0 _ _ _ _ _ c.loop-reader.invariant c.loop-reader-test.ensures (c.new.ensures ∙ c.shrink_to_fit.ensures.items)
+returns c = so_far_ends whole_number 0 _ _ _ _ _ c.loop-reader.invariant c.loop-reader-test.ensures (c.new.ensures ∙ c.in_ok-numbers.ensures)
