@@ -41,9 +41,10 @@ class Interrupted:
     @staticmethod
     def is_safe(frame):
         """No signal comes between two assignments, nor as a lock of `with` is given back, where
-        its line comes again."""
+        its line comes again; nor at a `try`, which runs nothing, and for which not even a `with`
+        around it counts."""
         line = linecache.getline(frame.f_code.co_filename, frame.f_lineno).strip()
-        return line.startswith("with ") or (frame.f_code.co_name == "log" and line in TURN_IS_GIVEN_BACK)
+        return line.startswith(("with ", "try:")) or (frame.f_code.co_name == "log" and line in TURN_IS_GIVEN_BACK)
 
     def run(self, call):
         """Whether it was interrupted."""
@@ -215,6 +216,36 @@ class Interrupts(unittest.TestCase):
             other.run(add_one("x"))
             self.assertEqual(other.number, 2)  # the fence of the second is there
             self.assertEqual(live.stop().kind, "serial")
+
+    def test_who_is_interrupted_wherever_a_session_is_made(self):
+        """Another client has its place, and no meeting waits for who isn't there: in a session that
+        was there, and in one that is new."""
+        for joins in (False, True):
+            for at in range(1, 1000, 3 * SHARE):
+                with Auditor(1 if joins else 2) as auditor, self.subTest(at=at, joins=joins):
+                    is_interrupted = self.made_and_interrupted(auditor, Interrupted(at), joins)
+                if not is_interrupted:
+                    break
+            self.assertGreater(at, 20)
+
+    def made_and_interrupted(self, auditor, interrupt, joins):
+        live, store = LiveAuditor(auditor, policy=Policy(2.0, False)), MemoryStore()
+        stays = live.session(store.connect())
+        stays.run(add_one("x"))
+        if joins:
+            self.assertIsNone(live._convener.meet(60.0, 60.0).failure)
+        made = []
+        is_interrupted = interrupt.run(lambda: made.append(live.session(store.connect())))
+        for session in made:
+            session.close()
+        self.assertEqual((live._places.taken, live._group.numbers()), (1, [0]))
+        other = live.session(store.connect())
+        other.run(add_one("x"))
+        self.assertIsNone(live._convener.meet(60.0, 60.0).failure)
+        # Of a fence that was interrupted as it was handed in nothing more is known.
+        kinds = ("serial", "incomplete") if joins and is_interrupted else ("serial",)
+        self.assertIn(live.stop().kind, kinds)
+        return is_interrupted
 
     def test_who_is_interrupted_as_it_asks_for_a_session(self):
         """Nobody else of its process waits for it."""

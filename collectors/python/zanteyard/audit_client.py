@@ -75,11 +75,18 @@ class AuditClient(SessionsHere):
         isn't known. Raises as a LiveAuditor's does, and ProgramEndedError where nothing more is
         audited, or nobody answers."""
         seconds = ANSWERING + self.policy.wait  # in which a meeting may have all that are left
-        place = self._requests.asked("join", True, seconds=seconds)
-        if place is not None:
-            if not place.is_audited:
-                self._renewed = time.monotonic()
-            return self._add_session(place, store, patience)
+        owed: List[Place] = []  # of which no session is made yet
+        try:
+            owed += filter(None, [self._requests.asked("join", True, seconds=seconds)])
+            if owed:
+                if not owed[0].is_audited:
+                    self._renewed = time.monotonic()
+                return self._add_session(owed[0], store, patience, owed)
+        except BaseException:
+            for place in owed:
+                if place.is_audited:
+                    self._give_back(place)
+            raise
         if self._is_over:
             raise ProgramEndedError("nothing more is audited")
         raise ValueError("no session is left: all have clients")

@@ -148,10 +148,15 @@ class LiveAuditor(SessionsHere):
             return Session(self, 0, store, self.run_name, patience)
         if not self.auditor.has_sessions:
             self.auditor.note_sessions()
-        place = self._places.take(self.policy.wait) or self._without_place()
-        if place is None:
-            raise ValueError(f"no session is left: {self._no_place()}")
-        return self._add_session(place, store, patience)
+        owed: List[Place] = []  # of which no session is made yet
+        try:
+            place = self._places.take(self.policy.wait, owed) or self._without_place()
+            if place is None:
+                raise ValueError(f"no session is left: {self._no_place()}")
+            return self._add_session(place, store, patience, owed)
+        except BaseException:
+            self._places.put_back(owed)
+            raise
 
     def _without_place(self) -> Optional[Place]:
         """For a new client for whom none is left: one that no audit is about; None where all have

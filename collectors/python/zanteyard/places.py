@@ -45,20 +45,24 @@ class Places:
         self._has_ended = False  # nothing more is audited
         self._next_unaudited = max(SESSIONS, sessions)
 
-    def take(self, seconds: float) -> Optional[Place]:
-        """One that is left, or None, where none is there after so many seconds."""
+    def take(self, seconds: float, owed: Optional[List[Place]] = None) -> Optional[Place]:
+        """One that is left, or None, where none is there after so many seconds. It is the last of
+        those that are `owed` then, whatever interrupt comes."""
+        owed = [] if owed is None else owed
         with self._changed:
             self._waiting += 1
             try:
                 self._changed.wait_for(lambda: self._is_any_left() or self._has_ended, seconds)
             finally:
                 self._waiting -= 1
-            place = self._next() if self._is_any_left() else None
-            if place is not None:
-                self._taken.add(place.number)
-                if self._has_ended:
-                    place.must_join, self._new = False, None
-                place.client = self.stints.begin(place.number, place.begun)
+            if not self._is_any_left():
+                return None
+            owed.append(self._next())
+            place = owed[-1]
+            self._taken.add(place.number)
+            if self._has_ended:
+                place.must_join, self._new = False, None
+            place.client = self.stints.begin(place.number, place.begun)
             return place
 
     def take_unaudited(self) -> Place:
@@ -81,6 +85,14 @@ class Places:
                 if place.number in self._taken:
                     self._taken.remove(place.number)
                     self._leave(place)
+            self._changed.notify_all()
+
+    def put_back(self, places: Iterable[Place]) -> None:
+        """Which were taken, and by an interrupt nobody has."""
+        with self._changed:
+            for place in places:
+                self._taken.discard(place.number)
+                self._leave(place)
             self._changed.notify_all()
 
     def drop(self, numbers: Iterable[int]) -> None:

@@ -46,24 +46,31 @@ class SessionsHere:
                 session.is_changing = False
             give_back(session.turn, taken)
 
-    def _add_session(self, place: Place, store: Store, patience: float) -> Session:
+    def _add_session(
+        self, place: Place, store: Store, patience: float, owed: List[Place]
+    ) -> Session:
+        """Who calls it puts back what is `owed` where it raises: the place, if no session has it
+        that would."""
         made = Session(self, place.number, store, self.run_name, patience, self._renew)
         made.place, made.notes = place, self._notes_of(store)
         made.is_open = place.is_audited and not place.must_join
         made.cant_join = self._cant_join
-        self._group.add(made)
-        if self._leaves:  # and may have told so already: others may have its place
-            made.renew, made.is_open = None, False
         try:
-            has_joined = not place.must_join or made.join_now()
+            owed.clear()
+            self._group.add(made)
+            if self._leaves:  # and may have told so already: others may have its place
+                made.renew, made.is_open = None, False
+            if place.must_join and not made.join_now():
+                owed.append(place)
+                made.place = None  # another one is asked for as its first transaction begins
+                self._give_back(owed.pop())
+            return made
         except BaseException:
+            if owed:
+                made.place = None
             give_back(made.turn, made.has_turn)  # an interrupt may have come just before that
             self.leave_session(made)
             raise
-        if not has_joined:
-            made.place = None  # another one is asked for as its first transaction begins
-            self._give_back(place)
-        return made
 
     @property
     def _leaves(self) -> bool:

@@ -5,7 +5,7 @@ from __future__ import annotations
 
 import itertools
 import weakref
-from typing import Any, Optional, Sequence
+from typing import Any, Optional, Sequence, cast
 
 from .postgres_store import PATIENCE
 from .repeats import Repeats
@@ -44,8 +44,7 @@ class Audit:
         leave_dropped()
         give = getattr(self.auditor, "session", None)
         if give is not None:
-            session: Session = give(store, self.patience)
-            return session
+            return cast(Session, give(store, self.patience))
         number = next(_numbers.setdefault(self.auditor, itertools.count()))
         if number >= self.auditor.sessions:
             raise ValueError(f"no session is left of {self.auditor.sessions}")

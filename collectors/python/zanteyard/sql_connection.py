@@ -153,8 +153,16 @@ class Audits:
             self.store = SqlStore(self, dsn, *waits, its_audit.unlogged)
             self._join()
         except BaseException:
+            self._leave_unjoined()
             self.close_plain()
             raise
+
+    def _leave_unjoined(self) -> None:
+        """As an interrupt came while it was made: nobody has its session."""
+        session: Optional[Session] = getattr(self, "session", None)
+        if session is not None and self.has_session:
+            give_back(session.turn, session.has_turn)
+            leave(session, self.store)
 
     def _join(self) -> None:
         """Where no session is left the connection is one without an audit, and what it does makes
@@ -172,17 +180,13 @@ class Audits:
 
     def _claim(self) -> None:
         session = self.session
+        session.take_turn()
         try:
-            session.take_turn()
-            try:
-                session.claim_name()
-            except psycopg2.Error as error:  # as the server has no room for another connection
-                session.unclaimed = AuditLostError(f"its name can't be claimed: {error}")
-            finally:
-                give_back(session.turn, session.has_turn)
-        except BaseException:
-            session.close()
-            raise
+            session.claim_name()
+        except psycopg2.Error as error:  # as the server has no room for another connection
+            session.unclaimed = AuditLostError(f"its name can't be claimed: {error}")
+        finally:
+            give_back(session.turn, session.has_turn)
 
     # statements
 
