@@ -300,7 +300,7 @@ class Harmless(WithProgram):
                 with self.assertRaises(OutcomeUnknown):
                     session.run(add_one("x"))
                 connection.lost, connection.known = None, True
-                with mock.patch.object(live._places, "take", lambda seconds: time.sleep(1.0)):
+                with mock.patch.object(live._places, "take", lambda *_: time.sleep(1.0)):
                     session.run(add_one("y"))
             server.close()
         self.assertRegex(str(live.stop().failure), "no session is left for a client")
@@ -312,7 +312,7 @@ class Harmless(WithProgram):
             with AuditClient(server.path) as client:
                 stays = client.session(store.connect())
                 stays.run(add_one("x"))
-                with mock.patch.object(live._places, "take", lambda seconds: None):
+                with mock.patch.object(live._places, "take", lambda *_: None):
                     comes = client.session(store.connect())
                 self.assertFalse(comes.place.is_audited)
                 running, until = stays.begin(), time.monotonic() + 60  # no meeting can be had

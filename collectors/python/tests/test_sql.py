@@ -51,7 +51,7 @@ def leave_one(live: Any) -> None:
     take = live._places.take
     for _ in range(63):
         take(0.0)
-    live._places.take = lambda seconds: take(0.0)
+    live._places.take = lambda seconds, *more: take(0.0, *more)
 
 
 @unittest.skipIf(LACKING, f"not installed or not built: {', '.join(LACKING)}")
