@@ -2,6 +2,7 @@
 use Rattle.std.proofs.Common.{List, [], get_or, sym}
 use Rattle.std.specs.Prelude.{Contains, All, ◌↔◌}
 use Rattle.txn.specs.declared.transactions.TxnId.{TxnId}
+use Rattle.txn.specs.declared.choices.Arc.{Arc}
 use Rattle.txn.specs.declared.choices.Choice.{Choice}
 use Rattle.txn.specs.declared.choices.Side.{Side}
 use Rattle.txn.specs.declared.choices.Side.TheVariants.{First, Second}
@@ -15,6 +16,7 @@ use Rattle.order_check.specs.Good.{IsGood}
 use Rattle.order_check.specs.Known.{IsChoice, IsOpen, AreOpenChoices}
 use Rattle.known_graph.specs.Graphs.{GraphState, HasNode}
 use Rattle.forced_choices.specs.Between.{AreDistinct, IsBetween}
+use Rattle.forced_choices.specs.FewArcs.{ArePlain}
 use Rattle.forced_choices.specs.Kept.{IsKept}
 use Rattle.forced_choices.specs.Listing.{all_ids, choices_of}
 use Rattle.forced_choices.specs.Forcing.{IsOn}
@@ -24,20 +26,20 @@ use Rattle.forced_choices.proofs.Members.{In, in_place, contains_from_in, rises_
 use Rattle.forced_choices.proofs.ListedIds.{remaining_listed, listed_ascend}
 use Rattle.forced_choices.proofs.ListedChoices.{listed_is_choice, choice_listed, writer_remains, reader_remains}
 use Rattle.forced_choices.proofs.ChoicesAscend.{choices_ascend}
-use Rattle.forced_choices.proofs.ListedArcs.{plain_arcs, plain_right, arc_apart, arc_remains}
+use Rattle.forced_choices.proofs.ListedArcs.{plain_right, arc_apart, arc_remains}
 use Rattle.forced_choices.proofs.Distinct.{distinct_from_ascends}
 use Rattle.forced_choices.proofs.OpenReads.{found_each, found_all, found_ascends}
-use Rattle.forced_choices.proofs.SaturationLaws.{IsEnd, so_far_first, forces_so_far, forces_new, full_log, exact}
+use Rattle.forced_choices.proofs.SaturationLaws.{IsEnd, so_far_first, start_listed, forces_so_far, forces_new, full_log, exact}
 use Rattle.txn.specs.declared.transactions.Source.TheVariants.{By}
 
 pub kept_of : (parts : Parts) (graph : GraphState) (log : List ForceStep) → IsGood parts → IsSaturationOf parts graph log → IsKept parts graph log
 kept_of parts graph log good is =
-    let end : IsEnd parts [] [] graph.arcs log = record { so_far = forces_so_far parts [] [] (plain_arcs parts) [] graph.arcs log is.forces (so_far_first parts); closed = is.closed } in
+    let end : IsEnd parts [] [] graph.arcs log = record { so_far = forces_so_far parts [] [] is.start [] graph.arcs log is.forces (so_far_first parts is.start is.plain); closed = is.closed } in
     record { good = good; exact = λ a b. exact parts [] [] graph.arcs log a b end; full = full_log parts [] [] graph.arcs log end; relation = record { nodes = is.nodes; so_far = end.so_far; closed = is.closed } }
 
 -- the log of a saturation has new steps alone
 pub new_of : (parts : Parts) (graph : GraphState) (log : List ForceStep) → IsSaturationOf parts graph log → AreNew parts [] log
-new_of parts graph log is = forces_new parts [] [] (plain_arcs parts) graph.arcs log is.forces (so_far_first parts)
+new_of parts graph log is = forces_new parts [] [] is.start graph.arcs log is.forces (so_far_first parts is.start is.plain)
 
 pub ids_distinct : (parts : Parts) → AreDistinct (all_ids parts)
 ids_distinct parts = distinct_from_ascends (all_ids parts) (listed_ascend parts)
@@ -46,10 +48,10 @@ ids_distinct parts = distinct_from_ascends (all_ids parts) (listed_ascend parts)
 pub node_of : (parts : Parts) (graph : GraphState) (id : TxnId) → ((id : TxnId) → HasNode graph id ↔ Contains (all_ids parts) id) → Remains parts id → HasNode graph id
 node_of parts graph id nodes remains = (nodes id).1 (contains_from_in (all_ids parts) id (remaining_listed parts id remains))
 
-pub arcs_between : (parts : Parts) (graph : GraphState) → IsGood parts → ((id : TxnId) → HasNode graph id ↔ Contains (all_ids parts) id) → All (IsBetween graph) (plain_arcs parts)
-arcs_between parts graph good nodes k d within =
-    let arc = get_or (plain_arcs parts) k d in
-    let right = plain_right parts arc (in_place (plain_arcs parts) k d within) in
+pub arcs_between : (parts : Parts) (graph : GraphState) (start : List Arc) → IsGood parts → ((id : TxnId) → HasNode graph id ↔ Contains (all_ids parts) id) → ArePlain parts start → All (IsBetween graph) start
+arcs_between parts graph start good nodes are k d within =
+    let arc = get_or start k d in
+    let right = plain_right parts arc (start_listed parts start are arc (in_place start k d within)) in
     let remain = arc_remains parts arc right in
     record { start = node_of parts graph (start_of arc) nodes remain.0; end = node_of parts graph (end_of arc) nodes remain.1; apart = arc_apart parts arc good right }
 

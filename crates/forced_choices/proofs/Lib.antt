@@ -3,6 +3,7 @@ pub mod Members
 pub mod ListedIds
 pub mod ListedChoices
 pub mod ChoicesAscend
+pub mod FewArcs
 pub mod Linked
 pub mod ListedArcs
 pub mod Touches

@@ -1,5 +1,6 @@
 -- What right arcs link, what is known, and what a graph of the plain arcs and the sides taken reaches.
 use Rattle.std.proofs.Common.{◌≡◌, ℕ, ◌+◌, ◌-◌, ◌≤◌, ◌<◌, ◌⊎◌, List, [], ◌∷◌, ◌++◌, refl, sym, inl, inr, subst, suc, zero, arith}
+use Rattle.std.proofs.lemmas.Bool.{cases_lt}
 use Rattle.txn.specs.declared.transactions.TxnId.{TxnId}
 use Rattle.txn.specs.declared.choices.Arc.{Arc}
 use Rattle.txn.specs.declared.choices.Arc.TheVariants.{Session, Read, Base, Taken}
@@ -10,10 +11,11 @@ use Rattle.order_check.specs.Known.{Known, by_session, by_read, by_base, through
 use Rattle.order_check.specs.Cycles.{Sides, IsArc, IsPath, Links}
 use Rattle.known_graph.specs.Reach.{Reaches}
 use Rattle.known_graph.specs.Reach as reach
-use Rattle.forced_choices.specs.Listing.{one_before}
+use Rattle.forced_choices.specs.FewArcs.{LeadsAhead}
+use Rattle.forced_choices.specs.Listing.{all_ids, one_before, session_arcs, arcs_of_reads}
 use Rattle.forced_choices.proofs.Members.{In, in_from_contains, contains_from_in, in_left}
 use Rattle.forced_choices.proofs.ListedIds.{same_fields, bounds_of, bounds_remain}
-use Rattle.forced_choices.proofs.ListedArcs.{plain_arcs, next_listed, read_listed, base_listed}
+use Rattle.forced_choices.proofs.ListedArcs.{plain_arcs, next_in_sessions, read_listed, base_listed}
 
 -- reachability over more arcs
 pub reaches_more : (arcs : List Arc) (arc : Arc) (a b : TxnId) → Reaches arcs a b → Reaches (arcs ++ arc ∷ []) a b
@@ -24,23 +26,44 @@ pub reaches_by : (arcs : List Arc) (arc : Arc) → In arcs arc → Reaches arcs 
 reaches_by arcs arc h = reach.by_arc arc (contains_from_in arcs arc h)
 
 -- one session's transactions reach one another in order
-session_reached : (parts : Parts) (arcs : List Arc) (n : ℕ) (a b : TxnId) → ((arc : Arc) → In (plain_arcs parts) arc → Reaches arcs (start_of arc) (end_of arc)) → Remains parts a → Remains parts b → a.session ≡ b.session → a.number + suc n ≡ b.number → Reaches arcs a b
-session_reached parts arcs zero a b plain ra rb same e =
+session_reached : (parts : Parts) (arcs : List Arc) (n : ℕ) (a b : TxnId) → ((arc : Arc) → In (session_arcs parts (all_ids parts)) arc → Reaches arcs (start_of arc) (end_of arc)) → Remains parts a → Remains parts b → a.session ≡ b.session → a.number + suc n ≡ b.number → Reaches arcs a b
+session_reached parts arcs zero a b sessions ra rb same e =
     let before : one_before b ≡ a = same_fields (one_before b) a (sym same) (omega arith) in
     let remains = subst (λ id. Remains parts id) (sym before) ra in
-    subst (λ id. Reaches arcs id b) before (plain (Session (one_before b) b) (next_listed parts b rb remains (omega arith)))
-session_reached parts arcs (suc n) a b plain ra rb same e =
+    subst (λ id. Reaches arcs id b) before (sessions (Session (one_before b) b) (next_in_sessions parts b rb remains (omega arith)))
+session_reached parts arcs (suc n) a b sessions ra rb same e =
     let ba = bounds_of parts a ra in
     let bb = bounds_of parts b rb in
     let low : mark_of parts b.session ≤ a.number = subst (λ s. mark_of parts s ≤ a.number) same ba.low in
     let high = bb.high in
     let remains = bounds_remain parts (one_before b) (record { low = omega arith; high = omega arith }) in
-    reach.through (session_reached parts arcs n a (one_before b) plain ra remains same (omega arith))
-    (plain (Session (one_before b) b) (next_listed parts b rb remains (omega arith)))
+    reach.through (session_reached parts arcs n a (one_before b) sessions ra remains same (omega arith))
+    (sessions (Session (one_before b) b) (next_in_sessions parts b rb remains (omega arith)))
 
--- of two in one session the first reaches the second
+-- of two in one session the first reaches the second, where the arcs of sessions are reached
+pub sessions_reached : (parts : Parts) (arcs : List Arc) (a b : TxnId) → ((arc : Arc) → In (session_arcs parts (all_ids parts)) arc → Reaches arcs (start_of arc) (end_of arc)) → Remains parts a → Remains parts b → a.session ≡ b.session → a.number < b.number → Reaches arcs a b
+sessions_reached parts arcs a b sessions ra rb same below = session_reached parts arcs (b.number - a.number - 1) a b sessions ra rb same (omega arith)
+
+-- and where the plain arcs are
 pub ordered_reached : (parts : Parts) (arcs : List Arc) (a b : TxnId) → ((arc : Arc) → In (plain_arcs parts) arc → Reaches arcs (start_of arc) (end_of arc)) → Remains parts a → Remains parts b → a.session ≡ b.session → a.number < b.number → Reaches arcs a b
-ordered_reached parts arcs a b plain ra rb same below = session_reached parts arcs (b.number - a.number - 1) a b plain ra rb same (omega arith)
+ordered_reached parts arcs a b plain ra rb same below = sessions_reached parts arcs a b (λ arc h. plain arc (in_left (session_arcs parts (all_ids parts)) (arcs_of_reads parts (all_ids parts) (all_ids parts)) arc h)) ra rb same below
+
+-- where an arc that is reached leads ahead of one, and the arcs of sessions are reached, that one is
+pub reached_ahead : (parts : Parts) (arcs some : List Arc) (arc : Arc) → ((arc : Arc) → In (session_arcs parts (all_ids parts)) arc → Reaches arcs (start_of arc) (end_of arc)) → ((arc : Arc) → In some arc → Reaches arcs (start_of arc) (end_of arc) × Remains parts (end_of arc)) → Remains parts (end_of arc) → LeadsAhead some arc → Reaches arcs (start_of arc) (end_of arc)
+reached_ahead parts arcs some arc sessions reached remains ahead = by_number (cases_lt (end_of ahead.other).number (end_of arc).number)
+  where
+    there : Reaches arcs (start_of ahead.other) (end_of ahead.other) × Remains parts (end_of ahead.other)
+    there = reached ahead.other ahead.among
+
+    first : Reaches arcs (start_of arc) (end_of ahead.other)
+    first = subst (λ id. Reaches arcs id (end_of ahead.other)) ahead.start there.0
+
+    by_number : ((end_of ahead.other).number < (end_of arc).number) ⊎ ((end_of arc).number ≤ (end_of ahead.other).number) → Reaches arcs (start_of arc) (end_of arc)
+    by_number (inl below) = reach.through first (sessions_reached parts arcs (end_of ahead.other) (end_of arc) sessions there.1 remains ahead.session below)
+    by_number (inr past) =
+        let number = ahead.number in
+        let same : end_of ahead.other ≡ end_of arc = same_fields (end_of ahead.other) (end_of arc) ahead.session (omega arith) in
+        subst (λ id. Reaches arcs (start_of arc) id) same first
 
 -- a right arc is known, where the sides taken are
 arc_is_known : (parts : Parts) (sides taken : Sides) (arc : Arc) → ((side : TxnId × TxnId) → In taken side → Known parts sides side.0 side.1) → IsArc parts taken arc → Known parts sides (start_of arc) (end_of arc)

@@ -91,11 +91,14 @@ plain_right parts arc h = by_part (in_either (session_arcs parts (all_ids parts)
         read_arc_right parts reader of_read.0 arc (in_reads (remaining_at parts reader) of_read.0.0 of_read.0.1 of_read.1) of_read.2
 
 -- the arc to the next of a session
-pub next_listed : (parts : Parts) (id : TxnId) → Remains parts id → Remains parts (one_before id) → 0 < id.number → In (plain_arcs parts) (Session (one_before id) id)
-next_listed parts id remains before some =
+pub next_in_sessions : (parts : Parts) (id : TxnId) → Remains parts id → Remains parts (one_before id) → 0 < id.number → In (session_arcs parts (all_ids parts)) (Session (one_before id) id)
+next_in_sessions parts id remains before some =
     let test = and_both (nat_lt 0 id.number) (is_some (remaining_at parts (one_before id))) (lt-ltb 0 id.number some) before in
     let here : In (session_arc parts id) (Session (one_before id) id) = subst (λ t. In (cond t (Session (one_before id) id ∷ []) []) (Session (one_before id) id)) (sym test) (inl refl) in
-    in_left (session_arcs parts (all_ids parts)) (arcs_of_reads parts (all_ids parts) (all_ids parts)) (Session (one_before id) id) (flat_map_in (session_arc parts) (all_ids parts) id (Session (one_before id) id) (remaining_listed parts id remains) here)
+    flat_map_in (session_arc parts) (all_ids parts) id (Session (one_before id) id) (remaining_listed parts id remains) here
+
+pub next_listed : (parts : Parts) (id : TxnId) → Remains parts id → Remains parts (one_before id) → 0 < id.number → In (plain_arcs parts) (Session (one_before id) id)
+next_listed parts id remains before some = in_left (session_arcs parts (all_ids parts)) (arcs_of_reads parts (all_ids parts) (all_ids parts)) (Session (one_before id) id) (next_in_sessions parts id remains before some)
 
 pub of_read_listed : (parts : Parts) (reader : TxnId) (key : ℕ) (source : Source) (arc : Arc) → ReadsKey parts reader key source → In (arcs_of_read parts (all_ids parts) reader (key, source)) arc → In (plain_arcs parts) arc
 of_read_listed parts reader key source arc reads h =

@@ -17,11 +17,14 @@ use Rattle.forced_choices.specs.declared.saturation.rules.Rule.{Rule}
 use Rattle.known_graph.specs.Reach.{Reaches, Leads}
 use Rattle.known_graph.specs.Reach as reach
 use Rattle.forced_choices.specs.Rules.{premise_of, arc_of_side, premise, conclusion}
+use Rattle.order_check.specs.Based.{Remains}
+use Rattle.forced_choices.specs.FewArcs.{ArePlain}
+use Rattle.forced_choices.specs.Listing.{all_ids, session_arcs, arcs_of_reads}
 use Rattle.forced_choices.specs.SoFar.{IsSoFar}
 use Rattle.forced_choices.specs.Forcing.{IsReady, IsReached, IsLeft, taken_arc, IsStepOf, Forces, unforced, forced}
-use Rattle.forced_choices.proofs.Members.{In, in_place, in_from_contains, contains_from_in, in_right, in_either}
-use Rattle.forced_choices.proofs.Linked.{reaches_more, reaches_by, ordered_reached, links_known, reached_links, links_reached}
-use Rattle.forced_choices.proofs.ListedArcs.{plain_arcs, plain_right, read_listed, base_listed}
+use Rattle.forced_choices.proofs.Members.{In, in_place, in_from_contains, contains_from_in, in_left, in_right, in_either}
+use Rattle.forced_choices.proofs.Linked.{reaches_more, reaches_by, ordered_reached, reached_ahead, links_known, reached_links, links_reached}
+use Rattle.forced_choices.proofs.ListedArcs.{plain_arcs, plain_right, arc_remains, read_listed, base_listed}
 
 -- an arc that isn't taken is known
 plain_known : (parts : Parts) (arc : Arc) → IsArc parts [] arc → Known parts [] (start_of arc) (end_of arc)
@@ -30,15 +33,36 @@ plain_known parts (Read key from to) right = by_read key right.0 right.1
 plain_known parts (Base key from to) right = by_base key right.0 right.1 right.2
 plain_known parts (Taken from to) right = by_taken right
 
+-- each arc of a start is listed, and each that is listed is reached
+pub start_listed : (parts : Parts) (start : List Arc) → ArePlain parts start → (arc : Arc) → In start arc → In (plain_arcs parts) arc
+start_listed parts start are arc h = by_part (are.right arc h)
+  where
+    by_part : In (session_arcs parts (all_ids parts)) arc ⊎ In (arcs_of_reads parts (all_ids parts) (all_ids parts)) arc → In (plain_arcs parts) arc
+    by_part (inl h) = in_left (session_arcs parts (all_ids parts)) (arcs_of_reads parts (all_ids parts) (all_ids parts)) arc h
+    by_part (inr h) = in_right (session_arcs parts (all_ids parts)) (arcs_of_reads parts (all_ids parts) (all_ids parts)) arc h
+
+start_reached : (parts : Parts) (start : List Arc) → ArePlain parts start → (arc : Arc) → In (plain_arcs parts) arc → Reaches start (start_of arc) (end_of arc)
+start_reached parts start are arc h = by_part (in_either (session_arcs parts (all_ids parts)) (arcs_of_reads parts (all_ids parts) (all_ids parts)) arc h)
+  where
+    in_sessions : (a : Arc) → In (session_arcs parts (all_ids parts)) a → Reaches start (start_of a) (end_of a)
+    in_sessions a there = reaches_by start a (are.stay a there)
+
+    in_start : (a : Arc) → In start a → Reaches start (start_of a) (end_of a) × Remains parts (end_of a)
+    in_start a there = (reaches_by start a there, (arc_remains parts a (plain_right parts a (start_listed parts start are a there))).1)
+
+    by_part : In (session_arcs parts (all_ids parts)) arc ⊎ In (arcs_of_reads parts (all_ids parts) (all_ids parts)) arc → Reaches start (start_of arc) (end_of arc)
+    by_part (inl of_session) = in_sessions arc of_session
+    by_part (inr of_read) = reached_ahead parts start start arc in_sessions in_start (arc_remains parts arc (plain_right parts arc h)).1 (are.ahead arc of_read)
+
 -- no steps take no side twice
 none_twice : TakeEachOnce []
 none_twice i j d first within = absurd (omega arith)
 
-pub so_far_first : (parts : Parts) → IsSoFar parts [] [] (plain_arcs parts) []
-so_far_first parts = record {
-  right = plain_right parts;
-  known = λ arc h. plain_known parts arc (plain_right parts arc h);
-  plain = λ arc h. reaches_by (plain_arcs parts) arc h;
+pub so_far_first : (parts : Parts) (start : List Arc) → ArePlain parts start → IsSoFar parts [] [] start []
+so_far_first parts start are = record {
+  right = λ arc h. plain_right parts arc (start_listed parts start are arc h);
+  known = λ arc h. plain_known parts arc (plain_right parts arc (start_listed parts start are arc h));
+  plain = λ arc h. start_reached parts start are arc h;
   there = λ side h. absurd h;
   sides = λ side h. absurd h;
   reached = λ side h. absurd h;

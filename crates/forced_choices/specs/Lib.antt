@@ -20,6 +20,7 @@ pub mod WriterPlaces
 pub mod Ranks
 pub mod OrderedAmong
 pub mod Picked
+pub mod FewArcs
 pub mod FreshArcs
 pub mod KeptTables
 pub mod LeftByCut

@@ -1,5 +1,6 @@
 // What is looked up: the ids, reads and arcs of parts in their order, and who writes each key.
 pub mod by_key;
+pub mod few;
 pub mod kept;
 pub mod listing;
 pub mod places;

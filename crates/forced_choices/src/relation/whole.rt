@@ -3,14 +3,16 @@ ghost use Rattle.std.specs.Prelude.{◌≡◌, ◌↔◌, Contains, IfOk};
 ghost use Rattle.txn.specs.declared.transactions.TxnId.{TxnId};
 ghost use Rattle.known_graph.specs.Graphs.{HasNode};
 ghost use Rattle.order_check.specs.Good.{IsGood};
-ghost use Rattle.forced_choices.specs.Listing.{all_ids, plain_arcs};
+ghost use Rattle.forced_choices.specs.FewArcs.{ArePlain};
+ghost use Rattle.forced_choices.specs.Listing.{all_ids};
 ghost use Rattle.forced_choices.specs.Saturation.{IsSaturationOf};
 ghost use Rattle.forced_choices.specs.SharedTables.{IsTableIn};
 
 use crate::relation::building::{add_arcs, graph_of_nodes};
 use crate::saturation::touched::untouched;
 use crate::saturation::{Due, saturate};
-use crate::tables::listing::{arcs_among, remaining_ids_of};
+use crate::tables::few::arcs_among;
+use crate::tables::listing::remaining_ids_of;
 use crate::tables::sharing::SharedTable;
 use crate::tables::table::{Lookup, table_of};
 use known_graph::Graph;
@@ -24,7 +26,7 @@ fn plain_graph(alloc: Global, parts: &Parts, ids: &[TxnId]) -> Result<Graph, NoM
     requires good { IsGood parts.now }
     requires listed { ids.now ≡ all_ids parts.now }
     ensures nodes { IfOk result (λ graph. (id : TxnId) → HasNode graph id ↔ Contains (all_ids parts.now) id) }
-    ensures arcs { IfOk result (λ graph. graph.arcs ≡ plain_arcs parts.now) }
+    ensures arcs { IfOk result (λ graph. ArePlain parts.now graph.arcs) }
 {
     let arcs = arcs_among(alloc, parts, ids)?;
     let mut graph = graph_of_nodes(alloc, ids)?;

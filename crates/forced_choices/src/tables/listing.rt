@@ -3,11 +3,11 @@ ghost use Rattle.txn.specs.History.{writes_key};
 ghost use Rattle.std.specs.List.{flat_map};
 ghost use Rattle.order_check.specs.Based.{remaining_at, remaining_ids};
 ghost use Rattle.order_check.specs.Good.{IsGood};
-ghost use Rattle.forced_choices.specs.Listing.{all_ids, writes_here, is_other, reads_of, session_arc, session_arcs, base_arcs, is_base_source, arcs_from_writer, arcs_of_read, arcs_of_reads};
+ghost use Rattle.forced_choices.specs.Listing.{all_ids, writes_here, is_other, reads_of, session_arc, session_arcs, base_arcs, is_base_source, arcs_from_writer, arcs_of_read};
 ghost use Rattle.forced_choices.specs.Masks.{IsAnyKey, is_third};
 ghost use Rattle.forced_choices.specs.WriterPlaces.{those_at, ArePlaces};
 
-use crate::tables::places::{Places, places_among};
+use crate::tables::places::Places;
 use crate::tables::reads::Read;
 use order_check::Parts;
 use std::alloc::Global;
@@ -130,7 +130,7 @@ pub fn is_base_source(parts: &Parts, key: u64, source: Source) -> bool
     }
 }
 
-fn push_arc_from_writer(
+pub fn push_arc_from_writer(
     arcs: &mut Vec<Arc>,
     parts: &Parts,
     reader: TxnId,
@@ -187,18 +187,4 @@ pub fn push_arcs_of_reader(
         push_arcs_of_read(arcs, parts, ids, places, reader, *read)?;
     }
     Ok(())
-}
-
-/// The arcs of sessions and reads.
-pub fn arcs_among(alloc: Global, parts: &Parts, ids: &[TxnId]) -> Result<Vec<Arc>, NoMemory>
-    requires { IsGood parts.now }
-    ensures { IfOk result (λ arcs. arcs.items ≡ session_arcs parts.now ids.now ++ arcs_of_reads parts.now ids.now ids.now) }
-{
-    let places = places_among(alloc, parts, ids)?;
-    let mut arcs = Vec::new(alloc);
-    push_session_arcs(&mut arcs, parts, ids)?;
-    for reader in ids {
-        push_arcs_of_reader(&mut arcs, parts, ids, &places, *reader)?;
-    }
-    Ok(arcs)
 }

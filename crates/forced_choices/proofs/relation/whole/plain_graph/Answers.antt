@@ -1,8 +1,10 @@
-use Rattle.std.proofs.Common.{◌≡◌, ◌++◌, ◌∙◌, sym, ap, subst}
+use Rattle.std.proofs.Common.{◌≡◌, List, sym, subst}
 use Rattle.std.specs.Prelude.{◌↔◌, All, Contains}
 use Rattle.txn.specs.declared.transactions.TxnId.{TxnId}
+use Rattle.txn.specs.declared.choices.Arc.{Arc}
 use Rattle.known_graph.specs.Graphs.{HasNode, HasKey}
 use Rattle.forced_choices.specs.Between.{IsBetween}
+use Rattle.forced_choices.specs.FewArcs.{AddsFew, ArePlain}
 use Rattle.forced_choices.specs.Listing.{all_ids, session_arcs, arcs_of_reads}
 use Rattle.forced_choices.proofs.Keeping.{arcs_between}
 use Rattle.forced_choices.proofs.relation.whole.plain_graph.Goals as goal
@@ -13,8 +15,8 @@ add_arcs-requires c =
     let graph = c.in_ok-graph.graph in
     let listed : c.args.ids.now ≡ all_ids parts = c.requires.listed in
     let nodes : (id : TxnId) → HasNode graph id ↔ Contains (all_ids parts) id = subst (λ ids. (id : TxnId) → HasNode graph id ↔ Contains ids id) listed c.in_ok-graph.ensures.nodes in
-    let arcs = c.as_slice.ensures.value ∙ c.in_ok-arcs.ensures ∙ ap (λ ids. session_arcs parts ids ++ arcs_of_reads parts ids ids) listed in
-    subst (λ arcs. All (IsBetween graph) arcs) (sym arcs) (arcs_between parts graph c.requires.good nodes)
+    let plain : ArePlain parts c.in_ok-arcs.arcs.items = subst (λ (ids : List TxnId). AddsFew (arcs_of_reads parts ids ids) (session_arcs parts ids) c.in_ok-arcs.arcs.items) listed c.in_ok-arcs.ensures in
+    subst (λ (arcs : List Arc). All (IsBetween graph) arcs) (sym c.as_slice.ensures.value) (arcs_between parts graph c.in_ok-arcs.arcs.items c.requires.good nodes plain)
 
 pub returns-clause-nodes : goal.returns-clause-nodes
 returns-clause-nodes c =

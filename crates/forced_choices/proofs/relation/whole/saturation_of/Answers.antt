@@ -1,6 +1,5 @@
-use Rattle.std.proofs.Common.{[], sym, subst}
+use Rattle.std.proofs.Common.{sym, subst}
 use Rattle.known_graph.specs.Graphs.{HasKey}
-use Rattle.forced_choices.specs.Forcing.{Forces}
 use Rattle.forced_choices.specs.Tables.{IsTable}
 use Rattle.forced_choices.proofs.Keeping.{node_of}
 use Rattle.forced_choices.proofs.Lookups.{lookup_of}
@@ -17,7 +16,9 @@ saturate-requires-clause-table c = lookup_of c.args.parts.now c.in_ok-graph.grap
 
 pub returns-clause-made : goal.returns-clause-made
 returns-clause-made c = record {
-  forces = subst (λ arcs. Forces c.args.parts.now arcs [] c.saturate.new.graph.arcs c.in_ok-log.log.items) c.in_ok-graph.ensures.arcs c.in_ok-log.ensures.forces;
+  start = c.in_ok-graph.graph.arcs;
+  plain = c.in_ok-graph.ensures.arcs;
+  forces = c.in_ok-log.ensures.forces;
   closed = c.in_ok-log.ensures.closed;
   nodes = λ id remains. subst (λ nodes. HasKey nodes id) (sym c.in_ok-log.ensures.nodes) (node_of c.args.parts.now c.in_ok-graph.graph id c.in_ok-graph.ensures.nodes remains);
 }
