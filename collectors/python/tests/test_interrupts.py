@@ -241,10 +241,12 @@ class Interrupts(unittest.TestCase):
         self.assertEqual((live._places.taken, live._group.numbers()), (1, [0]))
         other = live.session(store.connect())
         other.run(add_one("x"))
-        self.assertIsNone(live._convener.meet(60.0, 60.0).failure)
-        # Of a fence that was interrupted as it was handed in nothing more is known.
-        kinds = ("serial", "incomplete") if joins and is_interrupted else ("serial",)
-        self.assertIn(live.stop().kind, kinds)
+        # Of a fence that was interrupted as it was handed in nothing more is known: then the audit
+        # has ended, and there are no meetings any more.
+        may_end = joins and is_interrupted
+        if not may_end:
+            self.assertIsNone(live._convener.meet(60.0, 60.0).failure)
+        self.assertIn(live.stop().kind, ("serial", "incomplete") if may_end else ("serial",))
         return is_interrupted
 
     def test_who_is_interrupted_as_it_asks_for_a_session(self):
