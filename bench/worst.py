@@ -128,6 +128,17 @@ def blind(count, keys, sessions=64, is_one=False):
     return made
 
 
+def from_the_start(count, keys, sessions=64):
+    """Half of them read all keys as they were before any of them, and each of the others writes
+    them: each reader comes before each writer."""
+    made, every = [[] for _ in range(sessions)], list(range(1, keys + 1))
+    for number in range(count):
+        is_reader = number < count // 2
+        session = number % (sessions // 2) + (0 if is_reader else sessions // 2)
+        made[session].append([[[key, "init"] for key in every], []] if is_reader else [[], every])
+    return made
+
+
 def stale(count):
     """A chain at whose end the first version is read again: violated by a long circle."""
     made = chain(count - 1, 1, 64)
@@ -252,6 +263,9 @@ def rounds(size, some):
         "blind, 16 keys": partial(blind, size, 16),
         "blind, 256 keys": partial(blind, size, MOST),
         "blind, 256 keys, an eighth as many": partial(blind, size // 8, MOST),
+        "1 key read from the start": partial(from_the_start, size, 1),
+        "256 keys read from the start": partial(from_the_start, size, MOST),
+        "256 keys read from the start, an eighth as many": partial(from_the_start, size // 8, MOST),
         "stale at the end of a chain": partial(stale, size),
         "fences": partial(fences, size, 64),
         "nothing but its sessions": lambda: [[[[], []]] * (size // 64) for _ in range(64)],
@@ -270,6 +284,18 @@ def rounds(size, some):
     for name, what, effort in asked:
         if some in name:
             yield name, opened(made[what]()), compact(["round", *effort])
+
+
+def later(size):
+    """A round to which a fragment came since the last one: of readers of what was before all
+    others, of writers of what these read."""
+    some, asked = 128, compact(["round", 4096, 0, 1])
+    for what, at in (("readers", 0), ("writers", 32)):
+        made = from_the_start(size - some, MOST)
+        lines, first = opened(made), len(made[at])
+        more = compact(["offer", at, first, [made[at][0]] * some])
+        yield (f"second round, {some} {what} of 256 keys read from the start",
+               [*lines, asked, more], asked)
 
 
 def awaited(size):
@@ -437,7 +463,7 @@ def main():
     print(f"{asked.size} transactions, load {os.getloadavg()[0]:.1f}")
     print(f"{'line':58} {'answer':>10} {'s':>8} {'cpu s':>8} {'MiB':>7} {'peak':>7}", flush=True)
     for rows in (largest(), longest(), others(asked.size), joins(asked.size),
-                 awaited(asked.size), hand_overs(asked.size),
+                 awaited(asked.size), later(asked.size), hand_overs(asked.size),
                  rounds(asked.size, asked.some)):
         for name, lead, line in rows:
             if asked.some not in name:
