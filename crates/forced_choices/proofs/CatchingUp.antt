@@ -16,7 +16,7 @@ use Rattle.order_check.specs.Based.{mark_of, remaining_of, received_count, Remai
 use Rattle.order_check.specs.Good.{IsGood}
 use Rattle.order_check.specs.StandsFor.{parts_with}
 use Rattle.known_graph.specs.Graphs.{GraphState, IsAt}
-use Rattle.forced_choices.specs.Growth.{AreMore, Brings, IsNext, GoesOn, ids_of_fragment}
+use Rattle.forced_choices.specs.Growth.{AreFresh, AreMore, Brings, IsNext, GoesOn, ids_of_fragment}
 use Rattle.forced_choices.proofs.Growing.{more_with}
 use Rattle.forced_choices.proofs.Grown.{kept_more_nodes}
 use Rattle.forced_choices.proofs.ListedIds.{bounds_of, bounds_remain, in_ids_from, ids_from_in}
@@ -144,5 +144,5 @@ pub goes_on_marked : (parts more : Parts) (old marked : GraphState) (log : List 
 goes_on_marked parts more old marked log fresh is goes = record {
   are = goes.are;
   kept = kept_more_nodes parts old marked log goes.kept (ap (λ (g : GraphState). g.arcs) is) (λ key id at. subst (λ (g : GraphState). IsAt g.nodes key id) (sym is) at);
-  arcs = goes.arcs;
+  arcs = subst (λ (arcs : List Arc). AreFresh parts more arcs fresh) (sym (ap (λ (g : GraphState). g.arcs) is)) goes.arcs;
 }

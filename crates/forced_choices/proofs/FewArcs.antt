@@ -1,21 +1,22 @@
 -- Arcs of which some are left out: one of those that are there leads ahead of each, and a session's own arcs lead on.
-use Rattle.std.proofs.Common.{◌≡◌, ◌≢◌, ◌⊎◌, ℕ, ◌+◌, ◌<◌, ◌≤◌, Bool, true, false, not, cond, nat_lt, List, [], ◌∷◌, ◌++◌, Option, Some, None, length, get_or, set, take, replicate, refl, sym, ap, ◌∙◌, inl, inr, subst, suc, zero, arith, append_assoc, append-nil}
-use Rattle.std.specs.Prelude.{filter}
+use Rattle.std.proofs.Common.{◌≡◌, ◌≢◌, ◌⊎◌, ℕ, ◌+◌, ◌<◌, ◌≤◌, Bool, true, false, not, cond, nat_eq, nat_lt, List, [], ◌∷◌, ◌++◌, Option, Some, None, length, get_or, set, take, replicate, refl, sym, ap, ◌∙◌, inl, inr, subst, suc, zero, arith, append_assoc, append-nil}
+use Rattle.std.specs.Prelude.{filter, IfSome}
+use Rattle.known_graph.specs.Reach.{Reaches}
 use Rattle.std.specs.List.{flat_map}
-use Rattle.std.proofs.lemmas.Bool.{cases_eq, cases_lt, false≢true, ltb-true, ltb-false}
+use Rattle.std.proofs.lemmas.Bool.{cases_eq, cases_lt, false≢true, ltb-true, ltb-false, eqb-true}
 use Rattle.std.proofs.lemmas.List.{take_more, map_more, flat_map_more, get_or-set_same, get_or-set_other, get_or-replicate, get_or_past, length-replicate, replicate_more}
 use Rattle.txn.specs.declared.transactions.TxnId.{TxnId}
 use Rattle.txn.specs.declared.transactions.Source.{Source}
 use Rattle.txn.specs.declared.choices.Arc.{Arc}
 use Rattle.txn.specs.declared.choices.Arc.TheVariants.{Base}
-use Rattle.txn.specs.Arcs.{start_of, end_of}
+use Rattle.txn.specs.Arcs.{end_of}
 use Rattle.txn.specs.Transactions.{same_id}
 use Rattle.order_check.specs.declared.remainder.Parts.{Parts}
-use Rattle.forced_choices.specs.FewArcs.{LeadsAhead, AddsFew, arc_to, arcs_to, base_arcs_of, is_ahead, arc_noted, IsNoted, AreEarliest}
+use Rattle.forced_choices.specs.FewArcs.{LeadsAhead, LeadsBefore, AddsFew, AddsUnled, arc_to, arcs_to, base_arcs_of, is_ahead, is_behind, arc_noted, IsNoted, AreEarliest}
 use Rattle.forced_choices.specs.Listing.{reads_of, writes_here, is_other, base_arcs, is_base_source, arcs_from_writer, arcs_of_read}
 use Rattle.forced_choices.specs.WriterPlaces.{those_at}
 use Rattle.forced_choices.proofs.ListedChoices.{and_parts, and_both}
-use Rattle.forced_choices.proofs.Members.{In, in_left, in_right, in_either, in_flat_map, flat_map_in, in_map, map_in, in_filter, filter_in}
+use Rattle.forced_choices.proofs.Members.{In, in_place, in_left, in_right, in_either, in_flat_map, flat_map_in, in_map, map_in, in_filter, filter_in}
 
 -- an arc that is there leads ahead of itself
 pub itself : (arcs : List Arc) (arc : Arc) → In arcs arc → LeadsAhead arcs arc
@@ -280,3 +281,144 @@ earliest_place ids places k d reader key other full noted within is are =
 
 pub one_more_none : (n : ℕ) (x : Option (ℕ × TxnId)) → replicate n x ++ x ∷ [] ≡ replicate (n + 1) x
 one_more_none n x = replicate_more n x
+
+-- what others reach matters only where something is left out
+pub unled_few : (others full old new : List Arc) → AddsFew full old new → AddsUnled others full old new
+unled_few others full old new few = record { stay = few.stay; right = few.right; ahead = λ arc h. inl (few.ahead arc h) }
+
+pub unled_none : (others old : List Arc) → AddsUnled others [] old old
+unled_none others old = unled_few others [] old old (few_none old)
+
+pub unled_then : (others full more old mid new : List Arc) → AddsUnled others full old mid → AddsUnled others more mid new → AddsUnled others (full ++ more) old new
+unled_then others full more old mid new first second = record {
+  stay = λ arc h. second.stay arc (first.stay arc h);
+  right = λ arc h. by_part arc (second.right arc h);
+  ahead = λ arc h. by_full arc (in_either full more arc h);
+}
+  where
+    by_old : (arc : Arc) → In old arc ⊎ In full arc → In old arc ⊎ In (full ++ more) arc
+    by_old arc (inl h) = inl h
+    by_old arc (inr h) = inr (in_left full more arc h)
+
+    by_part : (arc : Arc) → In mid arc ⊎ In more arc → In old arc ⊎ In (full ++ more) arc
+    by_part arc (inl h) = by_old arc (first.right arc h)
+    by_part arc (inr h) = inr (in_right full more arc h)
+
+    by_led : (arc : Arc) → LeadsAhead mid arc ⊎ LeadsBefore others arc → LeadsAhead new arc ⊎ LeadsBefore others arc
+    by_led arc (inl h) = inl (ahead_within mid new arc second.stay h)
+    by_led arc (inr h) = inr h
+
+    by_full : (arc : Arc) → In full arc ⊎ In more arc → LeadsAhead new arc ⊎ LeadsBefore others arc
+    by_full arc (inl h) = by_led arc (first.ahead arc h)
+    by_full arc (inr h) = second.ahead arc h
+
+-- the arcs of one more element
+pub unled_more : {X : Type 0} (f : X → List Arc) (xs : List X) (k : ℕ) (d : X) (others old mid new : List Arc) → k < length xs → AddsUnled others (flat_map f (take k xs)) old mid → AddsUnled others (f (get_or xs k d)) mid new → AddsUnled others (flat_map f (take (k + 1) xs)) old new
+unled_more f xs k d others old mid new within before then = subst (λ full. AddsUnled others full old new) (sym (flat_take f xs k d within)) (unled_then others (flat_map f (take k xs)) (f (get_or xs k d)) old mid new before then)
+
+-- the same arcs, listed in another way
+pub unled_same : (others full same old new : List Arc) → ((arc : Arc) → In full arc → In same arc) → ((arc : Arc) → In same arc → In full arc) → AddsUnled others full old new → AddsUnled others same old new
+unled_same others full same old new to from led = record {
+  stay = led.stay;
+  right = λ arc h. by_part arc (led.right arc h);
+  ahead = λ arc h. led.ahead arc (from arc h);
+}
+  where
+    by_part : (arc : Arc) → In old arc ⊎ In full arc → In old arc ⊎ In same arc
+    by_part arc (inl h) = inl h
+    by_part arc (inr h) = inr (to arc h)
+
+-- an arc that the last one leads ahead of
+pub few_led : (arc : Arc) (arcs : List Arc) → LeadsAhead arcs arc → AddsFew (arc ∷ []) arcs arcs
+few_led arc arcs led = record { stay = λ a h. h; right = λ a h. inl h; ahead = λ a h. by_one a h }
+  where
+    by_one : (a : Arc) → In (arc ∷ []) a → LeadsAhead arcs a
+    by_one a (inl e) = subst (λ (x : Arc). LeadsAhead arcs x) e led
+    by_one a (inr h) = absurd h
+
+-- the arcs of a read, by its writers alone
+pub of_read_same : (others : List Arc) (parts : Parts) (ids : List TxnId) (reader : TxnId) (read : ℕ × Source) (old new : List Arc) → AddsUnled others (arcs_from_writer parts reader read ++ base_arcs_of parts ids reader read) old new → AddsUnled others (arcs_of_read parts ids reader read) old new
+of_read_same others parts ids reader read old new led = unled_same others (first ++ base_arcs_of parts ids reader read) (first ++ base) old new to from led
+  where
+    first : List Arc
+    first = arcs_from_writer parts reader read
+
+    base : List Arc
+    base = cond (is_base_source parts read.0 read.1) (base_arcs parts ids reader read.0) []
+
+    right_base : (arc : Arc) (t : Bool) → In (cond t (arcs_to reader read.0 (filter (writes_here parts read.0) ids)) []) arc → In (cond t (base_arcs parts ids reader read.0) []) arc
+    right_base arc true h = base_from parts ids reader read.0 arc h
+    right_base arc false h = h
+
+    left_base : (arc : Arc) (t : Bool) → In (cond t (base_arcs parts ids reader read.0) []) arc → In (cond t (arcs_to reader read.0 (filter (writes_here parts read.0) ids)) []) arc
+    left_base arc true h = base_to parts ids reader read.0 arc h
+    left_base arc false h = h
+
+    to_part : (arc : Arc) → In first arc ⊎ In (base_arcs_of parts ids reader read) arc → In (first ++ base) arc
+    to_part arc (inl h) = in_left first base arc h
+    to_part arc (inr h) = in_right first base arc (right_base arc (is_base_source parts read.0 read.1) h)
+
+    to : (arc : Arc) → In (first ++ base_arcs_of parts ids reader read) arc → In (first ++ base) arc
+    to arc h = to_part arc (in_either first (base_arcs_of parts ids reader read) arc h)
+
+    from_part : (arc : Arc) → In first arc ⊎ In base arc → In (first ++ base_arcs_of parts ids reader read) arc
+    from_part arc (inl h) = in_left first (base_arcs_of parts ids reader read) arc h
+    from_part arc (inr h) = in_right first (base_arcs_of parts ids reader read) arc (left_base arc (is_base_source parts read.0 read.1) h)
+
+    from : (arc : Arc) → In (first ++ base) arc → In (first ++ base_arcs_of parts ids reader read) arc
+    from arc h = from_part arc (in_either first base arc h)
+
+-- the reader itself, one behind what is reached, and one to which an arc leads
+pub unled_reader : (others : List Arc) (reader : TxnId) (key : ℕ) (other : TxnId) (old : List Arc) → same_id other reader ≡ true → AddsUnled others (arc_to reader key other) old old
+unled_reader others reader key other old same = subst (λ full. AddsUnled others full old old) (ap (λ t. cond t [] (Base key reader other ∷ [])) (sym same)) (unled_none others old)
+
+pub unled_pushed : (others : List Arc) (reader : TxnId) (key : ℕ) (other : TxnId) (old new : List Arc) → same_id other reader ≡ false → AddsFew (Base key reader other ∷ []) old new → AddsUnled others (arc_to reader key other) old new
+unled_pushed others reader key other old new apart few = subst (λ full. AddsUnled others full old new) (ap (λ t. cond t [] (Base key reader other ∷ [])) (sym apart)) (unled_few others (Base key reader other ∷ []) old new few)
+
+reached_behind : (others : List Arc) (reader : TxnId) (key : ℕ) (other : TxnId) (before : Option TxnId) → is_behind before other ≡ true → IfSome before (λ id. Reaches others reader id) → LeadsBefore others (Base key reader other)
+reached_behind others reader key other None is reached = absurd (false≢true is)
+reached_behind others reader key other (Some id) is reached =
+    let tests = and_parts (nat_eq id.session other.session) (nat_lt id.number other.number) is in
+    record { before = id; reached = reached; session = eqb-true id.session other.session tests.0; number = ltb-true id.number other.number tests.1 }
+
+pub unled_behind : (others : List Arc) (reader : TxnId) (key : ℕ) (other : TxnId) (before : Option TxnId) (old : List Arc) → is_behind before other ≡ true → IfSome before (λ id. Reaches others reader id) → AddsUnled others (arc_to reader key other) old old
+unled_behind others reader key other before old is reached = by_test (same_id other reader)
+  where
+    led : (arc : Arc) → In (Base key reader other ∷ []) arc → LeadsAhead old arc ⊎ LeadsBefore others arc
+    led arc (inl e) = inr (subst (λ (a : Arc). LeadsBefore others a) e (reached_behind others reader key other before is reached))
+    led arc (inr h) = absurd h
+
+    by_test : (t : Bool) → AddsUnled others (cond t [] (Base key reader other ∷ [])) old old
+    by_test true = unled_none others old
+    by_test false = record { stay = λ arc h. h; right = λ arc h. inl h; ahead = led }
+
+-- the arcs to the writers at one more place
+pub unled_place : (ids : List TxnId) (places : List ℕ) (k d : ℕ) (reader : TxnId) (key : ℕ) (others old mid new : List Arc) → k < length places → AddsUnled others (arcs_to reader key (those_at ids (take k places))) old mid → AddsUnled others (arc_to reader key (get_or ids (get_or places k d) (record { session = 0; number = 0 }))) mid new → AddsUnled others (arcs_to reader key (those_at ids (take (k + 1) places))) old new
+unled_place ids places k d reader key others old mid new within first second =
+    let at : ℕ → TxnId = λ place. get_or ids place (record { session = 0; number = 0 }) in
+    let before = those_at ids (take k places) in
+    let other = at (get_or places k d) in
+    let one_more : those_at ids (take (k + 1) places) ≡ before ++ other ∷ [] = map_more at places k d within in
+    let arcs : arcs_to reader key (those_at ids (take (k + 1) places)) ≡ arcs_to reader key before ++ arc_to reader key other = ap (arcs_to reader key) one_more ∙ sym (flat_map_more (arc_to reader key) [] before other) in
+    subst (λ (xs : List Arc). AddsUnled others xs old new) (sym arcs) (unled_then others (arcs_to reader key before) (arc_to reader key other) old mid new first second)
+
+-- the arcs of a read, those from the base behind that from its writer
+pub unled_read : (others : List Arc) (parts : Parts) (ids : List TxnId) (reader : TxnId) (read : ℕ × Source) (old mid new : List Arc) → mid ≡ old ++ arcs_from_writer parts reader read → AddsUnled others (base_arcs_of parts ids reader read) mid new → AddsUnled others (arcs_of_read parts ids reader read) old new
+unled_read others parts ids reader read old mid new first second =
+    of_read_same others parts ids reader read old new (unled_then others (arcs_from_writer parts reader read) (base_arcs_of parts ids reader read) old mid new (unled_few others (arcs_from_writer parts reader read) old mid (few_all (arcs_from_writer parts reader read) old mid first)) second)
+
+pub unled_no_base : (others : List Arc) (parts : Parts) (ids : List TxnId) (reader : TxnId) (read : ℕ × Source) (old mid : List Arc) → is_base_source parts read.0 read.1 ≡ false → mid ≡ old ++ arcs_from_writer parts reader read → AddsUnled others (arcs_of_read parts ids reader read) old mid
+unled_no_base others parts ids reader read old mid not_base first =
+    unled_read others parts ids reader read old mid mid first (subst (λ (full : List Arc). AddsUnled others full mid mid) (ap (λ t. cond t (arcs_to reader read.0 (filter (writes_here parts read.0) ids)) []) (sym not_base)) (unled_none others mid))
+
+pub unled_base : (others : List Arc) (parts : Parts) (ids : List TxnId) (reader : TxnId) (read : ℕ × Source) (written : List TxnId) (old mid new : List Arc) → is_base_source parts read.0 read.1 ≡ true → written ≡ filter (writes_here parts read.0) ids → mid ≡ old ++ arcs_from_writer parts reader read → AddsUnled others (arcs_to reader read.0 written) mid new → AddsUnled others (arcs_of_read parts ids reader read) old new
+unled_base others parts ids reader read written old mid new base is first second =
+    unled_read others parts ids reader read old mid new first (subst (λ (full : List Arc). AddsUnled others full mid new) (ap (arcs_to reader read.0) is ∙ ap (λ t. cond t (arcs_to reader read.0 (filter (writes_here parts read.0) ids)) []) (sym base)) second)
+
+-- one of the arcs that leads ahead is enough
+pub led_by_one : (arcs : List Arc) (k : ℕ) (d arc : Arc) → k < length arcs → LeadsAhead (get_or arcs k d ∷ []) arc → LeadsAhead arcs arc
+led_by_one arcs k d arc within led = ahead_within (get_or arcs k d ∷ []) arcs arc one led
+  where
+    one : (a : Arc) → In (get_or arcs k d ∷ []) a → In arcs a
+    one a (inl e) = subst (λ (x : Arc). In arcs x) e (in_place arcs k d within)
+    one a (inr h) = absurd h

@@ -1,8 +1,8 @@
 -- The arcs that new transactions bring are those of them, and those between reads that were there and new writers.
-use Rattle.std.proofs.Common.{◌≡◌, ◌≢◌, ℕ, ◌<◌, ◌≤◌, ◌⊎◌, ◌++◌, Bool, true, false, cond, List, [], ◌∷◌, refl, sym, ap, ◌∙◌, inl, inr, subst, arith, Option, Some, is_some, nat_lt, not}
+use Rattle.std.proofs.Common.{◌≡◌, ◌≢◌, ℕ, ◌<◌, ◌≤◌, ◌⊎◌, ◌++◌, Bool, true, false, cond, List, [], ◌∷◌, refl, sym, ap, ◌∙◌, inl, inr, subst, arith, Option, Some, is_some, nat_lt, not, ◌&&◌}
 use Rattle.std.specs.Prelude.{All, Contains, filter, ◌↔◌}
 use Rattle.std.specs.List.{flat_map}
-use Rattle.std.proofs.lemmas.Bool.{false≢true, lt-ltb}
+use Rattle.std.proofs.lemmas.Bool.{false≢true, lt-ltb, ltb-true}
 use Rattle.txn.specs.declared.transactions.TxnId.{TxnId}
 use Rattle.txn.specs.declared.transactions.Source.{Source}
 use Rattle.txn.specs.declared.transactions.Source.TheVariants.{By}
@@ -15,18 +15,24 @@ use Rattle.order_check.specs.Based.{Remains, remaining_at, mark_of, last_gone}
 use Rattle.order_check.specs.Good.{IsGood}
 use Rattle.order_check.specs.Known.{ReadsKey, WritesKey, IsBaseSource}
 use Rattle.order_check.specs.Cycles.{IsArc}
+use Rattle.known_graph.specs.Reach.{Reaches, through}
+use Rattle.txn.specs.declared.choices.ForceStep.{ForceStep}
+use Rattle.forced_choices.specs.SoFar.{IsSoFar}
 use Rattle.forced_choices.specs.declared.tables.kept.Loose.{Loose}
 use Rattle.forced_choices.specs.declared.tables.reads.Placed.{Placed}
-use Rattle.forced_choices.specs.FreshArcs.{arcs_of_loose, new_arcs}
+use Rattle.forced_choices.specs.FewArcs.{AddsUnled, LeadsAhead, LeadsBefore}
+use Rattle.forced_choices.specs.FreshArcs.{arcs_of_loose, new_arcs, read_arcs}
 use Rattle.forced_choices.specs.Growth.{AreMore, Brings, AreFresh, is_fresh}
 use Rattle.forced_choices.specs.KeptTables.{AreReadsOf, IsAmong}
 use Rattle.forced_choices.specs.Listing.{all_ids, reads_of, writes_here, is_other, one_before, session_arc, session_arcs, base_arcs, is_base_source, arcs_from_writer, arcs_of_read, arcs_of_reads}
 use Rattle.forced_choices.specs.Tables.{IsPlaced}
-use Rattle.forced_choices.proofs.Growing.{reads_more, reads_less, base_less}
-use Rattle.forced_choices.proofs.LookingBack.{LeadsToNext, plain_next}
-use Rattle.forced_choices.proofs.ListedArcs.{plain_arcs, plain_right, of_read_listed, base_source_test}
-use Rattle.forced_choices.proofs.ListedChoices.{and_both, apart_test, in_reads, reads_has, writer_remains, reader_remains}
-use Rattle.forced_choices.proofs.ListedIds.{bounds_of, remaining_listed}
+use Rattle.forced_choices.proofs.Growing.{reads_more, reads_less, base_less, remains_more}
+use Rattle.forced_choices.proofs.Grown.{reaches_on}
+use Rattle.forced_choices.proofs.Linked.{reaches_by, reached_ahead, sessions_reached}
+use Rattle.forced_choices.proofs.LookingBack.{LeadsToNext, plain_next, plain_before, ends_remain}
+use Rattle.forced_choices.proofs.ListedArcs.{plain_arcs, plain_right, arc_remains, of_read_listed, base_source_test}
+use Rattle.forced_choices.proofs.ListedChoices.{and_both, and_parts, apart_test, in_reads, reads_has, writer_remains, reader_remains}
+use Rattle.forced_choices.proofs.ListedIds.{bounds_of, listed_remains, remaining_listed}
 use Rattle.forced_choices.proofs.Members.{In, contains_from_in, in_left, in_right, in_either, in_flat_map, flat_map_in, in_map, map_in, in_filter, filter_in}
 
 -- the arcs of a read, with more ids to look for other writers among
@@ -182,9 +188,63 @@ fresh_right parts more nodes ids all new reads loose arc brings remain of_these 
         in_left (session_arcs more (all_ids more)) (arcs_of_reads more (all_ids more) (all_ids more)) arc (flat_map_in (session_arc more) (all_ids more) found.0 arc (of_new found.0 found.1) found.2)
     by_part (inr h) = by_read (in_either (arcs_of_reads more all new) (arcs_of_loose more new loose) arc h)
 
--- the arcs that new transactions bring are fresh ones, and all of them
-pub fresh_of : (parts more : Parts) (nodes : List (Option TxnId)) (ids all new : List TxnId) (reads : List Placed) (loose : List Loose) → IsGood parts → Brings parts more new → ((id : TxnId) → In ids id ↔ Remains parts id) → ((id : TxnId) → In all id ↔ Remains more id) → AreReadsOf parts nodes ids reads loose → AreFresh parts more (new_arcs more all new loose)
-fresh_of parts more nodes ids all new reads loose good brings old_listed listed of_these = record {
-  right = λ arc h. fresh_right parts more nodes ids all new reads loose arc brings (λ id. (listed id).0) of_these h;
-  all = λ arc h fresh. fresh_all parts more nodes ids all new reads loose arc good brings (λ id. (old_listed id).1) (λ id. (listed id).1) of_these h fresh;
+-- an arc of a session with a new end is one of the new transactions' sessions
+session_fresh : (parts more : Parts) (new : List TxnId) (arc : Arc) → Brings parts more new → In (session_arcs more (all_ids more)) arc → is_fresh parts arc ≡ true → In (session_arcs more new) arc
+session_fresh parts more new arc brings h fresh =
+    let found = in_flat_map (session_arc more) (all_ids more) arc h in
+    let id = found.0 in
+    flat_map_in (session_arc more) new id arc (by_test id (listed_remains more id found.1) (nat_lt 0 id.number && is_some (remaining_at more (one_before id))) refl found.2) found.2
+  where
+    by_place : (id : TxnId) → (0 < id.number) → Remains more (one_before id) → (Remains parts (one_before id) → ¬ Remains parts id) → Remains parts id ⊎ In new id → In new id
+    by_place id some before none (inr among) = among
+    by_place id some before none (inl here) = absurd (none (brings.are.behind (one_before id) id before here refl (omega arith)) here)
+
+    by_test : (id : TxnId) → Remains more id → (t : Bool) → (nat_lt 0 id.number && is_some (remaining_at more (one_before id))) ≡ t → In (cond t (Session (one_before id) id ∷ []) []) arc → In new id
+    by_test id remains false e h = absurd h
+    by_test id remains true e (inr h) = absurd h
+    by_test id remains true e (inl is) =
+        let parted = and_parts (nat_lt 0 id.number) (is_some (remaining_at more (one_before id))) e in
+        by_place id (ltb-true 0 id.number parted.0) parted.1 (not_fresh parts (Session (one_before id) id) (subst (λ (a : Arc). is_fresh parts a ≡ true) (sym is) fresh)) (brings.all id remains)
+
+-- with what was reached, few of them reach what all of them do
+pub fresh_of : (parts more : Parts) (arcs : List Arc) (log : List ForceStep) (nodes : List (Option TxnId)) (ids all new : List TxnId) (reads : List Placed) (loose : List Loose) (fresh : List Arc) → IsGood parts → IsSoFar parts [] [] arcs log → ((a b : TxnId) → Reaches arcs a b → Remains parts a × Remains parts b) → Brings parts more new → ((id : TxnId) → In ids id ↔ Remains parts id) → ((id : TxnId) → In all id ↔ Remains more id) → AreReadsOf parts nodes ids reads loose → AddsUnled arcs (read_arcs more all new loose) (session_arcs more new) fresh → AreFresh parts more arcs fresh
+fresh_of parts more arcs log nodes ids all new reads loose fresh good so remain brings old_listed listed of_these led = record {
+  right = λ arc h. right arc (led.right arc h);
+  reached = λ arc h e. by_listed arc h (in_either sessions (read_arcs more all new loose) arc (fresh_all parts more nodes ids all new reads loose arc good brings (λ id. (old_listed id).1) (λ id. (listed id).1) of_these h e));
 }
+  where
+    sessions : List Arc
+    sessions = session_arcs more new
+
+    listed_right : (arc : Arc) → In (new_arcs more all new loose) arc → In (plain_arcs more) arc
+    listed_right arc h = fresh_right parts more nodes ids all new reads loose arc brings (λ id. (listed id).0) of_these h
+
+    right : (arc : Arc) → In sessions arc ⊎ In (read_arcs more all new loose) arc → In (plain_arcs more) arc
+    right arc (inl h) = listed_right arc (in_left sessions (read_arcs more all new loose) arc h)
+    right arc (inr h) = listed_right arc (in_right sessions (read_arcs more all new loose) arc h)
+
+    there : (arc : Arc) → In fresh arc → Reaches (arcs ++ fresh) (start_of arc) (end_of arc)
+    there arc h = reaches_by (arcs ++ fresh) arc (in_right arcs fresh arc h)
+
+    by_test : (arc : Arc) (t : Bool) → is_fresh parts arc ≡ t → In (session_arcs more (all_ids more)) arc → Reaches (arcs ++ fresh) (start_of arc) (end_of arc)
+    by_test arc true e h = there arc (led.stay arc (session_fresh parts more new arc brings h e))
+    by_test arc false e h =
+        let ends = ends_remain parts arc e in
+        let plain = in_left (session_arcs more (all_ids more)) (arcs_of_reads more (all_ids more) (all_ids more)) arc h in
+        reaches_on arcs fresh (start_of arc) (end_of arc) (so.plain arc (plain_before parts more arc brings.are plain ends.0 ends.1))
+
+    in_sessions : (arc : Arc) → In (session_arcs more (all_ids more)) arc → Reaches (arcs ++ fresh) (start_of arc) (end_of arc)
+    in_sessions arc h = by_test arc (is_fresh parts arc) refl h
+
+    in_fresh : (arc : Arc) → In fresh arc → Reaches (arcs ++ fresh) (start_of arc) (end_of arc) × Remains more (end_of arc)
+    in_fresh arc h = (there arc h, (arc_remains more arc (plain_right more arc (right arc (led.right arc h)))).1)
+
+    by_led : (arc : Arc) → Remains more (end_of arc) → LeadsAhead fresh arc ⊎ LeadsBefore arcs arc → Reaches (arcs ++ fresh) (start_of arc) (end_of arc)
+    by_led arc remains (inl ahead) = reached_ahead more (arcs ++ fresh) fresh arc in_sessions in_fresh remains ahead
+    by_led arc remains (inr before) =
+        let was = remains_more parts more before.before brings.are (remain (start_of arc) before.before before.reached).1 in
+        through (reaches_on arcs fresh (start_of arc) before.before before.reached) (sessions_reached more (arcs ++ fresh) before.before (end_of arc) in_sessions was remains before.session before.number)
+
+    by_listed : (arc : Arc) → In (plain_arcs more) arc → In sessions arc ⊎ In (read_arcs more all new loose) arc → Reaches (arcs ++ fresh) (start_of arc) (end_of arc)
+    by_listed arc h (inl of_session) = there arc (led.stay arc of_session)
+    by_listed arc h (inr of_read) = by_led arc (arc_remains more arc (plain_right more arc h)).1 (led.ahead arc of_read)

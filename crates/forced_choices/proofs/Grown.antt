@@ -108,7 +108,7 @@ so_far_grown parts more graph fresh log goes = record {
     by_known arc (inr h) = right_known more arc (fresh_right arc h)
 
     by_test : (arc : Arc) (t : Bool) → is_fresh parts arc ≡ t → In (plain_arcs more) arc → Reaches (arcs ++ fresh) (start_of arc) (end_of arc)
-    by_test arc true e h = reaches_by (arcs ++ fresh) arc (in_right arcs fresh arc (goes.arcs.all arc h e))
+    by_test arc true e h = goes.arcs.reached arc h e
     by_test arc false e h = let ends = ends_remain parts arc e in reaches_on arcs fresh (start_of arc) (end_of arc) (so.plain arc (plain_before parts more arc goes.are h ends.0 ends.1))
 
 -- what reaches and what is reached remains

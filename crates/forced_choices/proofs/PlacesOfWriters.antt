@@ -109,7 +109,7 @@ filter_both {X} p q implied (x ∷ xs) = by_test (p x) refl (q x) refl (filter_b
     by_test false e false f rest = rest
 
 -- the writers of the key are all that count
-writers_at : (Asked : ℕ → Type 0) (parts : Parts) (ids : List TxnId) (lists : BTreeMap ℕ (Vec ℕ Global)) (key : ℕ) → Asked key → AreWriterPlaces Asked parts ids lists (length ids) → those_at ids (places_at lists key) ≡ filter (writes_here parts key) ids
+pub writers_at : (Asked : ℕ → Type 0) (parts : Parts) (ids : List TxnId) (lists : BTreeMap ℕ (Vec ℕ Global)) (key : ℕ) → Asked key → AreWriterPlaces Asked parts ids lists (length ids) → those_at ids (places_at lists key) ≡ filter (writes_here parts key) ids
 writers_at Asked parts ids lists key asked are = are.listed key asked ∙ ap (filter (writes_here parts key)) (take_whole ids (length ids) (omega arith))
 
 pub choices_at_places : (Asked : ℕ → Type 0) (parts : Parts) (ids : List TxnId) (lists : BTreeMap ℕ (Vec ℕ Global)) (read : Read) → Asked read.key → AreWriterPlaces Asked parts ids lists (length ids) → choices_in parts (those_at ids (places_at lists read.key)) read ≡ choices_in parts ids read

@@ -1,5 +1,5 @@
 -- For private clauses: arcs of which some are left out, since others lead to a transaction that comes before theirs in its session.
-use Rattle.std.specs.Prelude.{◌≡◌, ◌≤◌, ◌⊎◌, ℕ, Bool, true, false, nat_lt, not, List, Option, Some, None, [], ◌∷◌, filter, slice_index_or, if◌then◌else◌}
+use Rattle.std.specs.Prelude.{◌≡◌, ◌<◌, ◌≤◌, ◌⊎◌, ℕ, Bool, false, nat_eq, nat_lt, not, ◌&&◌, List, Option, Some, None, [], ◌∷◌, filter, slice_index_or, if◌then◌else◌}
 use Rattle.std.specs.List.{flat_map}
 use Rattle.txn.specs.declared.transactions.TxnId.{TxnId}
 use Rattle.txn.specs.declared.transactions.Source.{Source}
@@ -8,6 +8,7 @@ use Rattle.txn.specs.declared.choices.Arc.TheVariants.{Base}
 use Rattle.txn.specs.Arcs.{start_of, end_of}
 use Rattle.txn.specs.Transactions.{same_id}
 use Rattle.order_check.specs.declared.remainder.Parts.{Parts}
+use Rattle.known_graph.specs.Reach.{Reaches}
 use Rattle.forced_choices.specs.Ascending.{In}
 use Rattle.forced_choices.specs.Listing.{all_ids, is_base_source, session_arcs, arcs_of_reads, writes_here}
 
@@ -24,6 +25,19 @@ pub record AddsFew (full old new : List Arc) : Type 0 where
   pub stay : (arc : Arc) → In old arc → In new arc
   pub right : (arc : Arc) → In new arc → In old arc ⊎ In full arc
   pub ahead : (arc : Arc) → In full arc → LeadsAhead new arc
+
+-- what is reached already leads to a transaction before the arc's end in its session
+pub record LeadsBefore (arcs : List Arc) (arc : Arc) : Type 0 where
+  pub before : TxnId
+  pub reached : Reaches arcs (start_of arc) before
+  pub session : before.session ≡ (end_of arc).session
+  pub number : before.number < (end_of arc).number
+
+-- to old arcs some of these were added, such that one leads ahead of each of these that what is reached by others doesn't lead to
+pub record AddsUnled (others full old new : List Arc) : Type 0 where
+  pub stay : (arc : Arc) → In old arc → In new arc
+  pub right : (arc : Arc) → In new arc → In old arc ⊎ In full arc
+  pub ahead : (arc : Arc) → In full arc → LeadsAhead new arc ⊎ LeadsBefore others arc
 
 -- all arcs of sessions, and of the arcs of reads so many that one leads ahead of each
 abbrev pub ArePlain : Parts → List Arc → Type 0
@@ -44,6 +58,11 @@ base_arcs_of parts ids reader read = if is_base_source parts read.0 read.1 then 
 abbrev pub is_ahead : Option (ℕ × TxnId) → TxnId → Bool
 is_ahead None other = false
 is_ahead (Some noted) other = not (nat_lt other.number noted.1.number)
+
+-- whether this transaction comes behind the other in its session
+abbrev pub is_behind : Option TxnId → TxnId → Bool
+is_behind None other = false
+is_behind (Some before) other = nat_eq before.session other.session && nat_lt before.number other.number
 
 -- the arc to a writer that is noted
 abbrev pub arc_noted : TxnId → Option (ℕ × TxnId) → List Arc

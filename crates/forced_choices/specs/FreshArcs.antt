@@ -12,9 +12,13 @@ use Rattle.forced_choices.specs.Listing.{writes_here, session_arcs, arcs_of_read
 abbrev pub arcs_of_loose : Parts → List TxnId → List Loose → List Arc
 arcs_of_loose parts new loose = flat_map (λ (one : Loose). arcs_of_read parts new one.reader (one.key, one.source)) loose
 
--- the arcs of their sessions, of their reads, and of loose reads
+-- the arcs of their reads, and of loose reads
+abbrev pub read_arcs : Parts → List TxnId → List TxnId → List Loose → List Arc
+read_arcs parts ids new loose = arcs_of_reads parts ids new ++ arcs_of_loose parts new loose
+
+-- those, and the arcs of their sessions
 abbrev pub new_arcs : Parts → List TxnId → List TxnId → List Loose → List Arc
-new_arcs parts ids new loose = session_arcs parts new ++ (arcs_of_reads parts ids new ++ arcs_of_loose parts new loose)
+new_arcs parts ids new loose = session_arcs parts new ++ read_arcs parts ids new loose
 
 -- whatever key one of these transactions writes is among these
 abbrev pub AreAllWritten : Parts → List TxnId → List ℕ → Type 0

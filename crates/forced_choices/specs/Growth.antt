@@ -1,5 +1,5 @@
 -- For private clauses: parts with more transactions, and the arcs that these bring.
-use Rattle.std.specs.Prelude.{◌≡◌, ◌<◌, ◌⊎◌, ℕ, Bool, ◌&&◌, not, is_some, List, Option, true, length, map}
+use Rattle.std.specs.Prelude.{◌≡◌, ◌<◌, ◌⊎◌, ℕ, Bool, ◌&&◌, not, is_some, List, ◌++◌, Option, true, length, map}
 use Rattle.std.specs.List.{range_with_len}
 use Rattle.txn.specs.declared.transactions.TxnId.{TxnId}
 use Rattle.txn.specs.declared.transactions.Fragment.{Fragment}
@@ -11,6 +11,7 @@ use Rattle.order_check.specs.Based.{Remains, remaining_at, last_gone, received_c
 use Rattle.order_check.specs.Good.{IsGood}
 use Rattle.order_check.specs.StandsFor.{parts_with}
 use Rattle.known_graph.specs.Graphs.{GraphState, IsAt}
+use Rattle.known_graph.specs.Reach.{Reaches}
 use Rattle.forced_choices.specs.Ascending.{In}
 use Rattle.forced_choices.specs.Kept.{IsKept}
 use Rattle.forced_choices.specs.Listing.{plain_arcs}
@@ -42,10 +43,10 @@ pub record IsNext (parts more : Parts) (fragment : Fragment) : Type 0 where
 abbrev pub is_fresh : Parts → Arc → Bool
 is_fresh parts arc = not (is_some (remaining_at parts (start_of arc)) && is_some (remaining_at parts (end_of arc)))
 
--- arcs that are there from the start of more parts, among them all of which an end isn't among the parts
-pub record AreFresh (parts more : Parts) (fresh : List Arc) : Type 0 where
+-- arcs that are there from the start of more parts, by which with others each is reached of which an end isn't among the parts
+pub record AreFresh (parts more : Parts) (others fresh : List Arc) : Type 0 where
   pub right : (arc : Arc) → In fresh arc → In (plain_arcs more) arc
-  pub all : (arc : Arc) → In (plain_arcs more) arc → is_fresh parts arc ≡ true → In fresh arc
+  pub reached : (arc : Arc) → In (plain_arcs more) arc → is_fresh parts arc ≡ true → Reaches (others ++ fresh) (start_of arc) (end_of arc)
 
 -- what is at a key stays there
 abbrev pub NodesStay : List (Option TxnId) → List (Option TxnId) → Type 0
@@ -55,4 +56,4 @@ NodesStay old new = (key : ℕ) (id : TxnId) → IsAt old key id → IsAt new ke
 pub record GoesOn (parts more : Parts) (graph : GraphState) (log : List ForceStep) (fresh : List Arc) : Type 0 where
   pub are : AreMore parts more
   pub kept : IsKept parts graph log
-  pub arcs : AreFresh parts more fresh
+  pub arcs : AreFresh parts more graph.arcs fresh

@@ -6,4 +6,5 @@ pub mod cutting;
 pub mod fresh;
 pub mod growth;
 pub mod saturated;
+pub mod unled;
 pub mod whole;

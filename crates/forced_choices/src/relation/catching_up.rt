@@ -115,7 +115,7 @@ pub fn catch_up(
     } = kept;
     add_nodes(graph, &new)?;
     add_writers(alloc, &mut table, more, graph, &new)?;
-    let fresh = fresh_arcs(alloc, more, &table, &loose, &new)?;
+    let fresh = fresh_arcs(alloc, more, graph, &table, &loose, &new)?;
     put_reads(alloc, &mut table, &mut loose, more, graph, &new)?;
     go_on(alloc, more, &table, graph, log, &fresh)?;
     Ok(KeptTable { table, loose })

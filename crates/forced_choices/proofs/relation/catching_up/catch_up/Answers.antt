@@ -46,8 +46,8 @@ go_on-requires-clause-table c =
     let fragment = c.args.fragment.now in
     let graph = c.args.graph.now in
     let new = c.add_nodes.new.graph in
-    let catches = catches_by parts more fragment graph.nodes new.nodes c.args.kept c.add_writers.new.table c.in_ok-fresh.fresh.items c.in_ok-new.new.items c.deref-2.result.now c.deref-4.result.now c.deref-3.result.now c.in_ok-new.ensures c.deref-2.ensures.value c.deref-4.ensures.value c.deref-3.ensures.value next table c.in_ok-add_nodes.ensures.stay c.in_ok-add_writers.ensures.writers c.in_ok-add_writers.ensures.ids c.in_ok-add_writers.ensures.reads c.in_ok-add_writers.ensures.indexed c.in_ok-fresh.ensures in
-    let grown = table_then parts more fragment graph.nodes new.nodes c.args.kept c.add_writers.new.table c.put_reads.new.table c.in_ok-fresh.fresh.items c.put_reads.new.loose c.deref-5.result.now (c.deref-5.ensures.value ∙ c.in_ok-new.ensures) catches c.in_ok-put_reads.ensures in
+    let catches = catches_by parts more fragment graph.nodes new.nodes c.args.kept c.add_writers.new.table new.arcs c.in_ok-fresh.fresh.items c.in_ok-new.new.items c.deref-2.result.now c.deref-4.result.now c.deref-3.result.now c.in_ok-new.ensures c.deref-2.ensures.value c.deref-4.ensures.value c.deref-3.ensures.value next table c.in_ok-add_nodes.ensures.stay c.in_ok-add_writers.ensures.writers c.in_ok-add_writers.ensures.ids c.in_ok-add_writers.ensures.reads c.in_ok-add_writers.ensures.indexed c.in_ok-fresh.ensures in
+    let grown = table_then parts more fragment graph.nodes new.nodes c.args.kept c.add_writers.new.table c.put_reads.new.table new.arcs c.in_ok-fresh.fresh.items c.put_reads.new.loose c.deref-5.result.now (c.deref-5.ensures.value ∙ c.in_ok-new.ensures) catches c.in_ok-put_reads.ensures in
     kept_lookup more new.nodes _ grown
 
 pub go_on-requires-clause-goes_on : goal.go_on-requires-clause-goes_on
@@ -57,7 +57,7 @@ go_on-requires-clause-goes_on c =
     let fragment = c.args.fragment.now in
     let graph = c.args.graph.now in
     let new = c.add_nodes.new.graph in
-    let catches = catches_by parts more fragment graph.nodes new.nodes c.args.kept c.add_writers.new.table c.in_ok-fresh.fresh.items c.in_ok-new.new.items c.deref-2.result.now c.deref-4.result.now c.deref-3.result.now c.in_ok-new.ensures c.deref-2.ensures.value c.deref-4.ensures.value c.deref-3.ensures.value next table c.in_ok-add_nodes.ensures.stay c.in_ok-add_writers.ensures.writers c.in_ok-add_writers.ensures.ids c.in_ok-add_writers.ensures.reads c.in_ok-add_writers.ensures.indexed c.in_ok-fresh.ensures in
+    let catches = catches_by parts more fragment graph.nodes new.nodes c.args.kept c.add_writers.new.table new.arcs c.in_ok-fresh.fresh.items c.in_ok-new.new.items c.deref-2.result.now c.deref-4.result.now c.deref-3.result.now c.in_ok-new.ensures c.deref-2.ensures.value c.deref-4.ensures.value c.deref-3.ensures.value next table c.in_ok-add_nodes.ensures.stay c.in_ok-add_writers.ensures.writers c.in_ok-add_writers.ensures.ids c.in_ok-add_writers.ensures.reads c.in_ok-add_writers.ensures.indexed c.in_ok-fresh.ensures in
     (parts, subst (λ (fresh : List Arc). GoesOn parts more new c.args.log.now fresh) (sym c.deref-6.ensures.value) (goes_on_then parts more fragment graph new c.args.log.now c.args.kept c.add_writers.new.table c.in_ok-fresh.fresh.items kept c.in_ok-add_nodes.ensures.arcs catches))
 
 -- what holds either way holds where there is an error
@@ -79,7 +79,7 @@ returns-clause-table c =
     let fragment = c.args.fragment.now in
     let graph = c.args.graph.now in
     let new = c.add_nodes.new.graph in
-    let catches = catches_by parts more fragment graph.nodes new.nodes c.args.kept c.add_writers.new.table c.in_ok-fresh.fresh.items c.in_ok-new.new.items c.deref-2.result.now c.deref-4.result.now c.deref-3.result.now c.in_ok-new.ensures c.deref-2.ensures.value c.deref-4.ensures.value c.deref-3.ensures.value next table c.in_ok-add_nodes.ensures.stay c.in_ok-add_writers.ensures.writers c.in_ok-add_writers.ensures.ids c.in_ok-add_writers.ensures.reads c.in_ok-add_writers.ensures.indexed c.in_ok-fresh.ensures in
-    let grown = table_then parts more fragment graph.nodes new.nodes c.args.kept c.add_writers.new.table c.put_reads.new.table c.in_ok-fresh.fresh.items c.put_reads.new.loose c.deref-5.result.now (c.deref-5.ensures.value ∙ c.in_ok-new.ensures) catches c.in_ok-put_reads.ensures in
+    let catches = catches_by parts more fragment graph.nodes new.nodes c.args.kept c.add_writers.new.table new.arcs c.in_ok-fresh.fresh.items c.in_ok-new.new.items c.deref-2.result.now c.deref-4.result.now c.deref-3.result.now c.in_ok-new.ensures c.deref-2.ensures.value c.deref-4.ensures.value c.deref-3.ensures.value next table c.in_ok-add_nodes.ensures.stay c.in_ok-add_writers.ensures.writers c.in_ok-add_writers.ensures.ids c.in_ok-add_writers.ensures.reads c.in_ok-add_writers.ensures.indexed c.in_ok-fresh.ensures in
+    let grown = table_then parts more fragment graph.nodes new.nodes c.args.kept c.add_writers.new.table c.put_reads.new.table new.arcs c.in_ok-fresh.fresh.items c.put_reads.new.loose c.deref-5.result.now (c.deref-5.ensures.value ∙ c.in_ok-new.ensures) catches c.in_ok-put_reads.ensures in
     let then : KeptTable = record { table = c.put_reads.new.table; loose = c.put_reads.new.loose } in
     subst (λ (nodes : List (Option TxnId)). IsKeptTable more nodes then) (sym c.in_ok-go_on.ensures.nodes) grown

@@ -1,8 +1,7 @@
-use Rattle.std.proofs.Common.{◌≡◌, ◌<◌, ◌≤◌, ◌++◌, ℕ, List, length, get_or, take, subst, sym, ap}
+use Rattle.std.proofs.Common.{◌<◌, ◌≤◌, ◌++◌, ℕ, List, length, get_or, take, subst}
 use Rattle.std.specs.List.{flat_map}
 use Rattle.txn.specs.declared.transactions.Source.{Source}
 use Rattle.txn.specs.declared.transactions.Source.TheVariants.{Init}
-use Rattle.txn.specs.declared.choices.Arc.{Arc}
 use Rattle.forced_choices.specs.FewArcs.{AreEarliest, base_arcs_of}
 use Rattle.forced_choices.specs.Listing.{reads_of}
 use Rattle.forced_choices.proofs.Distinct.{take_whole}

@@ -1,4 +1,4 @@
-use Rattle.std.proofs.Common.{◌++◌, ap, ◌∙◌, subst, sym}
+use Rattle.std.proofs.Common.{◌++◌, ap, ◌∙◌}
 use Rattle.std.specs.List.{flat_map}
 use Rattle.forced_choices.specs.FewArcs.{arc_noted}
 use Rattle.forced_choices.proofs.FewArcs.{few_of_earliest}
