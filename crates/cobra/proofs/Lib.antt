@@ -3,6 +3,7 @@ pub mod Checkpoints
 pub mod GivenOut
 pub mod HandedWriters
 pub mod HeldCommands
+pub mod LightCommands
 pub mod LastTold
 pub mod LineCounts
 pub mod OtherCommands

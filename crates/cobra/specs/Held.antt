@@ -1,6 +1,7 @@
 -- For private clauses: how much of a command is held while it is answered.
-use Rattle.std.specs.Prelude.{◌≡◌, ℕ, ⊤, List, Option}
+use Rattle.std.specs.Prelude.{◌≡◌, ◌≤◌, ℕ, ⊤, List, length, Option, Some, None}
 use Rattle.log_text.specs.declared.commands.Command.{Command}
+use Rattle.log_text.specs.declared.commands.Command.TheVariants.{Offer, Join}
 use Rattle.log_text.specs.declared.replies.Reply.{Reply}
 use Rattle.log_text.specs.Held.{held}
 use Rattle.cobra.specs.Outputs.{Asks}
@@ -20,3 +21,15 @@ IsEnough old most = (command : Command) (answer : Reply) (new : Stage) → Answe
 -- this is what is held of a command that the line asks for
 abbrev pub AsksWithin : Option ℕ → List ℕ → Command → Type 0
 AsksWithin most line command = (whole : Command) × Asks line whole × (command ≡ held most whole)
+
+-- an offer or a join of no more than so many transactions, where a number is given; or another command
+abbrev pub HasAtMost : Option ℕ → Command → Type 0
+HasAtMost None command = ⊤
+HasAtMost (Some most) (Offer logged) = length logged.fragment.txns ≤ most
+HasAtMost (Some most) (Join logged) = length logged.fragment.txns ≤ most
+HasAtMost (Some most) command = ⊤
+
+-- unless parts are handed over, the command has no more transactions than one more than a fragment may have
+abbrev pub IsLight : Stage → Command → Type 0
+IsLight (stage.Handing handed version) command = ⊤
+IsLight old command = HasAtMost (Some 257) command

@@ -2,7 +2,7 @@ ghost use Rattle.std.specs.Prelude.{◌≡◌, ℕ, List, IfOk, IfSome, IfNone, 
 ghost use Rattle.log_text.specs.Commands.{HasLimits};
 ghost use Rattle.log_text.specs.Replies.{HasKindOfOrder};
 ghost use Rattle.order_check.specs.Effort.{IsEffort};
-ghost use Rattle.cobra.specs.Held.{AsksWithin};
+ghost use Rattle.cobra.specs.Held.{AsksWithin, HasAtMost, IsLight};
 ghost use Rattle.cobra.specs.Outputs.{Asks, IsTold, AnswersNext, RepliesTo};
 ghost use Rattle.cobra.specs.Scripts.{EndsRound, IsRound, IsStep, IsTakenIn, AnswersOpen, Answers};
 ghost use Rattle.cobra.specs.declared.stages.Stage.{Stage};
@@ -212,6 +212,7 @@ fn command_within(
     most: Option<usize>,
 ) -> Result<Option<Command>, NoMemory>
     ensures some { IfOk result (λ found. IfSome found (λ command. (line : List ℕ) → IsTold line next.now → AsksWithin most line command)) }
+    ensures few { IfOk result (λ found. IfSome found (HasAtMost most)) }
     ensures none { IfOk result (λ found. IfNone found ((line : List ℕ) → IsTold line next.now → (command : Command) → ¬ Asks line command)) }
     ensures limits { IfOk result (λ found. IfSome found HasLimits) }
 {
@@ -254,6 +255,7 @@ impl Script {
     ) -> Result<Reply, NoMemory>
         requires ready { S.ready }
         requires limits { HasLimits command }
+        requires light { IsLight self.old.stage command }
         ensures { IfOk result (λ answer. Answers self.old.stage command answer self.new.stage) }
     {
         let stage = mem::replace(&mut self.stage, Stage::Nothing);

@@ -118,18 +118,6 @@ handed_law (object given) rest = refl
 pub are_read_deeper : {X : Type 0} (form : Items → Option X) (first nests : ℕ) (old new : List Token) (found : Option X) → first ≤ nests → AreRead form first old found new → AreRead form nests old found new
 are_read_deeper form first nests old new found less read = record { is = λ depth turns deep enough. read.is depth turns (omega arith) enough; shorter = read.shorter }
 
--- no items are in no form
-pub nothing_read : {X : Type 0} (nests : ℕ) (old new : List Token) → AreRead {X = X} (λ given. None) nests old None new
-nothing_read {X} nests old new = record { is = λ depth turns deep enough. nothing (items (value depth) turns old); shorter = tt }
-  where
-    none_of : (given : Option Items) → option_and_then {U = X} (λ given. None) given ≡ None
-    none_of None = refl
-    none_of (Some given) = refl
-
-    nothing : (o : Option (json.Items × List Token)) → converted (λ js. option_and_then {U = X} (λ given. None) (of_items js)) o ≡ None
-    nothing None = refl
-    nothing (Some p) = ap (option_map (λ x. (x, p.1))) (none_of (of_items p.0))
-
 -- what comes of a value that was read
 abbrev pub then_of : {A X : Type 0} → (A → Option X) → Option (A × List Token) → Option (X × List Token)
 then_of next = option_and_then (λ p. option_map (λ x. (x, p.1)) (next p.0))
