@@ -28,9 +28,9 @@ import time
 sys.path.insert(0, os.path.join(os.path.dirname(os.path.abspath(__file__)), "../collectors/python"))
 from histories import Store  # noqa: E402
 from zanteyard import FENCE, RATHER_WAIT, Auditor, AuditorApart, AuditServer, LiveAuditor, Logged  # noqa: E402
-from zanteyard.memory_store import MemoryStore  # noqa: E402
-from zanteyard.programs import PROGRAM  # noqa: E402
-from zanteyard.workloads import EVERY_WORKLOAD, ClientProcesses, Clients  # noqa: E402
+from zanteyard.stores.memory import MemoryStore  # noqa: E402
+from zanteyard.program._binaries import PROGRAM  # noqa: E402
+from zanteyard.trial.workloads import EVERY_WORKLOAD, ClientProcesses, Clients  # noqa: E402
 
 SESSIONS, EVERY, MOST = 8, 2560, 128
 
@@ -138,9 +138,9 @@ def live(asked):
     with contextlib.ExitStack() as stack:
         folder, make_store = stack.enter_context(tempfile.TemporaryDirectory(prefix="zanteyard-")), None
         if asked.postgres:
-            from zanteyard.cluster import Cluster
-            from zanteyard.postgres_store import prepare
-            from zanteyard.store_kinds import MakeStore
+            from zanteyard.trial.postgres_server import Cluster
+            from zanteyard.stores.postgres import prepare
+            from zanteyard.trial.store_kinds import MakeStore
 
             dsn = stack.enter_context(Cluster()).dsn
             prepare(dsn)

@@ -14,8 +14,8 @@ import time
 sys.path.insert(0, os.path.join(os.path.dirname(os.path.abspath(__file__)), "../collectors/python"))
 
 from zanteyard import Session  # noqa: E402
-from zanteyard.notes import Notes  # noqa: E402
-from zanteyard.records import as_bytes  # noqa: E402
+from zanteyard.core._crash_notes import Notes  # noqa: E402
+from zanteyard.core._records import as_bytes  # noqa: E402
 
 
 class Nowhere:

@@ -28,8 +28,8 @@ TOP = os.path.join(os.path.dirname(os.path.abspath(__file__)), "..")
 sys.path[:0] = [os.path.join(TOP, "examples"), os.path.join(TOP, "collectors/python")]
 from postgres_live import LEVELS, WORKLOADS, ClientProcesses, Clients, Nothing
 from zanteyard import AuditorApart, AuditServer, LiveAuditor, Session
-from zanteyard.cluster import Cluster, ended_by_signals
-from zanteyard.postgres_store import PostgresStore, prepare
+from zanteyard.trial.postgres_server import Cluster, ended_by_signals
+from zanteyard.stores.postgres import PostgresStore, prepare
 
 
 class FarStore(PostgresStore):

@@ -23,8 +23,8 @@ TOP = os.path.join(os.path.dirname(os.path.abspath(__file__)), "..")
 sys.path[:0] = [os.path.join(TOP, "examples"), os.path.join(TOP, "collectors/python")]
 from postgres_live import WORKLOADS, Clients, Nothing
 from zanteyard import Aborted, AuditorApart, LiveAuditor, Session
-from zanteyard.cluster import Cluster
-from zanteyard.postgres_store import PostgresStore, prepare
+from zanteyard.trial.postgres_server import Cluster
+from zanteyard.stores.postgres import PostgresStore, prepare
 
 READ = "SELECT value FROM plain WHERE key = %s"
 WRITE = """INSERT INTO plain VALUES (%s, %s)

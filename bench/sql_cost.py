@@ -30,8 +30,8 @@ except ImportError:
     psycopg = None
 
 from zanteyard import RATHER_WAIT, AuditorApart, LiveAuditor
-from zanteyard.cluster import Cluster
-from zanteyard.postgres_sql import audited, prepare
+from zanteyard.trial.postgres_server import Cluster
+from zanteyard.sql.psycopg2 import audited, prepare
 
 
 ERRORS = (psycopg2.Error, psycopg.Error) if psycopg else (psycopg2.Error,)
@@ -87,7 +87,7 @@ def connections(dsn, asked, live):
 
 def new_connections(dsn, asked, live):
     """The same of psycopg 3's."""
-    from zanteyard import psycopg3_sql
+    from zanteyard.sql import psycopg3 as psycopg3_sql
 
     its = psycopg.Connection if live is None else psycopg3_sql.audited(live, ["t"])
     made = [its.connect(dsn) for _ in range(asked.threads)]
@@ -102,7 +102,7 @@ def sessions(dsn, asked, live):
     from sqlalchemy import Column, Integer, create_engine
     from sqlalchemy.orm import Session, declarative_base
 
-    from zanteyard.sqlalchemy import audit
+    from zanteyard.sql.sqlalchemy import audit
 
     class T(declarative_base()):
         __tablename__ = "t"

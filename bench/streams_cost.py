@@ -20,9 +20,9 @@ TOP = os.path.dirname(os.path.dirname(os.path.abspath(__file__)))
 sys.path.insert(0, os.path.join(TOP, "collectors", "python"))
 
 from zanteyard import Auditor, AuditClient, AuditServer, LiveAuditor, Policy, Session  # noqa: E402
-from zanteyard.memory_store import MemoryStore  # noqa: E402
-from zanteyard.redis_server import RedisServer, redis_server  # noqa: E402
-from zanteyard.workloads import Nothing  # noqa: E402
+from zanteyard.stores.memory import MemoryStore  # noqa: E402
+from zanteyard.trial.redis_server import RedisServer, redis_server  # noqa: E402
+from zanteyard.trial.workloads import Nothing  # noqa: E402
 
 SAYS_OK = r'''
 import json, sys
@@ -88,7 +88,7 @@ def run(kind, is_noted, asked, program, redis):
         if kind == "socket":
             server, address = AuditServer(live, f"{folder}/audit"), f"{folder}/audit"
         else:
-            from zanteyard.stream_server import StreamServer
+            from zanteyard.remote.streams import StreamServer
 
             server, address = StreamServer(live, redis.dsn), redis.dsn
         before = time.process_time(), processor_time(redis.process.pid)

@@ -26,8 +26,8 @@ sys.path.insert(0, os.path.join(os.path.dirname(HERE), "collectors", "python"))
 import psycopg2
 
 from zanteyard import RATHER_WAIT, AuditorApart, LiveAuditor, from_start, tell_violation
-from zanteyard.cluster import Cluster
-from zanteyard.postgres_sql import prepare
+from zanteyard.trial.postgres_server import Cluster
+from zanteyard.sql.psycopg2 import prepare
 
 CUSTOMERS, WORKERS = 20, 4
 TABLES = ("accounts", "transfers", "reports")
@@ -154,13 +154,13 @@ def connected(dsn, asked, live):
     if asked.driver == "psycopg":
         import psycopg
 
-        from zanteyard.psycopg3_sql import audited
+        from zanteyard.sql.psycopg3 import audited
 
         its = audited(live, TABLES)  # the first line
         connection = its.connect(dsn)  # the second, changed
         connection.isolation_level = psycopg.IsolationLevel[asked.level.upper().replace(" ", "_")]
         return connection
-    from zanteyard.postgres_sql import audited
+    from zanteyard.sql.psycopg2 import audited
 
     its = audited(live, TABLES)  # the first line
     connection = psycopg2.connect(dsn, connection_factory=its)  # the second, changed

@@ -29,8 +29,8 @@ from sqlalchemy.exc import DBAPIError
 from sqlalchemy.orm import declarative_base, relationship, sessionmaker
 
 from zanteyard import RATHER_WAIT, AuditorApart, LiveAuditor, from_start, tell_violation
-from zanteyard.cluster import Cluster
-from zanteyard.sqlalchemy import audit, prepare
+from zanteyard.trial.postgres_server import Cluster
+from zanteyard.sql.sqlalchemy import audit, prepare
 
 CUSTOMERS, WORKERS, START = 8, 4, 30
 KINDS = ("checking", "savings")

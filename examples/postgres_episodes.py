@@ -18,7 +18,7 @@ from collections import Counter
 TOP = os.path.join(os.path.dirname(os.path.abspath(__file__)), "..")
 sys.path.insert(0, os.path.join(TOP, "collectors/python"))
 from zanteyard import Aborted, Auditor, Ended, Session, tell_violation
-from zanteyard.cluster import Cluster, ended_by_signals, program
+from zanteyard.trial.postgres_server import Cluster, ended_by_signals, program
 
 LEVELS = {
     "serializable": "serializable",
@@ -127,7 +127,7 @@ def main():
     asked.add_argument("--clients", type=int, choices=(2, 4, 8), default=4)
     asked = asked.parse_args()
     try:
-        from zanteyard.postgres_store import PostgresStore, prepare
+        from zanteyard.stores.postgres import PostgresStore, prepare
     except ImportError:
         sys.exit(
             "psycopg2 is wanted: apt-get install python3-psycopg2, and run this by the Python "

@@ -19,8 +19,8 @@ import sys
 TOP = os.path.join(os.path.dirname(os.path.abspath(__file__)), "..")
 sys.path.insert(0, os.path.join(TOP, "collectors/python"))
 from zanteyard import Ended
-from zanteyard.postgres_audit import CantAuditError, add_arguments, run
-from zanteyard.workloads import LEVELS, WORKLOADS, ClientProcesses, Clients, Nothing
+from zanteyard.cli.audit import CantAuditError, add_arguments, run
+from zanteyard.trial.workloads import LEVELS, WORKLOADS, ClientProcesses, Clients, Nothing
 
 __all__ = ["LEVELS", "WORKLOADS", "ClientProcesses", "Clients", "Nothing"]  # what benches use
 

@@ -14,11 +14,11 @@ import sys
 
 TOP = os.path.join(os.path.dirname(os.path.abspath(__file__)), "..")
 sys.path.insert(0, os.path.join(TOP, "collectors/python"))
-from zanteyard.at_once import CLIENTS, at_once_table
-from zanteyard.cluster import ended_by_signals
-from zanteyard.errors import ZanteyardError
-from zanteyard.lockstep import FAULTS, SESSIONS, about, run_lockstep, table_lines, table_of
-from zanteyard.store_kinds import KINDS, kind_named
+from zanteyard.trial.under_load import CLIENTS, at_once_table
+from zanteyard.trial.postgres_server import ended_by_signals
+from zanteyard.core.errors import ZanteyardError
+from zanteyard.trial.lockstep import FAULTS, SESSIONS, about, run_lockstep, table_lines, table_of
+from zanteyard.trial.store_kinds import KINDS, kind_named
 
 
 def stores_of(kind, asked, server, level, count, **more):

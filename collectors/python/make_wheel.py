@@ -153,12 +153,12 @@ def write_note(folder: str, is_proved: bool) -> None:
 def stage(folder: str, programs: Sequence[str], is_proved: bool) -> None:
     """Puts all that the wheel is made of into the folder."""
     package = os.path.join(folder, "zanteyard")
-    hidden = shutil.ignore_patterns("__pycache__", "programs")
+    hidden = shutil.ignore_patterns("__pycache__", "bin")
     shutil.copytree(os.path.join(HERE, "zanteyard"), package, ignore=hidden)
     for name in ("pyproject.toml", "README.md"):
         shutil.copy(os.path.join(HERE, name), folder)
     shutil.copy(os.path.join(TOP, "LICENSE"), folder)
-    inside = os.path.join(package, "programs")
+    inside = os.path.join(package, "program", "bin")
     os.mkdir(inside)
     for path in programs:
         os.chmod(shutil.copy(path, inside), 0o755)

@@ -44,7 +44,7 @@ if command -v mypy > /dev/null; then # beside the tests; what it tells comes beh
 else
     echo "skipped: mypy, which isn't installed (no type was checked)"
 fi
-styled="zanteyard make_wheel.py run_tests.py ../../examples/postgres_live.py ../../examples/store_faults.py ../../examples/bank.py ../../examples/bank_orm.py"
+styled="zanteyard import_graph.py make_wheel.py run_tests.py ../../examples/postgres_live.py ../../examples/store_faults.py ../../examples/bank.py ../../examples/bank_orm.py"
 if command -v ruff > /dev/null; then
     ruff check --no-cache --line-length 100 --select E,W --ignore E203,E402,E701,E731 $styled
 elif "$python" -m pycodestyle --version > /dev/null 2>&1; then
@@ -62,7 +62,7 @@ fi
 [ "$failed" -eq 0 ] || exit 1
 for each in "MariaDB mariadb_server mariadbd pymysql" "Redis redis_server redis_server redis"; do
     read -r name module program driver <<< "$each"
-    if ! "$python" -c "import $driver, sys; from zanteyard.$module import $program; sys.exit(not $program())" 2> /dev/null; then
+    if ! "$python" -c "import $driver, sys; from zanteyard.trial.$module import $program; sys.exit(not $program())" 2> /dev/null; then
         echo "skipped: what needs $name and $driver, which aren't both installed (nothing was audited over it)"
     fi
 done
@@ -77,7 +77,7 @@ fi
 if ! "$python" -c "import psycopg2, pglast, sqlalchemy" 2> /dev/null; then
     echo "skipped: what needs SQLAlchemy, psycopg2 and pglast, which aren't all installed (no application over SQLAlchemy was audited)"
 fi
-if ! "$python" -c "import psycopg2" 2> /dev/null || ! "$python" -c "import sys; from zanteyard.cluster import program; sys.exit(not program('initdb'))"; then
+if ! "$python" -c "import psycopg2" 2> /dev/null || ! "$python" -c "import sys; from zanteyard.trial.postgres_server import program; sys.exit(not program('initdb'))"; then
     echo "skipped: what needs PostgreSQL and psycopg2, which aren't both installed (nothing was audited live)"
 fi
 if ! command -v cc > /dev/null; then

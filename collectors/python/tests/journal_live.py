@@ -8,7 +8,7 @@ import sys
 
 sys.path.insert(0, os.path.dirname(os.path.dirname(os.path.abspath(__file__))))
 from zanteyard import RATHER_WAIT, Auditor, LiveAuditor  # noqa: E402
-from zanteyard.memory_store import MemoryStore  # noqa: E402
+from zanteyard.stores.memory import MemoryStore  # noqa: E402
 from tests.killing import Log  # noqa: E402
 
 

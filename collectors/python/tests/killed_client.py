@@ -12,7 +12,7 @@ sys.path.insert(0, sys.argv[1])
 logging.getLogger("zanteyard").setLevel(logging.CRITICAL)
 
 from zanteyard import Aborted, AuditClient, OutcomeUnknown, ProgramEndedError  # noqa: E402
-from zanteyard.store_kinds import MakeStore  # noqa: E402
+from zanteyard.trial.store_kinds import MakeStore  # noqa: E402
 
 
 def die():

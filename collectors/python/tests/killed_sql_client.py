@@ -19,11 +19,11 @@ IS_NEW = os.environ.get("ZANTEYARD_DRIVER") == "psycopg3"
 if IS_NEW:
     import psycopg  # noqa: E402
 
-    from zanteyard.psycopg3_sql import audited  # noqa: E402
+    from zanteyard.sql.psycopg3 import audited  # noqa: E402
 
     ERROR = psycopg.Error
 else:
-    from zanteyard.postgres_sql import audited  # noqa: E402
+    from zanteyard.sql.psycopg2 import audited  # noqa: E402
 
     ERROR = psycopg2.Error
 

@@ -7,9 +7,10 @@ import time
 from contextlib import suppress
 
 from zanteyard import Aborted, Session
-from zanteyard.auditor import FENCE, PROGRAM
-from zanteyard.memory_store import MemoryStore
-from zanteyard.pipes import Pipes
+from zanteyard.core._own_keys import FENCE
+from zanteyard.program._auditor import PROGRAM
+from zanteyard.stores.memory import MemoryStore
+from zanteyard.program._pipes import Pipes
 
 PLAIN = os.path.join(os.path.dirname(os.path.abspath(__file__)), "plain_auditor.py")
 BEFORE, BETWEEN, AFTER, LATER = MOMENTS = ("before a line", "between line and reply",

@@ -15,7 +15,7 @@ import sys
 import threading
 import time
 
-from zanteyard.programs import live_path
+from zanteyard.program._binaries import live_path
 
 sys.path.insert(0, os.path.join(os.path.dirname(os.path.abspath(__file__)), "../../../bench"))
 from fuzz_lines import Store, compact  # noqa: E402

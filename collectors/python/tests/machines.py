@@ -11,9 +11,10 @@ import tempfile
 import time
 import unittest
 
-from zanteyard.auditor import FLAG, PROGRAM
-from zanteyard.cluster import Cluster, program
-from zanteyard.redis_server import redis_server
+from zanteyard.core._own_keys import FLAG
+from zanteyard.program._auditor import PROGRAM
+from zanteyard.trial.postgres_server import Cluster, program
+from zanteyard.trial.redis_server import redis_server
 
 from .owed import are_right
 from .plain_sql import run_sql
@@ -21,14 +22,14 @@ from .plain_sql import run_sql
 try:
     import redis
 
-    from zanteyard.redis_server import RedisServer
+    from zanteyard.trial.redis_server import RedisServer
 except ImportError:
     redis = None
 
 try:
     import psycopg2
 
-    from zanteyard.postgres_store import PostgresStore, prepare
+    from zanteyard.stores.postgres import PostgresStore, prepare
 except ImportError:
     psycopg2 = PostgresStore = None
 
@@ -241,7 +242,7 @@ class Machines(unittest.TestCase):
         return replies[-1][2]
 
     def each_commit_is_in_the_log(self, is_whole):
-        from zanteyard.resuming import reopened
+        from zanteyard.program._resuming import reopened
 
         found = reopened(f"{self.folder}/audit/audit.journal")
         try:

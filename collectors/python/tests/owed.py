@@ -10,7 +10,7 @@ import subprocess
 import sys
 
 from zanteyard import Auditor
-from zanteyard.auditor import LONGEST
+from zanteyard.core._own_keys import LONGEST
 
 sys.path.insert(0, os.path.join(os.path.dirname(os.path.abspath(__file__)), "../../../examples"))
 from check_reports import check_run  # noqa: E402

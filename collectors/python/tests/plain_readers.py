@@ -4,7 +4,7 @@ import csv
 import json
 import re
 
-from zanteyard.recorded import ABORTED, COMMITTED, UNKNOWN
+from zanteyard.imports._recording import ABORTED, COMMITTED, UNKNOWN
 
 from .recordings import Made
 

@@ -4,8 +4,8 @@ import json
 import random
 from dataclasses import dataclass, field
 
-from zanteyard.recorded import ABORTED, APPEND, COMMITTED, READ, READ_LIST, UNKNOWN, WRITE
-from zanteyard.recorded import Access, Attempt
+from zanteyard.imports._recording import ABORTED, APPEND, COMMITTED, READ, READ_LIST, UNKNOWN, WRITE
+from zanteyard.imports._recording import Access, Attempt
 
 ENDS = {COMMITTED: "ok", ABORTED: "fail", UNKNOWN: "info"}
 

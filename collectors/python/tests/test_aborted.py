@@ -10,19 +10,20 @@ from unittest import mock
 from zanteyard import Aborted, Auditor, AuditorApart, AuditLostError, LiveAuditor, Logged
 from zanteyard import OutcomeUnknown, Session
 from zanteyard import audited, from_start, reasons, smaller, words
-from zanteyard.anomalies import find_anomaly
-from zanteyard.auditor import FENCE, FLAG, PROGRAM
-from zanteyard.command_line import main
-from zanteyard.coverage import Coverage
-from zanteyard.errors import JournalError, ProgramTooOldError
-from zanteyard.journal import EARLIER, FIRST_LINE
-from zanteyard.journal_records import record, records
-from zanteyard.lockstep import SESSIONS, run_lockstep
-from zanteyard.memory_store import MemoryStore
-from zanteyard.picture import dot_text
-from zanteyard.records import MOST, as_bytes, undone, unpacked
-from zanteyard.sqlite_store import SQLiteStore
-from zanteyard.sqlite_store import prepare as prepare_sqlite
+from zanteyard.explain._anomalies import find_anomaly
+from zanteyard.core._own_keys import FENCE, FLAG
+from zanteyard.program._auditor import PROGRAM
+from zanteyard.cli._main import main
+from zanteyard.core._window import Coverage
+from zanteyard.core.errors import JournalError, ProgramTooOldError
+from zanteyard.journal._file import EARLIER, FIRST_LINE
+from zanteyard.journal._records import record, records
+from zanteyard.trial.lockstep import SESSIONS, run_lockstep
+from zanteyard.stores.memory import MemoryStore
+from zanteyard.explain._graphviz import dot_text
+from zanteyard.core._records import MOST, as_bytes, undone, unpacked
+from zanteyard.stores.sqlite import SQLiteStore
+from zanteyard.stores.sqlite import prepare as prepare_sqlite
 
 from .test_memory import add_one, put, read
 from .test_restarting import WithJournal

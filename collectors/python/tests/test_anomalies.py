@@ -2,7 +2,7 @@
 import unittest
 
 from zanteyard import Logged
-from zanteyard.anomalies import MEANINGS, find_anomaly
+from zanteyard.explain._anomalies import MEANINGS, find_anomaly
 
 
 def txn(*reads, writes="", outcome="committed"):

@@ -11,7 +11,7 @@ import random
 import subprocess
 import unittest
 
-from zanteyard.programs import checker_path
+from zanteyard.program._binaries import checker_path
 
 from .mutated_replies import mutations
 

@@ -4,14 +4,14 @@ import os
 import unittest
 
 from zanteyard import Auditor, Session, tell_violation
-from zanteyard.auditor import PROGRAM
-from zanteyard.circumstances import brief, brief_row, caller, clock_of
-from zanteyard.foreign import is_foreign
-from zanteyard.memory_store import MemoryStore
-from zanteyard.page import page_of
-from zanteyard.records import Logged
-from zanteyard.shrinking import name
-from zanteyard.stories import story_of
+from zanteyard.program._auditor import PROGRAM
+from zanteyard.core._circumstances import brief, brief_row, caller, clock_of
+from zanteyard.core._signal_errors import is_foreign
+from zanteyard.stores.memory import MemoryStore
+from zanteyard.explain._html import page_of
+from zanteyard.core._records import Logged
+from zanteyard.explain._shrinking import name
+from zanteyard.explain._report import story_of
 
 
 class Circumstances(unittest.TestCase):

@@ -9,13 +9,13 @@ import unittest
 from contextlib import redirect_stderr, redirect_stdout
 from unittest import mock
 
-from zanteyard import demo
-from zanteyard.auditor import PROGRAM
-from zanteyard.cluster import program
-from zanteyard.command_line import main
-from zanteyard.outcome import Outcome
-from zanteyard.programs import Origin, find_program, found_live, program_path
-from zanteyard.version import VERSION
+from zanteyard.trial import _demo as demo
+from zanteyard.program._auditor import PROGRAM
+from zanteyard.trial.postgres_server import program
+from zanteyard.cli._main import main
+from zanteyard.core._outcome import Outcome
+from zanteyard.program._binaries import Origin, find_program, found_live, program_path
+from zanteyard.core._version import VERSION
 
 TOP = os.path.normpath(os.path.join(os.path.dirname(os.path.abspath(__file__)), "../../.."))
 WORKED = os.path.join(TOP, "crates/cobra_examples/data")
@@ -239,13 +239,13 @@ class Commands(unittest.TestCase):
     def test_a_page_that_can_not_be_written_is_no_verdict(self):
         """A run that was violated ends so, wherever its page is to be."""
         try:
-            from zanteyard import postgres_audit
+            from zanteyard.cli import audit as audit_command
         except ImportError:
             self.skipTest("psycopg2 is not installed")
         for kind, wanted in (("violated", 1), ("serial", 0)):
             ran = mock.Mock(outcome=Outcome(kind))
             ran.lines.return_value, ran.page.return_value = ["what came of it"], "a page"
-            with mock.patch.object(postgres_audit, "run", return_value=ran):
+            with mock.patch.object(audit_command, "run", return_value=ran):
                 status, out, err = run("audit", "postgres", "--html", self.folder)
             self.assertEqual((status, out), (wanted, "what came of it\n"), err)
             self.assertEqual(err, f"{self.folder} can't be written: Is a directory\n")

@@ -9,7 +9,7 @@ import sys
 import tempfile
 import unittest
 
-from zanteyard.auditor import PROGRAM
+from zanteyard.program._auditor import PROGRAM
 
 TOP = os.path.normpath(os.path.join(os.path.dirname(os.path.abspath(__file__)), "../../.."))
 NAMES = ("README.md", "CONTRIBUTING.md", "docs/*.md", "collectors/python/README.md")
@@ -89,16 +89,17 @@ class Documents(unittest.TestCase):
 
     def test_what_is_there_is_named(self):
         """Benchmarks, modules and how many edits there are."""
-        for document, folder, rest in (
-            ("CONTRIBUTING.md", "bench", ()),
-            ("collectors/python/README.md", "collectors/python/zanteyard", ("__init__.py", "__main__.py", "version.py")),
-        ):
-            text = text_of(document)
-            for path in glob.glob(os.path.join(TOP, folder, "*.py")):
-                name = os.path.basename(path)
-                if name not in rest:
-                    with self.subTest(document=document, name=name):
-                        self.assertTrue(re.search(rf"[`/]{re.escape(name)}\b", text))
+        text = text_of("CONTRIBUTING.md")
+        for path in glob.glob(os.path.join(TOP, "bench/*.py")):
+            with self.subTest(path=path):
+                self.assertTrue(re.search(rf"[`/]{re.escape(os.path.basename(path))}\b", text))
+        text = text_of("collectors/python/README.md")
+        listed = dict(re.findall(r"^- `zanteyard/(\w+)`((?:.*\n)(?:  .*\n)*)", text, re.MULTILINE))
+        for path in glob.glob(os.path.join(TOP, "collectors/python/zanteyard/*/*.py")):
+            package, name = path.split(os.sep)[-2:]
+            if name != "__init__.py":
+                with self.subTest(path=path):
+                    self.assertIn(f"`{name}`", listed.get(package, ""))
         (edits,) = re.findall(r"There are (\d+) edits", text_of("CONTRIBUTING.md"))
         self.assertEqual(int(edits), len(glob.glob(os.path.join(TOP, "crates/*/must-fail/*.edit"))))
 

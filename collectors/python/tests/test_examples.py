@@ -10,9 +10,9 @@ import time
 import unittest
 
 from zanteyard import Session
-from zanteyard.auditor import PROGRAM
-from zanteyard.cluster import Cluster, program
-from zanteyard.memory_store import MemoryStore
+from zanteyard.program._auditor import PROGRAM
+from zanteyard.trial.postgres_server import Cluster, program
+from zanteyard.stores.memory import MemoryStore
 
 TOP = os.path.normpath(os.path.join(os.path.dirname(os.path.abspath(__file__)), "../../.."))
 EXAMPLES = os.path.join(TOP, "examples")

@@ -2,7 +2,7 @@
 import unittest
 
 from zanteyard import Logged, reasons, words
-from zanteyard.explain import circle
+from zanteyard.explain._reasons import circle
 
 
 def txn(*reads, writes="", outcome="committed"):

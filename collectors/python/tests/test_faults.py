@@ -12,15 +12,15 @@ import time
 import unittest
 
 from zanteyard import FENCE, Aborted, AuditorApart, AuditServer, LiveAuditor, OutcomeUnknown
-from zanteyard.auditor import PROGRAM
-from zanteyard.cluster import Cluster, program
+from zanteyard.program._auditor import PROGRAM
+from zanteyard.trial.postgres_server import Cluster, program
 
 from .lateness import BOUND, Lateness
 
 try:
     import psycopg2
 
-    from zanteyard.postgres_store import PostgresStore, prepare
+    from zanteyard.stores.postgres import PostgresStore, prepare
 except ImportError:
     psycopg2 = None
 
@@ -44,7 +44,7 @@ from contextlib import suppress
 sys.path.insert(0, sys.argv[1])
 import logging; logging.getLogger("zanteyard").setLevel(logging.CRITICAL)
 from zanteyard import Aborted, AuditClient
-from zanteyard.postgres_store import PostgresStore
+from zanteyard.stores.postgres import PostgresStore
 from tests.lateness import Lateness
 from tests.test_faults import add_one
 with AuditClient(sys.argv[2]) as audit:

@@ -4,10 +4,10 @@ import tempfile
 import threading
 import unittest
 
-from zanteyard.auditor import Auditor
-from zanteyard.forks import UNAUDITED
-from zanteyard.sessions import Session
-from zanteyard.sqlite_store import SQLiteStore, prepare
+from zanteyard.program._auditor import Auditor
+from zanteyard.core._forks import UNAUDITED
+from zanteyard.session._session import Session
+from zanteyard.stores.sqlite import SQLiteStore, prepare
 
 from .test_live import WithProgram, add_one, set_to
 

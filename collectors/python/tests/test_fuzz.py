@@ -10,7 +10,7 @@ import tempfile
 import time
 import unittest
 
-from zanteyard.auditor import PROGRAM
+from zanteyard.program._auditor import PROGRAM
 
 from .waiting import wait_until
 

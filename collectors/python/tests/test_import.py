@@ -8,18 +8,19 @@ import tempfile
 import unittest
 from collections import Counter
 
-from zanteyard import import_script, importing
-from zanteyard.auditor import PROGRAM
-from zanteyard.command_line import main
-from zanteyard.edn import EdnReader, Keyword
-from zanteyard.errors import ImportRefusedError
-from zanteyard.import_times import Times, part_of
-from zanteyard.importing import FORMS, import_text
-from zanteyard.import_script import script_of
-from zanteyard.recorded import ABORTED, COMMITTED, UNKNOWN
-from zanteyard.script_names import write_names
-from zanteyard.scripts import ScriptRun
-from zanteyard.sources import Sources
+from zanteyard.imports import _script as import_script
+from zanteyard.imports import _command as import_command
+from zanteyard.program._auditor import PROGRAM
+from zanteyard.cli._main import main
+from zanteyard.imports._edn import EdnReader, Keyword
+from zanteyard.core.errors import ImportRefusedError
+from zanteyard.imports._times import Times, part_of
+from zanteyard.imports._command import FORMS, import_text
+from zanteyard.imports._script import script_of
+from zanteyard.imports._recording import ABORTED, COMMITTED, UNKNOWN
+from zanteyard.explain._script_names import write_names
+from zanteyard.explain._scripts import ScriptRun
+from zanteyard.imports._sources import Sources
 
 from . import plain_readers, recordings
 from .recordings import attempts_of, judged, judged_script, nobodys, seeded
@@ -447,8 +448,8 @@ class Realtime(unittest.TestCase):
     @unittest.skipUnless(os.path.isfile(PROGRAM), f"{PROGRAM} is not built")
     def test_a_long_history_with_pauses(self):
         self.addCleanup(setattr, import_script, "LIMIT", import_script.LIMIT)
-        self.addCleanup(setattr, importing, "EVERY", importing.EVERY)
-        import_script.LIMIT, importing.EVERY = 400, 100
+        self.addCleanup(setattr, import_command, "EVERY", import_command.EVERY)
+        import_script.LIMIT, import_command.EVERY = 400, 100
         with tempfile.TemporaryDirectory() as folder:
             path, script = os.path.join(folder, "a.json"), os.path.join(folder, "a.jsonl")
             lines = self.long(1100, 100)

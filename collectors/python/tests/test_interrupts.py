@@ -8,10 +8,10 @@ import unittest
 from unittest import mock
 
 from zanteyard import AuditLostError, Auditor, AuditorApart, LiveAuditor, Policy, Report, Session
-from zanteyard.auditor import PROGRAM
-from zanteyard.errors import ProgramEndedError, ProgramUnreachableError
-from zanteyard.memory_store import MemoryStore
-from zanteyard.place_requests import PlaceRequests
+from zanteyard.program._auditor import PROGRAM
+from zanteyard.core.errors import ProgramEndedError, ProgramUnreachableError
+from zanteyard.stores.memory import MemoryStore
+from zanteyard.remote._session_requests import PlaceRequests
 
 from .test_live import add_one, set_to
 
@@ -208,7 +208,7 @@ class Interrupts(unittest.TestCase):
             self.assertIsNone(live._convener.meet(60.0, 60.0).failure)
             self.interrupted_as_a_lock_is_taken(lambda: live.session(store.connect()))
             self.assertEqual((live._places.taken, live._group.numbers()), (1, [0]))
-            with mock.patch("zanteyard.sessions.give_back", side_effect=KeyboardInterrupt):
+            with mock.patch("zanteyard.session._session.give_back", side_effect=KeyboardInterrupt):
                 with self.assertRaises(KeyboardInterrupt):  # just before it is given back
                     live.session(store.connect())
             self.assertEqual((live._places.taken, live._group.numbers()), (1, [0]))

@@ -13,29 +13,30 @@ from unittest import mock
 
 from zanteyard import FENCE, Aborted, Auditor, AuditorApart, LiveAuditor, Logged, OutcomeUnknown
 from zanteyard import AuditClient, AuditServer, Policy, Refused, from_start
-from zanteyard.audit import Audit, Figures
-from zanteyard.auditor import FLAG, PROGRAM
-from zanteyard.backlog import Backlog
-from zanteyard.coverage import Coverage
-from zanteyard.edges import coverage_from_now
-from zanteyard.errors import AuditLostError, NotAnchoredError
-from zanteyard.killed import NOTHING, Killed
-from zanteyard.memory_store import MemoryStore
-from zanteyard.notes import Note
-from zanteyard.places import Places
-from zanteyard.records import as_bytes
-from zanteyard.sessions import Place, Session
-from zanteyard.stints import Stints
+from zanteyard.live._audit import Audit, Figures
+from zanteyard.core._own_keys import FLAG
+from zanteyard.program._auditor import PROGRAM
+from zanteyard.live._backlog import Backlog
+from zanteyard.core._window import Coverage
+from zanteyard.live._audit_start import coverage_from_now
+from zanteyard.core.errors import AuditLostError, NotAnchoredError
+from zanteyard.remote._crash_recovery import NOTHING, Killed
+from zanteyard.stores.memory import MemoryStore
+from zanteyard.core._crash_notes import Note
+from zanteyard.live._session_pool import Places
+from zanteyard.core._records import as_bytes
+from zanteyard.session._session import Place, Session
+from zanteyard.core._tenancy import Stints
 
-from zanteyard.redis_server import redis_server
+from zanteyard.trial.redis_server import redis_server
 
 from .test_live import WithProgram, add_one
 
 try:
     import redis
 
-    from zanteyard.redis_server import RedisServer
-    from zanteyard.stream_server import StreamServer
+    from zanteyard.trial.redis_server import RedisServer
+    from zanteyard.remote.streams import StreamServer
 except ImportError:
     redis = None
 
@@ -491,7 +492,7 @@ class Joins(WithProgram):
         stays, leaves = (live.session(store.connect()) for _ in range(2))
         stays.run(add_one("x")), leaves.run(add_one("y"))
         leaves.close()
-        with comes_later(live, live._group, "zanteyard.convener") as coming:
+        with comes_later(live, live._group, "zanteyard.live._quiesce_coordinator") as coming:
             thread = threading.Thread(target=live.session, args=(store.connect(),))
             thread.start()
             self.assertTrue(coming.wait(60))
@@ -772,7 +773,7 @@ class Elsewhere(WithProgram):
         until = time.monotonic() + 60
         while live._places.numbers() != left and time.monotonic() < until:
             time.sleep(0.005)
-        with comes_later(live, comes._group, "zanteyard.convener", "zanteyard.group_calls") as coming:
+        with comes_later(live, comes._group, "zanteyard.live._quiesce_coordinator", "zanteyard.remote._quiesce_calls") as coming:
             thread = threading.Thread(target=comes.session, args=(store.connect(),))
             thread.start()
             self.assertTrue(coming.wait(60))

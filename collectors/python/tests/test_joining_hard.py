@@ -8,18 +8,18 @@ import unittest
 from unittest import mock
 
 from zanteyard import FENCE, AuditClient, AuditServer, Logged, OutcomeUnknown, Policy
-from zanteyard.auditor import FLAG
-from zanteyard.backlog import Backlog
-from zanteyard.errors import AuditLostError
-from zanteyard.killed import Killed
-from zanteyard.memory_store import MemoryStore
-from zanteyard.notes import Note
-from zanteyard.places import Places
-from zanteyard.records import as_bytes
-from zanteyard.sessions import Place, Session
+from zanteyard.core._own_keys import FLAG
+from zanteyard.live._backlog import Backlog
+from zanteyard.core.errors import AuditLostError
+from zanteyard.remote._crash_recovery import Killed
+from zanteyard.stores.memory import MemoryStore
+from zanteyard.core._crash_notes import Note
+from zanteyard.live._session_pool import Places
+from zanteyard.core._records import as_bytes
+from zanteyard.session._session import Place, Session
 
 try:
-    from zanteyard.stream_process import StreamProcess
+    from zanteyard.remote._stream_process import StreamProcess
 except ImportError:
     StreamProcess = None
 
@@ -151,7 +151,7 @@ class Stuck(unittest.TestCase):
         new.leave_open(0)
         new.begun, new.is_ended = 1, True
         for is_given_back in (False, True):
-            with mock.patch("zanteyard.places.JOINING", 0.0):
+            with mock.patch("zanteyard.live._session_pool.JOINING", 0.0):
                 time.sleep(0.001)
                 self.assertEqual((places.free, places.wants_meeting), (0, True))
             places.give_back([new])
@@ -391,7 +391,7 @@ class UsedAgain(WithProgram):
             ((sent, aborted, sent, aborted), 7, False),
             ((sent, aborted, sent), 8, True),
         ):
-            with mock.patch("zanteyard.killed.find_out", lambda *_: ("aborted", None)):
+            with mock.patch("zanteyard.remote._crash_recovery.find_out", lambda *_: ("aborted", None)):
                 place = Place(4, 7, must_join=True)
                 killed = Killed({4: [(note, None) for note in notes]}, "run", Backlog(8))
                 self.assertEqual(killed.told(place), ())
@@ -403,7 +403,7 @@ class UsedAgain(WithProgram):
         for outcome in ("committed", "aborted", "unknown"):
             told = lambda how, ticket, *_: ("committed", None) if ticket == "its" else (outcome, [("run", 4, 1)])
             notes = [Note(4, 7, None, as_bytes(done), "its"), Note(4, 8, None, as_bytes(flag._replace(reads=[])), "flag", False)]
-            with mock.patch("zanteyard.killed.find_out", told):
+            with mock.patch("zanteyard.remote._crash_recovery.find_out", told):
                 place = Place(4, 7)
                 killed = Killed({4: [(note, None) for note in notes]}, "run", Backlog(8), is_dead=False)
                 self.assertEqual([number for number, _ in killed.told(place)], [7])

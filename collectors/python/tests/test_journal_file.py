@@ -7,19 +7,19 @@ import sys
 import tempfile
 import unittest
 
-from zanteyard.errors import (
+from zanteyard.core.errors import (
     JournalDamagedError,
     JournalError,
     JournalInUseError,
     JournalVersionError,
     ZanteyardError,
 )
-from zanteyard.journal import FIRST_LINE, Journal
-from zanteyard.journal_records import record
+from zanteyard.journal._file import FIRST_LINE, Journal
+from zanteyard.journal._records import record
 
 TAKES = """
 import sys
-from zanteyard.journal import Journal
+from zanteyard.journal._file import Journal
 Journal(sys.argv[1])
 print("taken", flush=True)
 sys.stdin.read()

@@ -15,11 +15,11 @@ import unittest
 from contextlib import suppress
 
 from zanteyard import RATHER_WAIT, Aborted, AuditorApart, AuditServer, LiveAuditor, Logged
-from zanteyard.auditor import PROGRAM as BUILT
-from zanteyard.cluster import Cluster, program
-from zanteyard.memory_store import FAULTS, MemoryStore
-from zanteyard.store_kinds import MakeStore
-from zanteyard.workloads import ClientProcesses
+from zanteyard.program._auditor import PROGRAM as BUILT
+from zanteyard.trial.postgres_server import Cluster, program
+from zanteyard.stores.memory import FAULTS, MemoryStore
+from zanteyard.trial.store_kinds import MakeStore
+from zanteyard.trial.workloads import ClientProcesses
 
 from .killing import PLAIN, Log
 from .owed import Heard, are_right, log_in, log_of, verdicts
@@ -31,7 +31,7 @@ from .waiting import wait_until
 try:
     import psycopg2
 
-    from zanteyard.postgres_store import PostgresStore, prepare
+    from zanteyard.stores.postgres import PostgresStore, prepare
 except ImportError:
     psycopg2 = None
 

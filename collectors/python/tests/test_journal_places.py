@@ -6,11 +6,11 @@ import time
 import unittest
 
 from zanteyard import Auditor, AuditorApart, AuditLostError, Ended, LiveAuditor, Logged, Policy
-from zanteyard.coverage import Coverage
-from zanteyard.errors import JournalError, JournalInUseError, JournalVersionError
-from zanteyard.auditor import FENCE
-from zanteyard.journal import Journal
-from zanteyard.memory_store import MemoryStore
+from zanteyard.core._window import Coverage
+from zanteyard.core.errors import JournalError, JournalInUseError, JournalVersionError
+from zanteyard.core._own_keys import FENCE
+from zanteyard.journal._file import Journal
+from zanteyard.stores.memory import MemoryStore
 
 from .owed import Heard, are_right
 from .test_live import add_one

@@ -16,18 +16,19 @@ from contextlib import suppress
 from unittest import mock
 
 from zanteyard import Auditor, AuditServer, LiveAuditor, Policy, Session
-from zanteyard.asking import find_out
-from zanteyard.auditor import FENCE, MARK, PROGRAM, is_own
-from zanteyard.cluster import Cluster, program
-from zanteyard.workloads import Nothing
+from zanteyard.core._commit_status import find_out
+from zanteyard.core._own_keys import FENCE, MARK, is_own
+from zanteyard.program._auditor import PROGRAM
+from zanteyard.trial.postgres_server import Cluster, program
+from zanteyard.trial.workloads import Nothing
 
 from .plain_sql import run_sql
 
 try:
     import psycopg2
 
-    from zanteyard import postgres_store
-    from zanteyard.postgres_store import PostgresStore, prepare
+    from zanteyard.stores import postgres as postgres_store
+    from zanteyard.stores.postgres import PostgresStore, prepare
 except ImportError:
     psycopg2 = None
 
@@ -51,7 +52,7 @@ class Killed(unittest.TestCase):
         self.make_store()
 
     def make_store(self):
-        from zanteyard.sqlite_store import prepare as prepare_file
+        from zanteyard.stores.sqlite import prepare as prepare_file
 
         self.dsn = f"{self.folder}/store"
         prepare_file(self.dsn)

@@ -9,9 +9,10 @@ import unittest
 
 from zanteyard import FENCE, Aborted, Auditor, AuditorApart, Ended, Full, LiveAuditor, Logged, NoCut
 from zanteyard import NoMemory, Policy, Refused, audited, dot_text, draw, from_start, reasons, smaller, words
-from zanteyard.auditor import FLAG, MARK, PROGRAM
-from zanteyard.audit import fragments
-from zanteyard.memory_store import MemoryStore
+from zanteyard.core._own_keys import FLAG, MARK
+from zanteyard.program._auditor import PROGRAM
+from zanteyard.live._audit import fragments
+from zanteyard.stores.memory import MemoryStore
 
 
 def add_one(key):

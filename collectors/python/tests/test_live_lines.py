@@ -15,7 +15,7 @@ import tempfile
 import time
 import unittest
 
-from zanteyard.programs import live_path
+from zanteyard.program._binaries import live_path
 
 from .live_runs import SECONDS, Live, Wrong, generated, judge, run
 

@@ -17,11 +17,11 @@ from typing import Any, Iterator
 from unittest import mock
 
 from zanteyard import LiveAuditor
-from zanteyard.apart import AuditorApart
-from zanteyard.auditor import PROGRAM
-from zanteyard.errors import AuditLostError
-from zanteyard.log_guard import guard
-from zanteyard.memory_store import MemoryStore
+from zanteyard.program._subprocess import AuditorApart
+from zanteyard.program._auditor import PROGRAM
+from zanteyard.core.errors import AuditLostError
+from zanteyard.core._log_guard import guard
+from zanteyard.stores.memory import MemoryStore
 
 try:
     import psycopg2

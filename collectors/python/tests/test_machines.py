@@ -7,8 +7,8 @@ import time
 import unittest
 from unittest import mock
 
-from zanteyard.asking import find_out
-from zanteyard.live_state import StateFile
+from zanteyard.core._commit_status import find_out
+from zanteyard.remote._live_state import StateFile
 
 from .machines import SOON, Machines, PostgresStore
 from .test_restarting_processes import child_of

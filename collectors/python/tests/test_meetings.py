@@ -6,10 +6,11 @@ import time
 import unittest
 
 from zanteyard import Aborted, Auditor, OutcomeUnknown, Session, StoreLateError
-from zanteyard.auditor import FLAG, PROGRAM
-from zanteyard.meetings import Group, Missed
-from zanteyard.memory_store import MemoryStore
-from zanteyard.sessions import Place
+from zanteyard.core._own_keys import FLAG
+from zanteyard.program._auditor import PROGRAM
+from zanteyard.session._quiesce import Group, Missed
+from zanteyard.stores.memory import MemoryStore
+from zanteyard.session._session import Place
 
 SECONDS = 60.0
 SLOW = 20.0  # seconds in which anything is done that isn't waited for, beside other programs

@@ -4,8 +4,8 @@ import tempfile
 import unittest
 
 from zanteyard import Aborted, Auditor, Ended, Full, OutcomeUnknown, Refused, Session, audited, smaller, words
-from zanteyard.auditor import PROGRAM
-from zanteyard.memory_store import MemoryStore
+from zanteyard.program._auditor import PROGRAM
+from zanteyard.stores.memory import MemoryStore
 
 
 class WithAuditor(unittest.TestCase):

@@ -13,12 +13,13 @@ import unittest
 
 import zanteyard
 from zanteyard import Aborted, AuditClient, Auditor, AuditorApart, AuditServer, LiveAuditor, Session
-from zanteyard.auditor import FENCE, FLAG, MARK, PROGRAM
-from zanteyard.backlog import Backlog
-from zanteyard.edges import coverage_from_now
-from zanteyard.memory_store import MemoryStore
-from zanteyard.places import Places
-from zanteyard.sessions import Place, whole
+from zanteyard.core._own_keys import FENCE, FLAG, MARK
+from zanteyard.program._auditor import PROGRAM
+from zanteyard.live._backlog import Backlog
+from zanteyard.live._audit_start import coverage_from_now
+from zanteyard.stores.memory import MemoryStore
+from zanteyard.live._session_pool import Places
+from zanteyard.session._session import Place, whole
 
 from .lateness import BOUND, Lateness
 from .test_live import add_one, set_to
@@ -199,8 +200,8 @@ class AfterTheCommit(NoHarm):
         self.assertEqual(auditor.outcome().kind, "incomplete")
 
     def test_one_that_stands_still_for_long_is_given_up(self):
-        self.addCleanup(setattr, zanteyard.taking, "LATEST", zanteyard.taking.LATEST)
-        zanteyard.taking.LATEST = 0.5
+        self.addCleanup(setattr, zanteyard.program._intake, "LATEST", zanteyard.program._intake.LATEST)
+        zanteyard.program._intake.LATEST = 0.5
         for of in (Auditor, AuditorApart):
             with self.subTest(of=of.__name__):
                 auditor = self.auditor(of=of)

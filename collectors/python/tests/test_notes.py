@@ -12,15 +12,16 @@ import unittest
 from unittest import mock
 
 from zanteyard import AuditClient, Auditor, AuditServer, LiveAuditor, Logged, Policy, Session
-from zanteyard.auditor import FENCE, PROGRAM
-from zanteyard.backlog import Backlog
-from zanteyard.errors import AuditLostError
-from zanteyard.handover import Handover
-from zanteyard.killed import NOTHING, Killed, LostError, in_files
-from zanteyard.memory_store import MemoryStore
-from zanteyard.notes import FORKED, HEAD, ROOM, Notes, notes_of
-from zanteyard.records import as_bytes, unpacked
-from zanteyard.sessions import OutcomeUnknown, Place
+from zanteyard.core._own_keys import FENCE
+from zanteyard.program._auditor import PROGRAM
+from zanteyard.live._backlog import Backlog
+from zanteyard.core.errors import AuditLostError
+from zanteyard.remote._outbox import Handover
+from zanteyard.remote._crash_recovery import NOTHING, Killed, LostError, in_files
+from zanteyard.stores.memory import MemoryStore
+from zanteyard.core._crash_notes import FORKED, HEAD, ROOM, Notes, notes_of
+from zanteyard.core._records import as_bytes, unpacked
+from zanteyard.session._session import OutcomeUnknown, Place
 
 from .test_live import add_one
 
@@ -92,7 +93,7 @@ class Noted(unittest.TestCase):
                 self.assertEqual(len(self.failures), 1)
 
     def test_another_version_is_not_guessed_at(self):
-        with mock.patch("zanteyard.notes.VERSION", 9):
+        with mock.patch("zanteyard.core._crash_notes.VERSION", 9):
             self.notes.write(0, 0, "aborted", None)
         self.assertIsNone(notes_of(self.path))
 
@@ -182,7 +183,7 @@ class Noted(unittest.TestCase):
                 with self.subTest(became=became, did=did):
                     self.setUp()
                     self.unclear(None, did=did)
-                    with mock.patch("zanteyard.killed.find_out", return_value=(became, None)):
+                    with mock.patch("zanteyard.remote._crash_recovery.find_out", return_value=(became, None)):
                         if became == "aborted":
                             (first, told), rest = self.told()[0]
                             self.assertEqual((first, rest), (0, (1, NOTHING)))
@@ -288,7 +289,7 @@ import os, signal, sys, time
 sys.path.insert(0, sys.argv[1])
 import logging; logging.getLogger("zanteyard").setLevel(logging.CRITICAL)
 from zanteyard import AuditClient
-from zanteyard.sqlite_store import SQLiteStore
+from zanteyard.stores.sqlite import SQLiteStore
 client = AuditClient(sys.argv[2])
 session = client.session(SQLiteStore(sys.argv[3]))
 add = lambda t: t.put("x", str(int(t.get("x") or 0) + 1))
@@ -311,7 +312,7 @@ os.kill(os.getpid(), signal.SIGKILL)
         sessions, which nobody sees, nobody else gets them."""
         logging.getLogger("zanteyard").setLevel(logging.CRITICAL)
         self.addCleanup(logging.getLogger("zanteyard").setLevel, logging.NOTSET)
-        from zanteyard.sqlite_store import prepare
+        from zanteyard.stores.sqlite import prepare
 
         with tempfile.TemporaryDirectory() as folder, Auditor(2) as auditor:
             prepare(f"{folder}/store")
@@ -400,7 +401,7 @@ os.kill(os.getpid(), signal.SIGKILL)
         session, idle = (client.session(MemoryStore().connect()) for _ in range(2))
         session.run(add_one("x"))
         notes = session.notes
-        with mock.patch("zanteyard.socket_process.ENDING", 0.1):
+        with mock.patch("zanteyard.remote._socket_process.ENDING", 0.1):
             server._processes[0].messages._hang_up()
             self.wait_for(lambda: client.is_over and not os.listdir(server.notes))
             self.wait_for(lambda: not any(os.fstat(half.file).st_blocks for half in idle.notes.halves))

@@ -7,9 +7,9 @@ import sys
 import tempfile
 import unittest
 
-from zanteyard.auditor import PROGRAM
-from zanteyard.programs import BUILT
-from zanteyard.version import VERSION
+from zanteyard.program._auditor import PROGRAM
+from zanteyard.program._binaries import BUILT
+from zanteyard.core._version import VERSION
 
 TOP = os.path.normpath(os.path.join(os.path.dirname(os.path.abspath(__file__)), "../../.."))
 LOST = '["open",2,8]\n["offer",0,0,[[[[5,"init"]],[5]]]]\n["offer",1,0,[[[[5,"init"]],[5]]]]\n'
@@ -123,7 +123,7 @@ class Package(unittest.TestCase):
         self.assertEqual(ended.stdout, self.zanteyard("--version").stdout)
 
     def test_an_auditor_that_was_changed_says_so(self):
-        words = "import zanteyard.programs as p; print(p.PACKED)"
+        words = "import zanteyard.program._binaries as p; print(p.PACKED)"
         packed = self.run_it(f"{self.folder}/venv/bin/python", "-c", words).stdout.strip()
         with open(f"{packed}/cobra_audit", "ab") as file:
             file.write(b"\0")

@@ -9,10 +9,10 @@ import unittest
 import zlib
 
 from zanteyard import Logged
-from zanteyard.shrinking import name
-from zanteyard.charts import RoundSeen
-from zanteyard.page import page_of
-from zanteyard.stories import Story, story_of
+from zanteyard.explain._shrinking import name
+from zanteyard.explain._charts import RoundSeen
+from zanteyard.explain._html import page_of
+from zanteyard.explain._report import Story, story_of
 
 BROWSER = shutil.which("chromium") or shutil.which("chromium-browser")
 STATEMENT = "SELECT value FROM t WHERE key = '<x>' & 1"

@@ -6,14 +6,14 @@ from contextlib import suppress
 from dataclasses import fields
 
 from zanteyard import Aborted, Auditor, LiveAuditor
-from zanteyard.auditor import PROGRAM
-from zanteyard.backlog import Backlog
-from zanteyard.edges import coverage_from_now
-from zanteyard.memory_store import MemoryStore
-from zanteyard.places import Places
-from zanteyard.remote_group import RemoteGroup
-from zanteyard.sessions import Place
-from zanteyard.version import FORM
+from zanteyard.program._auditor import PROGRAM
+from zanteyard.live._backlog import Backlog
+from zanteyard.live._audit_start import coverage_from_now
+from zanteyard.stores.memory import MemoryStore
+from zanteyard.live._session_pool import Places
+from zanteyard.remote._remote_sessions import RemoteGroup
+from zanteyard.session._session import Place
+from zanteyard.core._version import FORM
 
 from .test_live import add_one
 

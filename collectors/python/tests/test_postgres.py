@@ -8,15 +8,15 @@ import unittest
 from unittest import mock
 
 from zanteyard import FENCE, Aborted, Auditor, NameTaken, OutcomeUnknown, Session, smaller, words
-from zanteyard.auditor import PROGRAM
-from zanteyard.cluster import Cluster, program
+from zanteyard.program._auditor import PROGRAM
+from zanteyard.trial.postgres_server import Cluster, program
 
 from .waiting import wait_until
 
 try:
     import psycopg2
 
-    from zanteyard.postgres_store import PostgresStore, asked, prepare
+    from zanteyard.stores.postgres import PostgresStore, asked, prepare
 except ImportError:
     psycopg2 = None
 

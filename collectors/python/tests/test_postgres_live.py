@@ -6,8 +6,8 @@ import sys
 import tempfile
 import unittest
 
-from zanteyard.auditor import PROGRAM
-from zanteyard.cluster import Cluster, program
+from zanteyard.program._auditor import PROGRAM
+from zanteyard.trial.postgres_server import Cluster, program
 
 try:
     import psycopg2

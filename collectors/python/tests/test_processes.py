@@ -7,8 +7,8 @@ import tempfile
 import time
 
 from zanteyard import AuditClient, AuditServer, Ended
-from zanteyard.memory_store import MemoryStore
-from zanteyard.remote_group import RemoteGroup
+from zanteyard.stores.memory import MemoryStore
+from zanteyard.remote._remote_sessions import RemoteGroup
 
 from . import test_live
 from .test_live import add_one
@@ -241,7 +241,7 @@ class Elsewhere(TwoProcesses, test_live.Meetings):
     def test_another_program_is_let_in(self):
         live = self.live(1)
         program = (
-            "import sys; sys.path.insert(0, sys.argv[1]); from zanteyard import AuditClient; from zanteyard.memory_store import MemoryStore\n"
+            "import sys; sys.path.insert(0, sys.argv[1]); from zanteyard import AuditClient; from zanteyard.stores.memory import MemoryStore\n"
             "with AuditClient(sys.argv[2]) as client:\n"
             "    session = client.session(MemoryStore().connect())\n"
             "    for _ in range(50): session.run(lambda t: t.put('x', (t.get('x') or 0) + 1))\n"

@@ -4,7 +4,7 @@ import re
 import subprocess
 import unittest
 
-from zanteyard.auditor import PROGRAM
+from zanteyard.program._auditor import PROGRAM
 
 TOP = os.path.normpath(os.path.join(os.path.dirname(os.path.abspath(__file__)), "../../.."))
 

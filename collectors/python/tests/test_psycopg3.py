@@ -12,15 +12,15 @@ import warnings
 from typing import Any
 
 from zanteyard import RATHER_WAIT, Auditor
-from zanteyard.errors import StoreUnfitError
+from zanteyard.core.errors import StoreUnfitError
 
 try:
     import psycopg
     from psycopg import pq, rows, sql
     from psycopg.types.json import Jsonb
 
-    from zanteyard.psycopg3_sql import AuditedConnection, AuditedCursor, NotAuditedError, audited
-    from zanteyard.sql_connection import leave_dropped
+    from zanteyard.sql.psycopg3 import AuditedConnection, AuditedCursor, NotAuditedError, audited
+    from zanteyard.sql._connection import leave_dropped
 except ImportError:
     psycopg = None  # type: ignore[assignment]
 try:

@@ -16,7 +16,7 @@ from zanteyard import RATHER_WAIT, Auditor, AuditorApart, LiveAuditor
 try:
     import psycopg
 
-    from zanteyard.psycopg3_sql import audited
+    from zanteyard.sql.psycopg3 import audited
 except ImportError:
     psycopg = None  # type: ignore[assignment]
 
@@ -119,7 +119,7 @@ class Faults(OverPsycopg3):
         self.assertEqual(self.auditor.outcome().kind, "serial")
 
     def test_a_failure_before_a_blocks_commit_rolls_it_back(self) -> None:
-        from zanteyard import sql_commit
+        from zanteyard.sql import _commit as sql_commit
 
         look_up, commit = sql_commit.Commit.look_up, sql_commit.Commit
 

@@ -17,7 +17,7 @@ try:
     import psycopg
     from psycopg import rows
 
-    from zanteyard.psycopg3_sql import audited
+    from zanteyard.sql.psycopg3 import audited
 except ImportError:
     psycopg = None  # type: ignore[assignment]
 

@@ -9,26 +9,27 @@ import unittest
 from typing import Any, List
 from unittest import mock
 
-from zanteyard import RATHER_WAIT, Auditor, repeats
-from zanteyard.repeats import FEW, MOST, OTHERS, Repeats, Unaudited
+from zanteyard import RATHER_WAIT, Auditor
+from zanteyard.core import _log_dedup as log_dedup
+from zanteyard.core._log_dedup import FEW, MOST, OTHERS, Repeats, Unaudited
 
 try:
     import psycopg2
     from psycopg2 import extensions
 
-    from zanteyard.postgres_sql import NotAuditedError
+    from zanteyard.sql.psycopg2 import NotAuditedError
 except ImportError:
     psycopg2 = None  # type: ignore[assignment]
 try:
     import psycopg
 
-    from zanteyard.psycopg3_sql import audited as audited3
+    from zanteyard.sql.psycopg3 import audited as audited3
 except ImportError:
     psycopg = None  # type: ignore[assignment]
 try:
     import sqlalchemy
 
-    from zanteyard.sqlalchemy import audit
+    from zanteyard.sql.sqlalchemy import audit
 except ImportError:
     sqlalchemy = None
 
@@ -44,7 +45,7 @@ class Counts(unittest.TestCase):
         """What the log has of one connection whose statements weren't audited for these reasons."""
         known = set() if known is None else known
         with self.assertLogs("zanteyard", "ERROR") as log:
-            repeats.logger.error("first")  # as there may be nothing else
+            log_dedup.logger.error("first")  # as there may be nothing else
             for number, why in enumerate(whys):
                 its.tell(known, "session 3", Unaudited("refused", why, f"S{number}"))
         return [record.getMessage() for record in log.records[1:]]
@@ -82,7 +83,7 @@ class Counts(unittest.TestCase):
     def test_it_is_told_again_after_an_hour(self) -> None:
         its, known = Repeats(), set()  # type: ignore[var-annotated]
         self.assertEqual(len(self.told(its, "why", "why", known=known)), 1)
-        with mock.patch.object(repeats, "AGAIN", 0.0):
+        with mock.patch.object(log_dedup, "AGAIN", 0.0):
             self.assertIn("3 times by now", *self.told(its, "why", known=known))
         self.assertEqual(self.told(its, "why", known=known), [])
 

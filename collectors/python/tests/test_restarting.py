@@ -9,11 +9,11 @@ import time
 import unittest
 
 from zanteyard import RATHER_WAIT, Auditor, Ended, LiveAuditor, Logged, NoCut, Session
-from zanteyard.errors import JournalDamagedError, JournalError, JournalInUseError
-from zanteyard.errors import JournalVersionError, RoundTooLongError
-from zanteyard import journal_keeping
-from zanteyard.journal import Journal
-from zanteyard.memory_store import FAULTS, MemoryStore
+from zanteyard.core.errors import JournalDamagedError, JournalError, JournalInUseError
+from zanteyard.core.errors import JournalVersionError, RoundTooLongError
+from zanteyard.journal import _writer as journal_writer
+from zanteyard.journal._file import Journal
+from zanteyard.stores.memory import FAULTS, MemoryStore
 
 from . import test_documents, test_interrupts
 from .killing import BEFORE, BETWEEN, LATER, MOMENTS, PLAIN, STOPPED, Killer, Log
@@ -162,10 +162,10 @@ class Killed(WithJournal):
 
     def test_written_anew(self):
         """While lines are on their way, some of them answered, and whoever is killed then."""
-        self.addCleanup(setattr, journal_keeping, "GROWS", journal_keeping.GROWS)
+        self.addCleanup(setattr, journal_writer, "GROWS", journal_writer.GROWS)
         self.addCleanup(setattr, os, "read", read := os.read)
         os.read = lambda file, most: read(file, min(most, 100))
-        journal_keeping.GROWS = 150
+        journal_writer.GROWS = 150
         dice = random.Random(9)
 
         def plan(_):

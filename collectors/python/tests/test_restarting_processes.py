@@ -6,9 +6,9 @@ import time
 import unittest
 
 from zanteyard import AuditorApart, LiveAuditor, Logged
-from zanteyard.coverage import Coverage
-from zanteyard.errors import JournalInUseError
-from zanteyard.memory_store import MemoryStore
+from zanteyard.core._window import Coverage
+from zanteyard.core.errors import JournalInUseError
+from zanteyard.stores.memory import MemoryStore
 
 from .test_restarting import PROGRAM, WithJournal, log_with
 

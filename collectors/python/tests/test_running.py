@@ -14,14 +14,14 @@ import unittest.mock
 
 from zanteyard import FENCE, Auditor, AuditorApart, Ended, Full, LiveAuditor, Logged, NoCut
 from zanteyard import NoMemory, Policy, Refused
-from zanteyard.auditor import PROGRAM
-from zanteyard.check_report import by_turns
-from zanteyard.errors import NotAnchoredError
-from zanteyard.live_lines import Line, pieces_of
-from zanteyard.memory_store import MemoryStore
-from zanteyard.programs import found_live
-from zanteyard.running import RunningAuditor
-from zanteyard.taking import never_came
+from zanteyard.program._auditor import PROGRAM
+from zanteyard.program._check_report import by_turns
+from zanteyard.core.errors import NotAnchoredError
+from zanteyard.program._live_lines import Line, pieces_of
+from zanteyard.stores.memory import MemoryStore
+from zanteyard.program._binaries import found_live
+from zanteyard.program._running import RunningAuditor
+from zanteyard.program._intake import never_came
 
 from .built import path_of
 from .made_up_programs import made_up
@@ -391,7 +391,7 @@ class WhatBecomesOfIt(WithMadeUp):
         auditor = self.auditor(waits=os.path.join(self.folder, "never"))
         auditor.offer_all([(0, 0, [WRITES])])
         process = auditor.live.process
-        with unittest.mock.patch("zanteyard.running.SECONDS", 0.3):
+        with unittest.mock.patch("zanteyard.program._running.SECONDS", 0.3):
             for _ in range(2):
                 with self.assertRaisesRegex(Ended, "cobra_live hasn't answered in time"):
                     auditor.last_round()
@@ -459,7 +459,7 @@ class WhatBecomesOfIt(WithMadeUp):
         auditor.offer_all([(0, 0, [WRITES])])
         auditor.last_round()  # until then it may not have begun
         process = auditor.live.process
-        with unittest.mock.patch("zanteyard.live_lines.ENDING", 0.3):
+        with unittest.mock.patch("zanteyard.program._live_lines.ENDING", 0.3):
             self.assertEqual(auditor.end(), -9)
         self.assertEqual(process.returncode, -9)
 
@@ -521,8 +521,8 @@ class Apart(WithMadeUp):
         """A cobra_live that is there, unless a journal is kept, or another program is asked for."""
         live, journal = made_up(self.folder, "live"), os.path.join(self.folder, "journal")
         audit = made_up(self.folder, "audit")
-        with unittest.mock.patch("zanteyard.apart.found_live", return_value=live):
-            with unittest.mock.patch("zanteyard.apart.PROGRAM", audit):
+        with unittest.mock.patch("zanteyard.program._subprocess.found_live", return_value=live):
+            with unittest.mock.patch("zanteyard.program._subprocess.PROGRAM", audit):
                 for more, wanted in (({}, live), ({"running": ""}, ""), ({"journal": journal}, "")):
                     with self.subTest(more=more), AuditorApart(2, 64, audit, **more) as auditor:
                         self.assertEqual(auditor.running, wanted)

@@ -9,11 +9,12 @@ import tempfile
 import unittest
 from contextlib import redirect_stderr, redirect_stdout
 
-from zanteyard.auditor import FENCE, PROGRAM
-from zanteyard.command_line import STATUSES, main
-from zanteyard.errors import ScriptMistakeError
-from zanteyard.scripts import ScriptRun
-from zanteyard.shrinking import from_start, is_violated
+from zanteyard.core._own_keys import FENCE
+from zanteyard.program._auditor import PROGRAM
+from zanteyard.cli._main import STATUSES, main
+from zanteyard.core.errors import ScriptMistakeError
+from zanteyard.explain._scripts import ScriptRun
+from zanteyard.explain._shrinking import from_start, is_violated
 
 from .plain_auditor import Plain  # with which what is in bench is found
 from fuzz_lines import Scripts as Generator  # noqa: E402

@@ -14,11 +14,11 @@ import urllib.request
 from unittest import mock
 
 from zanteyard import AuditClient
-from zanteyard.auditor import PROGRAM
-from zanteyard.errors import OtherVersionError
-from zanteyard.memory_store import MemoryStore
-from zanteyard.metrics import MetricsServer
-from zanteyard.version import VERSION
+from zanteyard.program._auditor import PROGRAM
+from zanteyard.core.errors import OtherVersionError
+from zanteyard.stores.memory import MemoryStore
+from zanteyard.cli._metrics import MetricsServer
+from zanteyard.core._version import VERSION
 
 from .machines import SOON, knows_save
 from .test_live import add_one
@@ -109,7 +109,7 @@ class Serving(unittest.TestCase):
     def test_who_asks_for_figures_and_is_slow_is_hung_up_on(self):
         for address in ("127.0.0.1:0", "[::1]:0"):
             try:
-                with mock.patch("zanteyard.metrics.SLOWEST", 0.2):
+                with mock.patch("zanteyard.cli._metrics.SLOWEST", 0.2):
                     server = MetricsServer(address, lambda: "figures\n")
             except OSError:
                 self.assertEqual(address, "[::1]:0")  # which a machine may not have
@@ -128,7 +128,7 @@ class Serving(unittest.TestCase):
 
     def test_a_client_of_another_version_is_told(self):
         daemon = self.begun()
-        with mock.patch("zanteyard.client_doors.FORM", 0), mock.patch("zanteyard.client_doors.VERSION", "9"):
+        with mock.patch("zanteyard.remote._connecting.FORM", 0), mock.patch("zanteyard.remote._connecting.VERSION", "9"):
             with self.assertRaisesRegex(OtherVersionError, f"of zanteyard {VERSION}, and this one of 9"):
                 AuditClient(self.socket)
         self.ended(daemon, 4)
@@ -172,7 +172,7 @@ class Serving(unittest.TestCase):
         failing = f"{self.folder}/failing"
         os.makedirs(failing)
         with open(f"{failing}/sitecustomize.py", "w", encoding="utf-8") as file:
-            file.write("import zanteyard.serving as it\ndef fail(*_): raise MemoryError\nit.tell_violation = fail\n")
+            file.write("import zanteyard.cli._serve as it\ndef fail(*_): raise MemoryError\nit.tell_violation = fail\n")
         with mock.patch.dict(os.environ, {"FAILING": failing}):
             self.test_a_violation_ends_it(is_explained=False)
 

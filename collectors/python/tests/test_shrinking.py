@@ -6,11 +6,12 @@ import sys
 import time
 import unittest
 
-from zanteyard import Aborted, Logged, Session, audited, dot_text, shrinking, smaller, tell_violation
-from zanteyard.auditor import PROGRAM
-from zanteyard.explain import explain_history
-from zanteyard.memory_store import MemoryStore
-from zanteyard.shrinking import Part, named, refuted, statements_of
+from zanteyard import Aborted, Logged, Session, audited, dot_text, smaller, tell_violation
+from zanteyard.explain import _shrinking as shrinking
+from zanteyard.program._auditor import PROGRAM
+from zanteyard.explain._reasons import explain_history
+from zanteyard.stores.memory import MemoryStore
+from zanteyard.explain._shrinking import Part, named, refuted, statements_of
 
 from .test_examples import EXAMPLES
 

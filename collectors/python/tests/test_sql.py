@@ -9,15 +9,15 @@ from concurrent.futures import ThreadPoolExecutor
 from typing import Any, List
 
 from zanteyard import RATHER_WAIT, Auditor
-from zanteyard.auditor import PROGRAM
-from zanteyard.cluster import Cluster, program
-from zanteyard.errors import StoreUnfitError
+from zanteyard.program._auditor import PROGRAM
+from zanteyard.trial.postgres_server import Cluster, program
+from zanteyard.core.errors import StoreUnfitError
 
 try:
     import psycopg2
     from psycopg2 import extensions, extras, sql
 
-    from zanteyard.postgres_sql import NotAuditedError, audited, connect, prepare
+    from zanteyard.sql.psycopg2 import NotAuditedError, audited, connect, prepare
 except ImportError:  # psycopg2 or pglast
     psycopg2 = None  # type: ignore[assignment]
 

@@ -8,13 +8,13 @@ import unittest
 from typing import Any
 
 from zanteyard import RATHER_WAIT, Auditor
-from zanteyard.errors import StoreUnfitError
+from zanteyard.core.errors import StoreUnfitError
 
 try:
     import psycopg2
     from psycopg2 import errors, extensions, pool
 
-    from zanteyard.postgres_sql import audited, prepare
+    from zanteyard.sql.psycopg2 import audited, prepare
 except ImportError:
     psycopg2 = None  # type: ignore[assignment]
 

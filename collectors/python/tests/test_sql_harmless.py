@@ -18,8 +18,8 @@ try:
     import psycopg2
     from psycopg2 import extensions
 
-    from zanteyard.postgres_sql import NotAuditedError, audited
-    from zanteyard.sql_notes import Notes
+    from zanteyard.sql.psycopg2 import NotAuditedError, audited
+    from zanteyard.sql._notes import Notes
 except ImportError:
     psycopg2 = None  # type: ignore[assignment]
 
@@ -273,7 +273,7 @@ class Commits(Harmless):
         came = time.monotonic()
         client.audit.wait = 0.5
         late = lambda *_, **__: time.sleep(20.0)
-        with mock.patch("zanteyard.postgres_connection.psycopg2.connect", late):
+        with mock.patch("zanteyard.stores._postgres_connection.psycopg2.connect", late):
             client.commit()
         self.assertLess(time.monotonic() - came, 10.0)
         self.assertEqual(self.value(self.place), 11)
@@ -412,7 +412,7 @@ class Odd(Harmless):
         """For who claims the run's name; the application's own is there."""
         with Auditor(1, policy=RATHER_WAIT, run_name="mine") as self.auditor:
             full = psycopg2.OperationalError("too many clients")
-            with mock.patch("zanteyard.postgres_store.connected", side_effect=full):
+            with mock.patch("zanteyard.stores.postgres.connected", side_effect=full):
                 client = self.client()
                 self.do(client, "UPDATE t SET v = 5 WHERE id = 1")
                 client.commit()

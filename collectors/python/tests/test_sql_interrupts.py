@@ -13,13 +13,13 @@ from zanteyard import AuditorApart, LiveAuditor, Policy
 try:
     import psycopg2
 
-    from zanteyard.postgres_sql import audited
+    from zanteyard.sql.psycopg2 import audited
 except ImportError:
     psycopg2 = None  # type: ignore[assignment]
 try:
     import psycopg
 
-    from zanteyard.psycopg3_sql import audited as audited3
+    from zanteyard.sql.psycopg3 import audited as audited3
 except ImportError:
     psycopg = None  # type: ignore[assignment]
 

@@ -14,7 +14,7 @@ import unittest
 from typing import Any, Dict, Iterable, List, Sequence, Set, Tuple
 
 from zanteyard import AuditorApart, AuditServer, LiveAuditor, Policy
-from zanteyard.own_folder import OwnFolder
+from zanteyard.trial._throwaway_folder import OwnFolder
 
 try:
     import psycopg2

@@ -237,8 +237,8 @@ class Logs(OverAServer):
         self.assertEqual(self.auditor.outcome().kind, "violated")
 
     def test_a_log_that_was_made_before_is_brought_up_to_date(self) -> None:
-        from zanteyard.errors import StoreUnfitError
-        from zanteyard.postgres_sql import connect, prepare
+        from zanteyard.core.errors import StoreUnfitError
+        from zanteyard.sql.psycopg2 import connect, prepare
 
         place = self.database(SCHEMA, ["t"])
         self.run_sql(place, "ALTER TABLE zanteyard_writes DROP version")

@@ -9,11 +9,12 @@ from typing import Any
 from unittest import mock
 
 try:
-    from zanteyard import sql_shapes, sql_statements
+    from zanteyard.sql import _shapes as sql_shapes
+    from zanteyard.sql import _statements as sql_statements
 except ImportError:  # pglast isn't installed
     sql_statements = None  # type: ignore[assignment]
-from zanteyard.errors import StatementRefusedError
-from zanteyard.sql_tables import FUNCTIONS, Table, Tables, unfit
+from zanteyard.core.errors import StatementRefusedError
+from zanteyard.sql._tables import FUNCTIONS, Table, Tables, unfit
 
 A = Table(1, "accounts", "public", "accounts", True, ("id", "owner", "balance", "tags"),
           (("id", "int"),))

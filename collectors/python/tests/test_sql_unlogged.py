@@ -12,17 +12,17 @@ from unittest import mock
 try:
     import psycopg2
 
-    from zanteyard import sql_commit
-    from zanteyard.errors import AuditLostError
-    from zanteyard.sql_notes import Notes
-    from zanteyard.sql_psycopg2 import AuditedConnection
-    from zanteyard.sql_unlogged import LOST, MOST, Unlogged
+    from zanteyard.sql import _commit as sql_commit
+    from zanteyard.core.errors import AuditLostError
+    from zanteyard.sql._notes import Notes
+    from zanteyard.sql._psycopg2_connection import AuditedConnection
+    from zanteyard.sql._unlogged import LOST, MOST, Unlogged
 except ImportError:
     psycopg2 = None  # type: ignore[assignment]
 try:
     import psycopg
 
-    from zanteyard.psycopg3_sql import audited as audited3
+    from zanteyard.sql.psycopg3 import audited as audited3
 except ImportError:
     psycopg = None  # type: ignore[assignment]
 
@@ -133,7 +133,7 @@ class Told(OverConnections):
             raise psycopg2.OperationalError("server closed the connection unexpectedly")
 
         lost = mock.patch.object(AuditedConnection, "send_commit", lose_the_answer)
-        nobody = mock.patch("zanteyard.sql_store.outcome_told", return_value="unknown")
+        nobody = mock.patch("zanteyard.sql._store.outcome_told", return_value="unknown")
         self.one.session.patience = 0.2
         with lost, nobody, self.unlogged(self.one), self.assertRaises(psycopg2.OperationalError):
             self.one.commit()
@@ -198,7 +198,7 @@ class Ends(OverConnections):
         self.end_beside(self.one)
         self.end(self.one.info.backend_pid)
         gone = psycopg2.OperationalError("the server is gone")
-        with mock.patch("zanteyard.postgres_store.connected", side_effect=gone):
+        with mock.patch("zanteyard.stores.postgres.connected", side_effect=gone):
             with self.assertRaises(psycopg2.OperationalError):
                 self.one.commit()
         self.assertTrue(self.one.closed)

@@ -6,7 +6,7 @@ import threading
 import unittest
 from typing import Any, List
 
-from zanteyard.sql_versions import CutError, Entry, History, Snapshot, UnclearError
+from zanteyard.sql._versions import CutError, Entry, History, Snapshot, UnclearError
 
 try:
     import psycopg2

@@ -13,12 +13,12 @@ from typing import Any, Callable, Dict, List, Tuple
 
 from zanteyard import RATHER_WAIT, AuditClient, Auditor, AuditorApart, AuditServer, LiveAuditor
 from zanteyard import Policy
-from zanteyard.own_folder import OwnFolder
+from zanteyard.trial._throwaway_folder import OwnFolder
 
 try:
     import psycopg2
 
-    from zanteyard.postgres_sql import audited
+    from zanteyard.sql.psycopg2 import audited
 except ImportError:
     psycopg2 = None  # type: ignore[assignment]
 

@@ -12,14 +12,14 @@ import unittest
 from typing import Any, List
 
 from zanteyard import RATHER_WAIT, AuditClient, Auditor, AuditorApart, AuditServer, LiveAuditor
-from zanteyard.errors import StoreUnfitError
-from zanteyard.own_folder import OwnFolder
+from zanteyard.core.errors import StoreUnfitError
+from zanteyard.trial._throwaway_folder import OwnFolder
 
 try:
     import psycopg2
     from psycopg2 import extensions
 
-    from zanteyard.postgres_sql import NotAuditedError
+    from zanteyard.sql.psycopg2 import NotAuditedError
 except ImportError:
     psycopg2 = None  # type: ignore[assignment]
 try:
@@ -27,7 +27,7 @@ try:
     from sqlalchemy import exc, orm
     from sqlalchemy.pool import NullPool
 
-    from zanteyard.sqlalchemy import AuditedModel, audit, prepare, tables_of
+    from zanteyard.sql.sqlalchemy import AuditedModel, audit, prepare, tables_of
 
     IS_THERE = psycopg2 is not None
 except ImportError:

@@ -24,7 +24,7 @@ if IS_THERE:
     from sqlalchemy import exc, orm
 
     from tests.test_sqlalchemy import Base, Kid, Pair, Parent, Plain
-    from zanteyard.sqlalchemy import audit, prepare
+    from zanteyard.sql.sqlalchemy import audit, prepare
 
 SEED = int(os.environ.get("ZANTEYARD_SEED", "1"))
 ROUNDS = int(os.environ.get("ZANTEYARD_ROUNDS", "4"))

@@ -17,30 +17,31 @@ import time
 import unittest
 
 from zanteyard import Aborted, AuditorApart, Auditor, LiveAuditor, NameTaken, OutcomeUnknown, Session
-from zanteyard.at_once import CLIENTS, run_at_once
-from zanteyard.auditor import FENCE, PROGRAM
-from zanteyard.errors import StoreUnfitError
-from zanteyard.lockstep import run_lockstep, table_lines, table_of
-from zanteyard.mariadb_server import MariaDBServer, mariadbd
-from zanteyard.outcome import RATHER_WAIT
-from zanteyard.redis_server import RedisServer, redis_server
-from zanteyard.sqlite_store import JOURNALS, SQLiteStore
-from zanteyard.sqlite_store import prepare as prepare_sqlite
-from zanteyard.store_kinds import kind_named
-from zanteyard.workloads import Clients
+from zanteyard.trial.under_load import CLIENTS, run_at_once
+from zanteyard.core._own_keys import FENCE
+from zanteyard.program._auditor import PROGRAM
+from zanteyard.core.errors import StoreUnfitError
+from zanteyard.trial.lockstep import run_lockstep, table_lines, table_of
+from zanteyard.trial.mariadb_server import MariaDBServer, mariadbd
+from zanteyard.core._outcome import RATHER_WAIT
+from zanteyard.trial.redis_server import RedisServer, redis_server
+from zanteyard.stores.sqlite import JOURNALS, SQLiteStore
+from zanteyard.stores.sqlite import prepare as prepare_sqlite
+from zanteyard.trial.store_kinds import kind_named
+from zanteyard.trial.workloads import Clients
 
 from .test_faults import Application
 
 try:
     import pymysql
 
-    from zanteyard import mariadb_store
+    from zanteyard.stores import mariadb as mariadb_store
 except ImportError:
     pymysql = None
 try:
     import redis
 
-    from zanteyard import redis_store
+    from zanteyard.stores import redis as redis_store
 except ImportError:
     redis = None
 
@@ -1107,7 +1108,7 @@ class SQLite(Each, unittest.TestCase):
         """In the middle of a transaction that has written, and as its commit waits."""
         program = (
             "import sys, time; sys.path.insert(0, sys.argv[1])\n"
-            "from zanteyard.sqlite_store import SQLiteStore\n"
+            "from zanteyard.stores.sqlite import SQLiteStore\n"
             "store = SQLiteStore(sys.argv[2], 'immediate')\n"
             "store.begin(); store.write('x', '2', ('run', 1, 0)); store.write('y', '2' * 9000, ('run', 1, 0))\n"
             "store.connection.execute('PRAGMA cache_spill = 1')\n"

@@ -10,10 +10,10 @@ import unittest
 from unittest import mock
 
 from zanteyard import AuditClient, Auditor, LiveAuditor, Policy
-from zanteyard.errors import AuditTakenError, JournalError, OtherVersionError, ProgramEndedError, ProgramLateError
-from zanteyard.live_state import LiveState, StateFile
-from zanteyard.memory_store import MemoryStore
-from zanteyard.redis_server import redis_server
+from zanteyard.core.errors import AuditTakenError, JournalError, OtherVersionError, ProgramEndedError, ProgramLateError
+from zanteyard.remote._live_state import LiveState, StateFile
+from zanteyard.stores.memory import MemoryStore
+from zanteyard.trial.redis_server import redis_server
 
 from . import test_live
 from .machines import knows_save
@@ -24,11 +24,11 @@ from .waiting import SOON, wait_until
 try:
     import redis
 
-    from zanteyard.redis_server import RedisServer
-    from zanteyard.redis_wire import answers
-    from zanteyard.stream_ends import Appender, Gap, Reader
-    from zanteyard.stream_messages import ClientsEnd
-    from zanteyard.stream_server import StreamServer, identity
+    from zanteyard.trial.redis_server import RedisServer
+    from zanteyard.core._redis_wire import answers
+    from zanteyard.remote._stream_ends import Appender, Gap, Reader
+    from zanteyard.remote._stream_messages import ClientsEnd
+    from zanteyard.remote.streams import StreamServer, identity
 except ImportError:
     redis = None
 
@@ -107,7 +107,7 @@ class Behind(WithRedis, TwoProcesses, test_live.Meetings):
     def test_an_audit_has_one_auditor(self):
         self.live(1)
         self.server._held_at = time.monotonic() + SOON  # else it might say meanwhile that it has it for half a second
-        with Auditor(1) as auditor, mock.patch("zanteyard.stream_server.HELD", 0.5):
+        with Auditor(1) as auditor, mock.patch("zanteyard.remote.streams.HELD", 0.5):
             live = LiveAuditor(auditor)
             with self.assertRaisesRegex(AuditTakenError, "another auditor has it"):
                 StreamServer(live, self.redis.dsn, "bank")
@@ -182,7 +182,7 @@ class Behind(WithRedis, TwoProcesses, test_live.Meetings):
     @contextlib.contextmanager
     def nobody_answers(self, client):
         """Who asks for a session is told that soon."""
-        with mock.patch("zanteyard.audit_client.ANSWERING", 0.3), mock.patch.object(client, "policy", Policy(0.0)):
+        with mock.patch("zanteyard.remote._client.ANSWERING", 0.3), mock.patch.object(client, "policy", Policy(0.0)):
             with self.assertRaisesRegex(ProgramLateError, "hasn't answered"):
                 yield
 
@@ -216,7 +216,7 @@ class Behind(WithRedis, TwoProcesses, test_live.Meetings):
         live, store = self.live(1), MemoryStore()
         a = self.client.session(store.connect())
         (process,) = self.server._processes.values()
-        with mock.patch("zanteyard.stream_server.WRITES", 2.0), mock.patch.object(process, "_bury") as bury:
+        with mock.patch("zanteyard.remote.streams.WRITES", 2.0), mock.patch.object(process, "_bury") as bury:
             self.tells.config_set("maxmemory", "1mb")
             self.addCleanup(self.tells.config_set, "maxmemory", "0")
             process._silence = 7.0  # a sign of life comes every second
@@ -229,7 +229,7 @@ class Behind(WithRedis, TwoProcesses, test_live.Meetings):
 
     def test_a_client_of_another_version_is_told_and_is_none(self):
         live, began = self.live(1), threading.active_count()
-        with mock.patch("zanteyard.client_doors.FORM", 0), self.assertRaises(OtherVersionError):
+        with mock.patch("zanteyard.remote._connecting.FORM", 0), self.assertRaises(OtherVersionError):
             self.another()
         self.wait_for(lambda: threading.active_count() <= began + 1)  # the auditor's, until it is silent
         self.client.session(MemoryStore().connect()).run(add_one("x"))
@@ -238,14 +238,14 @@ class Behind(WithRedis, TwoProcesses, test_live.Meetings):
     def test_who_is_not_answered_is_no_client_any_more(self):
         self.live(1)
         began = threading.active_count()
-        with mock.patch("zanteyard.client_doors.ANSWERING", 0.2), self.assertRaises(ProgramEndedError):
+        with mock.patch("zanteyard.remote._connecting.ANSWERING", 0.2), self.assertRaises(ProgramEndedError):
             AuditClient(self.redis.dsn, "another")
         self.wait_for(lambda: threading.active_count() <= began)
         self.assertEqual([*self.tells.scan_iter("*another*")], [])
 
     def test_a_process_that_can_not_be_confirmed_is_heard(self):
         """As that of a client whose last attempt aborted, and which does nothing for long."""
-        with mock.patch.multiple("zanteyard.stream_messages", UNHEARD=3, BEAT=0.1):
+        with mock.patch.multiple("zanteyard.remote._stream_messages", UNHEARD=3, BEAT=0.1):
             live, store = self.live(1), MemoryStore()
             a = self.client.session(store.connect())
             a.run(add_one("x"))
@@ -424,7 +424,7 @@ class GoneOnWith(WithRedis, unittest.TestCase):
             with self.assertRaisesRegex(JournalError, "is older than what its audit came to"):
                 self.begun(Auditor.resumed(f"{older}/journal"))
             self.tells.delete(names.written)
-            with mock.patch("zanteyard.stream_server.FORM", 0), self.assertRaisesRegex(JournalError, "has clients of version"):
+            with mock.patch("zanteyard.remote.streams.FORM", 0), self.assertRaisesRegex(JournalError, "has clients of version"):
                 self.begun(Auditor.resumed(f"{self.copied(folder, 'newest')}/journal"))
             self.assertIsNone(self.tells.get(names.auditor))
 
@@ -432,7 +432,7 @@ class GoneOnWith(WithRedis, unittest.TestCase):
 class States(unittest.TestCase):
     def test_no_older_one_comes_back_behind_a_machine_that_went_down(self):
         """It would give a place to somebody else once more."""
-        with tempfile.TemporaryDirectory() as folder, mock.patch("zanteyard.live_state.flush_folder") as flush:
+        with tempfile.TemporaryDirectory() as folder, mock.patch("zanteyard.remote._live_state.flush_folder") as flush:
             file = StateFile(f"{folder}/journal")
             state = LiveState("bank", "run", False, "token", 1, 0)
             flush.side_effect = lambda path: self.assertEqual((path, file.read()), (folder, state))
@@ -471,7 +471,7 @@ class Ends(WithRedis, unittest.TestCase):
                 raise redis.ConnectionError("lost")
             return found
 
-        with mock.patch("zanteyard.stream_ends.answers", loses_answers):
+        with mock.patch("zanteyard.remote._stream_ends.answers", loses_answers):
             for count in range(10):
                 self.assertTrue(appender.flush(appender.put(count), SOON, insists=True))
         self.assertEqual((self.heard(reader, 10), len(lost)), ([*range(10)], 3))

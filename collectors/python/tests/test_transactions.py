@@ -3,8 +3,8 @@ import os
 import unittest
 
 from zanteyard import Auditor, Session
-from zanteyard.auditor import PROGRAM
-from zanteyard.memory_store import MemoryStore
+from zanteyard.program._auditor import PROGRAM
+from zanteyard.stores.memory import MemoryStore
 
 
 class Interrupted:

@@ -7,8 +7,8 @@ import sys
 import tempfile
 import unittest
 
-from zanteyard.auditor import PROGRAM
-from zanteyard.version import VERSION
+from zanteyard.program._auditor import PROGRAM
+from zanteyard.core._version import VERSION
 
 HERE = os.path.dirname(os.path.abspath(__file__))
 TOP = os.path.normpath(os.path.join(HERE, "../../.."))

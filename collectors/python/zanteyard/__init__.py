@@ -1,7 +1,7 @@
 """Audits a transactional store's clients for serializability, by the program cobra_audit.
 
     from zanteyard import Auditor, Session
-    from zanteyard.postgres_store import PostgresStore, prepare
+    from zanteyard.stores.postgres import PostgresStore, prepare
 
     prepare("dbname=bank")
     with Auditor(sessions=1) as auditor:
@@ -25,11 +25,12 @@ docs/COLLECTORS.md says what is logged, and why.
 """
 import logging as _logging
 
-from .apart import AuditorApart
-from .audit_client import AuditClient
-from .audit_server import AuditServer
-from .auditor import FENCE, Auditor, NoCut, NoMemory, Refused
-from .errors import (
+from .core._log_guard import guard as _guard
+from .core._outcome import RATHER_LOSE_THE_AUDIT, RATHER_WAIT, Outcome, Policy
+from .core._own_keys import FENCE
+from .core._records import Cut, Logged, Pending, Report, Store
+from .core._version import VERSION as __version__
+from .core.errors import (
     AbortedError,
     AuditLostError,
     FullError,
@@ -53,18 +54,18 @@ from .errors import (
     StoreUnfitError,
     ZanteyardError,
 )
-from .explain import Explanation, explain_history, reasons
-from .live import LiveAuditor, Lost
-from .log_guard import guard as _guard
-from .outcome import RATHER_LOSE_THE_AUDIT, RATHER_WAIT, Outcome, Policy
-from .picture import dot_text, draw
-from .pipes import Ended
-from .records import Cut, Logged, Pending, Report, Store
-from .sessions import Aborted, NameTaken, OutcomeUnknown, Session, Transaction
-from .shrinking import audited, from_start, smaller, words
-from .taking import Full
-from .telling import tell_violation
-from .version import VERSION as __version__
+from .explain._graphviz import dot_text, draw
+from .explain._reasons import Explanation, explain_history, reasons
+from .explain._shrinking import audited, from_start, smaller, words
+from .explain._violation_text import tell_violation
+from .live._live_auditor import LiveAuditor, Lost
+from .program._auditor import Auditor, NoCut, NoMemory, Refused
+from .program._intake import Full
+from .program._pipes import Ended
+from .program._subprocess import AuditorApart
+from .remote._client import AuditClient
+from .remote._server import AuditServer
+from .session._session import Aborted, NameTaken, OutcomeUnknown, Session, Transaction
 
 _guard(_logging.getLogger("zanteyard"))
 

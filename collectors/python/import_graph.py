@@ -1,0 +1,146 @@
+#!/usr/bin/env python3
+"""Draws which packages of `zanteyard` import which, and fails if they form a cycle.
+
+    ./import_graph.py [--dot] [FOLDER]
+
+It prints a line for each package, lower ones first; `--dot` prints Graphviz text instead, with the
+number of imports on each arc. All import statements count, those in functions included. The status
+is 1 if packages form a cycle: then the imports on it are printed.
+"""
+
+from __future__ import annotations
+
+import argparse
+import ast
+import os
+import sys
+from collections import defaultdict
+from graphlib import CycleError, TopologicalSorter
+from typing import Dict, Iterator, List, NamedTuple, Optional, Sequence
+
+HERE = os.path.dirname(os.path.abspath(__file__))
+TOP = "(top)"  # the modules that are in no package
+
+
+class Import(NamedTuple):
+    """One import statement of a module of `package`, from another package."""
+
+    package: str
+    imported: str
+    place: str  # file and line
+
+
+class Graph(NamedTuple):
+    modules: Dict[str, int]  # how many each package has
+    imports: List[Import]
+
+    def below(self) -> Dict[str, List[str]]:
+        """What each package imports, sorted."""
+        found: Dict[str, List[str]] = {package: [] for package in self.modules}
+        for each in sorted({(it.package, it.imported) for it in self.imports}):
+            found[each[0]].append(each[1])
+        return found
+
+    def in_order(self) -> List[str]:
+        """All packages, each after those that it imports; raises CycleError."""
+        sorter = TopologicalSorter(self.below())
+        sorter.prepare()
+        ordered: List[str] = []
+        while sorter.is_active():
+            ready = sorted(sorter.get_ready())
+            ordered.extend(ready)
+            sorter.done(*ready)
+        return ordered
+
+
+def graph_of(folder: str) -> Graph:
+    """Of the package in this folder."""
+    name = os.path.basename(os.path.abspath(folder))
+    modules: Dict[str, int] = defaultdict(int)
+    imports: List[Import] = []
+    paths = [os.path.join(at, it) for at, _, names in os.walk(folder) for it in names]
+    for path in sorted(it for it in paths if it.endswith(".py")):
+        parts = os.path.relpath(path, folder)[: -len(".py")].split(os.sep)
+        package = package_of(parts)
+        modules[package] += parts[-1] != "__init__"
+        with open(path, encoding="utf-8") as file:
+            tree = ast.parse(file.read(), path)
+        for line, imported in imported_by(tree, [name, *parts[:-1]], folder):
+            if imported != package:
+                place = f"{os.path.relpath(path, folder)}:{line}"
+                imports.append(Import(package, imported, place))
+    return Graph(dict(modules), imports)
+
+
+def package_of(parts: Sequence[str]) -> str:
+    """Of a module's path, from below the whole package."""
+    return parts[0] if len(parts) > 1 else TOP
+
+
+def imported_by(tree: ast.AST, home: Sequence[str], folder: str) -> Iterator[tuple[int, str]]:
+    """The line and the package of each import from the same whole package, whose name is the first
+    of the packages that the module is in."""
+    for node in ast.walk(tree):
+        if isinstance(node, ast.Import):
+            for name in node.names:
+                yield from in_package(node.lineno, name.name.split("."), home[0], folder)
+        elif isinstance(node, ast.ImportFrom):
+            begin = list(home[: len(home) - node.level + 1]) if node.level else []
+            module = [*begin, *(node.module.split(".") if node.module else [])]
+            for name in node.names:
+                yield from in_package(node.lineno, [*module, name.name], home[0], folder)
+
+
+def in_package(
+    line: int, module: Sequence[str], whole: str, folder: str
+) -> Iterator[tuple[int, str]]:
+    if module[0] == whole:
+        is_package = len(module) > 1 and os.path.isdir(os.path.join(folder, module[1]))
+        yield line, module[1] if is_package else TOP
+
+
+def told_cycle(graph: Graph, cycle: Sequence[str]) -> Iterator[str]:
+    """The packages of a cycle, each before one that imports it, and where they do."""
+    yield f"packages form a cycle: {' <- '.join(cycle)}"
+    for imported, package in zip(cycle, cycle[1:]):
+        for each in graph.imports:
+            if (each.package, each.imported) == (package, imported):
+                yield f"  {each.place} imports {imported}"
+
+
+def as_lines(graph: Graph) -> Iterator[str]:
+    below = graph.below()
+    for package in graph.in_order():
+        stands_on = ", ".join(below[package]) or "nothing"
+        yield f"{package} ({graph.modules[package]} modules) imports {stands_on}"
+
+
+def as_dot(graph: Graph) -> Iterator[str]:
+    counts: Dict[tuple[str, str], int] = defaultdict(int)
+    for each in graph.imports:
+        counts[each.package, each.imported] += 1
+    yield "digraph packages {"
+    for package, modules in sorted(graph.modules.items()):
+        yield f'  "{package}" [label="{package}\\n{modules} modules"];'
+    for (package, imported), count in sorted(counts.items()):
+        yield f'  "{package}" -> "{imported}" [label="{count}"];'
+    yield "}"
+
+
+def main(words: Optional[Sequence[str]] = None) -> int:
+    asked = argparse.ArgumentParser(description="Draws which packages import which.")
+    asked.add_argument("--dot", action="store_true", help="as Graphviz text")
+    asked.add_argument("folder", nargs="?", default=os.path.join(HERE, "zanteyard"))
+    arguments = asked.parse_args(words)
+    graph = graph_of(arguments.folder)
+    try:
+        graph.in_order()
+    except CycleError as error:
+        print("\n".join(told_cycle(graph, error.args[1])), file=sys.stderr)
+        return 1
+    print("\n".join((as_dot if arguments.dot else as_lines)(graph)))
+    return 0
+
+
+if __name__ == "__main__":
+    sys.exit(main())

@@ -1,0 +1,315 @@
+"""The command `zanteyard`. Its exit status is that of the last verdict: 0 serial, 1 violated,
+2 a mistake in the script or the call, 3 pending, 4 undecided."""
+
+from __future__ import annotations
+
+import argparse
+import contextlib
+import os
+import sys
+import traceback
+from typing import Any, Callable, Iterator, List, Mapping, Optional, Sequence
+
+from ..core._version import VERSION
+from ..core.errors import ImportRefusedError, ProgramEndedError, ScriptMistakeError, ZanteyardError
+from ..explain._html import page_of
+from ..explain._report import EXPLAINED, Story, story_lines, verdict_story, violation_story
+from ..explain._script_names import ScriptNames, read_names
+from ..explain._scripts import MORE, ScriptRun, Verdict
+from ..imports import _command as import_command
+from ..imports._times import time_line
+from ..program import _check_report as check_report
+from ..program._auditor import Auditor
+from ..program._binaries import checker_path, find_program, origin_of, program_path
+from ..trial import _demo as demo
+from ..trial.store_kinds import KINDS
+from . import audit as audit_command
+from . import _serve as serve_command
+
+MISTAKE, UNDECIDED = 2, 4
+STATUSES: Mapping[str, int] = {"serial": 0, "violated": 1, "pending": 3, "spent": UNDECIDED}
+STATUS_WORDS = (
+    "The exit status is that of the last verdict: 0 serial, 1 violated, "
+    "2 a mistake in the script or the call, 3 pending, 4 undecided."
+)
+
+
+def main(words: Optional[Sequence[str]] = None) -> int:
+    """Runs the command, and gives its exit status. Mistakes are told on standard error."""
+    try:
+        asked = parser().parse_args(words)
+        status: int = asked.run(asked)
+        sys.stdout.flush()
+        return status
+    except ProgramEndedError as error:
+        return _told(UNDECIDED, f"undecided: {error}")
+    except ImportRefusedError as error:
+        return _told(MISTAKE, f"refused: {error}")
+    except ZanteyardError as error:
+        return _told(MISTAKE, f"mistake: {error}")
+    except BrokenPipeError:
+        _let_go_of_output()
+        return _told(UNDECIDED, "undecided: nobody reads what it tells")
+    except OSError as error:
+        why = f"{error.filename}: {error.strerror}" if error.filename else str(error)
+        return _told(MISTAKE, f"mistake: {why}")
+    except KeyboardInterrupt:
+        return _told(UNDECIDED, "undecided: it was interrupted")
+    except Exception:  # Python's own status would be 1, which says violated
+        return _told(UNDECIDED, traceback.format_exc().rstrip())
+
+
+def _let_go_of_output() -> None:
+    """What is left of it would be written as Python ends, which would make another error of it."""
+    with contextlib.suppress(OSError), open(os.devnull, "w", encoding="utf-8") as nowhere:
+        os.dup2(nowhere.fileno(), sys.stdout.fileno())
+
+
+def _told(status: int, words: str) -> int:
+    """The status, also where standard error can't take the words: Python's own would be 1."""
+    with contextlib.suppress(OSError):
+        print(words, file=sys.stderr, flush=True)
+    return status
+
+
+class _Version(argparse.Action):
+    """Tells the version and which program would be started, and ends."""
+
+    def __call__(self, parser: argparse.ArgumentParser, *_: Any) -> None:
+        print(f"zanteyard {VERSION}")
+        print(f"auditor {origin_of(program_path()).sentence()}")
+        print(f"checker {origin_of(checker_path()).sentence()}", flush=True)
+        parser.exit()
+
+
+def parser() -> argparse.ArgumentParser:
+    """The command line."""
+    whole = argparse.ArgumentParser(
+        prog="zanteyard",
+        description="Checks whether a store's transactions were serializable, each session's "
+        "order kept.",
+        epilog=STATUS_WORDS,
+    )
+    whole.add_argument("--version", action=_Version, nargs=0, help="the version, and the auditor")
+    commands = whole.add_subparsers(metavar="COMMAND", required=True)
+
+    def command(name: str, run: Callable[[Any], int], about: str) -> argparse.ArgumentParser:
+        one = commands.add_parser(name, help=about, description=about, epilog=STATUS_WORDS)
+        one.set_defaults(run=run)
+        return one
+
+    check = command("check", _check, "tells each verdict of a script in words")
+    _add_script(check)
+    explain = command("explain", _explain, "tells why a script is violated, also on a page")
+    _add_script(explain)
+    explain.add_argument("--html", metavar="FILE", help="writes a page to look at")
+    shown = command("demo", _demo, "audits a store in memory that has a fault")
+    shown.add_argument(
+        "name",
+        nargs="?",
+        default="lost-update",
+        choices=demo.NAMES,
+        metavar="NAME",
+        help="one of " + ", ".join(demo.NAMES) + " (lost-update)",
+    )
+    shown.add_argument(
+        "--html", metavar="FILE", help="where the page is written (zanteyard-NAME.html)"
+    )
+    shown.add_argument("--no-html", action="store_true", help="writes no page")
+    checked = command(
+        "check-report", check_report.run, "checks stored replies without believing the auditor"
+    )
+    check_report.add_arguments(checked)
+    made = command("import", import_command.run, "makes a script of a history of another tool's")
+    import_command.add_arguments(made)
+    served = command("serve", serve_command.run, "audits as a daemon, for clients that come and go")
+    served.epilog = serve_command.STATUS_WORDS
+    serve_command.add_arguments(served)
+    journal = command("journal", _journal, "tells what a journal says that a killed process left")
+    journal.add_argument("journal", metavar="JOURNAL", help="its file (docs/JOURNAL.md)")
+    audit = command("audit", _audit, "audits clients of a store while they run")
+    stores = audit.add_subparsers(metavar="STORE", required=True)
+    for kind in KINDS:
+        about = f"audits clients of {kind.name} while they run"
+        one = stores.add_parser(kind.command, help=about, description=about, epilog=STATUS_WORDS)
+        audit_command.add_arguments(one, kind)
+    return whole
+
+
+def _add_script(command: argparse.ArgumentParser) -> None:
+    command.add_argument(
+        "script", metavar="SCRIPT", help="a file of lines as docs/FORMATS.md has them; - for input"
+    )
+    command.add_argument(
+        "--nodes",
+        type=_nodes,
+        default=MORE[1][0],
+        metavar="N",
+        help="the greatest budget that a round is given again with, in nodes of the search "
+        f"({MORE[1][0]}; at most {MORE[-1][0]})",
+    )
+    command.add_argument(
+        "--seconds",
+        type=float,
+        default=EXPLAINED,
+        metavar="S",
+        help=f"how long making a violated history small may take ({EXPLAINED:.0f})",
+    )
+
+
+def _nodes(text: str) -> int:
+    found = int(text)
+    if not 1 <= found <= MORE[-1][0]:
+        raise argparse.ArgumentTypeError(f"1 to {MORE[-1][0]}")
+    return found
+
+
+def _lines(path: str) -> Iterator[bytes]:
+    if path == "-":
+        if sys.stdin is None:  # so Python has it where it is closed
+            raise OSError("standard input is closed")
+        yield from sys.stdin.buffer
+    else:
+        with open(path, "rb") as file:
+            yield from file
+
+
+def _names(path: str) -> Optional[ScriptNames]:
+    """The names beside the script, where it has some."""
+    names, why_not = read_names(path) if path != "-" else (None, "")
+    if why_not:
+        print(f"({why_not})")
+    return names
+
+
+def _check(asked: Any) -> int:
+    is_told = False
+    with ScriptRun(find_program(), asked.nodes, _names(asked.script)) as run:
+        for verdict in run.verdicts(_lines(asked.script)):
+            print(_where(verdict), end=" ")
+            if verdict.kind == "violated" and is_told:
+                print("violated, still")
+                continue
+            _tell(_story(verdict, run, asked.seconds), run.history.names)
+            is_told = verdict.kind == "violated"
+        _tell_no_cuts(run)
+        _tell_resumed(run)
+    return _status(run)
+
+
+def _explain(asked: Any) -> int:
+    with ScriptRun(find_program(), asked.nodes, _names(asked.script)) as run:
+        for verdict in run.verdicts(_lines(asked.script)):
+            if verdict.kind == "violated":
+                break  # violated is final
+        assert run.verdict is not None
+        story = _story(run.verdict, run, asked.seconds)
+        print(_where(run.verdict), end=" ")
+        _tell(story, run.history.names)
+        _tell_resumed(run)
+    if asked.html:
+        about = os.path.basename(asked.script) if asked.script != "-" else "a script"
+        _write_page(story, about, asked.html)
+    return _status(run)
+
+
+def _demo(asked: Any) -> int:
+    program = find_program()
+    print(f"{asked.name}: {demo.about(asked.name)}.")
+    with Auditor(demo.SESSIONS, program=program) as auditor:
+        demo.run_demo(asked.name, auditor)
+        report = auditor.round()
+        if report.kind == "violated":
+            counts, certificate = report.counts, report.certificate
+            story = violation_story(auditor, program, counts, certificate=certificate)
+        else:
+            order = tuple(f"{session}.{number}" for session, number in report.certificate)
+            story = Story(report.kind, tuple(report.counts), order=order)
+    _tell(story)
+    if not asked.no_html:
+        _write_page(
+            story, f"a store in memory, {asked.name}", asked.html or f"zanteyard-{asked.name}.html"
+        )
+    return STATUSES[report.kind]
+
+
+def _audit(asked: Any) -> int:
+    ran = audit_command.run(asked)
+    for line in ran.lines():
+        print(line)
+    status = STATUSES.get(ran.outcome.whole.kind, UNDECIDED)
+    if asked.html:
+        try:
+            _write(ran.page(_origin()), asked.html)
+        except OSError as error:  # what came of the run has been told, and won't come again
+            _told(status, f"{asked.html} can't be written: {error.strerror}")
+    return status
+
+
+def _journal(asked: Any) -> int:
+    program = find_program()
+    with Auditor.resumed(asked.journal, program) as auditor:
+        count, sessions = sum(auditor.received), auditor.sessions
+        print(f"{auditor.run_name}: {count} transactions of {sessions} sessions were taken in")
+        report = auditor.last_round()
+        if report.kind == "violated":
+            its = (report.counts, EXPLAINED, report.certificate)
+            _tell(violation_story(auditor, program, *its))
+            return STATUSES["violated"]
+        outcome = auditor.outcome()
+        print(f"over these the last round is {report.kind}; {outcome}")
+        return STATUSES.get(outcome.kind, UNDECIDED)
+
+
+def _story(verdict: Verdict, run: ScriptRun, seconds: float) -> Story:
+    if verdict.kind == "violated":
+        its = (verdict.counts, seconds, verdict.certificate)
+        return violation_story(run.history, find_program(), *its)
+    return verdict_story(verdict, run.history)
+
+
+def _where(verdict: Verdict) -> str:
+    """Which round it is that says so."""
+    line = f"line {verdict.line_number}" if verdict.line_number else "at the end"
+    again = f", given {verdict.rounds} times, the last with {verdict.nodes:,} nodes"
+    return f"{line}{again if verdict.rounds > 1 else ''}:"
+
+
+def _tell(story: Story, names: Optional[ScriptNames] = None) -> None:
+    for line in story_lines(story):
+        print(line)
+    if names is not None and names.asks_time:
+        print(time_line(story, names))
+
+
+def _tell_no_cuts(run: ScriptRun) -> None:
+    if run.no_cut_lines:
+        lines: List[str] = [str(number) for number in run.no_cut_lines[:8]]
+        more = " and more" if len(run.no_cut_lines) > 8 else ""
+        print(f"(nothing was settled, so nothing forgotten, at line {', '.join(lines)}{more})")
+
+
+def _tell_resumed(run: ScriptRun) -> None:
+    if run.is_resumed:  # what had gone before isn't in the script
+        what = "a verdict is of every history that the parts stand for"
+        print(f"(the script resumes another: {what})")
+
+
+def _write_page(story: Story, about: str, path: str) -> None:
+    _write(page_of(story, about, _origin()), path)
+
+
+def _write(page: str, path: str) -> None:
+    with open(path, "w", encoding="utf-8") as file:
+        file.write(page)
+    print(f"(to look at: {path})")
+
+
+def _origin() -> str:
+    return origin_of(find_program()).sentence()
+
+
+def _status(run: ScriptRun) -> int:
+    if run.verdict is None:
+        raise ScriptMistakeError(0, "nothing")
+    return STATUSES[run.verdict.kind]

@@ -1,0 +1,127 @@
+"""Figures of a live audit in Prometheus's text format, at an address."""
+
+from __future__ import annotations
+
+import socket
+import threading
+import time
+from http.server import BaseHTTPRequestHandler, ThreadingHTTPServer
+from typing import Any, Callable, Iterator, List, Sequence, Tuple
+
+from ..core._version import VERSION
+from ..live._live_auditor import LiveAuditor
+
+TEXT = "text/plain; version=0.0.4; charset=utf-8"
+KINDS = ("serial", "pending", "violated", "spent")
+SLOWEST = 10.0  # seconds in which who asks has to send its lines, and to take the answer
+Labels = Tuple[Tuple[str, object], ...]
+Sample = Tuple[Labels, float]
+Family = Tuple[str, str, str, Sequence[Sample]]  # name, kind, what it is, samples
+
+
+def families(live: LiveAuditor, clients: int = 0, redis_up: Any = None) -> Iterator[Family]:
+    """`clients` are the processes of clients that are heard; `redis_up` tells whether the Redis can
+    be reached, None where there is none."""
+    outcome, figures, auditor = live.outcome, live._figures, live.auditor
+    whole = sum(one.audited for one in live.earlier)
+
+    def one(name: str, kind: str, about: str, value: float) -> Family:
+        return f"zanteyard_{name}", kind, about, [((), value)]
+
+    its = (("version", VERSION), ("audit", live.name))
+    yield "zanteyard_info", "gauge", "Which audit it is, and of which version.", [(its, 1)]
+    taken = whole + live.taken_in
+    yield one("transactions_taken_total", "counter", "Transactions taken in.", taken)
+    handed_in = live._backlog.counted
+    yield one("transactions_handed_in_total", "counter", "Transactions handed in.", handed_in)
+    waiting = len(live._backlog)
+    yield one("transactions_waiting", "gauge", "Transactions that wait to be taken in.", waiting)
+    remaining = auditor.remaining
+    yield one("transactions_remaining", "gauge", "Taken in, and not forgotten.", remaining)
+    limit = auditor.limit
+    yield one("transactions_remaining_limit", "gauge", "As many may remain.", limit)
+    awaited = [((("session", it),), count) for it, count in sorted((figures.awaited or {}).items())]
+    about = "Reads that waited, at the last round, for a transaction of this session."
+    yield "zanteyard_pending_reads", "gauge", about, awaited
+    rounds = [((("kind", kind),), figures.kinds.get(kind, 0)) for kind in KINDS]
+    yield "zanteyard_rounds_total", "counter", "Rounds, by what they told.", rounds
+    yield one("cuts_total", "counter", "Times that something was forgotten.", live.cuts)
+    now = time.monotonic()
+    about = "Seconds since something was forgotten, or since the beginning."
+    yield one("seconds_since_cut", "gauge", about, now - figures.cut_at)
+    about = "Seconds since the last round, or since the beginning."
+    yield one("seconds_since_round", "gauge", about, now - figures.told_at)
+    about = "Seconds that what the last round told of had waited, at most."
+    yield one("seconds_behind", "gauge", about, live.told_behind)
+    about = "Keys of which the last writer is forgotten, and kept as such."
+    yield one("last_writers", "gauge", about, len(auditor.base))
+    yield one("audits_total", "counter", "Audits that have begun.", len(live.earlier) + 1)
+    yield one("meetings_total", "counter", "Meetings that were called.", live.meetings)
+    about = "Clients more that may have a session by now."
+    yield one("sessions_left", "gauge", about, live._places.free)
+    yield one("clients", "gauge", "Processes of clients that are heard.", clients)
+    yield one("violated", "gauge", "1 where the audit is violated.", live.is_violated)
+    is_missing = live._audit.missing is not None
+    yield one("missing", "gauge", "1 where something may have been done unheard.", is_missing)
+    is_lost = outcome.whole.kind == "incomplete" or bool(live.earlier)
+    yield one("incomplete", "gauge", "1 where something wasn't audited.", is_lost)
+    restarts, about = getattr(getattr(auditor, "program", None), "restarts", 0), "Programs gone."
+    yield one("program_restarts_total", "counter", about, restarts)
+    if redis_up is not None:
+        yield one("redis_up", "gauge", "1 where the Redis can be reached.", bool(redis_up))
+
+
+def text_of(found: Iterator[Family]) -> str:
+    lines: List[str] = []
+    for name, kind, about, samples in found:
+        lines += [f"# HELP {name} {about}", f"# TYPE {name} {kind}"]
+        lines += [f"{name}{labels(its)} {float(value):g}" for its, value in samples]
+    return "\n".join(lines) + "\n"
+
+
+def labels(its: Labels) -> str:
+    if not its:
+        return ""
+    return "{" + ",".join(f'{label}="{escaped(str(value))}"' for label, value in its) + "}"
+
+
+def escaped(text: str) -> str:
+    return text.replace("\\", "\\\\").replace('"', '\\"').replace("\n", "\\n")
+
+
+class MetricsServer:
+    """Answers GET /metrics at HOST:PORT by what `tell` gives, until it is closed. Raises OSError
+    where nobody can listen there. Port 0 takes any; `port` is the one taken."""
+
+    def __init__(self, address: str, tell: Callable[[], str]) -> None:
+        host, _, port = address.rpartition(":")
+
+        class Handler(BaseHTTPRequestHandler):
+            timeout = SLOWEST
+
+            def do_GET(self) -> None:
+                is_there = self.path.split("?")[0] == "/metrics"
+                text = (tell() if is_there else "only /metrics is here\n").encode()
+                self.send_response(200 if is_there else 404)
+                self.send_header("Content-Type", TEXT)
+                self.send_header("Content-Length", str(len(text)))
+                self.end_headers()
+                self.wfile.write(text)
+
+            def log_message(self, *_: object) -> None:
+                """Who looks isn't logged."""
+
+        class Server(ThreadingHTTPServer):
+            address_family = socket.AF_INET6 if ":" in host else socket.AF_INET
+
+            def handle_error(self, *_: object) -> None:
+                """As by who hangs up in the middle: that isn't for the log to be filled with."""
+
+        self._server = Server((host.strip("[]") or "127.0.0.1", int(port)), Handler)
+        self._server.daemon_threads = True
+        self.port = self._server.server_address[1]
+        threading.Thread(target=self._server.serve_forever, daemon=True).start()
+
+    def close(self) -> None:
+        self._server.shutdown()
+        self._server.server_close()

@@ -1,0 +1,228 @@
+"""`zanteyard serve`: an audit that goes on as a daemon, for clients that come and go.
+
+docs/OPERATION.md says how it is run. Its exit status says what ended it: 0 it was stopped, and all
+was serial by then; 1 the audit is violated; 2 it can't begin, by a mistake in the call, the journal
+or the Redis; 3 it was stopped, and was pending; 4 something wasn't audited, or not decided, or the
+collector's own transactions alone have no order.
+"""
+
+from __future__ import annotations
+
+import argparse
+import contextlib
+import itertools
+import logging
+import os
+import signal
+import sys
+import threading
+from typing import Any, List, Optional
+
+from ..core._outcome import (
+    COLLECTOR,
+    INCOMPLETE,
+    PENDING,
+    RATHER_LOSE_THE_AUDIT,
+    RATHER_WAIT,
+    SERIAL,
+)
+from ..core._outcome import UNDECIDED, VIOLATED, Outcome
+from ..core.errors import ZanteyardError
+from ..explain._shrinking import from_start, refuted
+from ..explain._violation_text import tell_violation
+from ..journal._file import Journal
+from ..live._live_auditor import LiveAuditor
+from ..program._auditor import Auditor
+from ..program._binaries import find_program
+from ..remote._server import AuditServer
+from ._metrics import MetricsServer, families, text_of
+
+JOURNAL, SOCKET, VIOLATION = "audit.journal", "audit.socket", "violation"
+STATUSES = {SERIAL: 0, VIOLATED: 1, COLLECTOR: 4, PENDING: 3, UNDECIDED: 4, INCOMPLETE: 4}
+STATUS_WORDS = (
+    "The exit status says what ended it: 0 it was stopped, serial by then; 1 violated; 2 it can't "
+    "begin; 3 it was stopped, pending; 4 something wasn't audited, or not decided, or the "
+    "collector's own transactions have no order."
+)
+LOOKS = 0.2  # seconds between two looks at whether it is over
+TELLING = 30.0  # seconds that making a violation small may take
+FORM = "%(asctime)s %(levelname)s %(message)s"
+logger = logging.getLogger("zanteyard")
+
+
+def add_arguments(command: argparse.ArgumentParser) -> None:
+    command.add_argument(
+        "--journal", metavar="DIR", required=True, help="the folder of the audit; made if need be"
+    )
+    command.add_argument(
+        "--redis",
+        metavar="URL",
+        default=os.environ.get("ZANTEYARD_REDIS"),
+        help="redis:// or rediss://: clients of many machines come in by streams there (what the "
+        f"environment's ZANTEYARD_REDIS says); else those of this machine do by DIR/{SOCKET}",
+    )
+    command.add_argument(
+        "--audit", metavar="NAME", default="audit", help="whose streams these are (audit)"
+    )
+    command.add_argument(
+        "--sessions",
+        type=int,
+        default=16,
+        choices=range(1, 65),
+        metavar="N",
+        help="1 to 64 sessions at first (16); more join, for 64 clients at a time",
+    )
+    command.add_argument(
+        "--metrics",
+        type=_address,
+        metavar="HOST:PORT",
+        help="gives Prometheus's text format at /metrics there",
+    )
+    command.add_argument(
+        "--every", type=int, default=LiveAuditor.EVERY, metavar="N",
+        help=f"transactions between two meetings ({LiveAuditor.EVERY})",
+    )
+    command.add_argument(
+        "--silence", type=float, default=10.0, metavar="S",
+        help="seconds after which a process that isn't heard of is given up (10)",
+    )
+    command.add_argument(
+        "--round-seconds", type=float, default=60.0, metavar="S",
+        help="seconds that a round may take, before it is given up (60)",
+    )
+    command.add_argument(
+        "--rather-wait", action="store_true", help="clients wait longer before the audit gives way"
+    )
+    command.add_argument(
+        "--script", metavar="FILE",
+        help="keeps each line that it is given; under another name where FILE is there",
+    )
+    command.add_argument(
+        "--log", type=_level, metavar="LEVEL", default="INFO", help="the log's level (INFO)"
+    )
+
+
+def _address(text: str) -> str:
+    host, colon, port = text.rpartition(":")
+    if not (colon and port.isdecimal() and int(port) < 1 << 16):
+        raise argparse.ArgumentTypeError("HOST:PORT, as 127.0.0.1:9464")
+    return text
+
+
+def _level(text: str) -> int:
+    found = logging.getLevelName(text.upper())
+    if not isinstance(found, int):
+        raise argparse.ArgumentTypeError("DEBUG, INFO, WARNING or ERROR")
+    return found
+
+
+def run(asked: Any) -> int:
+    """Until a signal or the audit's own end; gives the exit status."""
+    logging.basicConfig(level=asked.log, format=FORM, stream=sys.stderr)
+    stopped = threading.Event()
+    for number in (signal.SIGTERM, signal.SIGINT, signal.SIGHUP):
+        signal.signal(number, lambda *_: stopped.set())
+    os.makedirs(asked.journal, mode=0o700, exist_ok=True)
+    stack = contextlib.ExitStack()
+    try:
+        return _audit(asked, stack, stopped)
+    finally:
+        stack.close()
+
+
+def _audit(asked: Any, stack: contextlib.ExitStack, stopped: threading.Event) -> int:
+    auditor = stack.enter_context(_auditor(asked))
+    policy = RATHER_WAIT if asked.rather_wait else RATHER_LOSE_THE_AUDIT
+    is_elsewhere = asked.redis is not None
+    live = LiveAuditor(auditor, every=asked.every, policy=policy, elsewhere=is_elsewhere)
+    live._figures.awaited = {}
+    server = _server(asked, live)
+    if asked.metrics is not None:
+        metrics = MetricsServer(asked.metrics, lambda: _figures(live, server))
+        stack.callback(metrics.close)
+        logger.info("metrics are at port %d", metrics.port)
+    how = "goes on" if auditor.is_resumed else "begins"
+    logger.info("the audit %s %s; it keeps %s", live.name, how, asked.journal)
+    while not (live.is_over or stopped.wait(LOOKS)):
+        pass
+    outcome = _end(server, live)
+    logger.info("%s", outcome)
+    if outcome.handed_in == 0:
+        logger.warning("nothing was handed in: no client has done anything here")
+    if outcome.is_violated:
+        _tell(asked, auditor, outcome)
+    return STATUSES.get(outcome.whole.kind, 4)
+
+
+def _auditor(asked: Any) -> Auditor:
+    """Goes on with what is there, where clients' streams have the rest."""
+    path = os.path.join(asked.journal, JOURNAL)
+    its: Any = {"program": find_program(), "script": _unused(asked.script)}
+    its["round_seconds"] = asked.round_seconds
+    if os.path.lexists(path):
+        if asked.redis is not None and os.path.lexists(f"{path}.live"):
+            return Auditor.resumed(path, **its)
+        # Nobody had a session; or nobody knows what was on its way as its process ended.
+        journal = Journal(path)  # which another daemon may have
+        try:
+            os.replace(path, f"{path}.old")
+        finally:
+            journal.close()
+    return Auditor(asked.sessions, journal=path, **its)
+
+
+def _unused(script: Optional[str]) -> Optional[str]:
+    """What a daemon before this one was given stays."""
+    names = itertools.chain([""], (f".resumed{at or ''}" for at in itertools.count()))
+    return script and next(script + it for it in names if not os.path.isfile(script + it))
+
+
+def _server(asked: Any, live: LiveAuditor) -> Any:
+    try:
+        if asked.redis is None:
+            return AuditServer(live, os.path.join(asked.journal, SOCKET))
+        from ..remote.streams import StreamServer  # redis-py needn't be there else
+
+        return StreamServer(live, asked.redis, asked.audit, asked.silence)
+    except BaseException:
+        live.lose(ZanteyardError("nobody can be let in"))
+        live.stop(1.0)
+        raise
+
+
+def _figures(live: LiveAuditor, server: Any) -> str:
+    if isinstance(server, AuditServer):
+        clients = sum(process.thread.is_alive() for process in list(server._processes))
+        return text_of(families(live, clients))
+    return text_of(families(live, len(server.heard), server.is_up))
+
+
+def _end(server: Any, live: LiveAuditor) -> Outcome:
+    if isinstance(server, AuditServer) or live.is_over:
+        server.close(5.0)
+        return live.stop()
+    found: Outcome = server.leave()
+    return found
+
+
+def _tell(asked: Any, auditor: Auditor, outcome: Outcome) -> None:
+    """What can't be, in the log and in files. Where that fails, as on a full disk, it is violated
+    all the same."""
+    path = os.path.join(asked.journal, VIOLATION)
+    lines: List[str] = []
+
+    def tell(line: str) -> None:
+        lines.append(line)
+        logger.error("%s", line)
+
+    try:
+        history, called = from_start(auditor)
+        known = refuted(auditor, outcome.certificate)
+        tell_violation(history, path, called, tell, TELLING, auditor.path, known)
+    except Exception as error:
+        tell(f"violated, and why can't be told: {error!r}")
+    try:
+        with open(f"{path}.txt", "w", encoding="utf-8") as file:
+            file.write("\n".join(lines) + "\n")
+    except OSError as error:
+        logger.error("%s.txt can't be written, and has been told here: %s", path, error)

@@ -1,0 +1,219 @@
+"""Audits a PostgreSQL, or another store, while clients run on it at the same time: a line a round,
+and what can't be at a violation. `zanteyard audit` and `examples/postgres_live.py` are this."""
+
+from __future__ import annotations
+
+import argparse
+import logging
+import sys
+import time
+from dataclasses import dataclass
+from typing import Any, Callable, List, Optional, Tuple
+
+from ..core._outcome import RATHER_LOSE_THE_AUDIT, RATHER_WAIT, Outcome
+from ..explain._charts import RoundSeen
+from ..explain._html import page_of
+from ..explain._report import Story, story_of
+from ..explain._shrinking import from_start, refuted
+from ..explain._violation_text import tell_violation
+from ..live._live_auditor import LiveAuditor
+from ..program._subprocess import AuditorApart
+from ..remote._server import AuditServer
+from ..session._session import Session
+from ..trial._throwaway_folder import OwnFolder
+from ..trial.postgres_server import ended_by_signals
+from ..trial.store_kinds import POSTGRES, StoreKind
+from ..trial.store_kinds import CantAuditError as CantAuditError
+from ..trial.workloads import EVERY_WORKLOAD, ChurningClients, ClientProcesses, Clients, Nothing
+
+PAGE_SECONDS = 5.0  # that finding the reasons for the page may take
+STAYING, CHURNING = 8, 16  # clients at a time, where nothing else is asked for
+MakesStore = Callable[[], Any]
+logger = logging.getLogger("zanteyard")
+
+
+@dataclass(frozen=True)
+class LiveRun:
+    """What came of a run. `alone` are the clients without an auditor, if they ran so; `story` tells
+    a violation where there was one, and `seen` the rounds."""
+
+    asked: argparse.Namespace
+    live: LiveAuditor
+    outcome: Outcome
+    clients: Clients
+    alone: Optional[Clients]
+    story: Optional[Story]
+    seen: Tuple[RoundSeen, ...]
+
+    def lines(self) -> List[str]:
+        """The three lines that end a run."""
+        at = f"{self.asked.workload} at {self._level()}"
+        came = getattr(self.clients, "came", None)
+        by = f"{self.asked.clients} clients"
+        if came is not None:
+            by += f" at a time, {came} in all, in {self.live.auditor.sessions} sessions"
+        compared = f", {self.alone.rate():.0f} without the auditor" if self.alone else ""
+        return [
+            f"{at}: {self.outcome}; {self.live.cuts} cuts in {self.live.rounds} rounds",
+            f"{self.clients.rate():.0f} transactions a second were committed by "
+            f"{by}{compared}; {self.clients.aborted} aborted",
+            f"clients waited {100 * self.clients.waited:.1f}% of their time for meetings, and "
+            f"{self.clients.longest:.2f} s at most for a transaction; the auditor was at most "
+            f"{self.live.lag:.2f} s behind",
+        ]
+
+    def page(self, origin: str) -> str:
+        """The run on a page."""
+        about = f"{kind_of(self.asked).name}, {self.asked.workload} at {self._level()}"
+        return page_of(self.story or self._other_story(), about, origin, self.seen)
+
+    def _level(self) -> str:
+        return kind_of(self.asked).levels[self.asked.level]
+
+    def _other_story(self) -> Story:
+        whole = self.outcome.whole
+        kind = whole.kind if whole.kind in ("serial", "pending") else "spent"
+        waiting = tuple(
+            f"{one.reader[0]}.{one.reader[1]} read {one.key} from "
+            f"{one.source[0]}.{one.source[1]}, which never came"
+            for one in whole.pending
+        )
+        return Story(kind, tuple(whole.counts or ()), waiting=waiting)
+
+
+def unaudited_run(asked: Any, make_store: MakesStore) -> Clients:
+    """The clients without the auditor, to compare with."""
+    if asked.processes:
+        more = (asked.clients, asked.workload, asked.unaudited, asked.rate)
+        return ClientProcesses(None, make_store, *more)
+    sessions = [
+        Session(Nothing(), number, make_store(), "unaudited") for number in range(asked.clients)
+    ]
+    workload, seconds = EVERY_WORKLOAD[asked.workload], asked.unaudited
+    return Clients(sessions, workload, seconds, lambda: False, asked.rate)
+
+
+def _beside(asked: Any, make_store: MakesStore, live: LiveAuditor) -> Clients:
+    """The clients of a live audit."""
+    if asked.churn:
+        workload = EVERY_WORKLOAD[asked.workload]
+        return ChurningClients(
+            live, make_store, asked.clients, workload, asked.seconds, asked.rate
+        )
+    if not asked.processes:
+        sessions = [live.session(make_store()) for _ in range(asked.clients)]
+        more = (asked.seconds, lambda: live.is_over, asked.rate)
+        return Clients(sessions, EVERY_WORKLOAD[asked.workload], *more)
+    with OwnFolder() as folder:
+        with AuditServer(live, f"{folder}/audit") as server:
+            those = (asked.clients, asked.workload, asked.seconds, asked.rate)
+            clients = ClientProcesses(server.path, make_store, *those)
+    return clients
+
+
+class _Rounds:
+    """Tells each round, and keeps what was seen of it."""
+
+    def __init__(self) -> None:
+        self.live: Optional[LiveAuditor] = None
+        self.began = time.monotonic()
+        self.seen: List[RoundSeen] = []
+
+    def tell(self, line: str) -> None:
+        print(line, flush=True)
+        live = self.live
+        if live is not None and live.report is not None and line.startswith("round"):
+            at = time.monotonic() - self.began
+            remaining, behind = live.auditor.remaining, live.told_behind
+            self.seen.append(RoundSeen(at, live.report.kind, remaining, behind, live.taken_in))
+
+
+def audited_run(
+    asked: Any, make_store: MakesStore
+) -> Tuple[LiveAuditor, Outcome, Clients, Optional[Story], Tuple[RoundSeen, ...]]:
+    """The clients beside the auditor, and what became of the audit."""
+    policy = RATHER_WAIT if asked.rather_wait else RATHER_LOSE_THE_AUDIT
+    rounds, story = _Rounds(), None
+    if asked.churn:
+        _tell_clients()
+    with AuditorApart(asked.clients, journal=asked.audit_journal) as auditor:
+        live = LiveAuditor(auditor, every=asked.every, policy=policy, tell=rounds.tell)
+        rounds.live = live
+        clients = _beside(asked, make_store, live)
+        outcome = live.stop()
+        if live.is_violated:
+            history, called = from_start(auditor)
+            known = refuted(auditor, live.report.certificate if live.report else ())
+            small = tell_violation(history, "violation", called, known=known)
+            if asked.html:
+                story = story_of(small, called, _script(), outcome.counts or (), PAGE_SECONDS)
+        return live, outcome, clients, story, tuple(rounds.seen)
+
+
+def _tell_clients() -> None:
+    """What each did first, which the log tells."""
+    handler = logging.StreamHandler(sys.stdout)
+    handler.addFilter(lambda record: record.getMessage().startswith("client "))
+    logger.addHandler(handler)
+    logger.setLevel(logging.INFO)
+
+
+def _script() -> str:
+    """What was written of the violation."""
+    try:
+        with open("violation.jsonl", encoding="utf-8") as file:
+            return file.read()
+    except OSError:
+        return ""
+
+
+def count_of_clients(text: str) -> int:
+    """2 to 64."""
+    count = int(text)
+    if not 2 <= count <= 64:
+        raise argparse.ArgumentTypeError(f"{count} is not from 2 to 64")
+    return count
+
+
+def kind_of(asked: Any) -> StoreKind:
+    """Which store is audited: a PostgreSQL, where nothing else was asked for."""
+    kind: StoreKind = getattr(asked, "kind", POSTGRES)
+    return kind
+
+
+def add_arguments(asked: argparse.ArgumentParser, kind: StoreKind = POSTGRES) -> None:
+    """What may be asked of a run."""
+    asked.set_defaults(kind=kind)
+    asked.add_argument("--level", choices=kind.levels, default=kind.default_level)
+    asked.add_argument("--workload", choices=EVERY_WORKLOAD, default="mixed")
+    asked.add_argument("--seconds", type=float, default=10.0)
+    told = "seconds without the auditor, to compare with; 0 for none"
+    asked.add_argument("--unaudited", type=float, default=3.0, help=told)
+    asked.add_argument("--clients", type=count_of_clients, help="2 to 64 at a time (8, or 16)")
+    told = "clients live for two seconds, and others come; tells what each did first"
+    asked.add_argument("--churn", action="store_true", help=told)
+    told = "transactions a second that all clients together begin at most; else as many as they can"
+    asked.add_argument("--rate", type=float, help=told)
+    told = "transactions from one meeting to the next"
+    asked.add_argument("--every", type=int, default=LiveAuditor.EVERY, help=told)
+    told = "each client in a process of its own, in place of a thread"
+    asked.add_argument("--processes", action="store_true", help=told)
+    told = "clients wait where the auditor can't keep up; else that audit ends, and another begins"
+    asked.add_argument("--rather-wait", action="store_true", help=told)
+    kind.add_arguments(asked)
+    told = "goes on by this file where the auditor is killed; one that isn't there yet"
+    asked.add_argument("--audit-journal", metavar="FILE", help=told)
+    asked.add_argument("--html", metavar="FILE", help="writes a page to look at")
+
+
+def run(asked: Any) -> LiveRun:
+    """Runs the clients as asked, and tells each round. Raises CantAuditError."""
+    kind = kind_of(asked)
+    asked.clients = asked.clients or (CHURNING if asked.churn else STAYING)
+    if asked.churn and asked.processes:
+        raise CantAuditError("--churn has each client in a thread, and not in a process")
+    with ended_by_signals(), kind.server(asked) as used:
+        make_store = kind.maker(asked, used)
+        alone = unaudited_run(asked, make_store) if asked.unaudited else None
+        live, outcome, clients, story, seen = audited_run(asked, make_store)
+    return LiveRun(asked, live, outcome, clients, alone, story, seen)

@@ -1,0 +1,112 @@
+"""When and from where a transaction was begun, and what it read and wrote: told of a violation, and
+nothing that a verdict rests on."""
+
+from __future__ import annotations
+
+import contextlib
+import os
+import sys
+import threading
+import time
+from typing import Any, Dict, Iterator, List, Sequence, Tuple
+
+from ._records import History, Logged, Names
+
+PACKAGE = os.path.dirname(os.path.dirname(os.path.abspath(__file__))) + os.sep
+# Files, and folders, that call nothing by themselves.
+ours: Tuple[str, ...] = (PACKAGE, contextlib.__file__, threading.__file__)
+LETTERS = 60  # of a value, at most
+depth = 12  # calls that are looked through, at most
+
+
+def pass_over(folder: str, calls: int = 0) -> None:
+    """What stands in this folder calls nothing by itself, as a driver in which calls begin; and so
+    many calls more may come between."""
+    global ours, depth
+    if folder + os.sep not in ours:
+        ours, depth = (*ours, folder + os.sep), depth + calls
+
+
+def caller() -> str:
+    """The file and line outside of this package from which this was called; empty where there is
+    none near."""
+    frame: Any = sys._getframe(1)
+    for _ in range(depth):
+        if frame is None:
+            return ""
+        name = frame.f_code.co_filename
+        is_made = name == "<string>" and "__name__" not in frame.f_globals  # by a library
+        if not name.startswith(ours) and not is_made:
+            return f"{name}:{frame.f_lineno}"
+        frame = frame.f_back
+    return ""
+
+
+def brief(value: Any) -> str:
+    """A value as a short text."""
+    if value is None:
+        return "nothing"
+    is_long = isinstance(value, (str, bytes, list)) and len(value) > LETTERS
+    text = repr(value[:LETTERS] if is_long else value)
+    return text[:LETTERS] + " .." if is_long or len(text) > LETTERS else text
+
+
+def brief_row(row: Sequence[Any]) -> str:
+    """Several, of which none is made a text that is longer. Raises nothing."""
+    texts: List[str] = []
+    for value in row:
+        try:
+            texts.append("None" if value is None else brief(value))
+        except Exception:  # of a type of the application's
+            texts.append(f"of {type(value).__name__}")
+        if sum(map(len, texts)) > LETTERS:
+            break
+    if len(texts) == len(row) == 1:
+        return f"({texts[0]},)"
+    text = f"({', '.join(texts)})"
+    is_whole = len(text) <= LETTERS and len(texts) == len(row)
+    return text if is_whole else text[:LETTERS] + " .."
+
+
+def clock_of(logged: Logged) -> str:
+    """The time of day, to a millisecond; empty where it isn't known."""
+    if not logged.began:
+        return ""
+    whole, parts = divmod(int(logged.began * 1000), 1000)
+    return time.strftime("%H:%M:%S", time.localtime(whole)) + f".{parts:03}"
+
+
+def caller_of(logged: Logged) -> str:
+    """The caller as it is told: from this folder on, where it is in it."""
+    here = os.getcwd() + os.sep
+    return logged.caller[len(here) :] if logged.caller.startswith(here) else logged.caller
+
+
+def values_of(logged: Logged) -> Dict[Tuple[str, str], str]:
+    """What was read from and written to each key that it still is about."""
+    did_read, did_write = logged.did
+    found: Dict[Tuple[str, str], List[str]] = {("read", key): [] for key, _ in did_read}
+    found.update({("wrote", key): [] for key in did_write})
+    for kind, key, text in logged.values:
+        its = found.get((kind, key))
+        if its is not None and text not in its:
+            its.append(text)
+    return {deed: " and ".join(texts) for deed, texts in found.items() if texts}
+
+
+def circumstances(history: History, names: Names) -> Iterator[str]:
+    """A line for each transaction of which something is known."""
+    for session, transactions in enumerate(history):
+        for number, logged in enumerate(transactions):
+            if not any(logged.did):
+                continue
+            began = [f"began at {clock_of(logged)}"] if logged.began else []
+            came = [f"from {caller_of(logged)}"] if logged.caller else []
+            values = values_of(logged)
+            did = [
+                f"{'read' if kind == 'read' else 'wrote'} {key}: {text}"
+                for (kind, key), text in values.items()
+            ]
+            told = [" ".join(began + came)] * bool(began or came) + did
+            if told:
+                yield f"{names((session, number))} " + "; ".join(told)

@@ -1,0 +1,120 @@
+"""What came of an audit, and what gives way where an audit can't keep up with the clients."""
+from __future__ import annotations
+
+from dataclasses import dataclass, replace
+from typing import Any, Optional, Sequence, Tuple
+
+from ._records import Pending, Report
+from .errors import MissingError
+
+SERIAL, PENDING, VIOLATED, UNDECIDED = "serial", "pending", "violated", "undecided"
+INCOMPLETE = "incomplete"  # something that clients did wasn't audited
+COLLECTOR = "the collector's own violation"  # of fences and marks alone: no client takes part
+RUNNING = "running"
+
+
+@dataclass(frozen=True)
+class Policy:
+    """What gives way. A client waits for the audit at most `wait` seconds in one call. Where that
+    isn't enough the audit ends with its reason; where it `begins_anew`, another one begins of what
+    is done from then on, at most one in `pause` seconds."""
+
+    wait: float = 0.25
+    begins_anew: bool = True
+    pause: float = 1.0
+
+
+RATHER_LOSE_THE_AUDIT = Policy()
+RATHER_WAIT = Policy(wait=30.0, begins_anew=False)
+
+
+@dataclass(frozen=True)
+class Outcome:
+    """Only the kind "serial" says that everything that clients did is in one order.
+
+    `kind`: "running" while more may come; "serial"; "pending" where all was audited, but reads name
+    transactions that never came, or sessions may have done more that never came, which `failure`
+    then tells; "violated", which stays true whatever is missing; "the collector's
+    own violation", where its own transactions alone have no order; "undecided", where the search
+    was given up; "incomplete", where something wasn't audited: `failure` says why.
+
+    `audited` of `handed_in` transactions were audited; of the `left_out` reads the source isn't
+    known to the audit, so that they weren't checked. `earlier` are the audits that ended before
+    this one began, each with its own outcome.
+    """
+
+    kind: str
+    audited: int = 0
+    handed_in: int = 0
+    failure: Optional[Exception] = None
+    pending: Tuple[Pending, ...] = ()
+    report: Optional[Report] = None
+    name: str = ""
+    left_out: int = 0
+    earlier: Tuple["Outcome", ...] = ()
+
+    @property
+    def is_violated(self) -> bool:
+        return self.kind in (VIOLATED, COLLECTOR)
+
+    @property
+    def counts(self) -> Optional[Sequence[int]]:
+        """Of the last round: how many transactions of each session it was about; None without
+        one."""
+        return self.report.counts if self.report else None
+
+    @property
+    def certificate(self) -> Any:
+        """Of the last round: its order or its refutation; None without one."""
+        return self.report.certificate if self.report else None
+
+    @property
+    def whole(self) -> "Outcome":
+        """This and all earlier audits as one: nothing is known of what lies between two of them."""
+        if not self.earlier:
+            return self
+        every = (*self.earlier, self)
+        violated = next((one for one in every if one.is_violated), None)
+        kind = violated.kind if violated else RUNNING if self.kind == RUNNING else INCOMPLETE
+        return Outcome(
+            kind,
+            sum(one.audited for one in every),
+            sum(one.handed_in for one in every),
+            next((one.failure for one in reversed(every) if one.failure), None),
+            tuple(it for one in every for it in one.pending),
+            self.report,
+            self.name,
+            sum(one.left_out for one in every),
+            self.earlier,
+        )
+
+    def _alone(self) -> "Outcome":
+        return replace(self, earlier=())
+
+    def __str__(self) -> str:
+        told = [f"{self.kind}: {self.audited} of {self.handed_in} transactions were audited"]
+        if self.earlier:
+            told.append(f"in {len(self.earlier) + 1} audits")
+        if self.left_out:
+            told.append(f"{self.left_out} reads weren't checked")
+        for one in self.pending[:3]:
+            reader, source = (".".join(map(str, it)) for it in (one.reader, one.source))
+            told.append(f"{reader} read {one.key} from {source}, which never came")
+        if len(self.pending) > 3:
+            told.append(f"and {len(self.pending) - 3} more such reads")
+        if self.failure:
+            told.append(str(self.failure).strip() or type(self.failure).__name__)
+        return "; ".join(told)
+
+
+KINDS = {"spent": UNDECIDED}
+
+
+def kind_of(report: Optional[Report], failure: Optional[Exception], is_whole: bool) -> str:
+    """Of an audit that has ended. A violation stays one, whatever is missing."""
+    kind = KINDS.get(report.kind, report.kind) if report else INCOMPLETE
+    if kind == VIOLATED:
+        return kind
+    if isinstance(failure, MissingError) and is_whole and kind in (SERIAL, PENDING):
+        return PENDING
+    return kind if is_whole and failure is None else INCOMPLETE

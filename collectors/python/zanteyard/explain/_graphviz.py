@@ -1,0 +1,77 @@
+"""A picture of why no order explains a history: Graphviz text, and SVG where `dot` is installed."""
+
+from __future__ import annotations
+
+import shutil
+import subprocess
+from typing import Iterator, List, Optional, Sequence, Tuple
+
+from ..core._records import ABORTED, History, Names, TransactionId
+from ._reasons import Arc, below, explain_history, table
+from ._shrinking import deeds, name, statements_of
+
+DRAWING = 20.0  # seconds for `dot`
+
+
+def quoted(*lines: str) -> str:
+    escaped = (line.replace("\\", "\\\\").replace('"', '\\"') for line in lines)
+    return '"' + "\\n".join(escaped) + '"'
+
+
+def dot_text(
+    history: History, name: Names = name, arcs: Optional[Sequence[Arc]] = None
+) -> str:
+    """Each transaction with what it did, a column for each session. The arcs are an explanation's,
+    which is made where none are given. They are bold and red, those from which they follow are
+    grey; an arc goes from what comes before to what comes after. What was aborted is dashed, and so
+    is a read of it."""
+    around = explain_history(history, name).arcs if arcs is None else arcs
+    lines = [
+        "digraph violation {",
+        "  node [shape=box, fontname=Helvetica]; edge [fontname=Helvetica, fontsize=10];",
+    ]
+    for session, txns in enumerate(history):
+        for number, logged in enumerate(txns):
+            if deeds(logged, name):
+                its = name((session, number))
+                label = quoted(its, *deeds(logged, name))
+                run = [*statements_of(logged)]  # seen in the SVG where the pointer rests on it
+                more = f", tooltip={quoted(*run)}" if run else ""
+                more += ", style=dashed" if logged.outcome == ABORTED else ""
+                lines.append(f"  {quoted(its)} [label={label}, group=session{session}{more}];")
+    for reader, key, source in _reads_of_aborted(history):
+        ends = f"{quoted(name(source))} -> {quoted(name(reader))}"
+        lines.append(f"  {ends} [label={quoted(f'read {key}')}, style=dashed];")
+    for arc in below(around):
+        style = "color=red, penwidth=2" if arc in around else "color=grey, fontcolor=grey40"
+        ends = f"{quoted(name(arc.start))} -> {quoted(name(arc.end))}"
+        lines.append(f"  {ends} [label={quoted(arc.why)}, {style}];")
+    return "\n".join([*lines, "}", ""])
+
+
+def _reads_of_aborted(
+    history: History,
+) -> Iterator[Tuple[TransactionId, str, TransactionId]]:
+    """Who read which key from whom."""
+    txns = table(history)
+    for reader, logged in txns.items():
+        for key, source in logged.reads:
+            if source in txns and txns[source].outcome == ABORTED:
+                yield reader, key, source
+
+
+def draw(
+    history: History, path: str, name: Names = name, arcs: Optional[Sequence[Arc]] = None
+) -> List[str]:
+    """Writes path.dot, and path.svg where `dot` is installed and makes one; gives the names of the
+    files. Raises OSError where they can't be written."""
+    with open(f"{path}.dot", "w", encoding="utf-8") as file:
+        file.write(dot_text(history, name, arcs))
+    if not shutil.which("dot"):
+        return [f"{path}.dot"]
+    try:
+        call = ["dot", "-Tsvg", "-o", f"{path}.svg", f"{path}.dot"]
+        subprocess.run(call, check=True, timeout=DRAWING)
+    except subprocess.SubprocessError:
+        return [f"{path}.dot"]
+    return [f"{path}.dot", f"{path}.svg"]

@@ -1,0 +1,268 @@
+"""A page that tells a story: one HTML file with nothing from outside, which reads well without
+scripting and on paper."""
+
+from __future__ import annotations
+
+from html import escape
+from typing import Iterable, List, Sequence
+
+from ..core._records import ABORTED
+from ..core._version import VERSION
+from ._anomalies import MEANINGS
+from ._charts import RoundSeen, draw_rounds
+from ._report import SHOWN, Step, Story
+from ._timeline_svg import draw_story
+
+STYLE = """
+:root { --ink: #1c2430; --soft: #56616f; --line: #d5dbe3; --paper: #ffffff; --box: #f4f7fb;
+  --red: #b3261e; --green: #1b6e3c; --amber: #8a5a00; }
+* { box-sizing: border-box; }
+body { margin: 0 auto; padding: 2rem 1.5rem 3rem; max-width: 70rem; color: var(--ink);
+  background: var(--paper); font: 16px/1.55 system-ui, "Helvetica Neue", Arial, sans-serif; }
+h1 { font-size: 1.7rem; line-height: 1.25; margin: 0 0 .4rem; }
+h2 { font-size: 1.15rem; margin: 2.2rem 0 .6rem; border-bottom: 1px solid var(--line);
+  padding-bottom: .25rem; }
+p, ol, ul { margin: .4rem 0; max-width: 52rem; }
+li { margin: .25rem 0; }
+.verdict { display: inline-block; padding: .1rem .7rem; border-radius: 1rem; color: #fff;
+  font-size: .95rem; font-weight: 600; vertical-align: .2rem; background: var(--soft); }
+.verdict.violated { background: var(--red); } .verdict.serial { background: var(--green); }
+.verdict.pending, .verdict.spent { background: var(--amber); }
+.soft, figcaption, footer { color: var(--soft); font-size: .9rem; }
+.anomaly { border-left: 4px solid var(--red); padding: .3rem 0 .3rem .9rem; margin: 1rem 0; }
+figure { margin: .6rem 0 0; } .wide { overflow-x: auto; }
+svg { max-width: 100%; height: auto; display: block; }
+svg.timeline { max-width: none; }
+svg text { font: 13px system-ui, "Helvetica Neue", Arial, sans-serif; fill: var(--ink); }
+svg .name { font-weight: 700; } svg .session, svg .tick { fill: var(--soft); font-size: 12px; }
+svg .label { font-weight: 600; } svg .end { text-anchor: end; }
+svg .lane { stroke: var(--line); stroke-width: 2; stroke-dasharray: 3 4; }
+svg .transaction rect { fill: var(--box); stroke: #9aa7b6; stroke-width: 1.2; }
+svg .transaction.aborted rect { stroke-dasharray: 7 5; }
+svg .arc path { fill: none; stroke-width: 2.2; }
+svg .arc.aborted path { stroke-dasharray: 7 5; }
+svg .arc.circle path { stroke: var(--red); } svg .arc.other path { stroke: #8491a1; }
+svg .arc circle { stroke: #fff; stroke-width: 1.5; }
+svg .arc.circle circle { fill: var(--red); } svg .arc.other circle { fill: #5d6a7a; }
+svg .arc:hover path { stroke-width: 4.5; }
+svg .number { fill: #fff; font-size: 12px; font-weight: 700; text-anchor: middle; }
+svg marker path.circle-head { fill: var(--red); } svg marker path.other-head { fill: #8491a1; }
+svg .axis { stroke: var(--line); } svg polyline { fill: none; stroke: #51749e; stroke-width: 1.5; }
+svg.chart circle { fill: var(--green); } svg.chart circle.violated { fill: var(--red); }
+svg.chart circle.pending, svg.chart circle.spent { fill: var(--amber); }
+ol.reasons { list-style: none; padding-left: 0; counter-reset: none; }
+ol.reasons .mark { display: inline-block; min-width: 1.55rem; text-align: center; color: #fff;
+  border-radius: 1rem; font-size: .8rem; font-weight: 700; margin-right: .5rem;
+  background: #5d6a7a; }
+ol.reasons .circle .mark { background: var(--red); }
+.around { font-size: 1.05rem; font-weight: 600; color: var(--red); }
+table { border-collapse: collapse; width: 100%; font-size: .93rem; }
+th, td { text-align: left; vertical-align: top; padding: .35rem .7rem .35rem 0;
+  border-bottom: 1px solid var(--line); }
+th:first-child { width: 9rem; }
+th { font-weight: 600; color: var(--soft); } td.number { font-weight: 700; white-space: nowrap; }
+pre, code { font: .86rem/1.45 ui-monospace, "DejaVu Sans Mono", Menlo, monospace; }
+pre { background: var(--box); border: 1px solid var(--line); border-radius: 6px; padding: .7rem;
+  overflow-x: auto; white-space: pre-wrap; overflow-wrap: anywhere; }
+td.did { min-width: 13rem; }
+td code { overflow-wrap: anywhere; color: var(--soft); }
+@media print { body { padding: 0; max-width: none; font-size: 11pt; } .wide { overflow: visible; }
+  svg.timeline { max-width: 100%; } h2, figcaption { break-after: avoid; }
+  figure, li, tr { break-inside: avoid; }
+  * { -webkit-print-color-adjust: exact; print-color-adjust: exact; } }
+"""
+
+HEADINGS = {
+    "serial": "Nothing is wrong with what was audited",
+    "pending": "Nothing is wrong so far, and something is still missing",
+    "violated": "These transactions can't have run one at a time",
+    "spent": "This wasn't decided",
+}
+
+BEFORE_YOU_ACCUSE = (
+    "Are the reads named here what the clients saw? The verdict is about the log.",
+    "Where a step says “in one session”: does the store promise to keep that session’s order? "
+    "A client that reads from a replica that lags is more than one session.",
+    "The time line is drawn from what was logged; it isn’t the order in which the store ran "
+    "these transactions, since there is no such order.",
+)
+
+
+def page_of(story: Story, about: str, origin: str, rounds: Sequence[RoundSeen] = ()) -> str:
+    """The whole page. `about` says in a few words what was audited, `origin` by which program."""
+    parts: List[str] = [_head(story, about)]
+    if story.kind == "violated":
+        parts += [*_picture(story), *_reasons(story), *_table(story.steps), *_again(story)]
+    else:
+        parts += _order(story)
+    parts += _rounds(rounds)
+    title = f"{story.kind}: {about}"
+    return "\n".join(
+        [
+            "<!DOCTYPE html>",
+            '<html lang="en"><head><meta charset="utf-8">',
+            '<meta name="viewport" content="width=device-width, initial-scale=1">',
+            f"<title>{escape(title)}</title>",
+            f"<style>{STYLE}</style></head><body>",
+            *parts,
+            f"<footer><p>Made by zanteyard {VERSION}. The verdict is that of the auditor "
+            f"({escape(origin)}); what is told and drawn of it here is an aid, made beside it."
+            "</p></footer>",
+            "</body></html>",
+            "",
+        ]
+    )
+
+
+def _head(story: Story, about: str) -> str:
+    count = sum(story.counts)
+    of_what = f"{about}: {count:,} transactions of {len(story.counts)} sessions" if count else about
+    found = [
+        f'<h1>{HEADINGS[story.kind]} <span class="verdict {story.kind}">{story.kind}</span></h1>',
+        f'<p class="soft">{escape(of_what)}</p>',
+        f"<p>{escape(_sentence(story))}.</p>",
+    ]
+    if story.anomaly is not None:
+        meaning = MEANINGS.get(story.anomaly.name)
+        more = f' <span class="soft">({escape(meaning)})</span>' if meaning else ""
+        found.append(
+            f'<div class="anomaly"><strong>{escape(_capital(story.anomaly.name))}</strong>{more}'
+            f"<br>{escape(_capital(story.anomaly.sentence))}.</div>"
+        )
+    return "\n".join(found)
+
+
+def _sentence(story: Story) -> str:
+    more = ", and nothing that comes later can mend it" if story.kind == "violated" else ""
+    return _capital(story.sentence) + more
+
+
+def _capital(text: str) -> str:
+    return text[:1].upper() + text[1:]
+
+
+def _picture(story: Story) -> Iterable[str]:
+    drawn = draw_story(story)
+    if not drawn:
+        return
+    yield "<h2>What happened</h2>"
+    yield f'<figure><div class="wide">{drawn}</div>'
+    caption = "A row for each session, its transactions from left to right. "
+    if story.links:
+        caption += (
+            "An arrow leads from what has to come before to what has to come after; its number is "
+            "that of the reason below, which also shows where the pointer rests. Red arrows go "
+            "round in the circle, grey ones say what follows from what."
+        )
+    else:
+        caption += "A grey arrow leads from a writer to who read from it."
+    if any(step.outcome == ABORTED for step in story.steps):
+        caption += " What was aborted is dashed."
+    yield f"<figcaption>{caption}</figcaption></figure>"
+
+
+def _reasons(story: Story) -> Iterable[str]:
+    yield "<h2>Why no order is left</h2>"
+    if not story.links:
+        yield "<ul>" + "".join(f"<li>{escape(line)}</li>" for line in story.because) + "</ul>"
+        if not story.anomaly:
+            yield (
+                "<p>No one circle is in all orders: whichever way the writers of one key are put, "
+                "another circle closes. The auditor’s refutation goes through these ways.</p>"
+            )
+        return
+    names = dict(story.names)
+    yield '<ol class="reasons">'
+    for number, link in enumerate(story.links, 1):
+        kind = ' class="circle"' if link.is_of_circle else ""
+        yield (
+            f'<li{kind}><span class="mark">{number}</span><strong>{escape(names[link.start])} '
+            f"comes before {escape(names[link.end])}</strong>: {escape(link.why)}.</li>"
+        )
+    yield "</ol>"
+    around = " → ".join(escape(one) for one in story.circle)
+    yield '<p>That goes round in a circle, so none of them can come first:</p><p class="around">'
+    yield f"{around}</p>"
+
+
+def _table(steps: Sequence[Step]) -> Iterable[str]:
+    if not steps:
+        return
+    has_statements = any(deed.statement for step in steps for deed in step.deeds)
+    has_returned = any(deed.returned for step in steps for deed in step.deeds)
+    has_places = any(step.clock or step.caller for step in steps)
+    is_numbered = any(step.name == "{}.{}".format(*step.id) for step in steps)
+    yield "<h2>What each transaction did</h2>"
+    yield "<table><thead><tr><th>Transaction</th><th>Did</th>"
+    yield "<th>Value</th>" * has_returned + "<th>Statement</th>" * has_statements
+    yield "<th>When and where</th>" * has_places + "</tr></thead><tbody>"
+    for step in steps:
+        deeds = step.deeds
+        rows = max(1, len(deeds))
+        for at in range(rows):
+            yield "<tr>"
+            if not at:
+                outcome = "" if step.outcome == "committed" else f" ({escape(step.outcome)})"
+                yield f'<td class="number" rowspan="{rows}">{escape(step.name)}{outcome}</td>'
+            deed = deeds[at] if deeds else None
+            did = escape(deed.text) if deed else "nothing that matters here"
+            yield f'<td class="did">{did}</td>'
+            if has_returned:
+                yield f"<td>{escape(deed.returned) if deed else ''}</td>"
+            if has_statements:
+                yield f"<td><code>{escape(deed.statement) if deed else ''}</code></td>"
+            if has_places and not at:
+                where = " ".join(it for it in (step.clock, step.caller) if it)
+                yield f'<td rowspan="{rows}">{escape(where)}</td>'
+            yield "</tr>"
+    yield "</tbody></table>"
+    yield (
+        '<p class="soft">'
+        + "Transaction 2.7 is number 7 of session 2, counted from 0. " * is_numbered
+        + "All is left out that the history is violated without."
+    )
+    if any(step.outcome == "forgotten" for step in steps):
+        yield " “The cut” stands for all that the auditor had forgotten by then."
+    yield "</p>"
+
+
+def _again(story: Story) -> Iterable[str]:
+    if story.script:
+        yield "<h2>See it again</h2>"
+        yield (
+            "<p>This is the same as a script. Save it as <code>violation.jsonl</code>; "
+            "<code>zanteyard check violation.jsonl</code> says so again, and "
+            "<code>cobra_audit &lt; violation.jsonl</code> gives the auditor’s own refutation.</p>"
+        )
+        yield f"<pre>{escape(story.script)}</pre>"
+    yield "<h2>Before you accuse the store</h2>"
+    yield "<ul>" + "".join(f"<li>{line}</li>" for line in BEFORE_YOU_ACCUSE) + "</ul>"
+
+
+def _order(story: Story) -> Iterable[str]:
+    if story.waiting:
+        yield "<h2>What is waited for</h2><ul>"
+        yield from (f"<li>{escape(line)}</li>" for line in story.waiting[: 4 * SHOWN])
+        yield "</ul>"
+        if len(story.waiting) > 4 * SHOWN:
+            yield f"<p>and {len(story.waiting) - 4 * SHOWN} more.</p>"
+    if story.order:
+        yield "<h2>An order that explains what was read</h2>"
+        yield f"<p>{escape(' '.join(story.order))}</p>"
+
+
+def _rounds(rounds: Sequence[RoundSeen]) -> Iterable[str]:
+    if not rounds:
+        return
+    last = rounds[-1]
+    yield "<h2>Round by round</h2>"
+    yield (
+        f"<p>{len(rounds)} rounds in {last.seconds:.1f} s. After the last one "
+        f"{last.remaining:,} transactions remain, and the auditor was {last.behind:.2f} s behind."
+        "</p>"
+    )
+    yield f'<figure><div class="wide">{draw_rounds(rounds)}</div></figure>'
+    if last.waiting:
+        yield "<p>Reads that wait for a transaction which hasn’t come:</p><ul>"
+        yield from (f"<li>{escape(line)}</li>" for line in last.waiting[: 2 * SHOWN])
+        yield "</ul>"

@@ -1,0 +1,278 @@
+"""Runs a saved script through the auditor, and keeps what it was about."""
+
+from __future__ import annotations
+
+import json
+import os
+import re
+import subprocess
+import time
+from collections import Counter
+from dataclasses import dataclass, field
+from typing import Any, Callable, Dict, Iterable, Iterator, List, Mapping, Optional, Sequence
+
+from ..core._own_keys import FENCE
+from ..core._records import ABORTED, Logged, Pending, TransactionId
+from ..core._tenancy import Stints
+from ..core.errors import ProgramEndedError, ProgramTooOldError, ScriptMistakeError
+from ..program._auditor import TOO_OLD
+from ..program._intake import never_came
+from ._script_names import NamedTransaction, ScriptNames
+
+# What a spent round is given again with: nodes of the search, depth, workers.
+WORKERS = max(1, min(16, os.cpu_count() or 1))
+MORE = tuple((nodes, 4, WORKERS) for nodes in (1 << 16, 1 << 20, 1 << 24))
+WAITS = (0.1, 0.5)  # seconds after which a line that was answered NoMemory is given again
+OPENS_FORM = re.compile(rb'\["(open|resume)",\d+,\d+,2\]$')  # as a script of version 2 does
+MOST_OPEN = "a script has 1 to 64 sessions, and at most 4,096 transactions remain at a time"
+
+# What to do about a refusal, where it isn't plain from its name.
+ADVICE: Mapping[str, str] = {
+    "BadLine": "it is no command, or none that may stand there (docs/FORMATS.md has them all)",
+    "BadSession": MOST_OPEN + "; one that joins is the next new one, or was closed and has "
+    "nothing left",
+    "BadTxn": "reads and keys have to ascend, and nothing reads from itself",
+    "BadFence": "key 0 is for fences alone",
+    "Gap": "an earlier transaction of this session is missing",
+    "Repeat": "this session has a transaction of that number already",
+    "Closed": "that session was closed before; it comes back by `join`",
+    "Backlog": "as many transactions remain as `open` has room for (at most 4,096): "
+    "fences make room, or audit it in parts",
+    "TooLong": "a line has 1 to 256 transactions, each with at most 256 reads and 256 writes; "
+    + MOST_OPEN,
+    "RoundOpen": "a round is open: `finish` it first",
+    "NotAnchored": "a session joins with a fence that reads from one that remains, or from the "
+    "last one that is forgotten",
+    "NoRound": "no round is open",
+    "BadParts": "what is handed over isn't what a run has given out (docs/FORMATS.md)",
+}
+
+
+@dataclass(frozen=True)
+class Verdict:
+    """What a round has said. `line_number` is that of the line which asked, from 1; 0 where the
+    script asked for none, and a round was put at its end."""
+
+    kind: str  # "serial", "pending", "violated" or "spent"
+    line_number: int
+    counts: Sequence[int]  # of each session, how many transactions the round is about
+    certificate: Sequence[Any]  # an order of what remains, or the items of a refutation
+    nodes: int  # the budget of the round that decided, or that was the last to give up
+    rounds: int = 1  # how many were given, the first among them
+
+
+@dataclass
+class ScriptHistory:
+    """What a script has offered, and what of it remains. Keys are told as `key 5`, and transactions
+    as `0.1`, where there are no names for them."""
+
+    names: ScriptNames = field(default_factory=lambda: ScriptNames(""))
+    history: List[List[Logged]] = field(default_factory=list)
+    marks: List[int] = field(default_factory=list)  # of each session, how many are forgotten
+    base: Dict[str, TransactionId] = field(default_factory=dict)  # of a key the last one gone
+    stints: Stints = field(default_factory=Stints)  # of sessions that several clients had
+
+    def begin(self, sessions: int) -> None:
+        """Nothing has come yet."""
+        self.history, self.marks, self.base = [[] for _ in range(sessions)], [0] * sessions, {}
+        self.stints = Stints()
+
+    def join(self, session: int, transactions: Iterable[Any]) -> None:
+        """What an accepted `join` has said."""
+        if session == len(self.history):
+            self.history.append([])
+            self.marks.append(0)
+        self.stints.begin_behind(session, self.marks[session])  # nothing of it remains
+        self.take_in(session, transactions)
+
+    def take_in(self, session: int, transactions: Iterable[Any]) -> None:
+        """What an accepted `offer` has said."""
+        for reads, keys, *more in transactions:
+            number = self.marks[session] + len(self.history[session])
+            named = self.names.transaction(session, number)
+            is_undone = more == [ABORTED]
+            logged = logged_of(reads, keys, self.key_name, named, is_undone)
+            self.history[session].append(logged)
+
+    def called(self, id: TransactionId) -> str:
+        """How the transaction is told: with its client's first, where its session had others."""
+        told, by_number = self.names.name(id), f"{id[0]}.{id[1]}"
+        return self.stints.called_by_first(id) if told == by_number else told
+
+    def key_name(self, number: int) -> str:
+        """How the key is told."""
+        return self.names.key(number) if number else FENCE
+
+    def forget(self, gone: Sequence[Sequence[int]], last: Sequence[Sequence[int]]) -> None:
+        """What a `cut` has told, or of the last writers a `last` that is handed over."""
+        self.base.update((self.key_name(key), (session, number)) for key, session, number in last)
+        for session, count in Counter(session for session, _ in gone).items():
+            del self.history[session][:count]
+            self.marks[session] += count
+
+    def pending(self) -> Iterator[Pending]:
+        """The reads that wait for a transaction which hasn't come."""
+        yield from never_came(self.history, self.marks)
+
+    @property
+    def remaining(self) -> int:
+        """How many transactions remain."""
+        return sum(map(len, self.history))
+
+
+def logged_of(
+    reads: Iterable[Any],
+    keys: Iterable[int],
+    key_name: Callable[[int], str],
+    named: Optional[NamedTransaction] = None,
+    is_undone: bool = False,
+) -> Logged:
+    """A transaction of a script, or what an attempt did that was aborted, as version 2 has it. One
+    that did nothing may be such an attempt, which its names tell where it has some."""
+
+    def deed_of(key: int, *source: Any) -> Any:
+        if not source:
+            return (key_name(key),)
+        return (key_name(key), "init" if source[0] == "init" else tuple(source))
+
+    sources = [deed_of(*read) for read in reads]
+    written_keys = tuple(map(key_name, keys))
+    outcome, texts, where = "committed", [], ""
+    if named is not None:
+        outcome, where = named.outcome, named.where
+        texts = [(deed_of(*deed), text) for deed, text in named.texts]
+    if is_undone:
+        return Logged((), (), ABORTED, texts, (), 0.0, where, sources, written_keys)
+    return Logged(sources, written_keys, outcome, texts, caller=where)
+
+
+class ScriptRun:
+    """The auditor, which is given a script line by line. Not for several threads."""
+
+    def __init__(
+        self, program: str, most_nodes: int = MORE[1][0], names: Optional[ScriptNames] = None
+    ) -> None:
+        """`most_nodes` is the greatest budget that a spent round is given again with; `names` are
+        those of the script's transactions and keys, where there are some."""
+        self.most_nodes = most_nodes
+        self.history = ScriptHistory(names or ScriptNames(""))
+        self.verdict: Verdict | None = None  # the last one
+        self.no_cut_lines: List[int] = []  # where `truncate` found nothing to forget
+        self.is_resumed = False  # it began with what an earlier run had given out
+        self._is_open = False
+        self._round_is_open = False
+        self._has_more = False  # something was accepted since the last verdict
+        self.path = program
+        self._program = subprocess.Popen(
+            [program], stdin=subprocess.PIPE, stdout=subprocess.PIPE, stderr=subprocess.PIPE
+        )
+
+    def verdicts(self, lines: Iterable[bytes]) -> Iterator[Verdict]:
+        """Gives the lines to the auditor, and yields each round's verdict as it comes; a round is
+        put at the end where something came behind the last one. A verdict of a script that resumes
+        another is one of every history that the parts stand for. Raises ScriptMistakeError at the
+        first line that is refused, and ProgramEndedError where the program ends."""
+        number = 0
+        for number, line in enumerate(lines, 1):
+            text = line.rstrip(b"\n")
+            if text.strip():
+                reply = self._ask(text, number)
+                yield from self._taken(json.loads(text), reply, number)
+        if not self._is_open:
+            begins = 'a script begins with ["open",..], or by ["resume",..] up to ["resumed"]'
+            raise ScriptMistakeError(number, "nothing", begins)
+        if self._round_is_open:
+            yield from self._taken(["finish", 4096, 0, 1], self._ask_for("finish", 4096, 0, 1), 0)
+        if self._has_more or self.verdict is None:
+            yield from self._taken(["round", 4096, 0, 1], self._ask_for("round", 4096, 0, 1), 0)
+
+    def _taken(self, command: List[Any], reply: List[Any], number: int) -> Iterator[Verdict]:
+        """Keeps what the command has done."""
+        if reply[0] == "no":  # a truncate that found nothing
+            self.no_cut_lines.append(number)
+        elif command[0] in ("open", "resume"):
+            self._is_open, self.is_resumed = command[0] == "open", command[0] == "resume"
+            self.history.begin(command[1])
+        elif command[0] == "marks":
+            self.history.marks = [*command[1]]
+        elif command[0] == "last":
+            self.history.forget((), command[1])
+        elif command[0] == "resumed":
+            self._is_open = True
+        elif command[0] == "offer":
+            self.history.take_in(command[1], command[3])
+            self._has_more = True
+        elif command[0] == "join":
+            self.history.join(command[1], command[-1])
+            self._has_more = True
+        elif command[0] == "begin":
+            self._round_is_open, self._has_more = True, False
+        elif reply[0] == "cut":
+            self.history.forget(reply[2], reply[3])
+        if reply[0] == "report":
+            self._round_is_open = False
+            if command[0] == "round":  # what came while a round was open isn't in its report
+                self._has_more = False
+            nodes = 0 if command[0] == "answer" else command[1]  # handed in, without a search
+            self.verdict = self._decided(nodes, reply, number)
+            yield self.verdict
+
+    def _decided(self, nodes: int, reply: List[Any], number: int) -> Verdict:
+        """The verdict; a round that was spent is given again with more."""
+        rounds = 1
+        for more, depth, workers in MORE:
+            if reply[2] != "spent":
+                break
+            if nodes < more <= self.most_nodes:
+                nodes, rounds, self._has_more = more, rounds + 1, False
+                reply = self._ask_for("round", more, depth, workers)
+        return Verdict(
+            reply[2], number, reply[3], reply[4] if len(reply) > 4 else [], nodes, rounds
+        )
+
+    def _ask_for(self, *words: Any) -> List[Any]:
+        return self._ask(json.dumps(words).encode(), 0)
+
+    def _ask(self, text: bytes, number: int) -> List[Any]:
+        """The reply; a refusal that is no mistake is handed on."""
+        for wait in (*WAITS, None):
+            reply = self._reply_to(text)
+            if reply[0] != "no" or reply[2] == "NoCut":
+                return reply
+            if reply[2] == "BadLine" and OPENS_FORM.match(text):
+                raise ProgramTooOldError(f"{self.path} {TOO_OLD}")
+            if reply[2] != "NoMemory":
+                raise ScriptMistakeError(number, reply[2], ADVICE.get(reply[2], ""))
+            if wait:
+                time.sleep(wait)
+        raise ProgramEndedError(f"line {number} was refused memory, also when it was given again")
+
+    def _reply_to(self, text: bytes) -> List[Any]:
+        pipes = self._program.stdin, self._program.stdout
+        assert pipes[0] is not None and pipes[1] is not None
+        try:
+            pipes[0].write(text + b"\n")
+            pipes[0].flush()
+            answer = pipes[1].readline()
+        except OSError as error:
+            raise ProgramEndedError(f"the auditor can't be reached: {error}") from error
+        if not answer:
+            raise ProgramEndedError(f"the auditor ended with status {self._program.wait()}")
+        reply: List[Any] = json.loads(answer)
+        return reply
+
+    def end(self) -> None:
+        """Ends the program."""
+        for pipe in (self._program.stdin, self._program.stdout, self._program.stderr):
+            try:
+                if pipe is not None:
+                    pipe.close()
+            except OSError:
+                pass
+        self._program.wait()
+
+    def __enter__(self) -> "ScriptRun":
+        return self
+
+    def __exit__(self, *_: object) -> None:
+        self.end()

@@ -1,0 +1,235 @@
+"""A story's transactions on a time line by session, as SVG: a lane for each session, time to the
+right, and an arc from what comes before to what comes after. What was aborted is dashed, and so is
+a read of it. Nothing in it is from outside."""
+
+from __future__ import annotations
+
+from dataclasses import dataclass
+from html import escape
+from typing import Dict, List, Mapping, Sequence, Tuple
+
+from ..core._records import ABORTED, TransactionId
+from ._report import IN_ONE_SESSION, Link, Step, Story
+
+WIDTH, GAP, LANE_GAP = 210.0, 130.0, 76.0  # of a box, and between boxes, in the picture's units
+LINE, PADDING, LEFT = 18.0, 8.0, 100.0
+MOST_LETTERS = 30  # of a line in a box
+Point = Tuple[float, float]
+
+
+@dataclass(frozen=True)
+class Box:
+    """Where a transaction stands."""
+
+    left: float
+    top: float
+    height: float
+
+    @property
+    def middle(self) -> Point:
+        return self.left + WIDTH / 2, self.top + self.height / 2
+
+    def edge_towards(self, point: Point) -> Point:
+        """Where the way from the middle to this point leaves the box."""
+        (x, y), (to_x, to_y) = self.middle, point
+        across, down = to_x - x, to_y - y
+        if not across and not down:
+            return x, y
+        share = min(
+            WIDTH / 2 / abs(across) if across else 9e9,
+            self.height / 2 / abs(down) if down else 9e9,
+        )
+        return x + across * share, y + down * share
+
+
+def columns_of(steps: Sequence[Step]) -> Dict[TransactionId, int]:
+    """How far right each transaction stands: behind what it comes after by its session and by its
+    reads, as far as these go round in no circle."""
+    shown = [step.id for step in steps]
+    before: Dict[TransactionId, List[TransactionId]] = {one: [] for one in shown}
+    for one, following in zip(shown, shown[1:]):
+        if one[0] == following[0]:
+            before[following].append(one)
+    for step in steps:
+        before[step.id] += [source for source in step.sources if source in before]
+    found: Dict[TransactionId, int] = {}
+    left = list(shown)
+    while left:
+        ready = [one for one in left if all(other in found for other in before[one])]
+        for one in ready or [min(left, key=lambda it: (it[1], it[0]))]:
+            own = [found[other] for other in before[one] if other in found]
+            found[one] = max(own, default=-1) + 1
+            left.remove(one)
+    return found
+
+
+def boxes_of(story: Story) -> Dict[TransactionId, Box]:
+    """Where each transaction stands."""
+    columns = columns_of(story.steps)
+    lanes = sorted({step.id[0] for step in story.steps})
+    tops: Dict[int, float] = {}
+    top = LANE_GAP / 2
+    for lane in lanes:
+        tops[lane] = top
+        top += max(_height(step) for step in story.steps if step.id[0] == lane) + LANE_GAP
+    return {
+        step.id: Box(LEFT + columns[step.id] * (WIDTH + GAP), tops[step.id[0]], _height(step))
+        for step in story.steps
+    }
+
+
+def _height(step: Step) -> float:
+    return 2 * PADDING + LINE * (1 + len(_told(step)))
+
+
+def _told(step: Step) -> List[str]:
+    """The lines of its box."""
+    told = [deed.text for deed in step.deeds]
+    if step.outcome == ABORTED:
+        return [*told, ABORTED]
+    return told or ["did nothing that matters here"]
+
+
+def draw_story(story: Story) -> str:
+    """The picture, as an `svg` element; an empty text where there is nothing to draw."""
+    if not story.steps:
+        return ""
+    boxes = boxes_of(story)
+    arcs: List[Tuple[bool, str]] = []
+    points: List[Point] = []
+    for number, link in enumerate(story.links or _reads(story.steps), 1):
+        if link.start in boxes and link.end in boxes:
+            text, its = _arc(link, boxes, number if story.links else 0)
+            arcs.append((link.is_of_circle, text))
+            points += its
+    for box in boxes.values():
+        points += [(box.left, box.top), (box.left + WIDTH, box.top + box.height)]
+    left, right = min(x for x, _ in points + [(4.0, 0.0)]) - 8, max(x for x, _ in points) + 24
+    top, bottom = min(y for _, y in points) - 18, max(y for _, y in points) + 18
+    about = "Transactions on a time line by session: " + "; ".join(
+        f"{step.name} " + ", ".join(deed.text for deed in step.deeds) for step in story.steps
+    )
+    return "\n".join(
+        [
+            f'<svg class="timeline" role="img" viewBox="{left:.0f} {top:.0f} {right - left:.0f} '
+            f'{bottom - top:.0f}" width="{right - left:.0f}" height="{bottom - top:.0f}">',
+            f"<title>{escape(about)}</title>",
+            _ends_of_arcs(),
+            *_lanes(story, boxes, right),
+            *(text for is_red, text in arcs if not is_red),
+            *(_box(step, boxes[step.id]) for step in story.steps),
+            *(text for is_red, text in arcs if is_red),
+            "</svg>",
+        ]
+    )
+
+
+def _reads(steps: Sequence[Step]) -> List[Link]:
+    """From whom each transaction read: what is drawn where there is no one circle."""
+    names = {step.id: step.name for step in steps}
+    aborted = {step.id for step in steps if step.outcome == ABORTED}
+
+    def told(one: TransactionId) -> str:
+        return f"{names[one]}, which had aborted" if one in aborted else names[one]
+
+    return [
+        Link(source, step.id, f"{step.name} read from {told(source)}", False, source in aborted)
+        for step in steps
+        for source in dict.fromkeys(step.sources)
+        if source in names
+    ]
+
+
+def _ends_of_arcs() -> str:
+    heads = [("red", "circle-head"), ("grey", "other-head")]
+    return (
+        "<defs>"
+        + "".join(
+            f'<marker id="{colour}-head" viewBox="0 0 10 10" refX="9" refY="5" markerWidth="7" '
+            f'markerHeight="7" orient="auto-start-reverse"><path class="{name}" '
+            'd="M0 0L10 5L0 10z"/></marker>'
+            for colour, name in heads
+        )
+        + "</defs>"
+    )
+
+
+def _lanes(story: Story, boxes: Mapping[TransactionId, Box], right: float) -> List[str]:
+    found = []
+    for lane in sorted({step.id[0] for step in story.steps}):
+        its = [boxes[step.id] for step in story.steps if step.id[0] == lane]
+        y = its[0].top + PADDING + LINE / 2
+        found.append(f'<line class="lane" x1="4" x2="{right - 8:.0f}" y1="{y:.1f}" y2="{y:.1f}"/>')
+        found.append(f'<text class="session" x="4" y="{y - 7:.1f}">session {lane}</text>')
+    return found
+
+
+def _box(step: Step, box: Box) -> str:
+    deeds = _told(step)
+    lines = "".join(
+        f'<text class="deed" x="{box.left + PADDING:.1f}" '
+        f'y="{box.top + PADDING + LINE * (at + 1.7):.1f}">{escape(_short(deed))}</text>'
+        for at, deed in enumerate(deeds)
+    )
+    run = [deed.statement for deed in step.deeds if deed.statement]
+    more = f"{step.name}: {'; '.join(run or deeds)}"
+    dashed = " aborted" if step.outcome == ABORTED else ""
+    return (
+        f'<g class="transaction{dashed}"><title>{escape(more)}</title>'
+        f'<rect x="{box.left:.1f}" y="{box.top:.1f}" width="{WIDTH:.0f}" '
+        f'height="{box.height:.1f}" rx="6"/>'
+        f'<text class="name" x="{box.left + PADDING:.1f}" '
+        f'y="{box.top + PADDING + LINE * 0.75:.1f}">{escape(step.name)}</text>{lines}</g>'
+    )
+
+
+def _short(text: str) -> str:
+    return text if len(text) <= MOST_LETTERS else text[: MOST_LETTERS - 1] + "…"
+
+
+def _arc(link: Link, boxes: Mapping[TransactionId, Box], number: int) -> Tuple[str, List[Point]]:
+    """The arc, with a number unless that is 0, and what it reaches. One that leads to the right in
+    another lane swings over; any other bends to its right, so that opposite ones stand apart."""
+    start, end = boxes[link.start], boxes[link.end]
+    (x, y), (to_x, to_y) = start.middle, end.middle
+    if to_x > x + WIDTH and abs(to_y - y) > 1:
+        first, last = (start.left + WIDTH, y), (end.left, to_y)
+        swing = max(70.0, (last[0] - first[0]) * 0.5)
+        way = f"C{first[0] + swing:.1f} {y:.1f} {last[0] - swing:.1f} {to_y:.1f}"
+        middle = (first[0] + last[0]) / 2, (y + to_y) / 2
+    else:
+        bent = _bent(start.middle, end.middle, link.why == IN_ONE_SESSION)
+        first, last = start.edge_towards(bent), end.edge_towards(bent)
+        way = f"Q{bent[0]:.1f} {bent[1]:.1f}"
+        middle = (
+            first[0] / 4 + bent[0] / 2 + last[0] / 4,
+            first[1] / 4 + bent[1] / 2 + last[1] / 4,
+        )
+    kind, colour = ("circle", "red") if link.is_of_circle else ("other", "grey")
+    kind += " aborted" if link.is_of_aborted else ""
+    badge = (
+        f'<circle cx="{middle[0]:.1f}" cy="{middle[1]:.1f}" r="11"/>'
+        f'<text class="number" x="{middle[0]:.1f}" y="{middle[1] + 4.5:.1f}">{number}</text>'
+    )
+    text = (
+        f'<g class="arc {kind}"><title>{f"{number}. " if number else ""}{escape(link.why)}</title>'
+        f'<path d="M{first[0]:.1f} {first[1]:.1f}{way} {last[0]:.1f} {last[1]:.1f}" '
+        f'marker-end="url(#{colour}-head)"/>{badge if number else ""}</g>'
+    )
+    return text, [first, last, (middle[0] - 12, middle[1] - 12), (middle[0] + 12, middle[1] + 12)]
+
+
+def _bent(start: Point, end: Point, is_in_one_session: bool) -> Point:
+    """The point towards which the arc bends."""
+    (x, y), (to_x, to_y) = start, end
+    across, down = to_x - x, to_y - y
+    length = max(1.0, (across**2 + down**2) ** 0.5)
+    if is_in_one_session and abs(across) < WIDTH + GAP + 1:
+        bend = 0.0
+    elif abs(across) < 1:  # above one another
+        bend = WIDTH * 0.62
+    elif abs(down) < 1:  # side by side
+        bend = 50 + 0.28 * length
+    else:
+        bend = 0.2 * length
+    return (x + to_x) / 2 - down / length * bend, (y + to_y) / 2 + across / length * bend

@@ -1,0 +1,62 @@
+"""A violation, told to a person."""
+
+from __future__ import annotations
+
+import time
+from typing import Callable, Iterable
+
+from ..core._circumstances import circumstances
+from ..core._records import History, Names, TransactionId
+from ..program._binaries import PROGRAM
+from ._graphviz import draw
+from ._reasons import Explanation, explain_history
+from ._shrinking import SECONDS, audited, name, smaller, words
+
+
+def tell_violation(
+    history: History,
+    path: str,
+    called: Names = name,
+    tell: Callable[[str], object] = print,
+    seconds: float = SECONDS,
+    program: str = PROGRAM,
+    known: Iterable[TransactionId] = (),
+) -> History:
+    """Tells what is left of a violated history without what it is violated without, and why no
+    order explains it; then writes that as path.jsonl for cobra_audit, and draws it. What can't be
+    written is told as well, when everything else has been. Gives the small history. `known` is what
+    a refutation of the history names, where one is at hand."""
+    ends = time.monotonic() + seconds
+    small = smaller(history, program, max(0.0, ends - time.monotonic()), known)
+    tell("violated: of what was logged, no order explains this part, each client's own order kept:")
+    for line in words(small, called):
+        tell(f"  {line}")
+    seen = [*circumstances(small, called)]
+    if seen:
+        tell("as the clients saw it")
+    for line in seen:
+        tell(f"  {line}")
+    explanation = explain_history(small, called, max(0.5, ends - time.monotonic()))
+    tell("because")
+    for line in explanation.lines:
+        tell(f"  {line}")
+    for write in (write_script, draw_picture):
+        try:
+            tell(write(small, path, called, explanation, program))
+        except Exception as error:  # as where the disk is full: what was found has been told
+            tell(f"({path} can't be written: {error})")
+    return small
+
+
+def write_script(
+    small: History, path: str, called: Names, explanation: Explanation, program: str
+) -> str:
+    with open(f"{path}.jsonl", "w", encoding="utf-8") as file:
+        file.write(audited(small, program)[1])
+    return f"(cobra_audit < {path}.jsonl says so again)"
+
+
+def draw_picture(
+    small: History, path: str, called: Names, explanation: Explanation, program: str
+) -> str:
+    return f"(drawn: {', '.join(draw(small, path, called, explanation.arcs))})"

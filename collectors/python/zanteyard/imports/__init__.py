@@ -1,0 +1,1 @@
+"""Histories that other tools have saved, made scripts of (docs/IMPORT.md)."""

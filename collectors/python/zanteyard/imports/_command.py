@@ -1,0 +1,118 @@
+"""The command `zanteyard import`: makes a script of a history that another tool has saved."""
+
+from __future__ import annotations
+
+import argparse
+import os
+from dataclasses import dataclass
+from typing import Any, Callable, Mapping, Optional
+
+from ..core.errors import ImportRefusedError
+from ..explain._script_names import write_names
+from ._jepsen import read_jepsen
+from ._recording import Recording
+from ._script import Imported, script_of
+from ._sessions import read_csv, read_dbcop, read_polysi
+from ._times import EVERY
+
+
+@dataclass(frozen=True)
+class Form:
+    """One form of files. `read` makes a Recording of a text."""
+
+    about: str
+    read: Callable[..., Recording]
+    has_initial: bool = False  # whether it can be told which value keys have at first
+
+
+FORMS: Mapping[str, Form] = {
+    "jepsen-registers": Form(
+        "Jepsen's transactions of reads and writes, as EDN or JSON",
+        lambda text: read_jepsen(text, "jepsen-registers", False),
+    ),
+    "jepsen-lists": Form(
+        "Jepsen's transactions of reads and appends to lists, as EDN or JSON",
+        lambda text: read_jepsen(text, "jepsen-lists", True),
+    ),
+    "dbcop": Form("dbcop's sessions, as JSON", read_dbcop, True),
+    "polysi": Form("PolySI's reads and writes, a line each", read_polysi, True),
+    "csv": Form("lines of session,number,operation,key,value", read_csv, True),
+}
+
+
+def add_arguments(command: argparse.ArgumentParser) -> None:
+    """What the command takes."""
+    forms = "; ".join(f"{name}: {form.about}" for name, form in FORMS.items())
+    command.add_argument("form", choices=tuple(FORMS), metavar="FORM", help=forms)
+    command.add_argument("file", metavar="FILE", help="the history, in UTF-8")
+    command.add_argument(
+        "-o", dest="script", metavar="SCRIPT", required=True, help="where the script is written"
+    )
+    command.add_argument(
+        "--initial",
+        metavar="VALUE",
+        help="the value that keys are read as before they are written: dbcop and polysi 0, csv "
+        "nothing; the others have nil",
+    )
+    command.add_argument(
+        "--first",
+        type=_count,
+        metavar="N",
+        help="takes the first N attempts of the file alone; what isn't violated is then pending",
+    )
+    _add_realtime(command)
+
+
+def _add_realtime(command: argparse.ArgumentParser) -> None:
+    command.add_argument(
+        "--realtime",
+        action="store_true",
+        help="asks for the order of time as well, at moments at which nothing was in flight: more "
+        "than serializability, and room for more than 4,096 transactions",
+    )
+
+
+def _count(text: str) -> int:
+    found = int(text)
+    if found < 1:
+        raise argparse.ArgumentTypeError("1 or more")
+    return found
+
+
+def run(asked: Any) -> int:
+    """Writes the script and its names, and tells what was done; gives 0. Raises ImportRefusedError
+    where nothing sound can be made of the file, and writes nothing then."""
+    text = _text_of(asked.file)
+    imported = import_text(asked.form, text, asked.first, asked.initial, asked.realtime)
+    with open(asked.script, "w", encoding="utf-8") as file:
+        file.writelines(f"{line}\n" for line in imported.lines)
+    write_names(imported.names, asked.script)
+    print(f"{asked.script}: {imported.about[0]}")
+    for line in imported.about[1:]:
+        print(f"  {line}")
+    return 0
+
+
+def import_text(
+    form: str,
+    text: str,
+    first: Optional[int] = None,
+    initial: Optional[str] = None,
+    asks_time: bool = False,
+) -> Imported:
+    """The script of a file's text. Raises ImportRefusedError."""
+    its = FORMS[form]
+    if initial is not None and not its.has_initial:
+        raise ImportRefusedError(0, f"in {form} the initial state is nil, and nothing else")
+    recording = its.read(text) if initial is None else its.read(text, initial)
+    return script_of(recording, first, asks_time, EVERY)
+
+
+def _text_of(path: str) -> str:
+    with open(path, "rb") as file:
+        whole = file.read()
+    try:
+        return whole.decode("utf-8-sig")
+    except UnicodeDecodeError as error:
+        line = whole.count(b"\n", 0, error.start) + 1
+        raise ImportRefusedError(line, f"{os.path.basename(path)} is no UTF-8") from error

@@ -1,0 +1,180 @@
+"""Reads EDN, the text form of Clojure's data: strictly, and with the line of each map.
+
+Saved histories are full of what an import has no use for (exceptions, sets of nodes, floats), so
+that all of EDN is read, and what can't be told apart by its text stays as it was written.
+"""
+
+from __future__ import annotations
+
+import re
+from dataclasses import dataclass
+from typing import Any, Dict, Iterator, List, Tuple
+
+from ..core.errors import ImportRefusedError
+
+DEEPEST = 100  # forms within forms
+SPACE = re.compile(r"(?:[\s,]|;[^\n]*)*")
+TOKEN = re.compile(r"[^\s,;()\[\]{}\"]+")
+CHARACTER = re.compile(r"\\(?:[^\s\w]|\w+)")
+TEXT = re.compile(r'"((?:[^"\\]|\\.)*)"', re.DOTALL)
+ESCAPE = re.compile(r"\\(?:u([0-9a-fA-F]{4})|(.))", re.DOTALL)
+ESCAPED = {"t": "\t", "r": "\r", "n": "\n", "b": "\b", "f": "\f", '"': '"', "\\": "\\"}
+WHOLE = re.compile(r"[+-]?(?:0|[1-9][0-9]{0,99})N?")
+CLOSING = {"(": ")", "[": "]", "{": "}"}
+
+
+@dataclass(frozen=True)
+class Keyword:
+    """`:name`"""
+
+    name: str
+
+
+@dataclass(frozen=True)
+class Opaque:
+    """What is kept as it was written: a symbol, a truth value, a number with a point, a character;
+    a set, and what stands behind a tag."""
+
+    text: str
+
+
+@dataclass(frozen=True)
+class EdnMap:
+    """A map, and the line on which it begins, from 1. Its items are in the file's order."""
+
+    line: int
+    items: Tuple[Tuple[Any, Any], ...]
+
+    def get(self, name: str) -> Any:
+        """What stands at the keyword; None where nothing does."""
+        return next((value for key, value in self.items if key == Keyword(name)), None)
+
+
+class EdnReader:
+    """Values are None for nil, int, str, Keyword, Opaque, EdnMap, and tuples for vectors and lists.
+    Raises ImportRefusedError with the line of what is no EDN."""
+
+    def __init__(self, text: str) -> None:
+        self._text = text
+        self._at = 0
+        self._line, self._counted = 1, 0  # the line of the place up to which lines were counted
+
+    def forms(self) -> Iterator[Tuple[int, Any]]:
+        """Each form at the top, behind the line on which it begins."""
+        while not self._is_over():
+            line = self._line_here()
+            found = self._form(0)
+            if found:
+                yield line, found[0]
+
+    def _is_over(self) -> bool:
+        self._at = self._end_of(SPACE)
+        return self._at >= len(self._text)
+
+    def _end_of(self, pattern: "re.Pattern[str]") -> int:
+        found = pattern.match(self._text, self._at)
+        return found.end() if found else self._at
+
+    def _line_here(self) -> int:
+        self._line += self._text.count("\n", self._counted, self._at)
+        self._counted = self._at
+        return self._line
+
+    def _refused(self, why: str) -> ImportRefusedError:
+        return ImportRefusedError(self._line_here(), why)
+
+    def _form(self, depth: int) -> List[Any]:
+        """The next form, in a list; an empty list where it was discarded by `#_`."""
+        if depth > DEEPEST:
+            raise self._refused(f"forms stand more than {DEEPEST} deep in one another")
+        if self._is_over():
+            raise self._refused("the file ends within a form")
+        start = self._text[self._at]
+        if start in CLOSING:
+            return [self._collection(start, depth)]
+        if start == '"':
+            return [self._string()]
+        if start == "\\":
+            return [Opaque(self._taken(CHARACTER, "a character"))]
+        if start == "#":
+            return self._dispatched(depth)
+        if start in ")]}":
+            raise self._refused(f"{start} closes nothing")
+        return [scalar_of(self._taken(TOKEN, "a word"))]
+
+    def _taken(self, pattern: "re.Pattern[str]", what: str) -> str:
+        end = self._end_of(pattern)
+        if end == self._at:
+            raise self._refused(f"{what} is missing")
+        start, self._at = self._at, end
+        return self._text[start:end]
+
+    def _string(self) -> str:
+        found = TEXT.match(self._text, self._at)
+        if not found:
+            raise self._refused("a string has no end")
+        for escape in ESCAPE.finditer(found[1]):
+            if escape[2] and escape[2] not in ESCAPED:
+                raise self._refused(f"\\{escape[2]} stands for nothing in a string")
+        self._at = found.end()
+        return ESCAPE.sub(
+            lambda it: chr(int(it[1], 16)) if it[1] else ESCAPED[it[2]], found[1]
+        )
+
+    def _dispatched(self, depth: int) -> List[Any]:
+        """What begins with `#`: a set, something discarded, or a tag and its value. A tagged map
+        is taken for the map."""
+        start = self._at
+        self._at += 1
+        if self._text.startswith("{", self._at):
+            self._many("{", depth)
+            return [Opaque(self._text[start : self._at])]
+        if self._text.startswith("_", self._at):
+            self._at += 1
+            while not self._form(depth + 1):
+                pass
+            return []
+        tag = self._taken(TOKEN, "a tag")
+        if not tag[0].isalpha():
+            raise self._refused(f"#{tag} is no tag")
+        found: List[Any] = []
+        while not found:
+            found = self._form(depth + 1)
+        return found if isinstance(found[0], EdnMap) else [Opaque(self._text[start : self._at])]
+
+    def _many(self, opening: str, depth: int) -> List[Any]:
+        line = self._line_here()
+        self._at += 1
+        found: List[Any] = []
+        while True:
+            if self._is_over():
+                raise ImportRefusedError(line, f"what {opening} opens here has no end")
+            if self._text[self._at] == CLOSING[opening]:
+                self._at += 1
+                return found
+            found += self._form(depth + 1)
+
+    def _collection(self, opening: str, depth: int) -> Any:
+        line = self._line_here()
+        found = self._many(opening, depth)
+        if opening != "{":
+            return tuple(found)
+        if len(found) % 2:
+            raise ImportRefusedError(line, "a map has a key without a value")
+        items: Dict[Any, Any] = {}
+        for key, value in zip(found[::2], found[1::2]):
+            if key in items:
+                raise ImportRefusedError(line, "a map has a key twice")
+            items[key] = value
+        return EdnMap(line, tuple(items.items()))
+
+
+def scalar_of(text: str) -> Any:
+    """Of a word without a delimiter in it."""
+    if text == "nil":
+        return None
+    if text[0] == ":" and len(text) > 1:
+        return Keyword(text[1:])
+    if WHOLE.fullmatch(text):
+        return int(text.rstrip("N"))
+    return Opaque(text)

@@ -1,0 +1,93 @@
+"""Reads JSON strictly, and with the line of each element of an array."""
+
+from __future__ import annotations
+
+import json
+import re
+from typing import Any, Dict, Iterator, List, NoReturn, Tuple
+
+from ..core.errors import ImportRefusedError
+
+SPACE = re.compile(r"[ \t\r\n]*")
+
+
+def _object(pairs: List[Tuple[str, Any]]) -> Dict[str, Any]:
+    found = dict(pairs)
+    if len(found) != len(pairs):
+        raise ValueError("an object has a name twice")
+    return found
+
+
+def _refuse(text: str) -> NoReturn:
+    raise ValueError(f"{text} is no JSON")
+
+
+DECODER = json.JSONDecoder(object_pairs_hook=_object, parse_constant=_refuse)
+
+
+class JsonReader:
+    """The values of a text, each with the line on which it begins, from 1. Raises
+    ImportRefusedError with the line of what is no JSON."""
+
+    def __init__(self, text: str) -> None:
+        self._text = text
+        self._at = 0
+        self._line, self._counted = 1, 0
+
+    def elements(self) -> Iterator[Tuple[int, Any]]:
+        """The elements of the array that the text is; or where it is none, its values, one behind
+        another."""
+        self._skip()
+        if not self._text.startswith("[", self._at):
+            while self._at < len(self._text):
+                yield self.value()
+            return
+        self._at += 1
+        self._skip()
+        is_first = True
+        while not self._text.startswith("]", self._at):
+            if not is_first:
+                self._take(",")
+            is_first = False
+            yield self.value()
+        self._take("]")
+        if self._at < len(self._text):
+            raise self._refused("something stands behind the array")
+
+    def is_over(self) -> bool:
+        """Whether nothing stands behind what was read."""
+        return self._at >= len(self._text)
+
+    def value(self) -> Tuple[int, Any]:
+        """The next value."""
+        self._skip()
+        line = self._line_here()
+        try:
+            found, self._at = DECODER.raw_decode(self._text, self._at)
+        except (ValueError, RecursionError) as error:
+            at = getattr(error, "pos", self._at)
+            why = getattr(error, "msg", str(error))
+            raise ImportRefusedError(
+                self._text.count("\n", 0, at) + 1, f"this is no JSON: {why}"
+            ) from error
+        self._skip()
+        return line, found
+
+    def _take(self, sign: str) -> None:
+        if not self._text.startswith(sign, self._at):
+            raise self._refused(f"{sign} is missing")
+        self._at += 1
+        self._skip()
+
+    def _skip(self) -> None:
+        found = SPACE.match(self._text, self._at)
+        assert found is not None
+        self._at = found.end()
+
+    def _line_here(self) -> int:
+        self._line += self._text.count("\n", self._counted, self._at)
+        self._counted = self._at
+        return self._line
+
+    def _refused(self, why: str) -> ImportRefusedError:
+        return ImportRefusedError(self._line_here(), f"this is no JSON: {why}")

@@ -1,0 +1,451 @@
+"""Makes a script of a recording whose sources are known: which transactions are offered, in which
+sessions, under which numbers, and the names that they are told by."""
+
+from __future__ import annotations
+
+import json
+from dataclasses import dataclass, field, replace
+from typing import Any, Dict, Iterator, List, Optional, Sequence, Set, Tuple, Union
+
+from ..core._own_keys import FORM
+from ..core._records import TransactionId
+from ..core.errors import ImportRefusedError
+from ..explain._script_names import NamedTransaction, ScriptNames
+from ._recording import ABORTED, APPEND, COMMITTED, UNKNOWN, WRITE, Attempt, Recording, counted
+from ._sources import DRAFT, Absent, Origin, Sources, Stub
+from ._times import EVERY, Times, check_times, part_of
+
+SESSIONS = 64
+LIMIT = 4096  # transactions that remain at a time
+LONGEST = 256  # transactions of a line, and reads or writes of a transaction
+NEVER_OFFERED = 1_000_000_000  # numbers from here on are those of transactions that don't come
+ROUND = ["round", 4096, 0, 1]
+REST = "the rest of the file"  # a key that stands for what wasn't imported
+
+
+@dataclass(frozen=True)
+class Fence:
+    """One that a session makes at a pause: as its first there, or its second."""
+
+    pause: int  # from 1
+    session: int
+    is_first: bool
+
+    def name(self) -> str:
+        """How it is told."""
+        return f"{'before' if self.is_first else 'after'} pause {self.pause} in {self.session}"
+
+
+Item = Union[int, Stub, Fence]  # an attempt's place, or what wrote nothing, or a fence
+
+
+@dataclass(frozen=True)
+class Imported:
+    """A script, the names of what it is about, and what was done with the file in words."""
+
+    lines: Tuple[str, ...]
+    names: ScriptNames
+    about: Tuple[str, ...]
+
+
+@dataclass
+class _Plan:
+    """What is offered: of each session its items in order, and whose they are."""
+
+    sessions: List[List[Item]] = field(default_factory=list)
+    shared: int = 0  # clients that go on in the session of another one
+    by_time: Set[int] = field(default_factory=set)  # sessions in which one does by the file's time
+    fences: List[List[Fence]] = field(default_factory=list)  # of each pause, in their order
+
+    def places(self) -> Dict[Item, TransactionId]:
+        """Of each item its session and number."""
+        return {
+            item: (session, number)
+            for session, items in enumerate(self.sessions)
+            for number, item in enumerate(items)
+        }
+
+
+def script_of(
+    recording: Recording, first: Optional[int] = None, asks_time: bool = False, every: int = EVERY
+) -> Imported:
+    """The script of the whole recording, or of so many attempts from its begin on. With `asks_time`
+    the order of time is asked for, at pauses between which at least so many transactions lie.
+    Raises ImportRefusedError where there is none that is sound, or that the auditor can take."""
+    if asks_time:
+        check_times(recording)
+    return _ScriptMaker(recording, first, asks_time, every).imported()
+
+
+class _ScriptMaker:
+    def __init__(
+        self, recording: Recording, first: Optional[int], asks_time: bool, every: int
+    ) -> None:
+        self._recording = recording
+        self._attempts = recording.attempts
+        self._of = Sources(recording).of
+        self._is_part = first is not None and first < len(self._attempts)
+        self._kept = self._front(first) if first is not None else set(range(len(self._attempts)))
+        self._times = Times(self._attempts, self._of) if asks_time else None  # of the whole file
+        self._pauses = self._times.pauses(every) if self._times else []
+        self._keys: Dict[str, int] = {}
+        self._absent: Dict[object, TransactionId] = {}
+        self._absent_names: Dict[TransactionId, str] = {}
+        self._plan = _Plan()
+        self._places: Dict[Item, TransactionId] = {}
+
+    def _front(self, first: int) -> Set[int]:
+        """The first so many, by the line on which they began or stand."""
+        order = sorted(range(len(self._attempts)), key=self._begin_of)
+        return set(order[:first])
+
+    def _begin_of(self, at: int) -> Tuple[int, int]:
+        return self._attempts[at].began, at
+
+    def imported(self) -> Imported:
+        """All of it."""
+        self._plan = self._planned()
+        self._put_fences()
+        self._places = self._plan.places()
+        offered = [
+            [self._offered(item) for item in items] for items in self._plan.sessions
+        ]
+        if self._is_part:
+            offered[0].append(self._rest())
+        lines = self._lines([[it for it, _ in transactions] for transactions in offered])
+        names = ScriptNames(
+            self._recording.form,
+            {number: key for key, number in self._keys.items()},
+            [[named for _, named in transactions] for transactions in offered],
+            self._absent_names,
+            self._times is not None,
+            tuple(sorted(self._plan.by_time)),
+        )
+        texts = tuple(json.dumps(line, separators=(",", ":")) for line in lines)
+        return Imported(texts, names, tuple(self._about()))
+
+    def _lines(self, offered: List[List[Any]]) -> Iterator[List[Any]]:
+        """The script. Where all doesn't fit there is a round at each pause, behind which what is
+        settled is forgotten; else one at the end."""
+        count = sum(map(len, offered))
+        if count > LIMIT and not self._pauses:
+            raise ImportRefusedError(0, too_many(count))
+        tells_aborted = any(txn[2:] for transactions in offered for txn in transactions)
+        yield ["open", len(offered), min(LIMIT, count), *([FORM] if tells_aborted else [])]
+        given = [0] * len(offered)
+        for pause, fences in enumerate(self._plan.fences):
+            ends = {fence.session: self._places[fence][1] + 1 for fence in fences}
+            if count > LIMIT:
+                self._check_room(sum(ends[it] - given[it] for it in ends), pause)
+            for session, end in ends.items():
+                yield from _offers(session, given[session], offered[session][:end])
+                given[session] = end
+            for session in {fence.session for fence in fences if fence.is_first}:
+                if given[session] == len(offered[session]):
+                    yield ["close", session]
+            if count > LIMIT:
+                yield ROUND
+                yield ["truncate"]
+        if count > LIMIT:
+            self._check_room(count - sum(given), len(self._pauses))
+        for session, transactions in enumerate(offered):
+            yield from _offers(session, given[session], transactions)
+        yield ROUND
+
+    def _check_room(self, count: int, pause: int) -> None:
+        """For so many transactions in front of that pause, counted from 0."""
+        if count > LIMIT - SESSIONS:  # what remains of the pause before are second fences
+            line = self._line_at(self._pauses[pause - 1]) if pause else 1
+            raise ImportRefusedError(
+                line,
+                f"from here on {count:,} transactions come without a moment at which nothing is in "
+                f"flight, and at most {LIMIT:,} remain at a time",
+            )
+
+    def _line_at(self, place: int) -> int:
+        return next(it.line for it in self._attempts if it.began == place)
+
+    def _put_fences(self) -> None:
+        """At each pause every session that has done something makes a fence, one behind another,
+        and then every one that will do something makes a second one."""
+        if not self._pauses:
+            return
+        parts = [self._parts_of(items) for items in self._plan.sessions]
+        self._plan.sessions = [its[0] for its in parts]
+        for pause in range(1, len(self._pauses) + 1):
+            first = [
+                Fence(pause, session, True)
+                for session, its in enumerate(parts)
+                if any(its[:pause]) and (any(its[pause:]) or its[pause - 1])
+            ]
+            second = [
+                Fence(pause, session, False)
+                for session, its in enumerate(parts)
+                if any(its[pause:])
+            ]
+            self._plan.fences.append([*first, *second])
+            for fence in self._plan.fences[-1]:
+                self._plan.sessions[fence.session].append(fence)
+            for session, its in enumerate(parts):
+                self._plan.sessions[session] += its[pause]
+
+    def _parts_of(self, items: List[Item]) -> List[List[Item]]:
+        """A session's items between the pauses."""
+        found: List[List[Item]] = [[] for _ in range(len(self._pauses) + 1)]
+        for item in items:
+            at = item.owner if isinstance(item, Stub) else item
+            assert isinstance(at, int)
+            found[part_of(self._attempts[at].began, self._pauses)].append(item)
+        return found
+
+    def _planned(self) -> _Plan:
+        """Each client in a session of its own; where they are too many, one that certainly comes
+        behind all of another one goes on in its session."""
+        clients = [items for items in self._items_of_clients().values() if items]
+        if not clients:
+            raise ImportRefusedError(0, "nothing was committed, so that nothing can be judged")
+        if len(clients) <= SESSIONS:
+            return _Plan(clients)
+        before = self._known_before()
+        plan = _Plan()
+        for items in clients:
+            is_needed = plan.shared < len(clients) - SESSIONS
+            self._place(items, plan, _all_before(before, items[0]) if is_needed else set())
+        if len(plan.sessions) > SESSIONS:
+            raise ImportRefusedError(
+                0,
+                f"{len(clients)} clients did something, and at most {SESSIONS} sessions can be "
+                f"judged; {plan.shared} of them certainly come behind another one, and can share "
+                f"its session, so that {len(plan.sessions)} are left: fewer of the file's "
+                "transactions can be judged (--first)",
+            )
+        return plan
+
+    def _place(self, items: List[Item], plan: _Plan, before: Set[Item]) -> None:
+        """In the session of one that comes before; `before` is all that does in every order."""
+        for number, session in enumerate(plan.sessions):
+            is_known = session[-1] in before
+            if is_known or (before and self._is_before_in_time(session, items)):
+                session += items
+                plan.shared += 1
+                if self._times is not None:
+                    plan.by_time.add(number)
+                return
+        plan.sessions.append(items[:])
+
+    def _is_before_in_time(self, session: List[Item], items: List[Item]) -> bool:
+        """Whether a pause that is used lies between."""
+        if self._times is None:
+            return False
+        last = [self._times.ended[it] for it in session if isinstance(it, int)]
+        first = [self._times.began[it] for it in items if isinstance(it, int)]
+        if not last or not first:  # what wrote nothing may stand anywhere
+            return True
+        return part_of(max(last), self._pauses) < part_of(min(first), self._pauses)
+
+    def _items_of_clients(self) -> Dict[str, List[Item]]:
+        """Of each client what is offered, in order. Raises ImportRefusedError where a client goes
+        on behind an attempt whose outcome isn't known, and which took effect."""
+        stubs = self._stubs()
+        found: Dict[str, List[Item]] = {}
+        unknown: Dict[str, int] = {}
+        for at, attempt in enumerate(self._attempts):
+            if at not in self._kept:
+                continue
+            its = found.setdefault(attempt.client, [])
+            its += stubs.get(at, ())
+            if at not in self._of:
+                continue
+            if attempt.client in unknown:
+                before = self._attempts[unknown[attempt.client]]
+                raise ImportRefusedError(
+                    attempt.line,
+                    f"this client goes on behind its attempt of line {before.line}, whose outcome "
+                    "it didn't know, and which took effect: nothing tells whether before this one",
+                )
+            if attempt.outcome == UNKNOWN:
+                unknown[attempt.client] = at
+            its.append(at)
+        return found
+
+    def _stubs(self) -> Dict[int, List[Stub]]:
+        """What was read and wasn't there to be read, by its owner."""
+        found: Dict[int, List[Stub]] = {}
+        for at in self._of:
+            if at in self._kept:
+                for _, origin in self._of[at].reads:
+                    if isinstance(origin, Stub) and origin.owner in self._kept:
+                        its = found.setdefault(origin.owner, [])
+                        if origin not in its:
+                            its.append(origin)
+        return found
+
+    def _known_before(self) -> Dict[Item, List[Item]]:
+        """What comes before each transaction in every order: the one before of its client, and
+        those from which it has read."""
+        found: Dict[Item, List[Item]] = {}
+        for items in self._items_of_clients().values():
+            for one, following in zip(items, items[1:]):
+                found.setdefault(following, []).append(one)
+        for at in self._of:
+            if at in self._kept:
+                for _, origin in self._of[at].reads:
+                    if isinstance(origin, int):
+                        found.setdefault(at, []).append(origin)
+        return found
+
+    def _offered(self, item: Item) -> Tuple[List[Any], NamedTransaction]:
+        """A transaction as a line has it, and as it is told."""
+        if isinstance(item, Stub):
+            return self._stub(item)
+        if isinstance(item, Fence):
+            return self._fence(item), NamedTransaction(item.name(), COMMITTED)
+        attempt, its = self._attempts[item], self._of[item]
+        if len(its.reads) > LONGEST or len(its.writes) > LONGEST:
+            raise ImportRefusedError(
+                attempt.line, f"a transaction has at most {LONGEST} reads and {LONGEST} writes"
+            )
+        reads = {
+            (self._key(key), *self._source(origin, item)): text
+            for (key, origin), text in its.reads.items()
+        }
+        writes = {self._key(key): text for key, text in its.writes.items()}
+        texts = [([*read], text) for read, text in sorted(reads.items(), key=_ascending)]
+        texts += [([key], text) for key, text in sorted(writes.items())]
+        offered = [[read for read, _ in texts[: len(reads)]], sorted(writes)]
+        return offered, NamedTransaction(
+            attempt.name, attempt.outcome, tuple(texts), attempt.where
+        )
+
+    def _stub(self, stub: Stub) -> Tuple[List[Any], NamedTransaction]:
+        """With the keys that an attempt wrote, where it was aborted."""
+        named = _named_stub(stub, self._attempts)
+        written = _written(self._attempts[stub.owner]) if stub.kind == ABORTED else {}
+        if not written or len(written) > LONGEST:
+            return [[], []], named
+        texts = sorted((self._key(key), text) for key, text in written.items())
+        named = replace(named, texts=tuple(([key], text) for key, text in texts))
+        return [[], [key for key, _ in texts], ABORTED], named
+
+    def _fence(self, fence: Fence) -> List[Any]:
+        """It reads from the one before it, whoever made that."""
+        row = [it for fences in self._plan.fences for it in fences]
+        at = row.index(fence)
+        source = self._places[row[at - 1]] if at else ("init",)
+        return [[[0, *source]], [0]]
+
+    def _key(self, key: str) -> int:
+        return self._keys.setdefault(key, len(self._keys) + 1)
+
+    def _source(self, origin: Origin, reader: Item) -> Tuple[Any, ...]:
+        """As a read has it."""
+        if origin is None:
+            return ("init",)
+        if not isinstance(origin, Absent) and origin in self._places:
+            return self._places[origin]
+        if isinstance(origin, Absent):
+            name = f"a writer of {origin.value} that isn't in the file"
+        else:
+            owner = origin.owner if isinstance(origin, Stub) else origin
+            name = f"{self._attempts[owner].name}, which isn't in this part of the file"
+        return self._never_offered(origin, name)
+
+    def _never_offered(self, what: object, name: str) -> TransactionId:
+        """The name of a transaction that doesn't come, in a session that isn't open where one is
+        left."""
+        session = min(len(self._plan.sessions), SESSIONS - 1)
+        id = self._absent.setdefault(what, (session, NEVER_OFFERED + len(self._absent)))
+        self._absent_names[id] = name
+        return id
+
+    def _rest(self) -> Tuple[List[Any], NamedTransaction]:
+        """Has the verdict wait for what wasn't imported."""
+        source = self._never_offered(REST, "what isn't in this part of the file")
+        read = [self._key(REST), *source]
+        return [[read], []], NamedTransaction("this part of the file", COMMITTED)
+
+    def _about(self) -> Iterator[str]:
+        """What was done with the file, in words."""
+        kept = [self._attempts[at] for at in self._kept]
+        count = sum(isinstance(it, int) for it in self._places)
+        yield f"{counted(count, 'transaction')} in {counted(len(self._plan.sessions), 'session')}"
+        if self._is_part:
+            yield (
+                f"of {len(self._attempts)} attempts the first {len(kept)} alone: what is violated "
+                "stays so, and all else is pending"
+            )
+        for outcome, told in ((ABORTED, "failed"), (UNKNOWN, "of unknown outcome")):
+            its = [at for at in self._kept if self._attempts[at].outcome == outcome]
+            taken = {at for at in its if at in self._of or Stub(at, ABORTED) in self._places}
+            if its:
+                left = len(its) - len(taken)
+                yield (
+                    f"{counted(len(its), 'attempt')} {told}: {left} left out, from which "
+                    "nobody has read"
+                )
+        if self._recording.unused:
+            yield (
+                f"{counted(self._recording.unused, 'read')} of attempts that failed, or whose "
+                "outcome isn't known: not used"
+            )
+        if self._plan.shared:
+            yield (
+                f"{counted(self._plan.shared, 'client')} in the session of another one, behind "
+                f"which they come in {'time' if self._plan.by_time else 'every order'}"
+            )
+        if self._times is not None:
+            yield (
+                "the order of time is asked for at "
+                f"{counted(sum(map(bool, self._plan.fences)), 'pause')}, which is more than "
+                "serializability"
+            )
+
+
+def _ascending(one: Tuple[Sequence[Any], str]) -> Tuple[int, ...]:
+    key, *source = one[0]
+    return (key, -1, -1) if source[0] == "init" else (key, *source)
+
+
+def _all_before(before: Dict[Item, List[Item]], end: Item) -> Set[Item]:
+    """Whatever leads there."""
+    seen: Set[Item] = {end}
+    waiting = [end]
+    while waiting:
+        for item in before.get(waiting.pop(), ()):
+            if item not in seen:
+                seen.add(item)
+                waiting.append(item)
+    return seen
+
+
+def _offers(session: int, first: int, transactions: List[Any]) -> Iterator[List[Any]]:
+    """The lines that offer a session's transactions, but for so many that were offered before."""
+    for start in range(first, len(transactions), LONGEST):
+        yield ["offer", session, start, transactions[start : start + LONGEST]]
+
+
+def _written(attempt: Attempt) -> Dict[str, str]:
+    """Of each key that it wrote, what the file has for that."""
+    found: Dict[str, List[str]] = {}
+    for access in attempt.accesses:
+        if access.kind in (WRITE, APPEND):
+            found.setdefault(access.key, []).append(access.text)
+    return {key: " ".join(texts) for key, texts in found.items()}
+
+
+def _named_stub(stub: Stub, attempts: Tuple[Attempt, ...]) -> NamedTransaction:
+    owner = attempts[stub.owner]
+    if stub.kind == ABORTED:
+        return NamedTransaction(owner.name, ABORTED, (), owner.where)
+    if stub.kind == DRAFT:
+        return NamedTransaction(f"a part of {owner.name}", "unfinished", (), owner.where)
+    return NamedTransaction("a state that can't be", "impossible")
+
+
+def too_many(count: int) -> str:
+    """Why so many transactions can't be judged at once."""
+    return (
+        f"these are {count:,} transactions, and at most {LIMIT:,} can be judged at a time: more "
+        "takes fences, at which what is settled is forgotten, and nobody ran them; the first so "
+        "many can be judged (--first N)"
+    )

@@ -1,0 +1,215 @@
+"""Histories that are sessions of transactions of reads and writes by value: dbcop's as JSON,
+PolySI's as text, and plain CSV."""
+
+from __future__ import annotations
+
+import csv
+import io
+import re
+from dataclasses import dataclass, field
+from typing import Any, Dict, Iterator, List, Optional, Sequence, Tuple
+
+from ..core.errors import ImportRefusedError
+from ._json import JsonReader
+from ._recording import ABORTED, COMMITTED, READ, UNKNOWN, WRITE
+from ._recording import Access, Attempt, Recording, optional_token, token
+
+HEADER = ["session", "number", "operation", "key", "value"]
+OUTCOMES = {"commit": COMMITTED, "abort": ABORTED, "unknown": UNKNOWN}
+NUMBER = r"-?[0-9]{1,100}"
+POLYSI_LINE = re.compile(rf"([rw])\(({NUMBER}),({NUMBER}),({NUMBER}),({NUMBER})\)")
+WHOLE = re.compile(r"0|[1-9][0-9]{0,99}")
+NO_INITIAL = "what is written here is the value that keys have at first (--initial says which)"
+
+
+def access_of(
+    kind: str, key: str, value: Optional[str], text: str, initial: str, line: int
+) -> Access:
+    """A read that found the initial value, which may not be written, has no value."""
+    if kind == WRITE and (value is None or value == initial):
+        raise ImportRefusedError(line, NO_INITIAL if value else "a write has no value")
+    return Access(kind, key, None if value == initial else value, text)
+
+
+@dataclass
+class _Transaction:
+    """One that is being read."""
+
+    session: str
+    number: str
+    line: int
+    outcome: str = COMMITTED
+    accesses: List[Access] = field(default_factory=list)
+    has_ended: bool = False
+
+
+class _Transactions:
+    """Puts the lines of transactions together. A session has one at a time."""
+
+    def __init__(self) -> None:
+        self._all: List[_Transaction] = []
+        self._last: Dict[str, _Transaction] = {}  # of each session
+
+    def at(self, session: str, number: str, line: int) -> _Transaction:
+        """The transaction that a line is of; a new one where it isn't the session's last."""
+        last = self._last.get(session)
+        if last is None or last.number != number:
+            last = _Transaction(session, number, line)
+            self._last[session] = last
+            self._all.append(last)
+        elif last.has_ended:
+            raise ImportRefusedError(line, "this transaction has ended before")
+        return last
+
+    def last_number(self, session: str) -> Optional[str]:
+        """Of the session's last transaction; None where it has none."""
+        return self._last[session].number if session in self._last else None
+
+    def recording(self, form: str, last_line: int) -> Recording:
+        """Reads of what didn't commit for certain are left out, and counted."""
+        if not self._all:
+            raise ImportRefusedError(max(1, last_line), "the file has no transaction")
+        unused = 0
+        attempts: List[Attempt] = []
+        for one in self._all:
+            accesses = one.accesses
+            if one.outcome != COMMITTED:
+                accesses = [it for it in accesses if it.kind == WRITE]
+            unused += len(one.accesses) - len(accesses)
+            name = f"{one.session}/{one.number}"
+            where = f"line {one.line}" if one.line else ""
+            attempts.append(
+                Attempt(name, one.session, one.outcome, tuple(accesses), one.line, where)
+            )
+        return Recording(form, tuple(attempts), unused=unused)
+
+
+def read_csv(text: str, initial: str = "") -> Recording:
+    """Rows of a session, a number in it, an operation, a key and a value; `initial` is the value
+    that a key is read as before it is written. Raises ImportRefusedError."""
+    rows = csv.reader(io.StringIO(text, newline=""), strict=True)
+    found = _Transactions()
+    line = 0
+    try:
+        for row in rows:
+            first, line = line, rows.line_num
+            if first == 0 and row != HEADER:
+                raise ImportRefusedError(line, f"the first line is {','.join(HEADER)}")
+            if first and row:
+                _csv_row(row, first + 1, found, initial)
+    except csv.Error as error:
+        raise ImportRefusedError(rows.line_num, f"this is no CSV: {error}") from error
+    return found.recording("csv", line)
+
+
+def _csv_row(row: Sequence[str], line: int, found: _Transactions, initial: str) -> None:
+    if len(row) != len(HEADER):
+        raise ImportRefusedError(line, f"a line has {len(HEADER)} fields, and this has {len(row)}")
+    session, number, operation, key, value = row
+    if not session or not WHOLE.fullmatch(number):
+        raise ImportRefusedError(line, "a session has a name, and its transactions whole numbers")
+    before = found.last_number(session)
+    if before is not None and int(number) < int(before):
+        raise ImportRefusedError(line, f"a session's numbers ascend, and {before} came before")
+    one = found.at(session, number, line)
+    if operation in OUTCOMES:
+        if key or value:
+            raise ImportRefusedError(line, f"{operation} has neither key nor value")
+        one.outcome, one.has_ended = OUTCOMES[operation], True
+    elif operation not in (READ, WRITE):
+        known = ", ".join((READ, WRITE, *OUTCOMES))
+        raise ImportRefusedError(line, f"an operation is one of {known}")
+    elif not key:
+        raise ImportRefusedError(line, f"a {operation} has a key")
+    elif not value and (initial or operation == WRITE):
+        raise ImportRefusedError(line, f"this {operation} has no value")
+    else:
+        text = f"line {line}: {operation} {key} {value}".rstrip()
+        one.accesses.append(access_of(operation, key, value, text, initial, line))
+
+
+def read_polysi(text: str, initial: str = "0") -> Recording:
+    """Lines `r(key,value,session,transaction)` and `w(..)`, whole numbers all; a session's lines
+    stand in its order. Raises ImportRefusedError."""
+    found = _Transactions()
+    sessions: Dict[str, str] = {}  # of each transaction
+    number = 0
+    for number, line in enumerate(text.split("\n"), 1):
+        if not line.strip():
+            continue
+        fields = POLYSI_LINE.fullmatch(line.strip())
+        if not fields:
+            raise ImportRefusedError(number, "a line is r(key,value,session,transaction) or w(..)")
+        letter, key, value, session, transaction = fields.groups()
+        key, value, session, transaction = (
+            str(int(it)) for it in (key, value, session, transaction)
+        )
+        if transaction != found.last_number(session) and transaction in sessions:
+            raise ImportRefusedError(
+                number, f"transaction {transaction} is in session {sessions[transaction]}, and has "
+                "ended there"
+            )
+        sessions.setdefault(transaction, session)
+        if sessions[transaction] != session:
+            raise ImportRefusedError(number, f"transaction {transaction} is in two sessions")
+        one = found.at(session, transaction, number)
+        kind = READ if letter == "r" else WRITE
+        told = f"line {number}: {line.strip()}"
+        one.accesses.append(access_of(kind, key, value, told, initial, number))
+    return found.recording("polysi", number)
+
+
+def read_dbcop(text: str, initial: str = "0") -> Recording:
+    """An object whose `data` is a list of sessions, or that list: each a list of transactions with
+    `events` and `success`. Raises ImportRefusedError."""
+    found = _Transactions()
+    last_line = 0
+    for session, (line, transactions) in enumerate(_dbcop_sessions(text)):
+        last_line = line
+        if not isinstance(transactions, list):
+            raise ImportRefusedError(line, "a session is a list of transactions")
+        for number, one in enumerate(transactions):
+            where = f"session {session}, transaction {number}"
+            _dbcop_transaction(one, found.at(str(session), str(number), line), where, initial)
+    return found.recording("dbcop", last_line)
+
+
+def _dbcop_sessions(text: str) -> Iterator[Tuple[int, Any]]:
+    """Each session's line, and what it is; where they stand in an object, the object's line."""
+    reader = JsonReader(text)
+    if text.lstrip()[:1] == "[":
+        yield from reader.elements()
+        return
+    line, whole = reader.value()
+    if not isinstance(whole, dict) or not isinstance(whole.get("data"), list):
+        raise ImportRefusedError(line, "a history is an object whose data is a list of sessions")
+    if not reader.is_over():
+        raise ImportRefusedError(line, "something stands behind the history")
+    yield from ((line, one) for one in whole["data"])
+
+
+def _dbcop_transaction(one: Any, found: _Transaction, where: str, initial: str) -> None:
+    if not isinstance(one, dict) or set(one) != {"events", "success"}:
+        raise ImportRefusedError(found.line, f"{where}: it has events and success")
+    if not isinstance(one["events"], list) or not isinstance(one["success"], bool):
+        raise ImportRefusedError(found.line, f"{where}: events are a list, success true or false")
+    found.outcome = COMMITTED if one["success"] else ABORTED
+    for event in one["events"]:
+        if not isinstance(event, dict) or set(event) != {"write", "variable", "value", "success"}:
+            raise ImportRefusedError(
+                found.line, f"{where}: an event has write, variable, value and success"
+            )
+        if not isinstance(event["write"], bool) or not isinstance(event["success"], bool):
+            raise ImportRefusedError(found.line, f"{where}: write and success are true or false")
+        if not event["success"]:
+            if one["success"]:
+                raise ImportRefusedError(
+                    found.line, f"{where}: it succeeded, and one of its events did not"
+                )
+            if not event["write"]:
+                continue
+        kind = WRITE if event["write"] else READ
+        key = token(event["variable"], found.line, f"{where}: a variable")
+        value = optional_token(event["value"], found.line, f"{where}: a value")
+        text = f"{kind} {key} {'null' if value is None else value}"
+        found.accesses.append(access_of(kind, key, value, text, initial, found.line))

@@ -1,0 +1,182 @@
+"""A journal's file: it is locked, begun anew by one step, and else only appended to.
+
+What is appended outlives this process as soon as it is written, and the machine only from the next
+beginning anew on: that alone is flushed to the disk. Beside the file at PATH stand PATH.lock, which
+stays, and for moments PATH.new.
+"""
+
+from __future__ import annotations
+
+import fcntl
+import logging
+import os
+import weakref
+from typing import Iterable, List, NoReturn, Optional
+
+from ..core.errors import JournalDamagedError, JournalError, JournalInUseError, JournalVersionError
+from ._records import record, records
+
+VERSION = 2
+NAME = b"zanteyard journal "
+FIRST_LINE = NAME + b"%d\n" % VERSION
+EARLIER = NAME + b"1\n"  # in which nothing tells what was aborted; it is as long
+FLAGS = os.O_RDWR | os.O_APPEND | os.O_CLOEXEC
+logger = logging.getLogger("zanteyard")
+
+
+class Journal:
+    """For one thread at a time. Every call raises JournalError where the file can't be written or
+    read; then nothing half-written is left in it."""
+
+    def __init__(self, path: str) -> None:
+        """Raises JournalInUseError where another auditor has it."""
+        self.path = os.path.realpath(path)  # one lock, whatever links lead there
+        self.size = 0  # bytes of the file's whole records
+        self._is_torn = False  # it has more
+        self._file: Optional[int] = None
+        self._lock: Optional[int] = None
+        _journals.add(self)
+        try:
+            self._lock = os.open(f"{self.path}.lock", os.O_RDWR | os.O_CREAT | os.O_CLOEXEC, 0o600)
+            fcntl.flock(self._lock, fcntl.LOCK_EX | fcntl.LOCK_NB)
+        except OSError as error:
+            self.close()
+            if isinstance(error, BlockingIOError):
+                raise JournalInUseError(f"{path}: another auditor has this journal") from error
+            self._fail("can't be locked", error)
+
+    @property
+    def is_there(self) -> bool:
+        """Whether there is a file to go on with."""
+        return os.path.lexists(self.path)
+
+    def read(self) -> List[bytes]:
+        """The texts of all records. What was cut off at the end is left out, which the log tells,
+        and goes as the next are appended. Raises JournalDamagedError and JournalVersionError."""
+        self._let_go()
+        try:
+            self._file = os.open(self.path, FLAGS)
+            with open(self._file, "rb", closefd=False) as file:
+                found = file.read()
+        except OSError as error:
+            self._fail("can't be read", error)
+        if not found.startswith((FIRST_LINE, EARLIER)):
+            raise JournalVersionError(f"{self.path} {_other_version(found)}")
+        texts, self.size = [], len(FIRST_LINE)
+        try:
+            for text, self.size in records(found, self.size):
+                texts.append(text)
+        except JournalDamagedError as error:
+            raise JournalDamagedError(f"{self.path}: {error}; nothing in it is believed") from error
+        self._is_torn = self.size < len(found)
+        if self._is_torn:
+            lost = len(found) - self.size
+            logger.warning("%s: a half-written record, %d bytes, is dropped", self.path, lost)
+        return texts
+
+    def append(self, texts: Iterable[bytes]) -> None:
+        """Behind all that is there, by one write."""
+        assert self._file is not None
+        text = b"".join(map(record, texts))
+        try:
+            if self._is_torn:
+                os.ftruncate(self._file, self.size)  # that asks for no room
+            self._is_torn = True  # where an interrupt comes in between
+            _write(self._file, text)
+            self.size += len(text)
+            self._is_torn = False
+        except OSError as error:
+            self._cut_back()
+            self._fail("can't be written", error)
+
+    def begin_anew(self, texts: Iterable[bytes]) -> None:
+        """In place of all that is there: the file is the one or the other, whatever happens."""
+        new, file = f"{self.path}.new", None
+        try:
+            file = os.open(new, FLAGS | os.O_CREAT | os.O_TRUNC, 0o600)
+            text = FIRST_LINE + b"".join(map(record, texts))
+            _write(file, text)
+            os.fsync(file)
+            os.rename(new, self.path)
+            self._let_go()
+            self._file, self.size, self._is_torn = file, len(text), False
+            flush_folder(os.path.dirname(self.path))
+        except OSError as error:
+            if file is not None and file != self._file:
+                os.close(file)
+                _remove(new)
+            self._fail("can't be written anew", error)
+
+    def set_aside(self) -> str:
+        """What is there stays under another name, which this gives."""
+        self._let_go()
+        names = (f"{self.path}.damaged{more}" for more in ("", *(f".{at}" for at in range(2, 100))))
+        aside = next((name for name in names if not os.path.lexists(name)), f"{self.path}.damaged")
+        try:
+            os.rename(self.path, aside)
+        except OSError as error:
+            self._fail("can't be set aside", error)
+        return aside
+
+    def close(self) -> None:
+        """Another auditor may have it. May be called again."""
+        self._let_go()
+        if self._lock is not None:
+            os.close(self._lock)
+            self._lock = None
+
+    def _cut_back(self) -> None:
+        """To the last whole record."""
+        assert self._file is not None
+        try:
+            os.ftruncate(self._file, self.size)
+            self._is_torn = False
+        except OSError as error:
+            logger.error("%s may end with a half-written record: %s", self.path, error)
+
+    def _let_go(self) -> None:
+        if self._file is not None:
+            os.close(self._file)
+            self._file = None
+
+    def _fail(self, what: str, error: OSError) -> NoReturn:
+        raise JournalError(f"{self.path} {what}: {error.strerror or error}") from error
+
+
+def _write(file: int, text: bytes) -> None:
+    count = os.write(file, text)
+    while count < len(text):
+        count += os.write(file, text[count:])
+
+
+def flush_folder(path: str) -> None:
+    """So that the machine finds the new file under its name."""
+    folder = os.open(path, os.O_RDONLY | os.O_CLOEXEC)
+    try:
+        os.fsync(folder)
+    finally:
+        os.close(folder)
+
+
+def _remove(path: str) -> None:
+    try:
+        os.unlink(path)
+    except OSError:
+        pass  # it harms nobody: the next beginning anew empties it
+
+
+def _other_version(found: bytes) -> str:
+    version = found[len(NAME) :].partition(b"\n")[0]
+    if found.startswith(NAME) and version.isdigit():
+        return f"is a journal of version {version.decode()}, and here is version {VERSION}"
+    return "is no journal"
+
+
+def _leave_all() -> None:
+    """In a child that was forked, which would keep the lock where its parent is killed."""
+    for journal in list(_journals):
+        journal.close()
+
+
+_journals: "weakref.WeakSet[Journal]" = weakref.WeakSet()
+os.register_at_fork(after_in_child=_leave_all)

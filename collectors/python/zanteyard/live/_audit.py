@@ -1,0 +1,405 @@
+"""One audit of a live run: what waits is taken in, rounds tell of it, and cuts make room."""
+
+from __future__ import annotations
+
+import logging
+import time
+from collections import Counter
+from dataclasses import dataclass, field
+from typing import Any, Callable, Dict, Iterable, List, Optional, Sequence, Set, Tuple, Union
+
+from ..core._outcome import COLLECTOR, PENDING, RUNNING, SERIAL, VIOLATED, Outcome, kind_of
+from ..core._own_keys import FENCE, LONGEST
+from ..core._records import Pending, Report, TransactionId, unpacked
+from ..core._tenancy import Stints
+from ..core._window import SESSIONS, Coverage
+from ..core.errors import AuditLostError, MissingError, NotAnchoredError
+from ..explain._shrinking import is_collectors_own
+from ..program._auditor import Auditor, NoCut
+from ..program._intake import Fragment, Full, never_came
+from ..program._subprocess import AuditorApart
+from ._backlog import Backlog, HandedIn
+
+logger = logging.getLogger("zanteyard")
+MEANWHILE = 0.04  # seconds, in which more transactions come while a round is made
+AnyAuditor = Union[Auditor, AuditorApart]
+
+
+@dataclass
+class Figures:
+    """Over all audits of a run."""
+
+    rounds: int = 0
+    cuts: int = 0
+    lag: float = 0.0  # for how many seconds a transaction waited to be taken in, at most
+    told_behind: float = 0.0  # the same since the round before the last
+    told_at: float = 0.0  # when the last round was, by the monotonic clock
+    cut_at: float = 0.0  # the same of the last cut, or of the beginning
+    kinds: Dict[str, int] = field(default_factory=dict)  # how many rounds told each
+    # Of each session, for how many reads of its transactions the last round waited; kept where
+    # somebody asks for it.
+    awaited: Optional[Dict[int, int]] = None
+
+
+class Audit:
+    """For one thread at a time, but for `outcome`. `counted` is how many transactions had been
+    handed in as it began, and `earlier` are those that ended before it; `closed` are the sessions
+    of which nothing more comes, if they don't come back."""
+
+    def __init__(
+        self,
+        auditor: AnyAuditor,
+        backlog: Backlog,
+        figures: Figures,
+        tell: Callable[[str], None],
+        run_name: str,
+        coverage: Coverage,
+        counted: int = 0,
+        earlier: Tuple[Outcome, ...] = (),
+        stints: Optional[Stints] = None,
+        closed: Iterable[int] = (),
+    ) -> None:
+        self._auditor, self._backlog, self._figures = auditor, backlog, figures
+        self._tell, self._coverage, self._counted = tell, coverage, counted
+        self.earlier = earlier
+        self.name = f"{run_name}, audit {len(earlier) + 1}" if earlier else run_name
+        self.began = time.monotonic()
+        self.why_no_cut: Optional[str] = None  # what was wrong with the last meeting
+        self.taken_in = 0
+        self._told_of = 0  # of these, in the last round
+        self._behind = 0.0  # seconds that one of them waited, at most, since the last round
+        self.report: Optional[Report] = None
+        self.left_out = 0  # reads whose source the audit isn't about
+        self._pending: Tuple[Pending, ...] = ()
+        self._is_collectors_own = False
+        self.missing: Optional[MissingError] = None  # what may have been done, and never comes
+        self._stints = stints or Stints()
+        self._closed: Set[int] = {*closed}
+        # What waits with its session, which is to join behind a fence that isn't taken in yet.
+        self._held: Dict[int, List[HandedIn]] = {}
+
+    @property
+    def handed_in(self) -> int:
+        """By clients, and by meetings."""
+        return self._backlog.counted - self._counted
+
+    @property
+    def is_violated(self) -> bool:
+        return self.report is not None and self.report.kind == VIOLATED
+
+    @property
+    def has_news(self) -> bool:
+        """Whether more was taken in than a round has told of."""
+        return self.taken_in > self._told_of
+
+    def outcome(self, has_ended: bool, failure: Optional[Exception]) -> Outcome:
+        audited = sum(self.report.counts) if self.report else 0
+        kind, handed_in = RUNNING, self.handed_in
+        if self.is_violated or has_ended:
+            kind = kind_of(self.report, failure or self.missing, audited >= handed_in)
+        if self._is_collectors_own:
+            kind = COLLECTOR
+        return Outcome(
+            kind,
+            audited,
+            max(audited, handed_in),
+            failure or self.missing,
+            self._pending,
+            self.report,
+            self.name,
+            self.left_out,
+            self.earlier,
+        )
+
+    # what waits
+
+    @property
+    def reserve(self) -> int:
+        """Room for a meeting's own transactions."""
+        return 4 * max(1, self._auditor.sessions - len(self._closed))
+
+    def take_in_all(self, count: int) -> None:
+        """So many of what waits."""
+        while count > 0 and not self.is_violated:
+            count -= self.take_in(count)
+
+    def take_in(self, most: int = LONGEST) -> int:
+        """What waits, up to so many; gives how many these were. Raises Full where there is no room,
+        and what the auditor raises."""
+        held = sum(map(len, self._held.values()))
+        free = self._auditor.limit - self._auditor.remaining - self.reserve
+        self._backlog.leave_room(free - held)
+        found = self._backlog.take(min(most, LONGEST))
+        if found:
+            self._take(self._without_held(found))
+            self._let_join()
+            self._behind = max(self._behind, time.monotonic() - found[0][0])
+        return len(found)
+
+    def _take_in_what_fits(self) -> None:
+        """What waits, if there is room without a cut."""
+        held = sum(map(len, self._held.values()))
+        free = self._auditor.limit - self._auditor.remaining - self.reserve - held
+        if free > 0:
+            self.take_in(free)
+
+    def _take(self, found: Sequence[HandedIn], joining: Sequence[int] = ()) -> None:
+        offers = [
+            (session, self._covered(session, number), logged)
+            for _, session, number, logged in found
+            if number is not None
+        ]
+        self._offer_all(fragments(offers), joining)
+        for came, session, number, _ in found:
+            if number is None:
+                if came >= self._backlog.reopened.get(session, 0.0):
+                    self._close(session)
+            else:
+                self._tell_first(session, number, session in joining)
+            self._backlog.note_taken(session, number)
+
+    def _close(self, session: int) -> None:
+        """Behind all that it did; an earlier process may have closed it."""
+        is_there = session not in self._closed and session < self._auditor.sessions
+        if is_there and not self._auditor.closed[session]:
+            self._backlog.put_ends(self._auditor.written_last[session])
+            self._auditor.close(session)
+        self._closed.add(session)
+
+    def _tell_first(self, session: int, number: int, joins: bool) -> None:
+        client = self._stints.first_of(session, number)
+        if client is not None:
+            how = "joins as" if joins else "goes on in" if number else "begins"
+            logger.info("client %d %s session %d with %d.%d", client, how, session, session, number)
+
+    # sessions that join
+
+    def _without_held(self, found: Sequence[HandedIn]) -> List[HandedIn]:
+        """What waits until its session has joined is held."""
+        ready: List[HandedIn] = []
+        for one in found:
+            _, session, number, _ = one
+            if session in self._held or self._joins(session, number):
+                self._held.setdefault(session, []).append(one)
+            else:
+                ready.append(one)
+        return ready
+
+    def _joins(self, session: int, number: Optional[int]) -> bool:
+        if number is None or self._covered(session, number) is None:
+            return False
+        return session in self._closed or session >= self._auditor.sessions
+
+    def _let_join(self) -> None:
+        """Those whose fences have read from what was taken in; one may have read from another's,
+        and those that are new join in the order of their numbers."""
+        while not self.is_violated:
+            ready = [session for session in sorted(self._held) if self._may_join(session)]
+            if not ready:
+                break
+            its = self._held[ready[0]]
+            self._join(ready[0], its)
+            del self._held[ready[0]]
+        if sum(map(len, self._held.values())) > self._backlog.most:
+            raise AuditLostError(self._why_held() or "")
+
+    def _may_join(self, session: int) -> bool:
+        source = self._fence_of(session)
+        is_next = session <= self._auditor.sessions
+        return is_next and (source is None or self._backlog.is_taken(*source))
+
+    def _fence_of(self, session: int) -> Optional[TransactionId]:
+        """What the first of a session that is to join has read; None where it is no fence's."""
+        logged = self._held[session][0][3]
+        logged = unpacked(logged) if type(logged) is bytes else logged
+        sources = [source for key, source in logged.reads if key == FENCE and source != "init"]
+        return (sources[0][0], sources[0][1]) if sources else None
+
+    def _join(self, session: int, found: Sequence[HandedIn]) -> None:
+        source = self._fence_of(session)
+        try:
+            self._take(found[:LONGEST], (session,))
+        except NotAnchoredError as error:
+            told = f"session {session} can't join: the fence of its client has read "
+            told += f"from {source[0]}.{source[1]}" if source else "from no fence of this audit"
+            raise AuditLostError(f"{told}, and not the last one") from error
+        for start in range(LONGEST, len(found), LONGEST):
+            self._take(found[start : start + LONGEST])
+
+    def drop_held(self) -> None:
+        """What still waits to join: no audit wants it any more, so that nobody keeps it."""
+        for _, session, number, _ in (one for its in self._held.values() for one in its):
+            self._backlog.note_taken(session, number)
+        self._held.clear()
+
+    def _why_held(self) -> Optional[str]:
+        """What still waits to join, in words."""
+        for session in sorted(self._held):
+            source = self._fence_of(session)
+            if source is not None and not self._backlog.is_taken(*source):
+                its = f"{source[0]}.{source[1]}"
+                return f"session {session} is to join behind the fence {its}, which never came"
+        return f"session {min(self._held)} never joined" if self._held else None
+
+    def vacant(self) -> Dict[int, int]:
+        """The sessions that may come back, each with the number of its next transaction."""
+        if not self._closed:
+            return {}
+        received = self._auditor.received
+        found = {it: self._coverage.number_there(it, received[it]) for it in self._auditor.vacant}
+        return {session: number for session, number in found.items() if number is not None}
+
+    def covers(self, session: int, number: int) -> bool:
+        """Whether this audit is about the transaction."""
+        return self._covered(session, number) is not None
+
+    def _covered(self, session: int, number: int) -> Optional[int]:
+        """The transaction's number in this audit; None where it isn't audited."""
+        if session >= max(SESSIONS, self._auditor.sessions):
+            return None
+        return self._coverage.number(session, number)
+
+    def called(self, id: TransactionId) -> str:
+        """How a transaction of the audit is told: with its client, where its session had others."""
+        number = self._coverage.number_there(*id)
+        return self._stints.called(id, id[1] if number is None else number)
+
+    def _offer_all(self, found: Sequence[Fragment], joining: Sequence[int] = ()) -> None:
+        refused = self._auditor.offer_all(found, joining)
+        self._closed.difference_update(joining)
+        self.taken_in += sum(len(txns) for _, _, txns in found)
+        self.taken_in -= sum(len(txns) for _, _, txns in refused)
+        if not refused:
+            return
+        self.run_round()  # a cut may make room
+        for session, first, txns in () if self.is_violated else refused:
+            for number, logged in enumerate(txns, first):
+                self._offer(session, number, logged, session in joining and number == first)
+
+    def _offer(self, session: int, number: int, logged: Any, joins: bool) -> None:
+        try:
+            (self._auditor.join if joins else self._auditor.offer)(session, number, logged)
+        except Full as error:
+            why = f", since {self.why_no_cut}" if self.why_no_cut else ""
+            limit = self._auditor.limit
+            raise Full(f"{limit} transactions remain, and no more are held{why}") from error
+        self.taken_in += 1
+
+    # rounds
+
+    def is_round_due(self, seconds: float) -> bool:
+        """One comes so many seconds after the last, where anything was done."""
+        return self.has_news and time.monotonic() - self._figures.told_at >= seconds
+
+    def run_round(self, no_cut: Optional[str] = None, goes_on: bool = False) -> None:
+        """Over all that was taken in, with a cut behind it, but where there is a reason for none;
+        then it is told. It may go on with what waits while the round is made."""
+        no_cut, count = no_cut or self.why_no_cut, self.taken_in
+        wrong = self._go_on_while_it_is_made() if goes_on else None
+        self.report = report = self._auditor.last_round()
+        self.left_out = self._auditor.left_out
+        figures = self._figures
+        figures.rounds += 1
+        figures.kinds[report.kind] = figures.kinds.get(report.kind, 0) + 1
+        if figures.awaited is not None:
+            figures.awaited = self._awaited()
+        cut = self._cut_or_none(report, no_cut)
+        now = time.monotonic()
+        rate = (count - self._told_of) / max(now - figures.told_at, 0.001)
+        figures.told_at, self._told_of = now, count
+        figures.lag = max(figures.lag, self._behind)
+        figures.told_behind, self._behind = self._behind, 0.0
+        self._tell(
+            f"round {report.number}: {report.kind}; {count} transactions, "
+            f"{rate:.0f} a second, {figures.told_behind:.2f} s behind; "
+            f"{self._auditor.remaining} remain; {cut}"
+        )
+        if wrong is not None:
+            raise wrong
+
+    def _go_on_while_it_is_made(self) -> Optional[Exception]:
+        """Takes in what waits until the report is there. What that raises is told behind it."""
+        wrong: Optional[Exception] = None
+        self._auditor.begin_round()
+        while not self._auditor.has_round(MEANWHILE):
+            try:
+                if wrong is None:
+                    self._take_in_what_fits()
+            except Exception as error:
+                wrong = error
+        return wrong
+
+    def _awaited(self) -> Dict[int, int]:
+        if self.report is None or self.report.kind != PENDING:
+            return {}
+        reads = never_came(self._auditor.history, self._auditor.marks)
+        return dict(Counter(one.source[0] for one in reads))
+
+    def _cut_or_none(self, report: Report, no_cut: Optional[str]) -> str:
+        """In words: what was forgotten, or else this, if there is such a reason for none."""
+        if no_cut and not self._auditor.cuts_by_itself:
+            return f"no cut: {no_cut}"
+        cuts = self._figures.cuts
+        told = self._cut(report)
+        return f"no cut: {no_cut}" if no_cut and self._figures.cuts == cuts else told
+
+    def _cut(self, report: Report) -> str:
+        """In words."""
+        if report.kind not in (SERIAL, PENDING):
+            return "no cut"
+        forgets_nothing = "no cut: this cobra_audit forgets nothing"
+        if not self._auditor.can_cut:
+            return forgets_nothing
+        try:
+            cut = self._auditor.truncate()
+        except NoCut as error:
+            if not self._auditor.can_cut:
+                return forgets_nothing
+            is_none = str(error).endswith("NoCut")
+            return "no cut: no fence is settled" if is_none else f"no cut: {error}"
+        self._figures.cuts += 1
+        self._figures.cut_at = time.monotonic()
+        self._forget_stints()
+        return f"cut at {cut.fence[0]}.{cut.fence[1]}: {cut.gone} forgotten"
+
+    def _forget_stints(self) -> None:
+        marks = self._auditor.marks
+        there = (self._coverage.number_there(it, mark) for it, mark in enumerate(marks))
+        self._stints.forget([number or 0 for number in there])
+
+    # its end
+
+    def find_held(self) -> None:
+        """Why something that was handed in was never taken in."""
+        why = self._why_held()
+        if why is not None and not self.is_violated:
+            raise AuditLostError(why)
+
+    def find_pending(self) -> None:
+        """What is still pending, and for whom."""
+        if self.report is not None and self.report.kind == PENDING:
+            self._pending = tuple(never_came(self._auditor.history, self._auditor.marks))
+
+    def find_whose(self) -> None:
+        """Whether the collector's own transactions alone are violated, and the clients' aren't."""
+        if self.is_violated:
+            self._is_collectors_own = is_collectors_own(self._auditor)
+        if self._is_collectors_own:
+            logger.error("fences and marks alone are violated, and no client's transaction is")
+
+
+def fragments(offers: Iterable[Tuple[int, Optional[int], Any]]) -> List[Fragment]:
+    """Of each session that is among them, (session, number of the first, transactions); without
+    those that have no number. Behind one that is missing another fragment begins, which the auditor
+    refuses: were what follows it told by its number, that might look like a violation."""
+    found: List[Fragment] = []
+    last: Dict[int, Tuple[int, int, List[Any]]] = {}
+    for session, number, logged in offers:
+        if number is None:
+            continue
+        one = last.get(session)
+        if one is None or number != one[1] + len(one[2]):
+            one = last[session] = (session, number, [])
+            found.append(one)
+        one[2].append(logged)
+    return found

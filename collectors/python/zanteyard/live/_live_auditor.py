@@ -1,0 +1,546 @@
+"""An auditor that goes along with clients as they run: rounds, meetings and cuts, in a thread of
+its own.
+
+Clients hand in what they did and go on. Where room asks for it there is a meeting
+(`session/_quiesce.py`), after which the auditor can forget what stands in front of its fence. Where
+an audit can't go on, as when the auditor was killed or can't keep up, it ends with its outcome; by
+the policy another one begins of what is done from then on (`core/_window.py`), or nothing more is
+audited. The clients go on in either case.
+"""
+
+from __future__ import annotations
+
+import logging
+import threading
+import time
+from dataclasses import replace
+from typing import Any, Callable, Iterable, List, Optional, Tuple
+
+from ..core._forks import is_forked
+from ..core._outcome import INCOMPLETE, RATHER_LOSE_THE_AUDIT, Outcome, Policy
+from ..core._own_keys import FENCE, LONGEST
+from ..core._records import Logged, Report, Store, TransactionId
+from ..core._window import Coverage
+from ..core.errors import AuditLostError, MissingError
+from ..program._subprocess import AuditorApart
+from ..session._local_sessions import PATIENCE, SessionsHere
+from ..session._session import Place, Session
+from ._audit import AnyAuditor, Audit, Figures
+from ._audit_start import coverage_from_now
+from ._backlog import Backlog, keys_written_unseen
+from ._pace import Pace
+from ._quiesce_coordinator import Convener
+from ._session_pool import Places
+
+logger = logging.getLogger("zanteyard")
+PAUSE = 0.04  # seconds, in which more transactions come: a line each would cost the clients more
+# Seconds to the next meeting at least, where clients wait for one, or there are few sessions left:
+# behind one that failed, or not. Behind each more of which no cut comes it's twice as long, since
+# meetings hold clients up, and take room.
+SOON, SOON_AGAIN = 0.05, 0.5
+LONGEST_PAUSE = 30.0  # seconds between two attempts to start an auditor that can't be started
+STOPPING = 120.0  # seconds for what was handed in to be audited, as it is stopped
+GIVING_UP = 1.0  # the same, where an exception ends it
+EARLIER = "an audit of this run had ended before, in a process that is gone"
+
+Lost = AuditLostError  # the same error under a shorter name
+
+
+class Killing:
+    """While it is found out what killed processes did; for threads."""
+
+    def __init__(self) -> None:
+        self._count, self._changed = 0, threading.Condition()
+
+    @property
+    def is_going_on(self) -> bool:
+        return self._count > 0
+
+    def wait(self, seconds: float = 30.0) -> None:
+        with self._changed:
+            self._changed.wait_for(lambda: not self._count, seconds)
+
+    def __enter__(self) -> None:
+        with self._changed:
+            self._count += 1
+
+    def __exit__(self, *_: object) -> None:
+        with self._changed:
+            self._count -= 1
+            self._changed.notify_all()
+
+
+class LiveAuditor(SessionsHere):
+    """Audits clients while they run: as many as come, and 64 at a time. For threads.
+
+    The auditor is an Auditor, or, so that clients are held up less, an AuditorApart. The name of
+    the run, `run_name`, is the auditor's where none is given. After `every` so many transactions
+    there is a meeting (after a quarter of that where the last one failed), which waits up to
+    `patience` seconds for clients' transactions; `seconds` after the last round there is one where
+    anything was done. A client that did nothing for `idle` seconds goes without a session, which
+    others may have. What nobody has is closed at the next meeting, and comes back for another
+    client when it is forgotten: that one joins, by a fence, as it comes, and so does one for whom a
+    session more is made. At most `most` transactions may wait to be taken in before clients wait.
+    `policy` says what gives way. `journal` and `round_seconds` are as an Auditor's, for one that
+    has none yet. Where all sessions are `elsewhere`, and what they do is kept there until it is
+    taken in, as behind a StreamServer, the auditor may be one that goes on by a journal.
+
+    Each round is a line at level INFO of the log `zanteyard`; `tell` is called with it too, where
+    it is given, in the auditor's thread. What fails is told by `outcome`, and never raised to who
+    runs transactions.
+    """
+
+    EVERY = 2560  # where one meeting fails there is room for two more
+
+    def __init__(
+        self,
+        auditor: AnyAuditor,
+        run_name: Optional[str] = None,
+        every: int = EVERY,
+        seconds: float = 2.0,
+        idle: float = 30.0,
+        patience: float = 1.0,
+        most: int = 2048,
+        tell: Optional[Callable[[str], object]] = None,
+        policy: Policy = RATHER_LOSE_THE_AUDIT,
+        journal: Optional[str] = None,
+        round_seconds: Optional[float] = None,
+        elsewhere: bool = False,
+    ) -> None:
+        if auditor.is_resumed and not elsewhere:
+            raise ValueError("a live audit doesn't go on by a journal: begin another run")
+        if journal is not None:
+            auditor.keep_journal(journal, round_seconds)
+        if not elsewhere:
+            auditor.note_sessions()
+        super().__init__(run_name if run_name is not None else auditor.run_name, policy)
+        self.auditor = auditor
+        self.is_named = run_name is not None or auditor.is_named
+        self.token = auditor.token
+        # Has what was logged as bytes while it waits.
+        self._packed = auditor.packed if isinstance(auditor, AuditorApart) else None
+        self._told_to, self._has_failed_to_tell = tell, False
+        self._pace = Pace(every, seconds, idle, patience)
+        self._backlog, self._places = Backlog(most), Places(auditor.sessions)
+        # This process's clients, and each other process's.
+        self._convener = Convener([self._group], self._places, self._backlog)
+        now = time.monotonic()
+        self._figures = Figures(told_at=now, cut_at=now)
+        self._audit = self._resumed_audit() if auditor.is_resumed else self._first_audit()
+        auditor.live_called = self._called
+        self._cuts_seen, self._may_meet_at = self.cuts, 0.0
+        self._in_vain = 0  # meetings since the last cut
+        self._lost: Optional[Exception] = None  # why no more is audited, until another audit begins
+        self._failure: Optional[Exception] = None  # the same, once nothing more is audited for good
+        self._is_stopping = self._has_ended = False
+        self._killed = Killing()
+        self._at_end: List[Callable[[], object]] = []
+        self._thread = threading.Thread(target=self._serve, name="zanteyard", daemon=True)
+        self._thread.start()
+
+    def session(self, store: Store, patience: float = PATIENCE) -> Session:
+        """The session of a new client, which asks the store for so many seconds for an outcome that
+        isn't known. Raises ValueError where as many clients have one each as can at a time; else,
+        where none is left in the policy's time, the client goes on unaudited. Where the client is
+        to join, it may raise what comes meanwhile and isn't of the store, as of a handler of
+        SIGALRM."""
+        if is_forked(self):  # threads that have its locks don't run here
+            return Session(self, 0, store, self.run_name, patience)
+        if not self.auditor.has_sessions:
+            self.auditor.note_sessions()
+        owed: List[Place] = []  # of which no session is made yet
+        try:
+            place = self._places.take(self.policy.wait, owed) or self._without_place()
+            if place is None:
+                raise ValueError(f"no session is left: {self._no_place()}")
+            return self._add_session(place, store, patience, owed)
+        except BaseException:
+            self._places.put_back(owed)
+            raise
+
+    def _without_place(self) -> Optional[Place]:
+        """For a new client for whom none is left: one that no audit is about; None where all have
+        clients."""
+        if self._places.are_all_taken:
+            return None
+        self._lose_for_a_client()
+        return self._places.take_unaudited()
+
+    def _no_place(self) -> str:
+        """Why no client more can have one."""
+        count, why = self._places.taken, self._audit.why_no_cut
+        if self._places.are_all_taken:
+            return f"{count} clients have one each, and no more can at a time"
+        told = f"{count} clients have one each, and a meeting has to make room for another"
+        return f"{told}; the last made none, since {why}" if why else told
+
+    def stop(self, seconds: float = STOPPING) -> Outcome:
+        """Audits all that was handed in, and gives the outcome; after so many seconds, what is
+        known. May be called again."""
+        self._is_stopping = True
+        self._thread.join(seconds)
+        if self._thread.is_alive():
+            self.lose(Lost(f"it hasn't audited what was handed in after {seconds:g} s"))
+            self._failure, self._has_ended = self._lost, True
+        return self.outcome
+
+    def lose(self, error: Exception) -> None:
+        """This audit ends with what was handed in by now; why, is told by its outcome and the
+        log."""
+        if self._lost is None:
+            self._lost = error
+            logger.error("the audit %s ends: %s", self.name, error)
+
+    def __enter__(self) -> LiveAuditor:
+        return self
+
+    def __exit__(self, kind: Optional[type], *_: object) -> None:
+        """As `stop` does; at once, where an exception ends it."""
+        if kind is not None:
+            self.lose(Lost(f"it was given up ({kind.__name__})"))
+        self.stop(STOPPING if kind is None else GIVING_UP)
+
+    # what is known by now
+
+    @property
+    def outcome(self) -> Outcome:
+        """What came of it by now, of this audit and of those that ended before it as one."""
+        return self._audit.outcome(self._has_ended, self._failure).whole
+
+    @property
+    def name(self) -> str:
+        """Of this audit: the run's, with a number from the second on."""
+        return self._audit.name
+
+    @property
+    def earlier(self) -> Tuple[Outcome, ...]:
+        """The outcomes of the audits that ended before this one began."""
+        return self._audit.earlier
+
+    @property
+    def report(self) -> Optional[Report]:
+        """What the last round of this audit said; None before the first."""
+        return self._audit.report
+
+    @property
+    def failure(self) -> Optional[Exception]:
+        """Why nothing more is audited, once that is so; then `outcome` isn't serial."""
+        return self._failure
+
+    @property
+    def is_violated(self) -> bool:
+        """That stays so, whatever comes."""
+        return self._audit.is_violated
+
+    @property
+    def is_over(self) -> bool:
+        """Nothing more is audited: a violation was found, or the audit has ended for good."""
+        return self.is_violated or self._has_ended
+
+    @property
+    def handed_in(self) -> int:
+        """How many transactions clients and meetings have done since this audit began."""
+        return self._audit.handed_in
+
+    @property
+    def taken_in(self) -> int:
+        """How many of these the auditor has been given."""
+        return self._audit.taken_in
+
+    @property
+    def left_out(self) -> int:
+        """How many reads of this audit weren't checked, since it isn't about their source."""
+        return self._audit.left_out
+
+    @property
+    def rounds(self) -> int:
+        """How many there were, in all audits."""
+        return self._figures.rounds
+
+    @property
+    def cuts(self) -> int:
+        """How many times something was forgotten, in all audits."""
+        return self._figures.cuts
+
+    @property
+    def meetings(self) -> int:
+        """How many there were, in all audits, those that failed too."""
+        return self._convener.meetings
+
+    @property
+    def lag(self) -> float:
+        """For how many seconds a transaction waited to be taken in, at most."""
+        return self._figures.lag
+
+    @property
+    def told_behind(self) -> float:
+        """The same of what was taken in between the last round and the one before."""
+        return self._figures.told_behind
+
+    # what sessions call
+
+    def take(self, session: int, number: int, logged: Logged) -> None:
+        """Hands in what a transaction did; waits for room as long as the policy says."""
+        what = self._packed(logged) if self._packed else logged
+        unseen = keys_written_unseen(logged)
+        self._hand_in(time.monotonic(), session, number, unseen, what)
+        if self._backlog.is_over_full and threading.current_thread() is not self._thread:
+            self._wait_for_room()
+
+    def miss(self, session: int, number: int, error: Exception) -> None:
+        """It isn't known whether a session has handed in what it did under this number."""
+        self._backlog.count_missed(session, number)
+        self.lose(error)
+
+    def take_close(self, session: int) -> None:
+        """Nothing more of this session comes."""
+        if not self._drops():
+            self._backlog.put((time.monotonic(), session, None, None))
+
+    def _hand_in(
+        self, came: float, session: int, number: int, unseen: Iterable[str], what: Any
+    ) -> None:
+        self._backlog.count(session, number, unseen)
+        if not self._drops():
+            self._backlog.put((came, session, number, what))
+        elif not self._is_stopping:
+            self._backlog.note_taken(session, number)
+        if session == self._places.new:  # the next one that is new may be handed in behind it
+            self._places.note_joined(session)
+
+    def _drops(self) -> bool:
+        """Whether no audit takes in what is handed in."""
+        return self._has_ended or self._lost is not None
+
+    def _wait_for_room(self, pause: float = 0.001) -> None:
+        ends = time.monotonic() + self.policy.wait
+        while self._backlog.is_over_full and not self._goes_on():
+            if time.monotonic() > ends:
+                self.lose(Lost(self._no_room()))
+            time.sleep(pause)
+
+    def _goes_on(self) -> bool:
+        """Whether nobody waits for room; as in a meeting, which wants the session's turn."""
+        return self._convener.is_meeting or self.is_over or self._lost is not None
+
+    def _no_room(self) -> str:
+        """Why clients would have to wait."""
+        waits, why = f"{len(self._backlog)} transactions wait for it", self._audit.why_no_cut
+        if self._backlog.room < self._backlog.most and why:
+            return f"the auditor holds as many transactions as it can, {waits}, and {why}"
+        return f"the auditor can't keep up: {waits}"
+
+    def _renew(self, session: Session) -> Optional[Place]:
+        # Where nothing is audited nobody waits for it.
+        place = self._places.take(0.0 if self._drops() else self.policy.wait)
+        if place is None:
+            self._lose_for_a_client()
+        elif session.place is not None:  # which has ended for this audit
+            self._give_back(session.place)
+        return place or session.place or self._places.take_unaudited()
+
+    def _lose_for_a_client(self) -> None:
+        """One goes on unaudited, since there are more than sessions."""
+        if not self.is_over:
+            self.lose(Lost(f"no session is left for a client: {self._no_place()}"))
+
+    def _cant_join(self, session: Session, why: Exception) -> Optional[Place]:
+        self.lose(Lost(f"a client can't join: {str(why).strip() or type(why).__name__}"))
+        self._give_back(session.place)
+        return self._places.take_unaudited()
+
+    def _give_back(self, place: Place) -> None:
+        self._places.give_back([place])
+
+    # the thread
+
+    def _serve(self) -> None:
+        try:
+            while not self.is_violated and not (self._is_stopping and len(self._backlog) == 0):
+                self._pause()
+                self._guarded(self._step)
+                if self._lost and not self.is_violated and not self._begin_anew():
+                    break
+            self._conclude()
+        except Exception as error:  # told by who asks: a thread's own error would be lost
+            self.lose(error)
+        finally:
+            self._failure, self._has_ended = (None if self.is_violated else self._lost), True
+            if not self._is_stopping:  # else another process may go on with them
+                self._places.end()
+            self._group.end()
+            for told in self._at_end:
+                told()
+
+    def _pause(self) -> None:
+        """Nobody is woken for what waits: that would cost a client more than its whole log."""
+        if len(self._backlog) < LONGEST and not self._is_stopping:
+            time.sleep(PAUSE)
+
+    def _guarded(self, deed: Callable[[], object]) -> None:
+        """What fails here ends the audit."""
+        try:
+            deed()
+        except Exception as error:
+            self.lose(error)
+
+    def _step(self) -> None:
+        audit = self._audit
+        audit.take_in()
+        if self._is_stopping or audit.is_violated or self._lost:
+            return
+        if self._is_meeting_due():
+            self._meet()
+        elif audit.is_round_due(self._pace.seconds):
+            audit.run_round("no meeting yet", goes_on=True)
+        if self.cuts > self._cuts_seen:
+            self._cuts_seen = self.cuts
+            self._places.come_back(audit.vacant())
+
+    def _is_meeting_due(self) -> bool:
+        """Where room asks for it: at a violation nothing is lost by a later one."""
+        if self._killed.is_going_on:  # what that did is to be handed in before
+            return False
+        if self._convener.new >= self._pace.until_meeting(bool(self._audit.why_no_cut)):
+            return True
+        return time.monotonic() >= self._may_meet_at and self._places.wants_meeting
+
+    def _meet(self) -> None:
+        """With a round behind it, over what came up to its end."""
+        audit, patience = self._audit, self._pace.patience_of(is_last=not self._has_room())
+        met, cuts = self._convener.meet(min(patience, self.policy.wait), self._pace.idle), self.cuts
+        pause = (SOON if met.failure else SOON_AGAIN) * 2 ** min(self._in_vain, 10)
+        self._may_meet_at = time.monotonic() + min(pause, LONGEST_PAUSE)
+        self._in_vain += 1
+        audit.why_no_cut = met.failure
+        audit.take_in_all(met.came)
+        if audit.is_violated:  # by a round that was to make room
+            return
+        before = self.cuts
+        audit.run_round(goes_on=True)
+        if self.cuts > cuts:
+            self._in_vain, self._may_meet_at = 0, time.monotonic() + SOON_AGAIN
+        if self.cuts == before and audit.why_no_cut is None:
+            audit.why_no_cut = "no fence was settled"  # so that another meeting comes soon
+
+    def _has_room(self) -> bool:
+        """For as many transactions more as come before the next meeting, if this one fails."""
+        remain = self.auditor.remaining + len(self._backlog)
+        return remain + self._pace.soon < self.auditor.limit
+
+    def _conclude(self) -> None:
+        """The last round of this audit, over all that was handed in while it went on."""
+        audit = self._audit
+        self._guarded(lambda: audit.take_in_all(len(self._backlog)))
+        if not audit.is_violated and audit.has_news:
+            self._guarded(audit.run_round)
+        self._guarded(audit.find_held)
+        self._guarded(audit.find_pending)
+        self._guarded(audit.find_whose)
+
+    def _tell(self, line: str) -> None:
+        """What the caller's `tell` raises is told once, and harms nothing."""
+        logger.info("%s", line)
+        if self._told_to is None:
+            return
+        try:
+            self._told_to(line)
+        except BaseException as error:  # in this thread nothing but the audit would be ended by it
+            if not self._has_failed_to_tell:
+                self._has_failed_to_tell = True
+                logger.error("rounds can't be told: %r", error)
+
+    def note_missing(self, error: MissingError) -> None:
+        """The audit goes on, and can't be serial any more."""
+        logger.error("%s", error)
+        self._audit.missing = self._audit.missing or error
+
+    def _first_audit(self) -> Audit:
+        return self._next_audit(Coverage.of_all(self.auditor.sessions))
+
+    def _resumed_audit(self) -> Audit:
+        """Where another process has taken in what the journal tells."""
+        auditor: Any = self.auditor
+        coverage = auditor.coverage or Coverage.of_all(auditor.sessions)
+        for session, count in enumerate(auditor.received):
+            self._backlog.begin_behind(session, (coverage.first[session] or 0) + count, count)
+            if auditor.closed[session]:
+                self._backlog.note_taken(session, None)
+        earlier = (Outcome(INCOMPLETE, failure=Lost(EARLIER)),) if auditor.audits > 1 else ()
+        its = (self._backlog, self._figures, self._tell, self.run_name, coverage, 0, earlier)
+        closed = [session for session, it in enumerate(auditor.closed) if it]
+        audit = Audit(auditor, *its, stints=self._places.stints, closed=closed)
+        if FENCE in auditor.base:
+            self._places.let_join()
+        audit.taken_in, audit.report = sum(auditor.received), auditor.violation
+        if auditor.failure is not None:  # it had sessions in the process that is gone
+            audit.missing = MissingError(str(auditor.failure))
+        self._convener.start_anew()
+        return audit
+
+    # another audit
+
+    def _begin_anew(self) -> bool:
+        """Whether another audit has begun."""
+        self._conclude()
+        if self.is_violated or self._cant_begin():
+            return False
+        pause = self.policy.pause
+        self._wait_until(self._audit.began + pause)
+        self._killed.wait()
+        while not self._cant_begin():
+            try:
+                self._start_anew()
+                return True
+            except Exception as error:
+                logger.error("another audit can't begin: %s", error)
+            self._wait_until(time.monotonic() + pause)
+            pause = min(2 * pause, LONGEST_PAUSE)
+        return False
+
+    def _cant_begin(self) -> bool:
+        return self._is_stopping or self.auditor.is_ended or not self.policy.begins_anew
+
+    def _wait_until(self, ends: float) -> None:
+        while not self._cant_begin() and time.monotonic() < ends:
+            time.sleep(max(0.0, min(PAUSE, ends - time.monotonic())))
+
+    def _start_anew(self) -> None:
+        """Only what is sent to the store from some moment on is audited; what was on its way then
+        is left out, as if it had been read by nobody."""
+        why, convener = self._lost, self._convener
+        ended = self._audit.outcome(True, why)
+        self._backlog.clear()
+        self._audit.drop_held()
+        # Nobody waits for room: processes are asked.
+        convener.is_meeting, self._backlog.room = True, self._backlog.most
+        self._lost = None  # nothing is dropped from here on: what has ended is known by its number
+        try:
+            self._places.grow()
+            self.auditor.sessions = sessions = self._places.sessions
+            coverage = coverage_from_now(sessions, convener.groups, self._places, self._backlog)
+            self.auditor.start_anew(coverage)
+        except Exception:
+            self._lost = why
+            raise
+        finally:
+            convener.is_meeting = False
+        self._audit = self._next_audit(coverage, ended)
+        convener.start_anew()
+        earlier = self._audit.earlier
+        self._tell(f"audit {len(earlier)} has ended: {earlier[-1]}; now audited: {self.name}")
+        logger.warning("another audit begins, %s, after: %s", self.name, why)
+
+    def _next_audit(self, coverage: Coverage, before: Optional[Outcome] = None) -> Audit:
+        """Behind this outcome of the last one, if there was any."""
+        more = (self._backlog, self._figures, self._tell, self.run_name, coverage)
+        stints = self._places.stints
+        if before is None:
+            return Audit(self.auditor, *more, stints=stints)
+        earlier = (*before.earlier, replace(before, earlier=()))
+        counted = sum(one.handed_in for one in earlier)
+        return Audit(self.auditor, *more, counted, earlier, stints)
+
+    def _called(self, id: TransactionId) -> str:
+        """How a transaction of the audit is told: whose it was, where its session had others."""
+        return self._audit.called(id)

@@ -1,0 +1,190 @@
+"""Has the sessions of all processes meet; `session/_quiesce.py` says what a meeting is."""
+
+from __future__ import annotations
+
+import time
+from typing import Any, List, NamedTuple, Optional, Protocol, Sequence, Set, Tuple
+
+from ..core._own_keys import FLAG, is_own
+from ..session._quiesce import Missed, Wait
+from ..session._session import Place
+from ._backlog import Backlog
+from ._session_pool import Places
+
+READS = 200  # of one transaction; the auditor takes 256
+COMING = 0.2  # seconds for a client that was given a session to have it
+
+
+class MeetingGroup(Protocol):
+    """The sessions of one process, here or elsewhere; `Group` says what each call does."""
+
+    @property
+    def is_here(self) -> bool:
+        ...
+
+    @property
+    def has_sessions(self) -> bool:
+        ...
+
+    @property
+    def asked_at(self) -> float:
+        ...
+
+    def numbers(self) -> Sequence[int]:
+        ...
+
+    def there(self) -> Sequence[int]:
+        """The numbers of the sessions that a call would find."""
+
+    def begin_gather(
+        self, meeting: int, seconds: float, leads: bool, places: Sequence[Place], idle: float
+    ) -> Wait[Tuple[List[int], List[Place]]]:
+        ...
+
+    def begin_flag(self, meeting: int, places: Sequence[Place]) -> Wait[None]:
+        ...
+
+    def begin_lead(self, meeting: int, lists: Sequence[Sequence[str]]) -> Wait[None]:
+        ...
+
+    def begin_pass_on(self, meeting: int, places: Sequence[Place]) -> Wait[None]:
+        ...
+
+    def release(self) -> None:
+        ...
+
+    def edges(self) -> Optional[Sequence[Tuple[Any, ...]]]:
+        """None where it doesn't answer: then none of its sessions is audited."""
+
+    def reopen(self) -> None:
+        ...
+
+
+class Met(NamedTuple):
+    """What came of a meeting. `failure` says why there was none; None where all have met. `came` is
+    how many transactions waited to be taken in as clients went on: no read of these has a source
+    that isn't among them, or was taken in before."""
+
+    failure: Optional[str]
+    came: int
+
+
+class Convener:
+    """For the auditor's thread, but for `groups`, to which any may add its own."""
+
+    def __init__(self, groups: List[MeetingGroup], places: Places, backlog: Backlog) -> None:
+        self.groups, self._places, self._backlog = groups, places, backlog
+        self.meetings = 0
+        self.is_meeting = False  # clients wait for it, and so for nothing else
+        self._counted = 0  # transactions, as the last one ended
+        self._kept: List[Place] = []  # by the last one, for clients that come
+
+    @property
+    def new(self) -> int:
+        """How many transactions were handed in since the last meeting."""
+        return self._backlog.counted - self._counted
+
+    def start_anew(self) -> None:
+        """As if a meeting had just ended."""
+        self._counted = self._backlog.counted
+
+    def go_on(self, remaining: int) -> None:
+        """Where another process has taken in so many that aren't forgotten. Were these not counted,
+        an auditor's process that is killed more often than meetings come would never have one."""
+        self._counted = self._backlog.counted - remaining
+
+    def meet(self, patience: float, idle: float) -> Met:
+        """Waits so many seconds for clients' transactions; who was idle for so many goes without a
+        session."""
+        self._wait_for_who_comes()
+        self.meetings, self.is_meeting = self.meetings + 1, True
+        groups, places = list(self.groups), self._places.lend()
+        failure: Optional[str] = None
+        try:
+            failure = self._hold(groups, places, patience, idle)
+            if failure is None:
+                self._close(places)
+        except Missed as error:
+            failure = str(error)
+        except Exception as error:  # the store's: a client will meet it too
+            failure = f"the meeting failed ({str(error).strip() or type(error).__name__})"
+        finally:
+            self.is_meeting, came = False, len(self._backlog)
+            for group in groups:
+                group.release()
+            self._places.take_back(places)
+        self._counted = self._backlog.counted
+        return Met(failure, came)
+
+    def _wait_for_who_comes(self) -> None:
+        """Who goes on where another client has left is to be found by the call for its session:
+        else nothing would say that what was done there is behind the fence."""
+        self._places.keep()
+        ends = time.monotonic() + COMING
+        while time.monotonic() < ends:
+            there = [number for group in list(self.groups) for number in group.there()]
+            if not self._places.coming(there):
+                break
+            time.sleep(COMING / 100)
+
+    def _close(self, places: Sequence[Place]) -> None:
+        """What nobody has: all of it is behind the fence."""
+        kept = {place.number for place in self._kept}
+        for number in self._places.close(it for it in places if it.number not in kept):
+            self._backlog.put((time.monotonic(), number, None, None))
+
+    def _hold(
+        self, groups: Sequence[MeetingGroup], places: List[Place], patience: float, idle: float
+    ) -> Optional[str]:
+        """Says why there is none. Places that clients give back are added to these."""
+        number, ends = self.meetings, time.monotonic() + patience
+        # What is here is done while others work.
+        meeting = sorted((it for it in groups if it.has_sessions), key=lambda it: it.is_here)
+        if not meeting:
+            return "no client has a session"
+        leading = meeting[number % len(meeting)]
+        shares = [places[at :: len(meeting)] for at in range(len(meeting))]
+        unread = {place.number for place in places if place.has_flag}
+        gathering = [
+            group.begin_gather(
+                number, patience, group is leading, [it for it in share if it.is_due], idle
+            )
+            for group, share in zip(meeting, shares)
+        ]
+        for gathered in gathering:
+            flags, given_back = gathered(ends)
+            unread.update(flags)
+            self._places.lend_taken(given_back)
+            places.extend(given_back)
+        late = self._places.lend()  # whose clients left while others were called
+        if late:
+            places.extend(late)
+            leading.begin_flag(number, [it for it in late if it.is_due])(ends)
+            unread.update(place.number for place in late if place.has_flag)
+        self._lead(leading, unread, ends)
+        self._places.let_join()
+        self._kept = self._places.spare(places)  # which are to be behind the fence, then
+        passing = [
+            group.begin_pass_on(number, self._kept if group is leading else [])
+            for group in meeting
+        ]
+        for passed in passing:
+            passed(ends)
+        return None
+
+    def _lead(self, leading: MeetingGroup, unread: Set[int], ends: float) -> None:
+        """Has the leader read what nobody has read: flags of these sessions, and of those that have
+        ended, first, with as many keys as there is room for."""
+        gone = self._backlog.take_ends()
+        flags = sorted({f"{FLAG}{session}" for session in unread}.union(filter(is_own, gone)))
+        found = self._backlog.take_unseen().union(gone)
+        keys = sorted((key for key in found if not is_own(key)), key=repr)
+        lists = [[*flags, *keys[: READS - len(flags)]]]
+        rest = keys[READS - len(flags) :]
+        lists += [rest[start : start + READS] for start in range(0, len(rest), READS)]
+        try:
+            leading.begin_lead(self.meetings, [it for it in lists if it])(ends)
+        except BaseException:  # they are to be read at the next meeting
+            self._backlog.put_unseen(keys)
+            self._backlog.put_ends(gone)
+            raise

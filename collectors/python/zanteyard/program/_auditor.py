@@ -1,0 +1,443 @@
+"""The program cobra_audit, started with pipes on both ends, and what was given to it."""
+
+from __future__ import annotations
+
+import json
+import logging
+import time
+from collections import Counter
+from dataclasses import asdict
+from typing import Any, Container, Dict, List, Mapping, Optional, Sequence, Tuple, Type, Union
+
+from ..core._outcome import RATHER_LOSE_THE_AUDIT, Policy
+from ..core._own_keys import FENCE, FORM
+from ..core._records import ABORTED, Cut, Logged, Report, TransactionId
+from ..core._tenancy import Stints
+from ..core._window import Coverage
+from ..core.errors import AuditLostError, JournalError, NoCutError, NoMemoryError, NotAnchoredError
+from ..core.errors import ProgramTooOldError, RefusedError, RoundTooLongError
+from ..journal._entries import Head
+from ._binaries import PROGRAM as PROGRAM
+from ._intake import EFFORTS, SECONDS, Effort, Fragment, Full, Takes
+from ._pipes import Ended, Late, Pipes
+from ._resuming import Reopened, journaled, reopened
+from ._supervised import Restarting
+
+# The same errors under shorter names.
+Refused = RefusedError
+NoMemory = NoMemoryError
+NoCut = NoCutError
+
+BAD_LINE = "BadLine"
+TOO_OLD = (
+    f"is an auditor of an earlier version than this package: it doesn't know scripts of version "
+    f"{FORM}, which tell what was aborted. Build it anew, or name another one"
+)
+WAITS = (0.1, 0.5)  # seconds after which a line that was answered NoMemory is given again
+ENDED = "cobra_audit has been ended"
+UNKNOWN = "the process that audited has ended, and what its sessions did last isn't known"
+logger = logging.getLogger("zanteyard")
+KINDS: Mapping[str, Type[Refused]] = {
+    "Backlog": Full,
+    "NoCut": NoCut,
+    "NoMemory": NoMemory,
+    "NotAnchored": NotAnchoredError,
+}
+
+
+class Auditor(Takes):
+    """The program cobra_audit. For threads: each call is one line and its reply. What sessions hand
+    in (`take`) never raises; all other calls raise Ended where the program is gone and Refused
+    where it refuses a line.
+
+    `sessions` are 1 to 64 at first, and as many as `join` has made them later; at most `limit`
+    transactions may remain, which is 4,096 at most.
+    `program` is the file to start. `run_name` is beside each value that sessions write: each run
+    needs one of its own, and has it where none is given. `script` names a file to which every line
+    goes that the program was given, so that it can be given them again. `policy` says how long
+    sessions wait. `journal` names a file that isn't there yet (docs/JOURNAL.md): where the program
+    dies, or takes more than `round_seconds` for a round, if that is given, another one is brought
+    where it stood. Then all calls raise JournalError where the journal can't be written."""
+
+    script: Any = None  # a raw file, whose `write` tells how much it took
+    program: Union[Pipes, Restarting, None] = None
+
+    @classmethod
+    def resumed(
+        cls,
+        journal: str,
+        program: str = PROGRAM,
+        script: Optional[str] = None,
+        policy: Policy = RATHER_LOSE_THE_AUDIT,
+        round_seconds: Optional[float] = None,
+    ) -> Auditor:
+        """Goes on with the audit of this journal, whose process is gone: `received`, `closed`,
+        `history` and `violation` tell where it stands. What clients did that isn't received is to
+        be offered again, from there on. Of an audit whose sessions were in that process it isn't
+        known what they did last: then `outcome` is violated or incomplete, and `last_round` tells
+        of what is received. Raises JournalError."""
+        found = reopened(journal)
+        its = found.kept.head
+        try:
+            more = (program, its.run_name, script, policy, found, round_seconds)
+            return cls(len(found.state.gone), its.limit, *more)
+        except BaseException:
+            found.journal.close()
+            raise
+
+    def _start(self, coverage: Optional[Coverage]) -> None:
+        self.coverage, self.left_out = coverage, 0  # reads whose source the audit isn't about
+        self.numbers: Dict[str, int] = {FENCE: 0}
+        self.names = [FENCE]  # of each key, by its name; and the other way
+        self.history = [[] for _ in range(self.sessions)]  # what was taken in and isn't forgotten
+        self.marks = [0] * self.sessions  # how many of each session are forgotten
+        self.closed = [False] * self.sessions  # which nothing more comes of
+        # Of each key that a forgotten transaction wrote, the last that did.
+        self.base: Dict[str, TransactionId] = {}
+        self._stints = Stints()  # of clients, by their first transactions
+        self.can_cut = True  # until the program says that it doesn't know the command
+        self.effort = EFFORTS[0]  # of the last round
+        self.audits += 1
+        self.script_failure: Optional[OSError] = None
+        try:
+            self._open_script()
+            if isinstance(self.journal, Reopened):
+                self._go_on_by(self.journal)
+            else:
+                self._begin_program()
+        except BaseException:
+            self._end_program()
+            raise
+
+    def _begin_program(self) -> None:
+        self.program = self._started(self.journal)
+        self._open()
+
+    def _open(self) -> None:
+        """Raises ProgramTooOldError where the program doesn't know of what was aborted."""
+        try:
+            self.ask(["open", self.sessions, self.limit, FORM])
+        except RefusedError as error:
+            if not str(error).endswith(BAD_LINE):
+                raise
+            raise ProgramTooOldError(f"{self.path} {TOO_OLD}") from error
+
+    def _started(self, journal: Union[str, Reopened, None]) -> Union[Pipes, Restarting]:
+        if journal is None:
+            return Pipes(self.path)
+        program = journaled(self.path, journal, self._head, self.names, self.round_seconds)
+        program.keeping.is_of_sessions |= self.has_sessions
+        return program
+
+    def _head(self) -> Head:
+        """For the journal."""
+        coverage = asdict(self.coverage) if self.coverage is not None else None
+        its = (self.sessions, self.limit, self.run_name, self.audits, coverage)
+        return Head(*its, joined=self._stints.joined())
+
+    def _go_on_by(self, found: Reopened) -> None:
+        """Where the program of this journal stood."""
+        self.journal = found.journal.path  # from the next audit on
+        kept, state = found.kept, found.state
+        self.audits, self.left_out = kept.head.audit, kept.head.left_out
+        self.coverage = found.coverage
+        self.names[:] = kept.names
+        self.numbers.update((name, number) for number, name in enumerate(kept.names))
+        self.history, self.base = state.history(self.names), state.base(self.names)
+        self.marks, self.closed = list(state.gone), list(state.closed)
+        for one in [*kept.head.joined, *state.joined]:
+            self._stints.begin_behind(*one)
+        for session, count in enumerate(self.received):
+            self._seen[session] = (count, count)
+        self.taken_in = sum(self.received)
+        if kept.head.is_of_sessions:
+            self.failure = AuditLostError(UNKNOWN)
+        self.program = self._started(found)
+        self._keep(kept.lines)
+        self.ask(["save", "marks"])  # when that is answered it is there
+
+    @property
+    def received(self) -> List[int]:
+        """How many transactions of each session were taken in, those that are forgotten too."""
+        return [gone + len(txns) for gone, txns in zip(self.marks, self.history)]
+
+    @property
+    def violation(self) -> Optional[Report]:
+        told = self.program.keeping.violations if isinstance(self.program, Restarting) else ()
+        its = [Report(*one.reply[1:]) for one in told if one.audit == self.audits]
+        return its[0] if its else None
+
+    def _open_script(self) -> None:
+        """Of a second audit the script is beside the first one's, with its number behind the
+        name."""
+        if self.script_path is not None:
+            behind = f".{self.audits}" if self.audits > 1 else ""
+            self.script = open(f"{self.script_path}{behind}", "wb", buffering=0)
+
+    @property
+    def remaining(self) -> int:
+        """How many transactions were taken in and aren't forgotten."""
+        return sum(map(len, self.history))
+
+    def ask(self, line: Sequence[Any]) -> List[Any]:
+        """The reply to a line as docs/FORMATS.md has them; one that is refused for want of memory
+        is given again."""
+        text = written(line)
+        with self.lock:
+            self._begin_to_ask()
+            (reply,) = self._replies_to([text])
+            reply, refusal = self._settled(text, reply)
+            self._be_in_step()
+        if refusal is not None:
+            raise refusal
+        return reply
+
+    def _begin_to_ask(self) -> None:
+        if self._late is not None:
+            self._end_late(SECONDS)
+        self._leave_step()
+
+    def _settled(
+        self, text: str, reply: List[Any], seconds: float = SECONDS
+    ) -> Tuple[List[Any], Optional[Refused]]:
+        """The reply once the line isn't refused for want of memory, and what it refuses."""
+        for wait in WAITS:
+            if reply[0] != "no" or reply[2] != "NoMemory" or wait > seconds:
+                break
+            time.sleep(wait)
+            (reply,) = self._replies_to([text])
+        refused = reply[0] == "no" and KINDS.get(reply[2], Refused)
+        return reply, refused(f"{text} was answered {reply[2]}") if refused else None
+
+    def _replies_to(self, texts: Sequence[str]) -> List[List[Any]]:
+        """Of lines that are given one behind the other; raises Late where that takes too long. For
+        who has left the step."""
+        self._give(texts)
+        try:
+            assert self.program is not None
+            answers = self.program.answers(len(texts), SECONDS + 2 * (self.round_seconds or 0))
+            return [json.loads(answer) for answer in answers]
+        except RoundTooLongError:
+            self._be_in_step()  # another program goes on
+            raise
+        except (Ended, JournalError) as error:
+            self._why_out = str(error)
+            if isinstance(error, Late):
+                self._give_up()
+            raise
+
+    def _give_up(self) -> None:
+        if self.program is not None:
+            self.program.kill()
+
+    def _give(self, texts: Sequence[str]) -> None:
+        if self.program is None:
+            raise Ended(ENDED)
+        lines = [text.encode() for text in texts]
+        self._keep(lines)
+        self.program.ask(lines)
+
+    # a line for a session, and its answer
+
+    def _prepare(self, kind: str, session: int, *offered: Any) -> Tuple[str, Any]:
+        if kind == "close":
+            return written(["close", session]), None
+        number, logged = offered
+        fragment = self._covered((session, number, [logged]))
+        self._note_left_out(fragment[3])
+        return self._offer_of(fragment), fragment
+
+    def _begin_take(self, asked: Tuple[str, Any]) -> None:
+        self._give(asked[:1])
+
+    def _wait_for_take(self, seconds: float) -> None:
+        if self.program is None:
+            raise Ended(ENDED)
+        self.program.wait(1, seconds)
+
+    def _end_take(
+        self, kind: str, asked: Tuple[str, Any], seconds: float
+    ) -> Optional[Refused]:
+        text, fragment = asked
+        assert self.program is not None
+        (answer,) = self.program.answers(1, seconds)
+        _, refusal = self._settled(text, json.loads(answer), seconds)
+        if isinstance(refusal, Full):
+            told = f"there is no room for transaction {fragment[1]} of session {fragment[0]}"
+            return Full(told)
+        if kind == "offer" and refusal is None:
+            self._keep_history(fragment)
+        if kind == "close" and refusal is None:
+            self.closed[json.loads(text)[1]] = True
+        return refusal
+
+    def _offer_of(self, fragment: Tuple[Any, ...], joins: bool = False) -> str:
+        session, first, txns, _ = fragment
+        where = ["offer", session, first]
+        if joins:  # as a new one, or as one that comes back
+            where = ["join", session] if session >= self.sessions else ["join", session, first]
+        return written([*where, [*map(self.txn, txns)]])
+
+    def _keep_history(self, fragment: Tuple[Any, ...], joins: bool = False) -> None:
+        session, _, txns, left_out = fragment
+        if session == len(self.history):  # which has joined
+            self.marks.append(0)
+            self.closed.append(False)
+            self.history.append([])
+            self.sessions = len(self.history)
+        if joins:
+            self._stints.begin_behind(session, self.marks[session])  # nothing of it remains
+            self.closed[session] = False
+        self.history[session] += txns
+        self.left_out += left_out
+        if self.is_resumed:  # there are no sessions that count them
+            self.taken_in += len(txns)
+
+    def _keep(self, lines: Sequence[bytes]) -> None:
+        """In the script; a file that can't be written harms nobody but who wants to read it."""
+        if self.script is not None and self.script_failure is None:
+            try:
+                text = b"".join(line + b"\n" for line in lines)
+                while text:
+                    text = text[self.script.write(text) :]
+            except OSError as error:
+                self.script_failure = error
+                logger.error("%s lacks lines: %s", self.script.name, error)
+
+    @property
+    def written_last(self) -> List[Sequence[str]]:
+        """Of each session the keys that its last transaction wrote, if that isn't forgotten."""
+        return [self._writes(txns[-1]) if txns else () for txns in self.history]
+
+    def _writes(self, logged: Logged) -> Sequence[str]:
+        return logged.writes
+
+    @property
+    def vacant(self) -> List[int]:
+        return [at for at, txns in enumerate(self.history) if self.closed[at] and not txns]
+
+    def offer_all(
+        self, fragments: Sequence[Fragment], joining: Container[int] = ()
+    ) -> List[Fragment]:
+        refused, wrong = [], None
+        with self.lock:
+            moved = [self._covered(fragment) for fragment in fragments]
+            texts = [self._offer_of(fragment, fragment[0] in joining) for fragment in moved]
+            self._begin_to_ask()
+            self._note_left_out(sum(it[3] for it in moved))
+            replies = self._replies_to(texts)
+            for fragment, its, text, reply in zip(fragments, moved, texts, replies):
+                _, refusal = self._settled(text, reply)
+                if refusal is None:
+                    self._keep_history(its, fragment[0] in joining)
+                elif isinstance(refusal, Full):
+                    refused.append(fragment)
+                else:
+                    wrong = wrong or refusal
+            self._be_in_step()
+        if wrong is not None:
+            raise wrong
+        return refused
+
+    def _note_left_out(self, more: int) -> None:
+        """In the journal with the lines that leave out so many reads more, if these are taken."""
+        if isinstance(self.program, Restarting):
+            self.program.keeping.left_out = self.left_out + more
+
+    def note_sessions(self) -> None:
+        super().note_sessions()
+        with self.lock:
+            if isinstance(self.program, Restarting):
+                self.program.keeping.is_of_sessions = True
+                self.program.keeping.note_figures()
+
+    def _covered(self, fragment: Fragment) -> Tuple[Any, ...]:
+        """The fragment as the audit sees it, and how many reads were left out."""
+        session, first, txns = fragment
+        if self.coverage is None:
+            return session, first, txns, 0
+        moved = [self._moved(logged) for logged in txns]
+        return session, first, [logged for logged, _ in moved], sum(count for _, count in moved)
+
+    def _moved(self, logged: Any) -> Tuple[Any, int]:
+        assert self.coverage is not None
+        return self.coverage.moved(logged)
+
+    def txn(self, logged: Any) -> List[Any]:
+        """A transaction as lines have it. What an attempt did that was aborted counts for nothing,
+        and one that did nothing is told like any other that is idle."""
+        did_read, did_write = logged.did
+        reads = sorted(
+            (self.key_number(key), *(() if source == "init" else source))
+            for key, source in did_read
+        )
+        # "init" comes before every transaction
+        texts = [read if len(read) > 1 else (*read, "init") for read in reads]
+        its = [texts, sorted(map(self.key_number, did_write))]
+        return [*its, ABORTED] if logged.is_undone else its
+
+    def key_number(self, key: str) -> int:
+        """Which stands for the key in lines; a new one, where it has none yet."""
+        found = self.numbers.get(key)
+        if found is not None:
+            return found
+        with self.lock:
+            if key not in self.numbers:  # another thread may have come first
+                self.names.append(key)  # first: after an interrupt no two keys have one number
+                self.numbers[key] = len(self.names) - 1
+            return self.numbers[key]
+
+    def close(self, session: int) -> None:
+        """Nothing more of this session comes, unless it joins again."""
+        self.ask(["close", session])
+        self.closed[session] = True
+
+    def last_round(self, efforts: Sequence[Effort] = EFFORTS) -> Report:
+        for self.effort in efforts:
+            report = Report(*self.ask(["round", *self.effort])[1:])
+            if report.kind != "spent":
+                break
+        return report
+
+    def truncate(self) -> Cut:
+        """Has the auditor forget what the last round found settled. The lines keep in which order
+        what remains stands to it. Raises NoCut where nothing is."""
+        text = written(["truncate"])
+        with self.lock:
+            self._begin_to_ask()
+            (reply,) = self._replies_to([text])
+            reply, refusal = self._settled(text, reply)
+            cut = self._forget(*reply[1:]) if refusal is None else None
+            self._be_in_step()
+        if cut is not None:
+            return cut
+        if isinstance(refusal, NoCut):
+            raise refusal
+        self.can_cut = "BadLine" not in str(refusal)
+        raise NoCut(str(refusal)) from refusal
+
+    def _forget(self, fence: Sequence[int], gone: Sequence[Any], last: Sequence[Any]) -> Cut:
+        self.base.update((self.names[key], (session, number)) for key, session, number in last)
+        for session, count in Counter(session for session, _ in gone).items():
+            del self.history[session][:count]
+            self.marks[session] += count
+        self._stints.forget(self.marks)
+        return Cut((fence[0], fence[1]), len(gone))
+
+    def called(self, id: TransactionId) -> str:
+        """How a transaction is told: by what its client began with, where its session had others;
+        a live audit tells it by that client's number."""
+        return self.live_called(id) if self.live_called else self._stints.called_by_first(id)
+
+    def _end_program(self) -> Optional[int]:
+        if self.script is not None:
+            self.script.close()
+            self.script = None
+        return self.program.end() if self.program is not None else None
+
+    def __enter__(self) -> Auditor:
+        return self
+
+
+def written(line: Sequence[Any]) -> str:
+    return json.dumps(line, separators=(",", ":"))

@@ -1,0 +1,52 @@
+"""`zanteyard check-report SCRIPT REPLIES`: has stored replies checked by a program of its own,
+which makes no search and doesn't believe the auditor (`cobra_check`, docs/FORMATS.md)."""
+
+from __future__ import annotations
+
+import argparse
+import contextlib
+import subprocess
+from typing import IO, Iterator, Tuple
+
+from ..core.errors import ProgramEndedError, ZanteyardError
+from ._binaries import find_checker
+
+WRONG = 1
+STATUS_WORDS = (
+    "The exit status is 0 where no reply is wrong, 1 where one is, 2 a mistake in the call."
+)
+
+
+def add_arguments(command: argparse.ArgumentParser) -> None:
+    command.epilog = STATUS_WORDS
+    command.add_argument("script", metavar="SCRIPT", help="a file of the auditor's lines")
+    command.add_argument("replies", metavar="REPLIES", help="a file of its replies to them")
+
+
+def run(asked: argparse.Namespace) -> int:
+    """Checks, and writes what the program tells. Raises ZanteyardError."""
+    with open(asked.script, "rb") as script, open(asked.replies, "rb") as replies:
+        return check(script, replies)
+
+
+def by_turns(script: IO[bytes], replies: IO[bytes]) -> Iterator[Tuple[bytes, bytes]]:
+    """Each line of the script with its reply. Raises ZanteyardError where a reply has no line;
+    a line without a reply comes with an empty one, which the program tells."""
+    for line in script:
+        yield line, replies.readline()
+    if replies.readline():
+        raise ZanteyardError("there are more replies than lines")
+
+
+def check(script: IO[bytes], replies: IO[bytes]) -> int:
+    """Has the replies checked, and gives the exit status."""
+    program = subprocess.Popen([find_checker()], stdin=subprocess.PIPE)
+    assert program.stdin is not None
+    with contextlib.suppress(BrokenPipeError), program.stdin as lines:
+        for line, reply in by_turns(script, replies):
+            lines.write(line if line.endswith(b"\n") else line + b"\n")
+            lines.write(reply)
+    status = program.wait()
+    if status not in (0, 3):
+        raise ProgramEndedError(f"the checker ended with status {status}")
+    return WRONG if status == 3 else 0

@@ -1,0 +1,97 @@
+"""Where an audit begins that has a journal, and where one is gone on with."""
+
+from __future__ import annotations
+
+import logging
+from dataclasses import dataclass
+from typing import Callable, List, Optional, Sequence, Union
+
+from ..core._window import Coverage
+from ..core.errors import JournalDamagedError, JournalError
+from ..journal._entries import Head, Kept, Violation, kept_in
+from ..journal._file import Journal
+from ..journal._history import State, state_of
+from ..journal._writer import Keeping
+from ._supervised import Restarting
+
+logger = logging.getLogger("zanteyard")
+
+
+@dataclass
+class Reopened:
+    """A journal that another program left, what it says, and where that leads."""
+
+    journal: Journal
+    kept: Kept
+    state: State
+
+    @property
+    def coverage(self) -> Optional[Coverage]:
+        its = self.kept.head.coverage
+        if its is None:
+            return None
+        unknown = [tuple((start, end) for start, end in ranges) for ranges in its["unknown"]]
+        return Coverage(its["early"], its["first"], its["last"], unknown)
+
+
+def reopened(path: str) -> Reopened:
+    """Raises JournalError where there is none, or none that can be believed."""
+    journal = Journal(path)
+    try:
+        if not journal.is_there:
+            raise JournalError(f"{path}: there is no journal")
+        kept = kept_in(journal)
+        return Reopened(journal, kept, _state_of(kept, path))
+    except BaseException:
+        journal.close()
+        raise
+
+
+def _state_of(kept: Kept, path: str) -> State:
+    state = state_of(kept.lines)
+    try:
+        state.put_undone(kept.undone)
+    except (ValueError, TypeError, IndexError) as error:
+        told = f"{path}: what was aborted in it isn't what remains: {error!r}"
+        raise JournalDamagedError(told) from error
+    return state
+
+
+def journaled(
+    program: str,
+    journal: Union[str, Reopened],
+    head: Callable[[], Head],
+    names: Sequence[str],
+    round_seconds: Optional[float],
+) -> Restarting:
+    """A program whose audit goes on by this journal, or begins one. One that is there already isn't
+    written over, but by a later audit of the same run."""
+    if isinstance(journal, Reopened):
+        keeping = Keeping(journal.journal, head, names, journal.kept)
+        return Restarting(program, keeping, round_seconds, journal.kept)
+    begun = Journal(journal)
+    try:
+        its = head()
+        if begun.is_there and its.audit == 1:
+            raise JournalError(f"{journal} is there already: Auditor.resumed goes on with it")
+        keeping = Keeping(begun, head, names)
+        keeping.violations += _earlier(begun, its.run_name)
+        return Restarting(program, keeping, round_seconds)
+    except BaseException:
+        begun.close()
+        raise
+
+
+def _earlier(journal: Journal, run_name: str) -> List[Violation]:
+    """What earlier audits of this run were told, which is kept."""
+    if not journal.is_there:
+        return []
+    try:
+        kept = kept_in(journal)
+    except JournalDamagedError as error:
+        aside = journal.set_aside()
+        logger.error("%s; it is now %s", error, aside)
+        return []
+    if kept.head.run_name != run_name:
+        raise JournalError(f"{journal.path} is of another run, {kept.head.run_name}")
+    return kept.violations

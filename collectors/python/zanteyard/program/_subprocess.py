@@ -1,0 +1,507 @@
+"""An auditor in a process of its own. The threads of a Python program run one at a time, so that
+whatever is done there with a log on its way to cobra_audit is taken from the clients; here they
+hand over what was logged, as bytes, and the rest is done beside them."""
+
+from __future__ import annotations
+
+import gc
+import logging
+import os
+import pickle
+import signal
+import socket
+import struct
+import subprocess
+import sys
+from multiprocessing.connection import Connection, Pipe
+from multiprocessing.reduction import ForkingPickler
+from typing import Any, Container, List, Optional, Sequence, Tuple, Union
+
+from ..core._outcome import RATHER_LOSE_THE_AUDIT, Policy
+from ..core._own_keys import FENCE
+from ..core._records import Cut, History, Logged, Report, as_bytes, unpacked
+from ..core._window import Coverage
+from ..core.errors import ProgramUnreachableError, RefusedError, ZanteyardError
+from ._auditor import Auditor, NoCut
+from ._binaries import PROGRAM, found_live
+from ._intake import EFFORTS, LIMIT, SECONDS, Effort, Fragment, Full, Takes
+from ._pipes import ENDING, Ended, Late
+from ._resuming import Reopened
+from ._running import RunningAuditor
+
+PLACE = os.path.dirname(os.path.dirname(os.path.dirname(os.path.abspath(__file__))))
+START = (
+    "import sys; sys.path.insert(0, sys.argv[1]); "
+    "from zanteyard.program._subprocess import serve; serve(int(sys.argv[2]))"
+)
+UNREACHABLE = "the process between this one and cobra_audit can't be reached"
+TRIES = 3  # processes that are started for one call
+MORE = 30.0  # seconds for an answer, beside what the program may take for its own
+logger = logging.getLogger("zanteyard")
+
+
+class AuditorApart(Takes):
+    """In place of an Auditor: calls go to one in another process, and their results come from
+    there. For threads. Raises Ended where that process can't be reached. With a journal another one
+    is started then, where it is a call that waits for it; what goes on there are lines' logs, since
+    statements and values are in no journal.
+
+    `running` is the file of a cobra_live, which then makes the rounds; an empty one, as a journal,
+    is for cobra_audit alone. Where none is given it is the one that is there, if there is any and
+    `program` is the one that is used where nothing else is asked for."""
+
+    process: Any = None
+    _connection: Any = None
+
+    def __init__(
+        self,
+        sessions: int,
+        limit: int = LIMIT,
+        program: str = PROGRAM,
+        run_name: Optional[str] = None,
+        script: Optional[str] = None,
+        policy: Policy = RATHER_LOSE_THE_AUDIT,
+        journal: Union[str, Reopened, None] = None,
+        round_seconds: Optional[float] = None,
+        running: Optional[str] = None,
+    ) -> None:
+        self._asked_for = running
+        its = (sessions, limit, program, run_name, script, policy, journal, round_seconds)
+        super().__init__(*its)
+
+    def _start(self, coverage: Optional[Coverage]) -> None:
+        self.remaining, self.can_cut, self.left_out = 0, True, 0
+        self.running = self._found_running()
+        self.cuts_by_itself = bool(self.running)
+        self.audits += 1
+        its = (self.sessions, self.limit, self.path, self.run_name)
+        files = (self.script_path, self.journal, self.round_seconds)
+        more = (self.audits, coverage, self.has_sessions, self.running)
+        self._begin_process("open", *its, *files, *more)
+
+    def _found_running(self) -> str:
+        """The cobra_live that makes the rounds; an empty string where it is cobra_audit."""
+        if self.journal is not None:
+            return ""
+        if self._asked_for is not None:
+            return self._asked_for
+        return found_live() if self.path == PROGRAM else ""
+
+    def _begin_process(self, name: str, *arguments: Any) -> None:
+        """With this call."""
+        self._connection, theirs = Pipe()
+        descriptor = str(theirs.fileno())
+        self.process = subprocess.Popen(
+            [sys.executable, "-I", "-c", START, PLACE, descriptor],
+            stdin=subprocess.DEVNULL,
+            stdout=subprocess.DEVNULL,
+            pass_fds=[theirs.fileno()],
+        )
+        theirs.close()
+        try:
+            self._ask(name, *arguments)
+        except BaseException:
+            self._end_program()
+            raise
+
+    def _call(self, name: str, *arguments: Any) -> Any:
+        with self.lock:
+            if self._late is not None:
+                self._end_late(SECONDS)
+            try:
+                return self._ask(name, *arguments)
+            except ProgramUnreachableError as error:
+                if self.journal is None or self.is_ended:
+                    raise
+                why = error
+            for _ in range(TRIES):
+                try:
+                    self._start_again(why)
+                    return self._ask_again(name, *arguments)
+                except ProgramUnreachableError as error:
+                    why = error
+            raise why
+
+    def _start_again(self, error: Ended) -> None:
+        """Another process goes on by the journal."""
+        self._end_program()
+        logger.warning("%s; another one goes on by %s", error, self.journal)
+        self._be_in_step()
+        files = (self.script_path, self.journal, self.round_seconds)
+        self._begin_process("resume", self.path, *files)
+
+    def _ask_again(self, name: str, *arguments: Any) -> Any:
+        """What a process was asked that has ended. It may have done that, and told nobody."""
+        if name == "offer_all":
+            received = self._ask("get", "received")
+            fragments, joining = arguments
+            left = [it for it in fragments if it[0] >= len(received) or _end(it) > received[it[0]]]
+            arguments = (left, joining)
+        if name == "close" and self._ask("get", "closed")[arguments[0]]:
+            return None
+        if name == "truncate":
+            remaining = self._ask("get", "remaining")
+            if remaining < self.remaining:
+                fence = self._ask("get", "base")[FENCE]
+                return Cut(fence, self.remaining - remaining), remaining
+            self._ask("last_round", EFFORTS)  # by which a cut is found
+        return self._ask(name, *arguments)
+
+    def _ask(self, name: str, *arguments: Any, seconds: Optional[float] = None) -> Any:
+        if seconds is None:
+            seconds = SECONDS + MORE + 2 * (self.round_seconds or 0)
+        packed = ForkingPickler.dumps((name, arguments))
+        with self.lock:
+            self._leave_step()
+            self._send(packed)
+            try:
+                self._wait(seconds)
+            except Late as error:
+                self._why_out = str(error)
+                self._give_up()
+                raise
+            is_failed, result = self._receive()
+            self._be_in_step()
+        if is_failed:
+            raise result
+        return result
+
+    def _give_up(self) -> None:
+        """What it has answered by now isn't read any more."""
+        self._is_in_step = False
+        if self.process is not None:
+            self.process.kill()
+
+    def _send(self, packed: Any, seconds: float = SECONDS) -> None:
+        """Where nothing of it is taken for so many seconds, that process is given up."""
+        try:
+            self._limit_sending(seconds)
+            self._connection.send_bytes(packed)
+        except BlockingIOError as error:
+            self._give_up()
+            self._why_out = f"{UNREACHABLE}: it has taken nothing for {seconds:.3g} s"
+            raise Ended(self._why_out) from error
+        except (OSError, ValueError) as error:
+            self._why_out = f"{UNREACHABLE}: {error}"
+            raise ProgramUnreachableError(self._why_out) from error
+
+    def _limit_sending(self, seconds: float) -> None:
+        """How long what is sent may wait for room on its way."""
+        whole = int(seconds)
+        limit = struct.pack("ll", whole, max(1, int(1e6 * (seconds - whole))))
+        with socket.socket(fileno=os.dup(self._connection.fileno())) as same:
+            same.setsockopt(socket.SOL_SOCKET, socket.SO_SNDTIMEO, limit)
+
+    def _wait(self, seconds: float) -> None:
+        """Until an answer is there. Raises Late, and may then be called again, as after an
+        interrupt."""
+        try:
+            if not self._connection.poll(seconds):
+                raise Late(f"{UNREACHABLE}: it hasn't answered for {seconds:.3g} s")
+        except (OSError, EOFError) as error:
+            raise ProgramUnreachableError(f"{UNREACHABLE}: {error}") from error
+
+    def _receive(self) -> Tuple[bool, Any]:
+        """Whether it failed, and the result, or why."""
+        try:
+            is_failed, result, told = self._connection.recv()
+        except (OSError, EOFError, pickle.UnpicklingError) as error:
+            self._why_out = f"{UNREACHABLE}: {error}"
+            raise ProgramUnreachableError(self._why_out) from error
+        for level, line in told:
+            logger.log(level, "%s", line)
+        return is_failed, result
+
+    def _prepare(self, kind: str, session: int, *offered: Any) -> Any:
+        if kind == "close":
+            call: Any = ("close", (session,))
+        else:
+            call = ("offer_all", ([self._plain((session, offered[0], offered[1:]))], ()))
+        return ForkingPickler.dumps(call), session, *offered[:1]
+
+    def _begin_take(self, asked: Any) -> None:
+        self._send(asked[0], self.policy.wait / 2)  # waited twice where a part of it has gone
+
+    def _wait_for_take(self, seconds: float) -> None:
+        self._wait(seconds)
+
+    def _end_take(self, kind: str, asked: Any, seconds: float) -> Optional[RefusedError]:
+        is_failed, result = self._receive()
+        if is_failed:
+            failure: RefusedError = result  # whatever it is, it was read to its end
+            return failure
+        if kind == "offer":
+            refused, self.left_out, self.remaining = result
+            if refused:
+                return Full(f"there is no room for transaction {asked[2]} of session {asked[1]}")
+        return None
+
+    @staticmethod
+    def _plain(fragment: Fragment) -> Fragment:
+        session, first, txns = fragment
+        return session, first, [one if type(one) is bytes else as_bytes(one) for one in txns]
+
+    def offer_all(
+        self, fragments: Sequence[Fragment], joining: Container[int] = ()
+    ) -> List[Fragment]:
+        """Their transactions may be packed."""
+        joins = [session for session, _, _ in fragments if session in joining]
+        told = self._call("offer_all", [*map(self._plain, fragments)], joins)
+        refused, self.left_out, self.remaining = told
+        self.sessions = max([self.sessions, *(session + 1 for session in joins)])
+        return [fragment for fragment in fragments if fragment[0] in refused]
+
+    @property
+    def vacant(self) -> List[int]:
+        found: List[int] = self._call("get", "vacant")
+        return found
+
+    @property
+    def written_last(self) -> List[Sequence[str]]:
+        found: List[Sequence[str]] = self._call("get", "written_last")
+        return found
+
+    @staticmethod
+    def packed(logged: Logged) -> Any:
+        """As bytes, which leave nothing to the clients' garbage collector. What can't be made such
+        is left as it is, for offer_all to tell."""
+        try:
+            return as_bytes(logged)
+        except ValueError:
+            return logged
+
+    def close(self, session: int) -> None:
+        self._call("close", session)
+
+    def begin_round(self) -> None:
+        if self.running:
+            self._call("begin_round")
+
+    def has_round(self, seconds: float) -> bool:
+        return not self.running or bool(self._call("has_round", seconds))
+
+    def last_round(self, efforts: Sequence[Effort] = EFFORTS) -> Report:
+        report: Report
+        report, self.left_out, self.remaining = self._call("last_round", efforts)
+        return report
+
+    def truncate(self) -> Cut:
+        try:
+            cut: Cut
+            cut, self.remaining = self._call("truncate")
+        except NoCut:
+            self.can_cut = self._call("get", "can_cut")
+            raise
+        return cut
+
+    @property
+    def history(self) -> History:  # type: ignore[override]  # it is asked for
+        return [[*map(unpacked, txns)] for txns in self._call("get", "history")]
+
+    @property
+    def marks(self) -> Any:
+        return self._call("get", "marks")
+
+    @property
+    def base(self) -> Any:
+        return self._call("get", "base")
+
+    def note_sessions(self) -> None:
+        super().note_sessions()
+        if self.journal is not None:
+            self._call("note_sessions")
+
+    @property
+    def received(self) -> Any:
+        return self._call("get", "received")
+
+    @property
+    def closed(self) -> Any:
+        return self._call("get", "closed")
+
+    @property
+    def violation(self) -> Optional[Report]:
+        if self.journal is None:
+            return None
+        try:
+            told: Optional[Report] = self._call("get", "violation")
+        except ZanteyardError:
+            return None  # it can't be reached, and the journal still has it
+        return told
+
+    @property
+    def script_failure(self) -> Any:
+        return self._call("get", "script_failure")
+
+    def _end_program(self) -> Optional[int]:
+        self._late = None
+        try:
+            status: Optional[int] = self._ask("end", seconds=2 * ENDING)
+        except Ended:
+            status = None
+        self._connection.close()
+        try:
+            self.process.wait(ENDING)
+        except subprocess.TimeoutExpired:
+            self.process.kill()
+        self.process.wait()
+        return status
+
+    def __enter__(self) -> AuditorApart:
+        return self
+
+
+def _end(fragment: Fragment) -> int:
+    """The number behind its last transaction."""
+    _, first, txns = fragment
+    return first + len(txns)
+
+
+class OfPacked(Auditor):
+    """An Auditor of transactions that are packed, and that stay so in its history: of which audit
+    of its run, and where that began."""
+
+    def __init__(
+        self,
+        *arguments: Any,
+        audits: int = 1,
+        coverage: Optional[Coverage] = None,
+    ) -> None:
+        self._earlier, self._began = audits - 1, coverage
+        super().__init__(*arguments)
+
+    def _start(self, _: Optional[Coverage]) -> None:
+        self.audits = self._earlier
+        super()._start(self._began)
+
+    def _go_on_by(self, found: Reopened) -> None:
+        super()._go_on_by(found)
+        packed: Any = [[*map(as_bytes, txns)] for txns in self.history]
+        self.history = packed
+
+    def txn(self, packed: bytes) -> List[Any]:
+        return super().txn(unpacked(packed))
+
+    def _writes(self, packed: bytes) -> Sequence[str]:  # type: ignore[override]
+        return unpacked(packed).writes
+
+    def _moved(self, packed: bytes) -> Tuple[bytes, int]:
+        logged, left_out = super()._moved(unpacked(packed))
+        return as_bytes(logged), left_out
+
+
+class OfPackedRunning(OfPacked, RunningAuditor):
+    """The same over this cobra_live."""
+
+    def __init__(self, *arguments: Any, running: str, **more: Any) -> None:
+        self.running = running
+        super().__init__(*arguments, **more)
+
+
+class Telling(logging.Handler):
+    """Keeps the log's lines, with their levels."""
+
+    def __init__(self, told: List[Tuple[int, str]]) -> None:
+        super().__init__()
+        self.told = told
+
+    def emit(self, record: logging.LogRecord) -> None:
+        self.told.append((record.levelno, record.getMessage()))
+
+
+class Served:
+    """The other process's end of the calls."""
+
+    def __init__(self) -> None:
+        self.auditor: Any = None  # an OfPacked, once it is opened
+        self.told: List[Tuple[int, str]] = []  # lines of the log that are told with an answer
+
+    def _tell_log(self) -> None:
+        """Where there is a journal: the clients' process tells what becomes of programs."""
+        logger.addHandler(Telling(self.told))
+        logger.setLevel(logging.INFO)
+        logger.propagate = False
+
+    def open(
+        self,
+        sessions: int,
+        limit: int,
+        program: str,
+        run_name: str,
+        script: Optional[str],
+        journal: Optional[str],
+        round_seconds: Optional[float],
+        audits: int,
+        coverage: Optional[Coverage],
+        has_sessions: bool,
+        running: str,
+    ) -> None:
+        if journal is not None:
+            self._tell_log()
+        its: Any = (sessions, limit, program, run_name, script, RATHER_LOSE_THE_AUDIT)
+        its += (journal, round_seconds)
+        more: Any = {"audits": audits, "coverage": coverage}
+        if running:
+            self.auditor = OfPackedRunning(*its, **more, running=running)
+        else:
+            self.auditor = OfPacked(*its, **more)
+        if has_sessions:
+            self.auditor.note_sessions()
+
+    def resume(
+        self, program: str, script: Optional[str], journal: str, round_seconds: Optional[float]
+    ) -> None:
+        """In place of a process that is gone. Its script stays as it is, beside the new one."""
+        self._tell_log()
+        script = script and f"{script}.resumed"
+        more = (program, script, RATHER_LOSE_THE_AUDIT, round_seconds)
+        self.auditor = OfPacked.resumed(journal, *more)
+
+    def offer_all(self, fragments: Sequence[Fragment], joining: Sequence[int]) -> Any:
+        """The sessions whose transactions there was no room for, how many reads were left out, and
+        how many transactions remain."""
+        refused = {session for session, _, _ in self.auditor.offer_all(fragments, joining)}
+        return refused, self.auditor.left_out, self.auditor.remaining
+
+    def last_round(self, efforts: Sequence[Effort]) -> Any:
+        """The report, how many reads were left out, and how many transactions remain."""
+        report = self.auditor.last_round(efforts)
+        return report, self.auditor.left_out, self.auditor.remaining
+
+    def truncate(self) -> Any:
+        """The cut, and how many transactions remain."""
+        return self.auditor.truncate(), self.auditor.remaining
+
+    def get(self, name: str) -> Any:
+        return getattr(self.auditor, name)
+
+    def end(self) -> Optional[int]:
+        return self.auditor.end() if self.auditor else None
+
+    def answer(self, name: str, arguments: Sequence[Any]) -> Tuple[bool, Any, Any]:
+        try:
+            deed = getattr(self if hasattr(self, name) else self.auditor, name)
+            is_failed, result = False, deed(*arguments)
+        except Exception as error:
+            is_failed, result = True, error
+        told = [*self.told]
+        self.told.clear()
+        return is_failed, result, told
+
+
+def serve(descriptor: int) -> None:
+    """Answers calls until there are no more."""
+    signal.signal(signal.SIGINT, signal.SIG_IGN)  # it ends when the clients' process does
+    gc.freeze()  # what is there by now stays
+    calls, served = Connection(descriptor), Served()
+    while True:
+        try:
+            name, arguments = calls.recv()
+        except EOFError:
+            break
+        answer = served.answer(name, arguments)
+        try:
+            calls.send(answer)
+        except OSError:
+            break  # nobody waits for it any more
+    served.end()

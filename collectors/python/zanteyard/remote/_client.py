@@ -1,0 +1,324 @@
+"""A process of clients of a live audit; `_server.py` says how it has part in it."""
+
+from __future__ import annotations
+
+import logging
+import os
+import threading
+import time
+import weakref
+from dataclasses import astuple
+from typing import Any, Callable, Dict, List, Optional
+
+from ..core._commit_status import asks_of
+from ..core._outcome import Policy
+from ..core._records import Logged, Store
+from ..core.errors import ProgramEndedError
+from ..live._live_auditor import PAUSE
+from ..session._local_sessions import PATIENCE, SessionsHere
+from ..session._session import Place, Session
+from ._connecting import ANSWERING, door_to
+from ._outbox import Handover
+from ._quiesce_calls import GroupCalls
+from ._session_requests import PlaceRequests
+
+logger = logging.getLogger("zanteyard")
+LEAVING = 30.0  # seconds for sessions to end their transactions
+
+
+class AuditClient(SessionsHere):
+    """In place of a LiveAuditor, in a process of clients: theirs is behind the AuditServer at this
+    path; or, where the address is a redis:// or rediss:// URL, behind the StreamServer of the audit
+    of this name in that Redis. `leave` ends it, once its sessions do nothing more. What a process
+    did last that is killed is found in its notes (`core/_crash_notes.py`, `_stream_client.py`).
+    Raises OSError where nobody is there, ProgramEndedError where nobody answers, and
+    OtherVersionError where the auditor's process is of a version that this one doesn't understand.
+    For threads."""
+
+    def __init__(self, address: str, audit: str = "audit") -> None:
+        self._door = door_to(address, audit)
+        self._messages = self._door.messages
+        run_name, self.is_named, self.token, most, policy = self._door.welcome()
+        super().__init__(run_name, Policy(*policy))
+        self._notes: Dict[Any, int] = {}  # by which number the auditor's process knows them
+        self._count, self._noting = 0, threading.Lock()
+        _forked.add(self)
+        self._handover = Handover(self._messages, most)
+        self._requests = PlaceRequests(self._messages)
+        coming = self._requests.coming
+        self._calls = GroupCalls(self._group, self._messages, self._handover, coming)
+        self._is_over = self._is_gone = False  # the audit, and the auditor's process
+        self._renewed = 0.0  # when a session was asked for in vain, in place of one that had ended
+        self._deeds: Dict[str, Callable[..., None]] = {
+            "call": self._calls.put,
+            "left": self._requests.take_answer,
+            "over": self._note_end,
+            "taken": self._handover.note_taken,
+        }
+        targets = (self._listen, self._calls.run_all, self._hand_over)
+        self._threads = [threading.Thread(target=target, daemon=True) for target in targets]
+        for thread in self._threads:
+            thread.start()
+
+    @property
+    def sessions(self) -> List[Session]:
+        """Those of this process."""
+        return self._group.sessions
+
+    @property
+    def is_over(self) -> bool:
+        """Nothing more is audited: a violation was found, or the audit has ended for good, or the
+        auditor's process is gone."""
+        return self._is_over
+
+    def session(self, store: Store, patience: float = PATIENCE) -> Session:
+        """The session of a new client, which asks the store for so many seconds for an outcome that
+        isn't known. Raises as a LiveAuditor's does, and ProgramEndedError where nothing more is
+        audited, or nobody answers."""
+        seconds = ANSWERING + self.policy.wait  # in which a meeting may have all that are left
+        owed: List[Place] = []  # of which no session is made yet
+        try:
+            owed += filter(None, [self._requests.asked("join", True, seconds=seconds)])
+            if owed:
+                if not owed[0].is_audited:
+                    self._renewed = time.monotonic()
+                return self._add_session(owed[0], store, patience, owed)
+        except BaseException:
+            for place in owed:
+                if place.is_audited:
+                    self._give_back(place)
+            raise
+        if self._is_over:
+            raise ProgramEndedError("nothing more is audited")
+        raise ValueError("no session is left: all have clients")
+
+    def leave(self, seconds: float = LEAVING) -> None:
+        """Hands over what is left, and gives its sessions back; waits for a meeting that holds
+        them. Where one is still in a transaction after so many seconds, the process is as lost as
+        if it had ended. May be called again."""
+        if self._calls.is_leaving:
+            return
+        self._calls.is_leaving, ends = True, time.monotonic() + seconds
+        taken = [
+            session
+            for session in self.sessions
+            if session.turn.acquire(timeout=max(0.0, ends - time.monotonic()))
+        ]
+        self._hand_over_all()
+        if len(taken) == len(self.sessions):
+            places = [it.place for it in self.sessions if it.place and it.place.is_audited]
+            self._messages.tell("leave", [astuple(place) for place in places])
+        else:
+            self._messages.tell("lose", "a session was in a transaction as it left")
+        for session in self.sessions:
+            session.is_open, session.renew = False, None
+        nobodys = {session.notes for session in taken}
+        for session in taken:
+            session.turn.release()
+        for thread in self._threads:
+            thread.join(ANSWERING)
+        self._group.end()
+        self._messages.close()
+        for notes in list(self._notes):
+            if notes in nobodys:
+                notes.close()
+            else:
+                notes.end()  # a thread may be writing
+
+    def __enter__(self) -> AuditClient:
+        return self
+
+    def __exit__(self, *_: object) -> None:
+        self.leave()
+
+    # what sessions call
+
+    def take(self, session: int, number: int, logged: Logged) -> None:
+        """Hands over what a transaction did; waits for room as long as the policy says."""
+        self.take_packed(session, number, logged, None)
+
+    def take_packed(
+        self, session: int, number: int, logged: Logged, packed: Optional[bytes]
+    ) -> None:
+        """The same, where it may be bytes already."""
+        if self._handover.lost is not None or self._is_gone:
+            self._handover.dropped += 1
+            return
+        try:
+            self._handover.put(session, number, logged, packed)
+        except ValueError as error:
+            self._handover.dropped += 1
+            self._lose(f"transaction {number} of session {session} can't be handed over: {error}")
+            return
+        self._wait_for_room()
+
+    def miss(self, session: int, number: int, error: Exception) -> None:
+        """It isn't known whether a session has handed in what it did under this number."""
+        if self._handover.lost is None:  # first: who has heard of it alone wouldn't look for why
+            self._lose(str(error))
+        self._handover.put_behind("missed", session, number)
+
+    def lose(self, error: Exception) -> None:
+        """Something was done that isn't audited. That is told at once, or, where it can't be, by
+        notes that aren't there if this process is killed."""
+        if self._handover.lost is None:
+            self._lose(str(error))
+        if not self._handover.tell_lost(self.policy.wait):
+            for notes in list(self._notes):
+                notes.remove()
+
+    def take_close(self, session: int) -> None:
+        """Nothing more of this session comes."""
+        self._handover.put_close(session)
+
+    def _wait_for_room(self) -> None:
+        """Not in a meeting, which wants the session's turn, and in which nothing is told of what
+        was taken in."""
+        ends, sessions = time.monotonic() + self.policy.wait, len(self.sessions)
+        while self._handover.is_full(sessions) and not self._goes_on():
+            if time.monotonic() > ends:
+                count = self._handover.on_their_way
+                self._lose(f"the auditor can't keep up: {count} transactions are on their way")
+            time.sleep(PAUSE / 8)
+
+    def _goes_on(self) -> bool:
+        """Whether nobody waits for room."""
+        return self._is_over or self._handover.lost is not None or self._group.gate.locked()
+
+    def _lose(self, why: str) -> None:
+        """Nothing more of this process is audited, until another audit begins."""
+        self._handover.lose(why)
+        logger.error("nothing more is audited: %s", why)
+
+    @property
+    def _leaves(self) -> bool:
+        return self._calls.is_leaving
+
+    def _renew(self, session: Session) -> Optional[Place]:
+        """Where none is left the client goes on unaudited; at most once a second somebody is asked
+        then."""
+        if session.place is not None and time.monotonic() < self._renewed + 1:
+            place: Place = session.place
+            return place
+        wait = self.policy.wait / 2
+        found = self._requests.ask("join", False, seconds=wait)
+        if found is None:
+            self._renewed = time.monotonic()
+            if self._handover.lost is None and not self._is_over:
+                self._lose("no session is left for a client")
+            return session.place or self._requests.ask("overflow", seconds=wait)
+        if session.place is not None and session.place.is_audited:  # which has ended
+            self._give_back(session.place)
+        return found
+
+    def _cant_join(self, session: Session, why: Exception) -> Optional[Place]:
+        if self._handover.lost is None:
+            self._lose(f"a client can't join: {why}")
+        found = self._requests.ask("overflow", seconds=self.policy.wait / 2)
+        if found is not None:
+            self._give_back(session.place)
+        return found
+
+    def _notes_of(self, store: Store) -> Any:
+        """The auditor's process is told first where they are, and how the store is asked."""
+        with self._noting:
+            self._count += 1
+            which = self._count
+        try:
+            notes = self._door.notes(which, self._handover)
+        except OSError as error:
+            logger.error("if this process is killed, the audit ends with it: %s", error)
+            self._messages.tell("unnoted", seconds=ANSWERING)
+            return None
+        self._notes[notes] = which
+        if not self._messages.tell("noted", which, asks_of(store), seconds=ANSWERING):
+            self._messages.tell("noted", which, None, seconds=ANSWERING)  # it can't be told how
+        if self._is_gone:
+            notes.end()
+        return notes
+
+    def _forget(self, notes: Any) -> None:
+        """Once all is handed over that it tells of, and its place is given back, the auditor's
+        process removes the files."""
+        which = self._notes.pop(notes, None)
+        notes.let_go()
+        if which is not None:
+            self._handover.put_behind("forget", which)
+
+    def _give_back(self, place: Place) -> None:
+        self._handover.put_behind("back", astuple(place))
+        self._requests.coming.discard(place.number)
+
+    # the threads
+
+    def _hand_over(self) -> None:
+        while not (self._calls.is_leaving or self._is_gone):
+            self._handover.pause(PAUSE)
+            self._hand_over_all()
+
+    def _hand_over_all(self) -> None:
+        try:
+            self._handover.send_all()
+        except OSError:
+            self._note_gone()
+
+    def _listen(self) -> None:
+        try:
+            while True:
+                kind, *rest = self._messages.receive()
+                self._deeds[kind](*rest)
+        except (EOFError, OSError):
+            pass  # the auditor's process has closed it, or is gone
+        finally:
+            self._note_gone()
+            self._calls.end()
+
+    def _note_end(self) -> None:
+        self._is_over = True
+
+    def _note_gone(self) -> None:
+        """The auditor's process can't be reached: clients go on."""
+        self._is_over = self._is_gone = True
+        self._requests.end()
+        for notes in list(self._notes):
+            notes.end()
+
+    def _mark_fork(self) -> None:
+        """A child may go on in this process's sessions, behind its end and unseen: where that is
+        found killed, the audit ends. It is marked before the child is there."""
+        if self._is_gone and self._calls.is_leaving:
+            return  # it has left, or is such a child
+        try:
+            self._door.note_fork()
+        except OSError:
+            for notes in list(self._notes):
+                notes.remove()  # which tells the same
+
+    def _be_forked(self) -> None:
+        """In a child of the process, in which nothing is audited: it must neither keep the
+        connection open, by whose end the parent's is seen, nor write the parent's notes."""
+        self._is_over = self._is_gone = True
+        self._calls.is_leaving = True
+        self._requests.has_ended = True
+        try:
+            self._messages.close()
+            for notes in list(self._notes):
+                notes.let_go()
+        except OSError:
+            pass  # it was closed before the fork
+
+
+_forked: "weakref.WeakSet[AuditClient]" = weakref.WeakSet()
+
+
+def _be_forked() -> None:
+    for client in list(_forked):
+        client._be_forked()
+
+
+def _mark_fork() -> None:
+    for client in list(_forked):
+        client._mark_fork()
+
+
+os.register_at_fork(before=_mark_fork, after_in_child=_be_forked)

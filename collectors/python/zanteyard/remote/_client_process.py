@@ -1,0 +1,249 @@
+"""A process of clients, as the auditor's process hears it."""
+
+from __future__ import annotations
+
+import logging
+import threading
+import time
+from dataclasses import astuple
+from typing import Any, Callable, Dict, Iterable, Optional, Sequence, Tuple
+
+from ..core._records import Logged, unpacked
+from ..core._version import FORM, VERSION
+from ..core.errors import AuditLostError, ProgramEndedError
+from ..live._live_auditor import PAUSE, LiveAuditor
+from ..session._session import Place
+from ._crash_recovery import Killed, LostError, Noted, handed_in
+from ._remote_sessions import RemoteGroup
+
+NEW = 4.0  # seconds in which a new client waits for a meeting that has all that are left
+HANDED_IN = "what it did is handed in from its notes"
+logger = logging.getLogger("zanteyard")
+
+
+class ClientProcess:
+    """What it tells is taken in by a thread of its own, which ends once it has left. All that it
+    sends comes in the order in which it was sent. Each kind has its own `messages`, and its own way
+    in which it is found dead."""
+
+    is_dead = True  # it is known, where it isn't heard of any more
+    is_left_to_others = False  # another process of the auditor's is to hear the rest
+
+    def __init__(self, live: LiveAuditor, messages: Any) -> None:
+        self._live, self.messages = live, messages
+        leave = live._places.give_back
+        self.group = RemoteGroup(messages, live.policy.wait, self._take_back_late, leave)
+        self.thread = threading.Thread(target=self._listen, daemon=True)
+        self._has_all_noted = True
+        self._deeds: Dict[str, Callable[..., None]] = {
+            "answer": self.group.take_answer,
+            "back": self._take_back,
+            "forget": self._forget,
+            "join": self._begin_join,
+            "leave": self._take_leave,
+            "logged": self._take_logged,
+            "lose": self._take_end,
+            "lost": self._take_loss,
+            "missed": live._backlog.count_missed,
+            "noted": self._take_noted,
+            "unnoted": self._take_unnoted,
+            "overflow": self._take_overflow,
+        }
+
+    # what each kind has of its own
+
+    def _most(self) -> int:
+        """How many of a session's transactions may be on their way."""
+        raise NotImplementedError
+
+    def _take_next(self) -> None:
+        """The next that it sends. Raises EOFError or OSError where it isn't heard of any more."""
+        raise NotImplementedError
+
+    def _noted(self) -> Noted:
+        """What it noted. Raises LostError where that can't be known."""
+        raise NotImplementedError
+
+    def _end(self) -> None:
+        """Nothing more comes of it."""
+        raise NotImplementedError
+
+    def _take_noted(self, which: int, asks: Any) -> None:
+        """How the store is asked of what is noted there."""
+        raise NotImplementedError
+
+    def _forget(self, which: int) -> None:
+        """All is there that these notes tell of, and their session does nothing more."""
+        raise NotImplementedError
+
+    notes_path = ""  # where it makes files for them
+
+    @property
+    def is_given_up(self) -> bool:
+        """What it told by now is heard, and nothing more."""
+        return False
+
+    def tell_end(self) -> None:
+        """Nothing more is audited. Nobody waits for a process that is stuck."""
+        if not self.group.has_left:
+            threading.Thread(target=self.messages.tell, args=("over",), daemon=True).start()
+
+    def lose(self, why: str) -> None:
+        """It is gone without a word, which ends the audit if it may have done anything."""
+        if self.group.had_sessions:
+            told = f"the process of the sessions {self.group.told()} is lost"
+            told = f"{told}, and what was done in them last isn't known"
+            self._live.lose(ProgramEndedError(f"{told}: {why}"))
+
+    def _listen(self) -> None:
+        live, groups = self._live, self._live._convener.groups
+        try:
+            self._welcome()
+            if live._has_ended:
+                self.messages.send("over")
+            if not self.is_given_up:  # else it answers no meeting
+                groups.append(self.group)
+            while not self.group.has_left:
+                if self.is_left_to_others:
+                    return
+                self._take_next()
+        except (EOFError, OSError) as error:
+            with live._killed:  # no meeting begins meanwhile, nor another audit
+                places = self.group.places()
+                self.group.leave()
+                self._find_out(places, str(error) or "it ended without leaving")
+        except Exception as error:  # it says that it is lost, or sent what isn't known
+            self.lose(str(error) or type(error).__name__)
+            live._places.drop(self.group.numbers())
+            self.group.leave()
+        if self.group in groups:
+            groups.remove(self.group)
+        self._end()
+
+    def _welcome(self) -> None:
+        live = self._live
+        run = (FORM, VERSION, live.run_name, live.is_named, live.token)
+        self.messages.send("welcome", *run, self._most(), astuple(live.policy), self.notes_path)
+
+    # what it did, where it is killed
+
+    def _find_out(self, places: Sequence[Place], why: str) -> None:
+        """Hands in what it did last, and gives its places back; else the audit ends."""
+        lent, ended = self.group.lent(), self.group.ended
+        try:
+            noted = self._noted()
+            if not self._has_all_noted:
+                raise LostError("not all that it did could be noted")
+            killed = Killed(noted, self._live.run_name, self._live._backlog, self.is_dead)
+            for place in [*places, *lent]:
+                if place.is_audited and place.number not in ended:
+                    self._hand_in(place.number, killed.told(place))
+                    if place.is_ended and not place.must_join:
+                        self._live.take_close(place.number)
+            if places:
+                told = ", ".join(str(place.number) for place in places)
+                logger.warning("the process of the sessions %s was killed: %s", told, HANDED_IN)
+        except Exception as error:
+            self.lose(f"{why}: {error}" if str(error) != why else why)
+            self._live._places.drop(place.number for place in places)
+        else:
+            for place in lent:
+                place.is_lent = False
+            self._live._places.take_back(lent, is_over=False)
+            self._live._places.give_back(it for it in places if it.number not in ended)
+            self._live._places.drop(it.number for it in places if it.number in ended)
+
+    def _hand_in(self, session: int, found: Sequence[Tuple[int, Logged]]) -> None:
+        live = self._live
+        for came, number, unseen, packed in handed_in(found):
+            what = packed if live._packed else unpacked(packed)
+            live._hand_in(came, session, number, unseen, what)
+
+    def _take_unnoted(self, *why: str) -> None:
+        self._has_all_noted = False
+
+    def _take_logged(
+        self, logged: Sequence[Tuple[float, int, Optional[int], Any, Any]], dropped: int
+    ) -> None:
+        """And then answers. What isn't answered yet counts as on its way, so that clients there
+        wait for room, or don't."""
+        for came, session, number, unseen, packed in logged:
+            self._take_one(came, session, number, unseen, packed)
+        if dropped:
+            self._live._backlog.count_dropped(dropped)
+        self._wait_for_room()
+        self.messages.tell("taken", len(logged))
+
+    def _take_one(
+        self, came: float, session: int, number: Optional[int], unseen: Any, packed: Any
+    ) -> None:
+        live = self._live
+        if number is None:
+            self.group.ended.add(session)
+            live.take_close(session)
+        else:
+            self.group.note_joined(session, number)
+            what = packed if live._packed else unpacked(packed)
+            live._hand_in(came, session, number, unseen, what)
+
+    def _wait_for_room(self) -> None:
+        live = self._live
+        while live._backlog.is_over_full and not live._goes_on():
+            time.sleep(PAUSE / 4)
+
+    def _take_loss(self, why: str) -> None:
+        """It goes on, and what it did from then on isn't known."""
+        self._live.lose(AuditLostError(why))
+
+    def _take_end(self, why: str) -> None:
+        raise ValueError(why)
+
+    # its sessions
+
+    def _begin_join(self, asked: int, is_new: bool) -> None:
+        """Who joins may have to wait, while a meeting calls this process."""
+        threading.Thread(target=self._join, args=(asked, is_new), daemon=True).start()
+
+    def _join(self, asked: int, is_new: bool) -> None:
+        """A session that is left, for a new client, or for one whose session has ended."""
+        live = self._live
+        place = live._places.take(max(NEW, live.policy.wait) if is_new else live.policy.wait)
+        if place is None:
+            if is_new:
+                place = live._without_place()
+            else:
+                live._lose_for_a_client()
+            self.messages.tell("left", asked, astuple(place) if place else None)
+            return
+        if self.group.has_left:
+            live._places.give_back([place])
+            return
+        self.group.add_untold(place)
+        if not self.messages.tell("left", asked, astuple(place)):
+            self.group.remove(place.number)
+            live._places.give_back([place])
+        self.group.note_told(place.number)
+
+    def _take_overflow(self, asked: int) -> None:
+        self.messages.tell("left", asked, astuple(self._live._places.take_unaudited()))
+
+    def _take_back_late(self, lent: Iterable[Place]) -> None:
+        self._live._places.take_back(lent, is_over=False)
+
+    def _take_back(self, place: Sequence[Any]) -> None:
+        given_back = Place(*place)
+        self.group.remove(given_back.number)
+        self._live._places.give_back([given_back])
+
+    def _take_leave(self, places: Sequence[Sequence[Any]]) -> None:
+        """Its sessions are left for others; so are those that it was to join, and didn't."""
+        numbers, told = self.group.numbers(), [Place(*place) for place in places]
+        known = {place.number for place in told}
+        unused = [it for it in self.group.places() if it.must_join and it.number not in known]
+        known.update(self.group.ended, (it.number for it in [*unused, *self.group.given_back()]))
+        self.group.leave()
+        self._live._places.give_back([*told, *unused])
+        self._live._places.drop(numbers)  # of those that have ended
+        for number in numbers:
+            if number not in known:  # it was told too late that it had this, and did nothing there
+                self._live.take_close(number)

@@ -1,0 +1,80 @@
+"""How a process of clients comes in to the auditor's: by a socket of one machine, or by streams of
+a Redis."""
+
+from __future__ import annotations
+
+import functools
+import os
+from multiprocessing.connection import Client
+from typing import Any, Dict, Protocol
+
+from ..core._crash_notes import FORKED, Notes
+from ..core._version import FORM, VERSION
+from ..core.errors import OtherVersionError, ProgramEndedError
+from ._messages import Messages
+from ._outbox import Handover
+
+ANSWERING = 5.0  # seconds for an answer of the auditor's process
+
+
+class Door(Protocol):
+    """`messages` go both ways, and the first that comes is the auditor's welcome."""
+
+    messages: Any
+
+    def welcome(self) -> Any:
+        """Raises ProgramEndedError where nobody answers, and OtherVersionError."""
+
+    def notes(self, which: int, handover: Handover) -> Any:
+        """Where a session notes what it does, as Notes do. Raises OSError."""
+
+    def note_fork(self) -> None:
+        """Before it is done. Raises OSError where it can't be noted."""
+
+
+def door_to(address: str, audit: str) -> Door:
+    """A URL is a Redis's, with the audit of this name there; else it is a socket's path. Raises
+    OSError where nobody is there."""
+    if "://" in address:
+        from ._stream_client import StreamDoor  # redis-py needn't be there else
+
+        return StreamDoor(address, audit)
+    return SocketDoor(address)
+
+
+def welcomed(messages: Any) -> Any:
+    if not messages.comes(ANSWERING):
+        told = f"the auditor's process hasn't answered for {ANSWERING:g} s"
+        raise ProgramEndedError(told)
+    _, form, version, *found = messages.receive()
+    if form != FORM:
+        told = f"of zanteyard {version}" if isinstance(version, str) else "of an earlier version"
+        told = f"the auditor's process is {told}, and this one of {VERSION}: they don't understand"
+        raise OtherVersionError(f"{told} one another, and nothing is audited (docs/OPERATION.md)")
+    return found
+
+
+class SocketDoor:
+    def __init__(self, path: str) -> None:
+        connection: Any = Client(path, "AF_UNIX")
+        self.messages = Messages(connection)
+        self._notes_path = ""
+
+    def welcome(self) -> Any:
+        try:
+            *found, self._notes_path = welcomed(self.messages)
+        except BaseException:
+            self.messages.close()
+            raise
+        return found
+
+    def notes(self, which: int, handover: Handover) -> Notes:
+        """In files. Nobody waits for it where they fail: they aren't there then, which tells the
+        same."""
+        tell = functools.partial(handover.put_behind, "unnoted")
+        sent: Dict[int, int] = handover.sent
+        return Notes(f"{self._notes_path}-{which}", sent, tell)
+
+    def note_fork(self) -> None:
+        flags = os.O_WRONLY | os.O_CREAT | os.O_CLOEXEC
+        os.close(os.open(f"{self._notes_path}{FORKED}", flags, 0o600))

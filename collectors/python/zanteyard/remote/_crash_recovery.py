@@ -1,0 +1,218 @@
+"""What a process of clients did that was killed, as its notes and the store tell it.
+
+Each number that it may have used is handed in, once: what had come from itself by then isn't looked
+for; what was answered is logged as it would have been; the store is asked for what was on its way
+to it; an attempt of which nothing was sent to be committed did nothing. What can't be found out is
+logged with its writes alone, as the last of its session (docs/COLLECTORS.md). Where a client itself
+didn't know what it had done, as one of an application's own SQL may not, that is lost, unless the
+store says that nothing of it was committed.
+"""
+
+from __future__ import annotations
+
+import logging
+import time
+from typing import Any, Dict, Iterable, List, Optional, Sequence, Set, Tuple
+
+from ..core._commit_status import find_out
+from ..core._crash_notes import Note, notes_of
+from ..core._own_keys import FENCE, FLAG
+from ..core._records import Logged, TransactionId, as_bytes, undone, unpacked
+from ..live._backlog import Backlog, keys_written_unseen
+from ..session._session import Place
+
+SECONDS = 5.0  # in which the store is asked for one outcome
+NOTHING = Logged((), (), "aborted")
+Noted = Dict[int, List[Tuple[Note, Any]]]  # of each session, with how the store is asked
+logger = logging.getLogger("zanteyard")
+
+
+class LostError(Exception):
+    """Its notes don't tell what it did, and why."""
+
+
+class Killed:
+    """`notes` are what it noted of each session, each with how the store is asked. Where it isn't
+    known that the process `is_dead`, but only that it isn't heard of, nobody ends what the store is
+    still about, and what it may have begun behind its notes is left open."""
+
+    def __init__(
+        self, notes: Noted, run_name: str, backlog: Backlog, is_dead: bool = True
+    ) -> None:
+        self.notes, self.run_name, self.backlog, self.is_dead = notes, run_name, backlog, is_dead
+        # Sessions and numbers of what was noted before it was sent, and wasn't answered.
+        self._unanswered: Set[Tuple[int, int]] = set()
+
+    def told(self, place: Place) -> Sequence[Tuple[int, Logged]]:
+        """What the session did, which nobody has handed in: numbers, and what is to be logged. The
+        place is then as it would have been given back, or ended. Where it was to be joined nothing
+        is handed in but behind the fence of that, which may not be there. Raises LostError."""
+        begun, found = place.begun, self._told(place)
+        if not place.must_join:
+            return found
+        if found and found[0][1].outcome == "committed":
+            place.must_join = False
+            return found
+        if self.is_dead and not place.is_ended:  # what is aborted has left nothing
+            place.begun = max(begun, found[0][0]) if found else begun
+            # Where no answer was noted nobody else has this name: the store may have been asked of
+            # an attempt before, and a fence may be overwritten by others by then.
+            if (place.number, place.begun) in self._unanswered:
+                place.leave_open(place.begun)
+                place.begun, place.is_ended = place.begun + 1, True
+        place.is_due = False
+        return ()
+
+    def _told(self, place: Place) -> Sequence[Tuple[int, Logged]]:
+        first = max(place.begun, self.backlog.next_number(place.number))
+        before, answered = self.sorted_out(place.number, first)
+        last = max((*before, *answered, first - 1))
+        found: List[Tuple[int, Logged]] = []
+        place.begun, place.is_due, place.has_flag = first, True, False
+        for note, _ in self.notes.get(place.number, ()):
+            if note.outcome == "unknown" and note.is_last and note.number < first:
+                place.leave_open(note.number)
+                place.is_ended = note.number == last  # and it had no time to tell that
+        if place.is_ended:
+            return found
+        for number in range(first, last + 1):
+            logged = self.logged(number, before.get(number), answered.get(number))
+            place.begun = number + 1
+            if logged is not None:
+                found.append((number, logged))
+            if logged is None or logged.outcome == "unknown":
+                place.leave_open(number)
+                place.is_ended = True
+                if number < last:
+                    raise LostError("its notes have more behind what can't be found out")
+                return found if self.is_dead else without_end(found)
+        if not self.is_dead:
+            place.leave_open(last + 1)
+            place.is_ended = True
+            return without_end(found)
+        # One more may have begun, of which nothing was sent to be committed.
+        place.begun = last + 2
+        return [*found, (last + 1, NOTHING)]
+
+    def sorted_out(
+        self, session: int, first: int
+    ) -> Tuple[Dict[int, Tuple[Note, Any]], Dict[int, Note]]:
+        """By number, from the first on: what was noted before a commit was sent, with how the
+        store is asked, and what was noted when it was answered."""
+        before: Dict[int, Tuple[Note, Any]] = {}
+        answered: Dict[int, Note] = {}
+        for note, how in self.notes.get(session, ()):
+            if note.number < first:
+                continue
+            its = (session, note.number)
+            if note.outcome is None:
+                before[note.number] = (note, how)
+                answered.pop(note.number, None)  # of an attempt to join before
+                self._unanswered.add(its)
+            else:
+                answered[note.number] = note
+                self._unanswered.discard(its)
+        return before, answered
+
+    def logged(
+        self, number: int, before: Optional[Tuple[Note, Any]], answered: Optional[Note]
+    ) -> Optional[Logged]:
+        """None for a fence of which nobody knows whether it is there."""
+        if answered is None:
+            return NOTHING if before is None else self.asked(*before)
+        if answered.unclear is not None and answered.outcome != "aborted":
+            raise LostError(answered.unclear)
+        if answered.outcome == "committed":
+            packed = answered.packed or (before and before[0].packed)
+            if not packed:
+                raise LostError("its notes lack what it did")
+            return unpacked(packed)
+        if answered.outcome == "aborted" and answered.packed:
+            return unpacked(answered.packed)
+        if answered.outcome == "aborted" or not answered.is_last:
+            return NOTHING
+        if before is None or not before[0].packed:
+            raise LostError("its notes lack what it wrote")
+        return writes_alone(unpacked(before[0].packed))
+
+    def asked(self, note: Note, how: Any) -> Optional[Logged]:
+        """What was sent to be committed and not answered."""
+        assert note.packed is not None
+        logged = unpacked(note.packed)
+        if not logged.writes and note.unclear is None:
+            return NOTHING  # whether what it has read is to be checked isn't known
+        outcome, overwritten = find_out(how, note.ticket, SECONDS, self.is_dead)
+        told = f"{note.session}.{note.number} of a killed process"
+        logger.info("%s is %s by the store's word", told, outcome)
+        if outcome == "aborted":
+            return undone_alone((note.session, note.number), logged)
+        if note.unclear is not None:
+            raise LostError(note.unclear)
+        if outcome == "committed" and note.has_reads:
+            return logged
+        if outcome == "committed" and overwritten is not None and len(logged.writes) == 1:
+            return logged._replace(reads=[(logged.writes[0], self.source(overwritten))])
+        if outcome == "committed" and FENCE not in logged.writes:
+            return logged  # without what it has read
+        if FENCE in logged.writes:
+            if outcome == "committed":
+                raise LostError("what its fence has read isn't known")
+            return None
+        return writes_alone(logged)
+
+    def source(self, overwritten: Sequence[Any]) -> Any:
+        for run, session, number in overwritten:
+            if run == self.run_name:
+                return (session, number)
+        return "init"
+
+
+def in_files(asks: Dict[str, Any]) -> Noted:
+    """What was noted in these files. Raises LostError where they aren't there."""
+    found: Noted = {}
+    for path, how in asks.items():
+        notes = notes_of(path)
+        if notes is None:
+            raise LostError("its notes aren't there")
+        for note in notes:
+            found.setdefault(note.session, []).append((note, how))
+    return found
+
+
+def without_end(found: List[Tuple[int, Logged]]) -> List[Tuple[int, Logged]]:
+    """Where the session is closed behind these: what did nothing, or flags that nobody reads any
+    more, would say no more by being there, and nothing would say where they stand. Of a flag that
+    is known to be there no more is known: what it has read is the flag before it."""
+    while found and is_without_use(found[-1][1]):
+        found.pop()
+    return found
+
+
+def is_without_use(logged: Logged) -> bool:
+    its = (*logged.writes, *(key for key, _ in logged.reads))
+    return all(key.startswith(FLAG) for key in its)
+
+
+def undone_alone(id: TransactionId, logged: Logged) -> Logged:
+    """What was noted, where nothing of it was committed."""
+    reads, writes = undone(id, logged.reads, logged.writes, FENCE)
+    if not (reads or writes):
+        return NOTHING
+    return logged._replace(
+        reads=(), writes=(), outcome="aborted", tried_reads=reads, tried_writes=writes
+    )
+
+
+def writes_alone(logged: Logged) -> Logged:
+    written = tuple(it for it in logged.statements if len(it[0]) == 1)
+    values = tuple(it for it in logged.values if it[0] == "wrote")
+    return logged._replace(reads=(), outcome="unknown", statements=written, values=values)
+
+
+def handed_in(
+    found: Iterable[Tuple[int, Logged]]
+) -> Iterable[Tuple[float, int, Sequence[str], bytes]]:
+    """As a process hands it over: when it came, the number, the keys that were written unseen, and
+    what was logged, as bytes."""
+    for number, logged in found:
+        yield time.monotonic(), number, keys_written_unseen(logged), as_bytes(logged)

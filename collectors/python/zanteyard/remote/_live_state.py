@@ -1,0 +1,90 @@
+"""What a process of the auditor's knows beside its journal of clients behind streams, in a file
+that outlives it: who has which session, and up to which message each has been heard.
+
+It is written before a client is told of a place, so that no place is given twice; and it is brought
+to the disk, with the journal, before anything is trimmed from a stream.
+"""
+
+from __future__ import annotations
+
+import marshal
+import os
+from dataclasses import dataclass, field
+from typing import Any, Dict, List, Optional, Tuple
+
+from ..core._version import FORM
+from ..core._version import VERSION as PACKAGE
+from ..core.errors import JournalDamagedError, JournalError
+from ..journal._file import flush_folder
+from ..journal._records import record, records
+
+VERSION = 1
+
+
+@dataclass
+class LiveState:
+    """`left` are the places that nobody has, `clients` has of each process what its StreamProcess
+    tells, `missing` says what may have been done and never comes, and `failure` why the audit has
+    ended, where no other one has begun yet. `form` is that of what clients are told, by this
+    `version`; and it was written so many times, with this one."""
+
+    audit: str
+    run_name: str
+    is_named: bool
+    token: str
+    audits: int
+    meetings: int
+    left: List[Tuple[Any, ...]] = field(default_factory=list)
+    unaudited: int = 0
+    clients: Dict[str, Dict[str, Any]] = field(default_factory=dict)
+    missing: Optional[str] = None
+    failure: Optional[str] = None
+    form: int = FORM
+    version: str = PACKAGE
+    written: int = 0
+
+
+class StateFile:
+    """For who has the lock around the state."""
+
+    def __init__(self, journal: str) -> None:
+        self.journal, self.path = os.path.abspath(journal), os.path.abspath(f"{journal}.live")
+
+    def write(self, state: LiveState) -> None:
+        """Raises JournalError where it can't be written."""
+        new = f"{self.path}.new"
+        try:
+            file = os.open(new, os.O_WRONLY | os.O_CREAT | os.O_TRUNC | os.O_CLOEXEC, 0o600)
+            with open(file, "wb") as opened:
+                opened.write(record(marshal.dumps((VERSION, vars(state)))))
+                opened.flush()
+                os.fsync(file)
+            os.rename(new, self.path)
+            flush_folder(os.path.dirname(self.path))  # else an older one may come back
+        except OSError as error:
+            raise JournalError(f"{self.path} can't be written: {error}") from error
+
+    def read(self) -> LiveState:
+        """Raises JournalError where it isn't there, or can't be believed."""
+        try:
+            with open(self.path, "rb") as file:
+                found = [text for text, _ in records(file.read(), 0)]
+            (text,) = found
+            version, its = marshal.loads(text)
+            if version != VERSION:
+                raise ValueError(f"it is of version {version}")
+            earlier: Dict[str, Any] = {"form": 0, "version": "unknown"}  # than these were noted
+            return LiveState(**{**earlier, **its})
+        except (OSError, ValueError, TypeError, EOFError, JournalDamagedError) as error:
+            raise JournalError(f"{self.path} can't be gone on with: {error}") from error
+
+    def bring_to_disk(self) -> None:
+        """All that the journal has by now. Raises JournalError."""
+        try:
+            file = os.open(self.journal, os.O_RDONLY | os.O_CLOEXEC)
+            try:
+                os.fsync(file)
+            finally:
+                os.close(file)
+        except OSError as error:
+            raise JournalError(f"{self.journal} can't be brought to the disk: {error}") from error

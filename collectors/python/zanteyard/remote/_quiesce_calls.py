@@ -1,0 +1,92 @@
+"""What meetings in the auditor's process have the sessions of this one do."""
+
+from __future__ import annotations
+
+import queue
+import time
+from dataclasses import astuple
+from typing import Any, Callable, Dict, List, Optional, Sequence, Set, Tuple
+
+from ..live._quiesce_coordinator import COMING
+from ..session._quiesce import Group, Missed
+from ..session._session import Place
+from ._messages import Messages
+from ._outbox import Handover
+
+Call = Tuple[int, str, Sequence[Any]]  # its number, 0 where no answer is wanted; name; arguments
+
+
+class GroupCalls:
+    """Runs calls one after another in a thread of their own; any may put them."""
+
+    def __init__(
+        self, group: Group, messages: Messages, handover: Handover, coming: Set[int]
+    ) -> None:
+        """`coming` are the numbers of sessions that were given to clients here, who may not have
+        them yet."""
+        self._group, self._messages, self._handover = group, messages, handover
+        self._coming = coming
+        self._waiting: queue.SimpleQueue[Optional[Call]] = queue.SimpleQueue()
+        self.is_leaving = False  # it takes part in no meeting any more
+        self._deeds: Dict[str, Callable[..., Any]] = {
+            "edges": self._edges,
+            "flag": lambda meeting, places: self._group.share(meeting, places, "flag"),
+            "gather": self._gather,
+            "lead": lambda meeting, lists, _: self._group.lead(meeting, lists),
+            "pass_on": lambda meeting, places: self._group.pass_on(meeting, places),
+            "release": lambda _: self._group.release(),
+            "reopen": lambda _: self._group.reopen(),
+        }
+
+    def put(self, *call: Any) -> None:
+        number, name, arguments = call
+        self._waiting.put((number, name, arguments))
+
+    def end(self) -> None:
+        self._waiting.put(None)
+
+    def run_all(self) -> None:
+        """Until the end; then all sessions go on."""
+        for number, name, arguments in iter(self._waiting.get, None):
+            try:
+                self._run(number, name, arguments)
+            except OSError:
+                pass  # the auditor's process is gone
+        self._group.release()
+
+    def _run(self, number: int, name: str, arguments: Sequence[Any]) -> None:
+        result = failure = None
+        is_missed, (*before, lent) = False, arguments
+        places = [Place(*place) for place in lent]
+        try:
+            result = self._deeds[name](*before, places)
+        except Missed as error:
+            failure, is_missed = str(error), True
+        except Exception as error:
+            failure = str(error).strip() or type(error).__name__
+        if number:
+            self._handover.send_all()
+            now = [astuple(place) for place in places]
+            self._messages.send("answer", number, result, failure, is_missed, now)
+
+    def _gather(
+        self, meeting: int, seconds: float, leads: bool, idle: float, places: Sequence[Place]
+    ) -> Tuple[List[int], List[Tuple[Any, ...]]]:
+        if self.is_leaving:
+            raise Missed("it leaves")
+        self._wait_for_who_comes()
+        flags, given_back = self._group.gather(meeting, seconds, leads, places, idle)
+        return flags, [astuple(place) for place in given_back]
+
+    def _wait_for_who_comes(self) -> None:
+        """As a Convener does."""
+        ends = time.monotonic() + COMING
+        there = set(self._group.numbers())
+        while not self._coming <= there and time.monotonic() < ends:
+            time.sleep(COMING / 100)
+            there.update(self._group.numbers())
+        self._coming.clear()  # no other one is given out meanwhile
+
+    def _edges(self, _: Sequence[Place]) -> List[Tuple[Any, ...]]:
+        self._handover.begin_anew()
+        return self._group.edges()

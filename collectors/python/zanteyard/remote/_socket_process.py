@@ -1,0 +1,98 @@
+"""A process of clients of the same machine, behind a socket in the file system."""
+
+from __future__ import annotations
+
+import glob
+import os
+import socket
+import struct
+from contextlib import suppress
+from multiprocessing.connection import Connection, wait
+from typing import Any, Dict, Optional
+
+from ..core._crash_notes import FORKED, notes_of
+from ..live._live_auditor import LiveAuditor
+from ._client_process import ClientProcess
+from ._crash_recovery import LostError, Noted, in_files
+from ._messages import Messages
+
+ENDING = 5.0  # seconds for a process to be seen dead, once its connection has ended
+PEER = struct.Struct("iII")  # its number, its user's and its group's
+
+
+def watched(connection: Connection) -> Optional[int]:
+    """A descriptor that tells when the process at the other end has ended; None where there is none
+    of it, so that it can't be known."""
+    try:
+        with socket.socket(fileno=os.dup(connection.fileno())) as same:
+            peer = same.getsockopt(socket.SOL_SOCKET, socket.SO_PEERCRED, PEER.size)
+        return os.pidfd_open(PEER.unpack(peer)[0])
+    except (AttributeError, OSError):
+        return None
+
+
+def remove(path: str) -> None:
+    """A session's notes."""
+    for which in range(2):
+        with suppress(OSError):
+            os.unlink(f"{path}.{which}")
+
+
+class SocketProcess(ClientProcess):
+    """Its notes are files, and its end is seen."""
+
+    def __init__(self, live: LiveAuditor, connection: Connection, notes: str) -> None:
+        """What it notes of its sessions is behind this path."""
+        super().__init__(live, Messages(connection))
+        self.notes_path, self._connection = notes, connection
+        self._asks: Dict[str, Any] = {}  # of each of its notes' paths how the store is asked
+        self._watch = watched(connection)
+
+    def _most(self) -> int:
+        """Of all, half of what may wait here."""
+        return max(1, self._live._backlog.most // (2 * self._live.auditor.sessions))
+
+    def _take_next(self) -> None:
+        self._wait()
+        kind, *rest = self.messages.receive()
+        self._deeds[kind](*rest)
+
+    def _wait(self) -> None:
+        """Until it sends something. Raises EOFError where it has ended, and somebody else keeps its
+        end of the connection open."""
+        if self._watch is not None:
+            found = wait([self._connection, self._watch])
+            if self._connection not in found and not self._connection.poll(0):
+                raise EOFError
+
+    def _noted(self) -> Noted:
+        if not self._is_dead():
+            raise LostError("it ended without leaving")
+        if os.path.exists(f"{self.notes_path}{FORKED}"):
+            raise LostError("it has forked, and its child may go on in its sessions")
+        there = {it[:-2] for it in glob.glob(f"{glob.escape(self.notes_path)}-*.0")}
+        # Of a session that it had begun to make, and in which nothing was done, it hasn't told.
+        if any(notes_of(path) for path in there - {*self._asks}):
+            raise LostError("not all that it did could be noted")
+        return in_files(self._asks)
+
+    def _is_dead(self) -> bool:
+        """It may take a while, behind the end of its connection."""
+        return self._watch is not None and bool(wait([self._watch], ENDING))
+
+    def _end(self) -> None:
+        self.messages.close()
+        if self._watch is not None:
+            os.close(self._watch)
+        for path in self._asks:
+            remove(path)
+        with suppress(OSError):
+            os.unlink(f"{self.notes_path}{FORKED}")
+
+    def _take_noted(self, which: int, asks: Any) -> None:
+        self._asks[f"{self.notes_path}-{which}"] = asks
+
+    def _forget(self, which: int) -> None:
+        path = f"{self.notes_path}-{which}"
+        self._asks.pop(path, None)
+        remove(path)

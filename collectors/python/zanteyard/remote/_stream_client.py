@@ -1,0 +1,93 @@
+"""How a process of clients comes in by streams of a Redis, and what it notes there."""
+
+from __future__ import annotations
+
+import os
+import secrets
+import socket
+from typing import Any, Callable, Optional
+
+from ._connecting import ANSWERING, welcomed
+from ._outbox import Handover
+from ._stream_ends import Link, asked
+from ._stream_messages import ClientsEnd
+from ._stream_names import HERE
+
+
+GOING = 1.0  # seconds for the Redis to forget who wasn't let in
+
+
+class StreamDoor:
+    """Raises OSError where the Redis can't be reached."""
+
+    def __init__(self, url: str, audit: str) -> None:
+        client = secrets.token_hex(8)
+        self.messages, self._wait = ClientsEnd(url, audit, client), 0.0
+        self._link = Link(url)
+        try:
+            self.messages.send("hello", socket.gethostname(), os.getpid(), seconds=ANSWERING)
+            names = self.messages.names
+            asked(self._link, [("HSET", names.clients, client, HERE)], ANSWERING)
+        except BaseException:
+            self._go_away()
+            raise
+        self.messages.begin()
+
+    def _go_away(self) -> None:
+        """As if it had never come: else each try would leave a client that lives on."""
+        self.messages.close()
+        names, client = self.messages.names, self.messages.client
+        self._link.ask([("HDEL", names.clients, client), ("DEL", names.up(client))], GOING)
+        self._link.close()
+
+    def welcome(self) -> Any:
+        try:
+            *found, _ = welcomed(self.messages)
+        except BaseException:
+            self._go_away()
+            raise
+        self._link.close()
+        self._wait = found[-1][0]  # of the policy
+        return found
+
+    def notes(self, which: int, handover: Handover) -> StreamNotes:
+        """Their order among all that the process tells says that nothing of them is missing."""
+        return StreamNotes(self.messages, which, self._wait, lambda: handover.lost)
+
+    def note_fork(self) -> None:
+        if not self.messages.tell("forked", seconds=self._wait):
+            raise OSError("the Redis with the audit's streams can't be reached")
+
+
+class StreamNotes:
+    """In the place of Notes. What is about to be committed is there before the store is told so,
+    but where Redis takes longer than clients wait: then it comes later, if this process lives."""
+
+    has_failed = False
+
+    def __init__(
+        self, messages: ClientsEnd, which: int, wait: float, lost: Callable[[], Optional[str]]
+    ) -> None:
+        self._messages, self._which, self._wait, self._lost = messages, which, wait, lost
+
+    def write(self, session: int, number: int, *more: Any) -> None:
+        if self._messages.is_closed or self._lost() is not None:
+            return  # nothing more is handed over
+        outcome, *rest = (*more, None)
+        note = self._messages.put("note", self._which, session, number, *more)
+        asks_store = outcome is None and len(rest) > 1 and rest[1] is not None
+        if asks_store:
+            self._messages.appender.flush(note, self._wait)
+
+    def fail(self, error: Exception) -> None:
+        """It isn't known what is about to be committed."""
+        self._messages.put("unnoted", str(error))
+
+    def remove(self) -> None:
+        """Nothing of this process can be believed any more, where it is killed."""
+        self._messages.put("unnoted", "something was done that isn't audited")
+
+    def end(self) -> None:
+        pass
+
+    close = let_go = end

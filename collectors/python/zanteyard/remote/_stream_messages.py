@@ -1,0 +1,194 @@
+"""In the place of a connection between two processes of one machine: messages over two streams of a
+Redis, between a client's process and the auditor's.
+
+Whoever sends keeps a message until the other end has taken it for good, so that a Redis that was
+away, or has lost what it had, costs time alone while both processes live. The auditor's end tells
+the client's up to which message all is taken for good, and up to which it has heard.
+"""
+
+from __future__ import annotations
+
+import os
+import threading
+import time
+from collections import deque
+from typing import Any, Callable, Deque, Optional, Tuple
+
+from ._stream_ends import AGAIN, Appender, Link, Reader
+from ._stream_names import Names
+
+SENDING = 2.0  # seconds in which Redis has to take what is sent, before it is left for later
+BEAT = 1.0  # seconds between two signs of life
+UNHEARD = 60  # of these, after which none is given any more that nobody hears
+PAUSE = 0.25  # seconds in which the other end is listened to
+KEPT, BYE, BEATS = "kept", "bye", "beat"
+
+
+class StreamMessages:
+    """Each message is several plain values. Any thread may send, and one receives."""
+
+    def __init__(self, appender: Appender, reader: Reader) -> None:
+        self.appender, self.reader = appender, reader
+        self.is_closed = False
+
+    def put(self, *message: Any) -> int:
+        return self.appender.put(*message)
+
+    def send(self, *message: Any, seconds: float = SENDING) -> None:
+        """Where Redis can't take it by then it is sent later. Raises OSError where the other end is
+        gone."""
+        if self.is_closed:
+            raise OSError("it is closed")
+        self.appender.flush(self.put(*message), min(seconds, SENDING))
+        if self.appender.is_gone:
+            raise OSError("the other end is gone")
+
+    def tell(self, *message: Any, seconds: float = SENDING) -> bool:
+        """Whether Redis has it by then."""
+        try:
+            number = self.put(*message)
+        except (TypeError, ValueError):
+            return False  # it is no plain value
+        return not self.is_closed and self.appender.flush(number, min(seconds, SENDING))
+
+    def close(self) -> None:
+        self.is_closed = True
+
+
+class ClientsEnd(StreamMessages):
+    """What the auditor has taken for good is told to who hands over, as `taken`."""
+
+    def __init__(self, url: str, audit: str, client: str) -> None:
+        self.names, self.client = Names(audit), client
+        up = Appender(url, self.names.up(client), self._is_buried)
+        super().__init__(up, Reader(url, self.names.down(client), has_gaps=True))
+        self._made_in = os.getpid()
+        self._logged: Deque[Tuple[int, int]] = deque()  # messages, and of how many transactions
+        self._next: Optional[Any] = None
+        self._heard = 0  # up to which message the auditor's process has heard
+        self._is_over = False
+        self._has_ended = threading.Event()
+        self._beating = threading.Thread(target=self._beat, daemon=True)
+
+    def _is_buried(self, link: Link, seconds: float) -> Optional[bool]:
+        found = link.ask([("EXISTS", self.names.buried(self.client))], seconds)
+        return None if found is None else found[0] == 1
+
+    def begin(self) -> None:
+        self._beating.start()
+
+    def put(self, *message: Any) -> int:
+        if self._is_over and message[0] in ("logged", "note"):
+            return self.appender.last  # nobody takes it
+        number = super().put(*message)
+        if message[0] == "logged":
+            self._logged.append((number, len(message[1])))
+        return number
+
+    def comes(self, seconds: float) -> bool:
+        """Whether a message comes within so many seconds."""
+        ends = time.monotonic() + seconds
+        while self._next is None and time.monotonic() < ends:
+            self._listen()
+        return self._next is not None
+
+    def receive(self) -> Any:
+        """The next one, a tuple. Raises EOFError where the other end is gone."""
+        while self._next is None:
+            if self.is_closed or self.appender.is_gone:
+                raise EOFError
+            self._listen()
+        found, self._next = self._next, None
+        return found
+
+    def close(self) -> None:
+        super().close()
+        if os.getpid() != self._made_in:  # threads that have its locks don't run here
+            return
+        self._has_ended.set()
+        self.appender.close()
+        self.reader.close()
+
+    def _listen(self) -> None:
+        found = self.reader.receive(PAUSE)
+        if found is None:
+            return
+        message: Any = found[1]
+        if message[0] == KEPT:
+            self.appender.confirm(message[1])
+            self._heard = max(self._heard, *message[1:])
+            count = 0
+            while self._logged and self._logged[0][0] <= message[1]:
+                count += self._logged.popleft()[1]
+            message = ("taken", count)
+        self._is_over = self._is_over or message[0] == "over"
+        if message[0] == BYE:
+            self.is_closed = True
+        else:
+            self._next = message
+
+    def _beat(self) -> None:
+        """What couldn't be sent is sent, and a sign of life, as long as somebody seems to listen.
+        """
+        appender, beats = self.appender, deque([0])
+        due = time.monotonic()
+        while not self._has_ended.wait(PAUSE) and not appender.is_gone:
+            is_there = appender.flush(appender.last, SENDING, insists=True)
+            while beats and beats[0] <= self._heard:
+                beats.popleft()
+            if is_there and time.monotonic() >= due and len(beats) < UNHEARD:
+                due = time.monotonic() + BEAT
+                beats.append(self.put(BEATS, self.reader.last))
+                appender.flush(beats[-1], SENDING)
+
+
+class AuditorsEnd(StreamMessages):
+    """Of one client's process, heard by a thread of its own. `before_given` is called before a
+    message is sent that gives it places."""
+
+    def __init__(
+        self, url: str, audit: str, client: str, before_given: Callable[[], object]
+    ) -> None:
+        names = Names(audit)
+        super().__init__(Appender(url, names.down(client)), Reader(url, names.up(client)))
+        self.client, self._before_given = client, before_given
+
+    def tell(self, *message: Any, seconds: float = SENDING) -> bool:
+        """Whether it is told, be it later: what it gives is then nobody else's. What the process
+        would have to answer isn't told at all where Redis couldn't be reached just before."""
+        if self.is_closed or (is_awaited(*message) and not self.appender.is_up):
+            return False
+        if gives_places(*message):
+            self._before_given()
+        try:
+            number = self.put(*message)
+        except (TypeError, ValueError):
+            return False  # it is no plain value
+        self.appender.flush(number, min(seconds, SENDING))
+        return True
+
+    def go_on(self) -> None:
+        """Sends what Redis couldn't take when it was told."""
+        if not self.appender.is_up or self.appender.there < self.appender.last:
+            self.appender.go_on(AGAIN)
+
+    def next(self) -> Optional[Tuple[int, Any]]:
+        """The next message, and its number; None where none has come. Raises Gap."""
+        return self.reader.receive(PAUSE)
+
+    def close(self) -> None:
+        super().close()
+        self.appender.close()
+        self.reader.close()
+
+
+def is_awaited(kind: str, *more: Any) -> bool:
+    """Whether somebody in the process waits for it, or in the auditor's for an answer."""
+    return kind == "left" or (kind == "call" and more[0] != 0)
+
+
+def gives_places(kind: str, *more: Any) -> bool:
+    """To a client, or to a meeting that runs something for them."""
+    if kind == "left":
+        return more[1] is not None
+    return kind == "call" and bool(more[2][-1])

@@ -1,0 +1,305 @@
+"""A process of clients behind streams of a Redis, as the auditor's process hears it."""
+
+from __future__ import annotations
+
+import time
+from collections import deque
+from dataclasses import astuple
+from typing import Any, Callable, Deque, Dict, List, Optional, Sequence, Tuple
+
+from ..core._crash_notes import Note
+from ..core._records import unpacked
+from ..core.errors import MissingError
+from ..live._live_auditor import PAUSE, LiveAuditor
+from ..session._session import Place
+from ._client_process import ClientProcess
+from ._crash_recovery import Noted
+from ._stream_ends import Gap
+from ._stream_messages import BYE, KEPT, AuditorsEnd
+
+ON_THEIR_WAY = 4096  # transactions of a session, in Redis, before its client waits
+SKIPPED = 1 << 20  # numbers of messages that a process of the auditor's may have given untold
+SILENCE = 10.0  # seconds of which a process lets nothing be heard, before it is given up
+WAITING = 60.0  # seconds for streams of other processes to be heard again
+Bury = Callable[[AuditorsEnd, bool], bool]
+
+
+class StreamProcess(ClientProcess):
+    """`is_dead` isn't known: it isn't heard of any more. What it has begun to commit is asked of
+    the store, without harm; and what it may do that isn't in its stream is left open.
+
+    `handled` is the number of its last message of which all is done; those up to `kept` are needed
+    no more. `bury`, given the end of its streams and whether that is whatever else it has told,
+    says whether it is given up for good. Where it `is_over` it is known until all is taken in that
+    it did."""
+
+    is_dead = False
+
+    def __init__(
+        self,
+        live: LiveAuditor,
+        messages: AuditorsEnd,
+        silence: float,
+        lock: Any,
+        bury: Bury,
+        on_their_way: int,
+    ) -> None:
+        super().__init__(live, messages)
+        self._on_their_way = on_their_way
+        self.ends, self._silence, self._lock, self._bury = messages, silence, lock, bury
+        self.others_again: Callable[[], bool] = lambda: False  # whether streams are heard again
+        self.takes_writes: Callable[[], bool] = lambda: True  # whether the Redis does
+        self.handled = self.kept = self._told_kept = self._told_heard = 0
+        self._at = 0  # the message that this process has heard last
+        self.asks: Dict[int, Any] = {}  # of each of its notes how the store is asked
+        self.is_over = self._is_known = self._has_left = self._is_buried = False
+        self._hears_rest = False  # what it told before, under its stream's other name
+        self._had: Optional[Dict[str, Any]] = None  # what it had as it was buried
+        self._again_until = 0  # its stream is heard again up to there
+        # What isn't taken in for good: of messages that logged something, each session's last
+        # number; and notes of what isn't handed over.
+        self._logged: Deque[Tuple[int, Dict[int, Optional[int]]]] = deque()
+        self._notes: Dict[int, Deque[Tuple[int, int, Note]]] = {}
+        self._held: Dict[int, List[Tuple[float, int, Optional[int], Any, Any]]] = {}
+        self._quiet_since: Optional[float] = None
+        self._deeds.update(
+            hello=lambda *_: None,
+            beat=messages.appender.confirm,
+            note=self._take_note,
+            forked=self._take_unnoted,
+        )
+
+    def _most(self) -> int:
+        return self._on_their_way
+
+    # what is heard
+
+    def _take_next(self) -> None:
+        if self._is_buried and not self._hears_rest:
+            self._hears_rest = self._bury(self.ends, True)
+            if not self._hears_rest:
+                time.sleep(PAUSE)
+                return
+        try:
+            found = self.ends.next()
+        except Gap as gap:
+            told = f"the Redis has lost what it told in the messages {gap}"
+            raise self._cut_off(told) from gap
+        now = time.monotonic()
+        can_be_heard = self.ends.reader.is_up and self.takes_writes()
+        if found is not None or not can_be_heard or self._quiet_since is None:
+            self._quiet_since = now
+        elif self._is_buried:  # and all is heard again that it told
+            raise EOFError(f"nothing was heard of it for {self._silence:g} s")
+        elif now > self._quiet_since + self._silence:
+            self._quiet_since = now
+            self._is_buried = self._hears_rest = self._bury(self.ends, False)
+        if found is not None:
+            self._take(*found)
+
+    def _take(self, number: int, message: Any) -> None:
+        kind, *rest = message
+        if kind == "logged" and (number <= self.handled or self.others_again()):
+            self._wait_for_others(rest[0], number <= self.handled)
+        with self._lock:
+            self._at = number
+            if kind in ("answer", "back", "leave"):  # others may have its sessions, or had flags
+                for session in [*self._held]:
+                    self._give_held(session)
+            if number > self.handled or kind in ("logged", "note"):
+                self._deeds[kind](*rest)
+            self.handled = max(self.handled, number)
+            if self._has_left and number >= self.handled:
+                self.group.leave()
+        if kind == "logged":
+            self._wait_for_room()
+
+    @property
+    def is_heard_again(self) -> bool:
+        return self._at < self._again_until and not self.is_over
+
+    def _take_leave(self, places: Sequence[Sequence[Any]]) -> None:
+        self._has_left = True
+        super()._take_leave(places)
+
+    def _wait_for_others(self, logged: Sequence[Any], is_again: bool) -> None:
+        """Which had these sessions before: their streams are heard again, too."""
+        firsts: Dict[int, int] = {}
+        for _, session, number, _, _ in logged:
+            if number is not None and self._live._audit.covers(session, number):
+                firsts.setdefault(session, number)
+        ends = time.monotonic() + WAITING
+        while any(self._reached(session) < first for session, first in firsts.items()):
+            if not is_again and not self.others_again():
+                break
+            if time.monotonic() > ends:
+                raise self._cut_off("what came before what it told is in no stream")
+            time.sleep(PAUSE)
+
+    def _reached(self, session: int) -> int:
+        """The number behind the last that is handed in, or held."""
+        held = self._held.get(session)
+        number = held[-1][2] if held else None
+        return self._live._backlog.next_number(session) if number is None else number + 1
+
+    def _cut_off(self, why: str) -> EOFError:
+        """The rest of what it told, and so its notes, can't be believed: something is missing."""
+        self._is_buried, self._hears_rest = True, self._bury(self.ends, True)
+        self._notes.clear()
+        return EOFError(why)
+
+    def _take_logged(self, logged: Sequence[Any], dropped: int) -> None:
+        """What was taken in before is there again where the auditor's process is another one."""
+        backlog, now = self._live._backlog, time.monotonic()
+        last: Dict[int, Optional[int]] = {}
+        is_again = self._at <= self.handled
+        for _, session, number, unseen, packed in logged:
+            last[session] = number
+            self.group.note_joined(session, number)  # it may be taken in already
+            is_taken = is_again and backlog.is_taken(session, number)
+            if not is_taken and (number is None or number >= backlog.next_number(session)):
+                self._take_one(now, session, number, unseen, packed)
+        if dropped and not is_again:
+            backlog.count_dropped(dropped)
+        self._logged.append((self._at, last))
+        for session in last:
+            self._drop_notes(session)
+
+    def _take_one(
+        self, came: float, session: int, number: Optional[int], unseen: Any, packed: Any
+    ) -> None:
+        """An attempt that did nothing waits for what its session does behind it: were it the last
+        of a session that is closed, nothing would say where it stands, and no fence be settled."""
+        its = (came, session, number, unseen, packed)
+        logged = unpacked(packed) if number is not None else None
+        if logged is not None and not logged.reads and not logged.writes:
+            self._held.setdefault(session, []).append(its)
+        else:
+            self._give_held(session)
+            super()._take_one(*its)
+
+    def _give_held(self, session: int) -> None:
+        for its in self._held.pop(session, ()):
+            super()._take_one(*its)
+
+    def _take_note(self, which: int, *note: Any) -> None:
+        its = Note(*note)
+        self._notes.setdefault(its.session, deque()).append((self._at, which, its))
+        self._drop_notes(its.session)
+
+    def _drop_notes(self, session: int) -> None:
+        notes, handed_over = self._notes.get(session), self._live._backlog.next_number(session)
+        while notes and notes[0][2].number < handed_over:
+            notes.popleft()
+
+    def _take_noted(self, which: int, asks: Any) -> None:
+        self.asks[which] = asks
+
+    def _forget(self, which: int) -> None:
+        self.asks.pop(which, None)
+
+    # what is needed no more
+
+    def note_kept(self) -> bool:
+        """Whether more is needed no more than was, or was heard; for who has the lock."""
+        is_taken = self._live._backlog.is_taken
+        while self._logged and all(is_taken(*its) for its in self._logged[0][1].items()):
+            self._logged.popleft()
+        ends = [self._logged[0][0] - 1] if self._logged else []
+        ends += [notes[0][0] - 1 for notes in self._notes.values() if notes]
+        self.kept = max(self.kept, min([self._at, *ends]))
+        return self.kept > self._told_kept or self._at > self._told_heard
+
+    def tell_kept(self) -> None:
+        self._told_kept, self._told_heard = self.kept, self._at
+        self.messages.tell(KEPT, self._told_kept, self._told_heard)
+
+    # its end
+
+    @property
+    def is_given_up(self) -> bool:
+        return self._is_buried
+
+    def _noted(self) -> Noted:
+        return {
+            session: [(note, self.asks.get(which)) for _, which, note in notes]
+            for session, notes in self._notes.items()
+        }
+
+    def _find_out(self, places: Sequence[Place], why: str) -> None:
+        self._had = self._has()  # another process finds the same out, as long as it isn't taken in
+        super()._find_out(places, why)
+        if self._has_left and self._live._lost is None:  # it was heard again, and not to its end
+            told = f"what a process did that had left is lost: {why}"
+            self._live.note_missing(MissingError(told))
+        numbers = sorted(place.number for place in places if place.is_audited)
+        if numbers and self._live._lost is None:
+            told = ", ".join(
+                f"{number} from its transaction {self._live._backlog.next_number(number)} on"
+                for number in numbers
+            )
+            missing = f"what was done in the sessions {told} isn't known, if anything was: {why}"
+            self._live.note_missing(MissingError(missing))
+
+    def _end(self) -> None:
+        self.messages.tell(BYE)
+        self.is_over = True
+
+    @property
+    def is_taken_in(self) -> bool:
+        """All that is known of it; for who has the lock."""
+        backlog = self._live._backlog
+        # Of who was given up attempts that did nothing may be held for good.
+        return (self._is_buried or not self._logged) and all(
+            backlog.is_taken(place.number, backlog.next_number(place.number) - 1)
+            for place in [*self.group.places(), *self.group.lent()]
+            if backlog.next_number(place.number) > 0
+        )
+
+    # where another process of the auditor goes on
+
+    def state(self) -> Dict[str, Any]:
+        """As plain values; for who has the lock."""
+        group = self.group
+        is_gone = self._has_left or (self.is_over and not self._is_buried)
+        return {
+            "left": is_gone,
+            "buried": self._is_buried,
+            "handled": self.handled,
+            "kept": self.kept,
+            "told": self.messages.appender.last,
+            "asks": self.asks,
+            "asked": group.asked,
+            "ended": sorted(group.ended),
+            "noted": self._has_all_noted,
+            **({"places": [], "calls": []} if is_gone else self._had or self._has()),
+        }
+
+    def _has(self) -> Dict[str, Any]:
+        gone = {place.number for place in self.group.given_back()}
+        its = [astuple(it) for it in self.group.places() if it.number not in gone]
+        return {"places": its, "calls": self.group.open_calls()}
+
+    def begin_behind(self, state: Dict[str, Any]) -> List[Place]:
+        """Another process; before it is heard. Gives the places that are lent to it."""
+        self.handled, self.asks = state["handled"], state["asks"]
+        self.kept = self._told_kept = self._at = self.ends.reader.last = state["kept"]
+        self.messages.appender.begin_behind(state["told"] + SKIPPED)
+        self._has_all_noted, self._is_known = state["noted"], True
+        self._has_left, self._again_until = state.get("left", False), self.handled
+        self._is_buried = state.get("buried", False)
+        if self._has_left and self.kept >= self.handled:
+            self.group.leave()
+        calls = [(asked, name, [Place(*it) for it in lent]) for asked, name, lent in state["calls"]]
+        lents = [place for _, _, lent in calls for place in lent]
+        places = [Place(*place) for place in state["places"]]
+        closed = {number for number, its in enumerate(self._live.auditor.closed) if its}
+        for place in lents:
+            place.is_ended = place.is_ended or place.number in closed
+        closed &= {place.number for place in [*places, *lents]}
+        self.group.go_on(state["asked"], places, closed.union(state["ended"]), calls)
+        return lents
+
+    def _welcome(self) -> None:
+        if not self._is_known:
+            super()._welcome()

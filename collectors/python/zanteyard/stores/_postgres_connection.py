@@ -1,0 +1,87 @@
+"""Connections to PostgreSQL, and answers of it, that nobody waits for longer than was said."""
+
+from __future__ import annotations
+
+import math
+import select
+import time
+from typing import Any, Callable, Dict, Optional, Sequence
+
+import psycopg2
+from psycopg2 import extensions
+
+from ..core import _timeouts as timeouts
+
+LEAST = 2  # seconds: what libpq makes of a shorter connect_timeout
+
+
+def connected(dsn: str, seconds: float) -> Any:
+    """A connection. Raises psycopg2's errors, OperationalError after so many seconds."""
+    more: Dict[str, Any] = {}
+    if "connect_timeout" not in extensions.parse_dsn(dsn):
+        more["connect_timeout"] = max(LEAST, math.ceil(seconds))
+    return within(seconds, lambda: psycopg2.connect(dsn, **more), closed)
+
+
+def closed(late: Any) -> None:
+    if late is not None:
+        late.close()
+
+
+def answer(dsn: str, text: str, values: Sequence[Any], seconds: float) -> Optional[Sequence[Any]]:
+    """The first row that the statement gives, over a connection of its own. Raises as
+    `connected`."""
+    ends = time.monotonic() + seconds
+    row: Optional[Sequence[Any]] = within(seconds, lambda: first_row(dsn, text, values, ends))
+    return row
+
+
+def outcome_told(dsn: str, text: str, values: Sequence[Any], seconds: float) -> str:
+    """"committed", "aborted" or "unknown", of a transaction of whose number the statement gives the
+    status, and whether what it wrote is there. The number alone doesn't say it: a server that has
+    crashed gives that of one that was lost to another one. It is asked over a connection of its
+    own, since the one at hand may be broken."""
+    try:
+        found = answer(dsn, text, values, seconds)
+    except psycopg2.Error:
+        return "unknown"
+    status, is_there = found or (None, False)
+    if status == "aborted" or (status == "committed" and is_there):
+        return str(status)
+    return "unknown"
+
+
+def first_row(
+    dsn: str, text: str, values: Sequence[Any], ends: float
+) -> Optional[Sequence[Any]]:
+    connection = psycopg2.connect(dsn, async_=True)
+    try:
+        wait(connection, ends)
+        cursor = connection.cursor()
+        cursor.execute(text, values)
+        wait(connection, ends)
+        row: Optional[Sequence[Any]] = cursor.fetchone()
+        return row
+    finally:
+        connection.close()
+
+
+def wait(connection: Any, ends: float) -> None:
+    """Until what an asynchronous connection does is done."""
+    while True:
+        state = connection.poll()
+        if state == extensions.POLL_OK:
+            return
+        waits = select.poll()
+        is_reading = state == extensions.POLL_READ
+        waits.register(connection.fileno(), select.POLLIN if is_reading else select.POLLOUT)
+        if not waits.poll(max(0.0, 1000 * (ends - time.monotonic()))):
+            raise psycopg2.OperationalError("the server hasn't answered in time")
+
+
+def within(seconds: float, call: Callable[[], Any], drop: Callable[[Any], object] = bool) -> Any:
+    """As `timeouts.within`, with psycopg2's error in place of LateError."""
+    try:
+        return timeouts.within(seconds, call, drop)
+    except timeouts.LateError as error:
+        raise psycopg2.OperationalError(str(error)) from None

@@ -1,0 +1,411 @@
+"""A table of MariaDB as a store. Each row has its writer's name beside the value; the value NULL
+marks a deleted key.
+
+MariaDB has no number of a transaction that could be asked for. So each store has a row of its own,
+which it writes in each transaction that writes, by the same statement as the first other row: with
+the transaction's count, it says what was committed last. Who asks for an outcome that isn't known
+writes the same count there, as that of an attempt that was aborted: whichever of the two comes
+first keeps the other out (`DECIDE`), so that what was asked for is decided for good.
+"""
+
+from __future__ import annotations
+
+import math
+import secrets
+import socket
+import time
+from typing import Any, Dict, Mapping, Optional, Sequence, Tuple
+
+import pymysql
+from pymysql.constants import SERVER_STATUS
+
+from ..core._commit_status import Found as FoundOut
+from ..core._records import Found, Name
+from ..core._timeouts import LateError, within
+from ..session._session import Aborted, NameTaken, OutcomeUnknown
+
+SNAPSHOT = "snapshot isolation"  # repeatable read, where innodb_snapshot_isolation is on
+LEVELS = ("serializable", SNAPSHOT, "repeatable read", "read committed", "read uncommitted")
+# Keys are compared byte by byte: most collations take "x", "X" and "x " for one.
+TABLE = """CREATE TABLE IF NOT EXISTS {table} (
+    `key` varchar(512) PRIMARY KEY, value longtext,
+    run varchar(255) NOT NULL, session int NOT NULL, number bigint NOT NULL,
+    before_value longtext, before_run varchar(255), before_session int, before_number bigint)
+    ENGINE = InnoDB CHARACTER SET utf8mb4 COLLATE utf8mb4_nopad_bin"""
+# Without a strict mode what is too long is cut off, and two keys may become one.
+SET_UP = (
+    "SET SESSION sql_mode = 'STRICT_ALL_TABLES,NO_ENGINE_SUBSTITUTION', completion_type = NO_CHAIN"
+)
+SNAPSHOTS = "SET SESSION innodb_snapshot_isolation = ON"
+LEVEL = "SET SESSION TRANSACTION ISOLATION LEVEL {level}"
+WAITS = "SET SESSION innodb_lock_wait_timeout = %s"
+READ = "SELECT value, run, session, number FROM {table} WHERE `key` = %s"
+READ_ALL = "SELECT `key`, value, run, session, number FROM {table} WHERE `key` IN %s"
+LOCKING = " LOCK IN SHARE MODE"
+FOR_UPDATE = " FOR UPDATE"
+OWN = -2  # in place of a session, in the row that tells a store's outcomes
+INSERT = "INSERT INTO {table} (`key`, value, run, session, number) VALUES "
+ROW = "(%s, %s, %s, %s, %s)"
+# A count that isn't greater than the one that is there fails: the column is NOT NULL. Assignments
+# are made from left to right, so that what is compared, or kept, is what was there before.
+UPDATE = f"""ON DUPLICATE KEY UPDATE {{before}}
+    number = IF(VALUES(session) = {OWN} AND number >= VALUES(number), NULL, VALUES(number)),
+    value = VALUES(value), run = VALUES(run), session = VALUES(session)"""
+KEEPING = """before_value = value, before_run = run, before_session = session,
+    before_number = number,"""
+BEFORE = "RETURNING `key`, before_value, before_run, before_session, before_number"
+DECIDE = f"""{INSERT} {ROW} ON DUPLICATE KEY UPDATE
+    value = IF(number < VALUES(number), VALUES(value), value),
+    number = GREATEST(number, VALUES(number)) RETURNING value, number"""
+CLAIM = f"{INSERT} {ROW} ON DUPLICATE KEY UPDATE value = value RETURNING value"
+# The error's number of what ends a transaction, and tells that nothing of it was committed: a lock
+# that was waited for too long (1205: MariaDB rolls back the statement alone, and this store the
+# transaction), a deadlock, and a row that has changed since the snapshot.
+CONFLICTS = (1205, 1213, 1020)
+TIME_IS_UP = 1969  # of max_statement_time
+CLIENT_ERRORS = range(2000, 3000)  # which no server has told
+PATIENCE = 5.0  # seconds for a connection, and for an outcome
+SHARE = 0.8  # what the server has of the time after which its answer isn't waited for
+RUN = "zanteyard run "  # before a run's name: the key of the row that says whose it is
+LAST = "zanteyard last "  # before a store's token: the key of the row that tells its outcomes
+
+
+def quoted(table: str) -> str:
+    """The table's name, or "database.table", as statements have it."""
+    parts = ["`" + part.replace("`", "``") + "`" for part in table.split(".", 1)]
+    return ".".join(parts).replace("%", "%%")
+
+
+def prepare(dsn: Mapping[str, Any], table: str = "zanteyard") -> None:
+    """Makes the table, where it isn't there."""
+    connection = pymysql.connect(**dsn)
+    try:
+        connection.cursor().execute(TABLE.format(table=quoted(table)).replace("%%", "%"))
+    finally:
+        connection.close()
+
+
+def code_of(error: BaseException) -> int:
+    """The error's number; 0 where it has none."""
+    return error.args[0] if error.args and isinstance(error.args[0], int) else 0
+
+
+class MariaDBStore:
+    """One connection, for one thread at a time. `dsn` is what `pymysql.connect` takes, `level` one
+    of LEVELS, and `table` may be "database.table". A connection is waited for no longer than
+    `patience` seconds, and a lock no longer than `lock_wait`, whole seconds; where none are given,
+    as long as the server says. Where it is `for_update` all reads are SELECT .. FOR UPDATE."""
+
+    errors = (pymysql.MySQLError, LateError)
+
+    def __init__(
+        self,
+        dsn: Mapping[str, Any],
+        level: str = "serializable",
+        table: str = "zanteyard",
+        patience: float = PATIENCE,
+        lock_wait: Optional[int] = None,
+        for_update: bool = False,
+    ) -> None:
+        if level not in LEVELS:
+            raise ValueError(f"{level} is none of {', '.join(LEVELS)}")
+        self.dsn, self.level, self.table, self.patience = dict(dsn), level, quoted(table), patience
+        self.lock_wait, self.locks = lock_wait, FOR_UPDATE if for_update else ""
+        self.connection: Any = None
+        self.statement: Optional[str] = None  # what was run last, as the server got it
+        self.own, self.count = f"{LAST}{secrets.token_hex(8)}", 0
+        self.before = ""  # what a statement that is a transaction is sent behind
+        self.is_alone = self.is_hung_up = False
+        self.ends = math.inf  # when a statement by itself isn't waited for any more
+        self.usual: Optional[float] = None  # how long the application waits for an answer
+        # Of the transaction: whether it has written, can't be committed any more, and was ended
+        # between two of its writes by something else than this store.
+        self.has_written = self.has_failed = self.is_torn = False
+
+    # the connection
+
+    def connect(self, seconds: Optional[float] = None) -> None:
+        """Opens the connection, and raises pymysql's errors where it can't."""
+        self.is_hung_up = False
+        waits = self.patience if seconds is None else seconds
+        try:
+            self.connection = within(waits, lambda: self.connected(waits), _close)
+        except LateError as error:
+            raise pymysql.OperationalError(2003, str(error)) from None
+        self.usual = self.connection._read_timeout
+
+    def connected(self, seconds: float) -> Any:
+        limits = {"connect_timeout": max(1, math.ceil(seconds))}
+        dsn: Dict[str, Any] = {"charset": "utf8mb4", **limits, **self.dsn, "autocommit": True}
+        connection = pymysql.connect(**dsn)
+        cursor = connection.cursor()
+        cursor.execute(SET_UP)
+        if self.level == SNAPSHOT:
+            cursor.execute(SNAPSHOTS)
+        level = "repeatable read" if self.level == SNAPSHOT else self.level
+        cursor.execute(LEVEL.format(level=level.upper()))
+        if self.lock_wait is not None:
+            cursor.execute(WAITS, (self.lock_wait,))
+        return connection
+
+    @property
+    def is_connected(self) -> bool:
+        return self.connection is not None and bool(self.connection.open)
+
+    @property
+    def is_in_transaction(self) -> bool:
+        """As the server said with its last answer."""
+        return bool(self.connection.server_status & SERVER_STATUS.SERVER_STATUS_IN_TRANS)
+
+    def is_broken(self, error: BaseException) -> bool:
+        """Whether nothing more comes over this connection."""
+        lost = isinstance(error, pymysql.InterfaceError) or code_of(error) in CLIENT_ERRORS
+        return lost or not self.is_connected
+
+    def send(self, text: str, values: Sequence[Any] = ()) -> Any:
+        """All that is sent to the server goes through here: one call is one way there and back."""
+        cursor = self.connection.cursor()
+        query = cursor.mogrify(text, values)
+        cursor.execute(query)
+        self.statement = query
+        return cursor
+
+    def ask(self, text: str, values: Sequence[Any] = ()) -> Any:
+        if not self.is_alone:
+            self.still_open()
+        try:
+            cursor = self.sent_in_time(self.before + text.format(table=self.table), values)
+        except pymysql.MySQLError as error:
+            self.has_failed = True  # else what follows might be committed without this
+            self.raise_what_it_means(error)
+            raise
+        if self.before and self.statement is not None:
+            self.statement = self.statement[len(self.before) :]
+        return cursor
+
+    def sent_in_time(self, text: str, values: Sequence[Any]) -> Any:
+        """The server ends no statement that waits at its own commit, as for a backup."""
+        if not self.is_alone:
+            return self.send(text, values)
+        limit(self.connection, self.ends)
+        try:
+            return self.send(text, values)
+        finally:
+            self.connection._read_timeout = self.usual
+
+    def raise_what_it_means(self, error: pymysql.MySQLError) -> None:
+        told = f"{' '.join(map(str, error.args))}".strip()
+        if self.is_alone and self.is_broken(error):
+            raise OutcomeUnknown(told) from error
+        if code_of(error) in CONFLICTS or (self.is_alone and code_of(error) == TIME_IS_UP):
+            raise Aborted(told) from error
+
+    def still_open(self) -> None:
+        """A statement of a transaction that the server has ended would be one by itself."""
+        if self.has_failed:
+            raise Aborted("the transaction had failed before")
+        if self.is_connected and not self.is_in_transaction:
+            self.has_failed = True
+            told = "something else has ended the transaction, as statements that make tables do"
+            if self.has_written:
+                self.is_torn = True
+                raise OutcomeUnknown(told)
+            raise Aborted(told)
+
+    # what sessions call
+
+    def begin(self, seconds: Optional[float] = None) -> None:
+        self.get_ready(seconds)
+        self.is_alone, self.before = False, ""
+        try:
+            self.send("START TRANSACTION")
+        except pymysql.MySQLError as error:
+            if not self.is_broken(error) or self.is_hung_up:
+                raise
+            self.close()  # it was idle for too long: nothing has begun
+            self.connect(seconds)
+            self.send("START TRANSACTION")
+
+    def get_ready(self, seconds: Optional[float] = None) -> None:
+        """Whatever comes is a transaction of its own."""
+        if self.is_hung_up:
+            self.close()
+        if not self.is_connected:
+            self.connect(seconds)
+        self.count += 1
+        self.has_written = self.has_failed = self.is_torn = False
+
+    def begin_alone(self, seconds: float) -> None:
+        """Instead of `begin`, where what follows are statements that need no other one: each is a
+        transaction by itself, isn't waited for any longer than so many seconds, and holds no lock
+        behind it. What it reads it locks, at every level: it is what was committed, and of one
+        moment."""
+        self.ends = time.monotonic() + seconds
+        self.get_ready(min(seconds, self.patience))
+        self.is_alone = True
+        self.before = limited(SHARE * (self.ends - time.monotonic()))
+
+    def read(self, key: str) -> Optional[Found]:
+        row = self.ask(READ + (LOCKING if self.is_alone else self.locks), (key,)).fetchone()
+        return None if row is None else (row[0], row[1:])
+
+    def read_all(self, keys: Sequence[str]) -> Dict[str, Found]:
+        if not keys:
+            return {}
+        locks = LOCKING if self.is_alone else self.locks
+        rows = self.ask(READ_ALL + locks, ([*keys],)).fetchall()
+        return {row[0]: (row[1], row[2:]) for row in rows}
+
+    def write(self, key: str, value: Any, name: Name) -> None:
+        self.put(key, value, name, "", "")
+
+    def exchange(self, key: str, value: Any, name: Name) -> Optional[Found]:
+        """By one statement, which locks the row before it reads: what is given is what is
+        overwritten, whatever snapshot the transaction has."""
+        rows = self.put(key, value, name, KEEPING, BEFORE).fetchall()
+        (row,) = [row[1:] for row in rows if row[0] == key]
+        return None if row[1] is None else (row[0], row[1:])
+
+    def put(self, key: str, value: Any, name: Name, before: str, behind: str) -> Any:
+        """With the store's own row behind it, where it is the transaction's first."""
+        own = () if self.has_written else (self.own, "committed", name[0], OWN, self.count)
+        rows = f"{ROW}, {ROW}" if own else ROW
+        text = f"{INSERT}{rows} {UPDATE.replace('{before}', before)} {behind}"
+        done = self.ask(text, (key, value, *name, *own))
+        self.has_written = True
+        if own and self.statement is not None:  # who is told of a violation needn't see this row
+            self.statement = self.statement.replace(f", {done.mogrify(ROW, own)}", "")
+        return done
+
+    def commit(self) -> None:
+        if self.is_alone:
+            return  # nothing is open
+        if not self.is_connected:
+            raise Aborted("the connection was lost before the commit was sent")
+        if self.has_failed or self.has_written:
+            self.still_open()
+        try:
+            self.send_commit()
+        except pymysql.MySQLError as error:
+            if self.is_broken(error):
+                raise OutcomeUnknown(str(error)) from error
+            self.has_failed = True
+            self.raise_what_it_means(error)
+            raise  # the server has answered: it is aborted
+
+    def send_commit(self) -> None:
+        self.send("COMMIT")
+
+    def rollback(self) -> None:
+        """Where the server can't be told, the connection is closed: then it finds out by itself."""
+        self.has_failed = True
+        if not self.is_connected or self.is_alone:
+            return
+        try:
+            self.send("ROLLBACK")
+        except pymysql.MySQLError:
+            self.close()
+
+    def close(self) -> None:
+        """Closes the connection; the next transaction opens another one. May be called twice."""
+        if self.is_connected:
+            _close(self.connection)
+
+    def hang_up(self) -> None:
+        """From any thread: what waits for the server raises OutcomeUnknown at once, or pymysql's
+        error, and the next transaction opens another connection."""
+        connection, self.is_hung_up = self.connection, True
+        try:
+            connection._sock.shutdown(socket.SHUT_RDWR)
+        except (AttributeError, OSError):
+            pass  # none is open
+
+    def outcome(self) -> str:
+        return self.outcome_within(self.patience)
+
+    def outcome_within(self, seconds: float) -> str:
+        """By a connection of its own, since the one at hand may be broken. It waits for a
+        transaction that is still open, and then it is decided."""
+        if self.is_torn:
+            return "unknown"
+        count = self.count
+        try:
+            value, decided = within(seconds, lambda: self.decided(count, seconds))
+        except (pymysql.MySQLError, LateError, OSError):
+            return "unknown"
+        return str(value) if decided == count else "unknown"
+
+    def decided(self, count: int, seconds: float) -> Tuple[str, int]:
+        """What the store's own row says, with "aborted" in it where nothing was there yet."""
+        connection = self.connected(seconds)
+        try:
+            limit(connection, time.monotonic() + seconds)  # else this might go on for ever
+            cursor = connection.cursor()
+            row = (self.own, "aborted", "", OWN, count)
+            cursor.execute(limited(seconds) + DECIDE.format(table=self.table), row)
+            found: Tuple[str, int] = cursor.fetchone()
+            return found
+        finally:
+            _close(connection)
+
+    def asks(self) -> Any:
+        return ("mariadb", self.dsn, self.table, self.own)
+
+    def ticket(self, written: Sequence[Any]) -> Any:
+        return (self.count, self.is_alone, *written)
+
+    def claim(self, run_name: str, token: str, seconds: float) -> None:
+        """Makes the name that of one run, or raises NameTaken where it is another's; OutcomeUnknown
+        or Aborted where the server hasn't answered after so many seconds."""
+        self.get_ready()  # what connects is waited for by the client, whose connection it is
+        self.begin_alone(seconds)
+        row = (RUN + run_name, token, run_name, -1, 0)
+        (owner,) = self.ask(CLAIM, row).fetchone()
+        if owner != token:
+            raise NameTaken(f"{self.table} knows the name {run_name}: an earlier run had it")
+
+
+def limited(seconds: float) -> str:
+    """What a statement is sent behind, which the server then ends."""
+    return (
+        f"SET STATEMENT max_statement_time = {max(0.001, seconds):.3f}, "
+        f"innodb_lock_wait_timeout = {max(1, math.ceil(seconds))} FOR "
+    )
+
+
+def limit(connection: Any, ends: float) -> None:
+    """No answer is waited for longer than until then, and than the application says."""
+    usual, seconds = connection._read_timeout, max(0.001, ends - time.monotonic())
+    connection._read_timeout = seconds if usual is None else min(usual, seconds)
+
+
+def _close(connection: Any) -> None:
+    try:
+        connection.close()
+    except (AttributeError, pymysql.MySQLError):
+        pass  # it was closed, or none has come
+
+
+ITS_ROW = """SELECT before_run, before_session, before_number FROM {table} WHERE `key` = %s
+    AND run = %s AND session = %s AND number = %s"""
+
+
+def asked(
+    dsn: Dict[str, Any], table: str, own: str, *, ticket: Any, seconds: float
+) -> FoundOut:
+    """What became of the transaction of a store whose process is killed."""
+    store = MariaDBStore(dsn, patience=seconds)
+    store.table, store.own = table, own
+    store.count, is_alone, *its = ticket
+    outcome = store.outcome_within(seconds)
+    if outcome != "committed" or not is_alone:
+        return outcome, None
+    connection = store.connected(seconds)
+    try:
+        limit(connection, time.monotonic() + seconds)
+        cursor = connection.cursor()
+        cursor.execute(ITS_ROW.format(table=table), its)
+        row = cursor.fetchone()
+        return outcome, None if row is None else () if row[0] is None else (row,)
+    finally:
+        _close(connection)

@@ -1,0 +1,118 @@
+"""A store in memory, whose faults can be switched on. Honest, it lets a transaction commit only
+where all that it read is still the newest."""
+
+from __future__ import annotations
+
+import random
+import threading
+import time
+from typing import Any, Dict, List, Optional, Tuple
+
+from ..core._records import Found, Name
+from ..session._session import Aborted, NameTaken, OutcomeUnknown
+
+FAULTS = (
+    *("stale-read", "lost-update", "write-skew", "torn-read"),
+    *("dirty-read", "lost-write", "reappearing"),
+)
+
+
+class MemoryStore:
+    """What is shared by all connections: of each key its versions, oldest first, as (value, name,
+    moment). A commit takes up to so many seconds on its way, and as long on the way back."""
+
+    def __init__(self, fault: Optional[str] = None, takes: float = 0.0) -> None:
+        assert fault is None or fault in FAULTS, fault
+        self.takes = takes
+        self.fault, self.moment, self.lock = fault, 0, threading.RLock()
+        self.versions: Dict[str, List[Tuple[Any, Name, int]]] = {}
+        self.runs: Dict[str, str] = {}  # of each run's name, its token
+
+    def connect(self) -> Connection:
+        return Connection(self)
+
+    def newest(self, key: str, moment: int) -> int:
+        """The index of the key's newest version of this moment, or -1."""
+        versions = self.versions.get(key, [])
+        return max((i for i, version in enumerate(versions) if version[2] <= moment), default=-1)
+
+
+class Connection:
+    def __init__(self, shared: MemoryStore) -> None:
+        self.shared, self.known = shared, True
+        self.lost: Optional[str] = None
+        self.seen: Dict[str, int] = {}
+        self.writes: Dict[str, Found] = {}
+        self.last_outcome = "unknown"
+
+    def begin(self) -> None:
+        self.began, self.seen, self.writes = self.shared.moment, {}, {}
+        self.last_outcome = "aborted"  # so far nothing is there
+
+    def read(self, key: str) -> Optional[Found]:
+        shared = self.shared
+        at = shared.newest(key, shared.moment if shared.fault == "torn-read" else self.began)
+        self.seen[key] = at
+        if shared.fault == "stale-read" and at > 0:
+            at -= 1
+        if at < 0:
+            return None
+        value, name, _ = shared.versions[key][at]
+        if value is None and shared.fault == "reappearing":
+            value, name, _ = shared.versions[key][at - 1]
+        return value, name
+
+    def write(self, key: str, value: Any, name: Name) -> None:
+        self.writes[key] = (value, name)
+
+    def commit(self) -> None:
+        self.go()
+        with self.shared.lock:
+            self.decide()
+        self.go()
+
+    def go(self) -> None:
+        if self.shared.takes:
+            time.sleep(random.uniform(0.0, self.shared.takes))
+
+    def decide(self) -> None:
+        shared = self.shared
+        changed = {key for key, at in self.seen.items() if at != shared.newest(key, shared.moment)}
+        if shared.fault in ("lost-update", "torn-read"):
+            changed = set()
+        if shared.fault == "write-skew":  # as under snapshot isolation
+            changed &= set(self.writes)
+        if changed:
+            self.end("aborted")
+            raise Aborted(f"{sorted(changed)} changed")
+        self.end("committed")
+        if self.lost is not None:
+            raise OutcomeUnknown("no answer")
+
+    def rollback(self) -> None:
+        if self.shared.fault == "dirty-read" and self.writes:
+            self.install()
+        self.writes = {}
+
+    def end(self, outcome: str) -> None:
+        """`lost`, which tests set, has the commit take effect ("committed") or not ("aborted")
+        without an answer."""
+        outcome, self.last_outcome = self.lost or outcome, "unknown"  # an interrupt may come
+        if outcome == "committed" and self.shared.fault != "lost-write":
+            self.install()
+        self.last_outcome = outcome
+
+    def install(self) -> None:
+        with self.shared.lock:
+            for key, (value, name) in self.writes.items():
+                version = (value, name, self.shared.moment + 1)
+                self.shared.versions.setdefault(key, []).append(version)
+            self.shared.moment += 1
+
+    def claim(self, run_name: str, token: str, seconds: float) -> None:
+        with self.shared.lock:
+            if self.shared.runs.setdefault(run_name, token) != token:
+                raise NameTaken(f"the store knows the name {run_name}: an earlier run had it")
+
+    def outcome(self) -> str:
+        return self.last_outcome if self.known else "unknown"

@@ -1,0 +1,474 @@
+"""A table of PostgreSQL as a store. Each row has its writer's name beside the value; the value NULL
+marks a deleted key."""
+
+from __future__ import annotations
+
+import os
+import re
+import socket
+import threading
+import time
+from typing import Any, Dict, List, Optional, Sequence, Tuple
+
+import psycopg2
+from psycopg2 import errors, extensions
+
+from ..core._commit_status import UNKNOWN
+from ..core._commit_status import Found as FoundOut
+from ..core._own_keys import FLAG
+from ..core._records import Found, Name
+from ..session._session import Aborted, NameTaken, OutcomeUnknown
+from ._postgres_connection import answer, connected, outcome_told
+
+LEVELS = ("serializable", "repeatable read", "read committed")
+TABLE = """CREATE TABLE IF NOT EXISTS {table} (
+    key text PRIMARY KEY, value text,
+    run text NOT NULL, session int NOT NULL, number bigint NOT NULL)"""
+READ = "SELECT value, run, session, number FROM {table} WHERE key = %s"
+READ_ALL = "SELECT key, value, run, session, number FROM {table} WHERE key = ANY(%s)"
+TRANSACTION = "RETURNING pg_current_xact_id()::text"  # told by each write: no commit has to ask
+WRITE = f"""INSERT INTO {{table}} VALUES (%s, %s, %s, %s, %s) ON CONFLICT (key) DO UPDATE
+    SET value = excluded.value, run = excluded.run, session = excluded.session,
+    number = excluded.number
+    {TRANSACTION}"""
+# The row is locked before it is read, so that what is given is what is overwritten: a plain
+# subselect would give what the statement's snapshot has, from before it waited for the lock.
+OVERWRITE = f"""UPDATE {{table}} AS now SET value = {{value}}, run = %s, session = %s, number = %s
+    FROM (SELECT * FROM {{table}} WHERE key = %s FOR UPDATE) AS before WHERE now.key = before.key
+    {TRANSACTION}, before.value, before.run, before.session, before.number"""
+# Of the collector's own keys the value is the name that is overwritten, so that it isn't lost with
+# the answer; and behind it, a line each, those that were overwritten before, the last first: others
+# may have come, as to join, before anybody asks.
+LINES = 32
+KEPT = f"""concat_ws(chr(10), concat_ws(' ', before.session, before.number, before.run),
+    array_to_string((string_to_array(nullif(before.value, ''), chr(10)))[1:{LINES - 1}],
+    chr(10)))"""
+FIRST = f"""INSERT INTO {{table}} VALUES (%s, %s, %s, %s, %s) ON CONFLICT (key) DO NOTHING
+    {TRANSACTION}"""
+STATUS = """SELECT pg_xact_status(%s::text::xid8), EXISTS (SELECT 1 FROM {table}
+    WHERE key = %s AND run = %s AND session = %s AND number = %s)"""
+CLAIM = """WITH mine AS (INSERT INTO {table} VALUES (%s, %s, %s, %s, %s)
+    ON CONFLICT (key) DO NOTHING RETURNING value)
+    SELECT value FROM mine UNION ALL SELECT value FROM {table} WHERE key = %s"""
+# The names of runs that claimed none, as earlier versions of this package had them: looked up once.
+CLAIM_ALL = """INSERT INTO {table} SELECT DISTINCT %s || run, '', run, -1, 0 FROM {table}
+    WHERE session >= 0 ON CONFLICT (key) DO NOTHING"""
+READING = "SET TRANSACTION ISOLATION LEVEL SERIALIZABLE, READ ONLY; "
+# The server's process of a connection and since when it is, and what changes whenever the server
+# is started or has crashed, after which it may give a transaction's number to another one.
+AGE = "extract(epoch FROM backend_start)::text"
+LIVES = """concat_ws(' ', extract(epoch FROM pg_postmaster_start_time()),
+    (SELECT extract(epoch FROM stats_reset) FROM pg_stat_bgwriter))"""
+LIFE = f"""SELECT pg_backend_pid(),
+    (SELECT {AGE} FROM pg_stat_activity WHERE pid = pg_backend_pid()), {LIVES}"""
+# A pooled connection may be another client's by now: the transaction, or the statement of the
+# collector's own, has to be the killed process's. Where that very statement is what it ran last,
+# and it is idle, it is done with it; what it ran before may have the same key.
+CHANGES = OVERWRITE[OVERWRITE.index("run = ") : OVERWRITE.index(" AS before")]
+MAKES = FIRST[: FIRST.index(TRANSACTION)].rstrip()
+RUNS_STILL = f"""SELECT state = 'idle', position(%s IN query) > 0, position(%s IN query) > 0
+    FROM pg_stat_activity WHERE pid = %s AND {AGE} = %s"""
+WHOSE = f"SELECT {LIVES}"
+WHAT_BECAME = f"""SELECT pg_xact_status(%s::text::xid8), {LIVES}"""
+ITS_ROW = """SELECT value FROM {table} WHERE key = %s AND run = %s AND session = %s
+    AND number = %s"""
+THE_ROW = """SELECT (run, session, number) = (%s::text, %s::int, %s::bigint), value FROM {table}
+    WHERE key = %s"""
+END_IT = f"""SELECT pg_terminate_backend(pid) FROM pg_stat_activity WHERE pid = %s AND {AGE} = %s
+    AND CASE WHEN %s THEN position(%s IN query) > 0 OR position(%s IN query) > 0
+    ELSE backend_xid::text = (%s::text::numeric %% 4294967296)::text END"""
+CONFLICTS = (errors.SerializationFailure, errors.DeadlockDetected)
+PATIENCE = 5.0  # seconds for a connection, and for an outcome
+ATTEMPTS = 10  # at the first row of a key: each fails only where another client has just made it
+RUN = "zanteyard run "  # before a run's name: the key of the row that says whose it is
+RUNS = "zanteyard runs"  # the key of the row that says that each run's name has such a row
+
+
+def quoted(table: str) -> str:
+    """The table's name, or "schema.table", as statements have it."""
+    parts = [
+        part if re.fullmatch("[a-z_][a-z0-9_]*", part) else '"' + part.replace('"', '""') + '"'
+        for part in table.split(".", 1)
+    ]
+    return ".".join(parts)
+
+
+# Who makes the audit's tables waits for who does so: IF NOT EXISTS alone lets both begin, and one
+# of them fail. The number is of no meaning.
+ONE_AT_A_TIME = "SELECT pg_catalog.pg_advisory_xact_lock(7161637279617264)"
+
+
+def prepare(dsn: str, table: str = "zanteyard") -> None:
+    """Makes the table, where it isn't there; one that is there and wasn't prepared before is read
+    once, for the names of its runs."""
+    connection = psycopg2.connect(dsn)
+    try:
+        connection.set_session(isolation_level="READ COMMITTED")  # to see what was waited for
+        with connection:
+            cursor, its = connection.cursor(), quoted(table)
+            cursor.execute(ONE_AT_A_TIME)
+            cursor.execute(TABLE.format(table=its))
+            cursor.execute(FIRST.format(table=its), (RUNS, "", "", -1, 0))
+            if cursor.fetchone() is not None:
+                cursor.execute(CLAIM_ALL.format(table=its), (RUN,))
+    finally:
+        connection.close()
+
+
+class PostgresStore:
+    """One connection, for one thread at a time. `level` is "serializable", "repeatable read" or
+    "read committed"; `table` may be "schema.table". A connection is waited for no longer than
+    `patience` seconds."""
+
+    errors = (psycopg2.Error,)
+
+    def __init__(
+        self,
+        dsn: str,
+        level: str = "serializable",
+        table: str = "zanteyard",
+        patience: float = PATIENCE,
+    ) -> None:
+        if level not in LEVELS:
+            raise ValueError(f"{level} is none of {', '.join(LEVELS)}")
+        self.dsn, self.level, self.table, self.patience = dsn, level, quoted(table), patience
+        self.connection: Any = None
+        self.transaction_id: Optional[str] = None
+        self.written: Tuple[Any, ...] = ()  # the key that was written last, and the name beside it
+        self.statement: Optional[str] = None  # what was run last, as the server got it
+        self.before = ""  # what the transaction's first statement is sent behind
+        self.is_alone = self.is_hung_up = False
+        # Whether another process may have to ask what became of a commit, and what it then wants
+        # to know of this connection: its server's process, and since when, and the server's life.
+        self.is_asked = False
+        self.life: Tuple[Any, ...] = (0, None, None)
+
+    def connect(self, seconds: Optional[float] = None) -> None:
+        """Opens the connection, and raises psycopg2's errors where it can't."""
+        self.is_hung_up = False
+        self.connection = connected(self.dsn, self.patience if seconds is None else seconds)
+        self.connection.autocommit = True  # transactions are begun here, on the way of a statement
+        self.life = (self.connection.info.backend_pid, None, None)
+        if self.is_asked:
+            try:
+                self.life = self.send(LIFE).fetchone()
+            except psycopg2.Error:
+                pass  # then less is found out
+
+    def send(self, text: str, values: Sequence[Any] = ()) -> Any:
+        """All that is sent to the server goes through here: one call is one way there and back."""
+        cursor = self.connection.cursor()
+        cursor.execute(text, values)
+        return cursor
+
+    def ask(self, text: str, values: Sequence[Any] = (), is_reading: bool = False) -> Any:
+        before, self.before = self.before, "" if not self.is_alone else self.before
+        if is_reading and self.is_alone and self.level == "serializable":
+            before = READING + before
+        try:
+            cursor = self.send(before + text.format(table=self.table), values)
+        except CONFLICTS as error:
+            raise Aborted(str(error).strip()) from error
+        except psycopg2.Error as error:
+            if self.is_alone and (error.pgcode is None or self.connection.closed):
+                raise OutcomeUnknown(str(error).strip()) from error
+            raise
+        self.statement = cursor.query.decode(errors="replace")[len(before) :]
+        return cursor
+
+    def begin(self, seconds: Optional[float] = None) -> None:
+        if self.is_hung_up or self.is_in_transaction:
+            self.close()
+        if self.connection is None or self.connection.closed:
+            self.connect(seconds)
+        self.transaction_id, self.is_alone = None, False
+        self.before = f"BEGIN ISOLATION LEVEL {self.level.upper()}; "
+
+    @property
+    def is_in_transaction(self) -> bool:
+        """Whether one is open that was given up, as where an interrupt came before a rollback was
+        sent: what follows would be done in that one."""
+        connection = self.connection
+        if connection is None or connection.closed:
+            return False
+        return bool(connection.get_transaction_status() != extensions.TRANSACTION_STATUS_IDLE)
+
+    def begin_alone(self, seconds: float) -> None:
+        """Instead of `begin`, where what follows are statements that need no other one: each is a
+        transaction by itself, is done or not after so many seconds, and holds no lock behind it.
+        Where the level is serializable what they read is as well: a snapshot that isn't may show
+        what no order has. An `exchange` locks its one row, at whatever level it is run."""
+        self.begin(min(seconds, self.patience))
+        self.is_alone = True
+        self.before = f"SET LOCAL statement_timeout = {max(1, int(1000 * seconds))}; "
+
+    def read(self, key: str) -> Optional[Found]:
+        row = self.ask(READ, (key,), is_reading=True).fetchone()
+        return None if row is None else (row[0], row[1:])
+
+    def read_all(self, keys: Sequence[str]) -> Dict[str, Found]:
+        rows = self.ask(READ_ALL, (keys,), is_reading=True)
+        return {row[0]: (row[1], row[2:]) for row in rows}
+
+    def write(self, key: str, value: Any, name: Name) -> None:
+        self.written = (key, *name)
+        (self.transaction_id,) = self.ask(WRITE, (key, value, *name)).fetchone()
+
+    def exchange(self, key: str, value: Any, name: Name) -> Optional[Found]:
+        self.written = (key, *name)
+        keeps = KEPT if self.is_alone else "%s"
+        values = (*name, key) if self.is_alone else (value, *name, key)
+        for _ in range(ATTEMPTS):
+            row = self.ask(OVERWRITE.replace("{value}", keeps), values).fetchone()
+            if row is not None:
+                self.transaction_id = row[0]
+                return row[1], row[2:]
+            row = self.ask(FIRST, (key, value, *name)).fetchone()
+            if row is not None:
+                (self.transaction_id,) = row
+                return None
+        raise Aborted(f"{key} came and went {ATTEMPTS} times")
+
+    def commit(self) -> None:
+        try:
+            self.send_commit()
+        except CONFLICTS as error:
+            raise Aborted(str(error).strip()) from error
+        except psycopg2.Error as error:
+            if error.pgcode is None or self.connection.closed:
+                raise OutcomeUnknown(str(error).strip()) from error
+            raise  # the server has answered: it is aborted
+
+    def has_answered(self, error: BaseException) -> bool:
+        """Whether the server has refused the commit by this, so that nobody has to ask it."""
+        if not isinstance(error, psycopg2.Error) or error.pgcode is None:
+            return False
+        cursor = getattr(error, "cursor", None)
+        if cursor is None or cursor.connection is not self.connection or self.connection.closed:
+            return False  # it is about something else, or may have come behind the answer
+        return error.pgcode[:2] not in ("08", "57") and error.pgcode != "40003"
+
+    def send_commit(self) -> None:
+        if self.is_alone or self.before:
+            return  # nothing is open
+        if self.send("COMMIT").statusmessage != "COMMIT":  # a statement of it has failed
+            raise Aborted("the transaction had failed before its commit")
+
+    def rollback(self) -> None:
+        """Where the server can't be told, the connection is closed: then it finds out by itself."""
+        if self.connection is None or self.connection.closed or self.is_alone or self.before:
+            return
+        try:
+            self.send("ROLLBACK")
+        except psycopg2.Error:
+            self.close()
+
+    def close(self) -> None:
+        """Closes the connection; the next transaction opens another one. May be called twice."""
+        if self.connection is not None:
+            self.connection.close()
+
+    def hang_up(self) -> None:
+        """From any thread: what waits for the server raises OutcomeUnknown at once, or psycopg2's
+        error, and the next transaction opens another connection."""
+        connection, self.is_hung_up = self.connection, True
+        try:
+            with socket.socket(fileno=os.dup(connection.fileno())) as same:
+                same.shutdown(socket.SHUT_RDWR)
+        except (AttributeError, OSError, psycopg2.Error):
+            pass  # none is open
+
+    def outcome(self) -> str:
+        return self.outcome_within(self.patience)
+
+    def outcome_within(self, seconds: float) -> str:
+        if self.transaction_id is None:
+            return "unknown"
+        values = (self.transaction_id, *self.written)
+        return outcome_told(self.dsn, STATUS.format(table=self.table), values, seconds)
+
+    def asks(self) -> Any:
+        """For another process of this machine; the environment's words for what the dsn lacks."""
+        self.is_asked = True
+        if self.connection is not None:
+            self.close()  # the next one tells of its life
+        return ("postgres", dict(extensions.parse_dsn(self.dsn)), environment(), self.table)
+
+    def ticket(self, written: Sequence[Any]) -> Any:
+        return (None if self.is_alone else self.transaction_id, *self.life, *written)
+
+    def claim(self, run_name: str, token: str, seconds: float) -> None:
+        """Makes the name that of one run, or raises NameTaken where it is another's; OutcomeUnknown
+        where the server hasn't answered after so many seconds."""
+        self.begin()  # what connects is waited for by the client, whose connection it is
+        self.begin_alone(0.8 * seconds)  # the server ends it, unless nothing comes through
+        ends = threading.Timer(seconds, self.hang_up)
+        ends.daemon = True
+        ends.start()
+        try:
+            owner = self.owner(RUN + run_name, token, run_name)
+        except errors.QueryCanceled as error:
+            raise OutcomeUnknown(str(error).strip()) from error
+        finally:
+            ends.cancel()
+            ends.join()  # so that it is known by now whether this connection can be used
+        if owner != token:
+            raise NameTaken(f"{self.table} knows the name {run_name}: an earlier run had it")
+
+    def owner(self, key: str, token: str, run_name: str) -> str:
+        for _ in range(ATTEMPTS):
+            row = self.ask(CLAIM, (key, token, run_name, -1, 0, key)).fetchone()
+            if row is not None:
+                return str(row[0])
+        raise Aborted(f"{key} came and went {ATTEMPTS} times")
+
+
+# What libpq takes from the environment where a dsn doesn't say it.
+WORDS = {
+    **{"PGHOST": "host", "PGHOSTADDR": "hostaddr", "PGPORT": "port", "PGDATABASE": "dbname"},
+    **{"PGUSER": "user", "PGPASSWORD": "password", "PGPASSFILE": "passfile"},
+    **{"PGOPTIONS": "options", "PGTARGETSESSIONATTRS": "target_session_attrs"},
+    **{"PGSERVICE": "service", "PGSERVICEFILE": "servicefile"},
+}
+
+
+PLAIN = {"target_session_attrs": "any"}  # in place of an empty one, which libpq refuses
+
+
+def environment() -> Dict[str, str]:
+    return {word: os.environ[name] for name, word in WORDS.items() if os.environ.get(name)}
+
+
+def reached(dsn: Dict[str, str], around: Dict[str, str]) -> Optional[Dict[str, str]]:
+    """What leads from here to where it led a client with these words around it, whatever is around
+    this process; None where nothing does."""
+    here = environment()
+    if any("service" in words for words in (dsn, around, here)):
+        return dsn if here == around else None  # what a service says is known to libpq alone
+    # An empty word is as good as none, and libpq then doesn't look around for it.
+    found = {**{word: PLAIN.get(word, "") for word in here}, **around, **dsn}
+    return {word: said for word, said in found.items() if word != "servicefile"}
+
+
+def literal(text: str) -> str:
+    """As the server got it. One with a backslash isn't found, so that nothing is taken for it."""
+    return "'" + text.replace("'", "''") + "'"
+
+
+def statements_of(table: str, key: str, run: str, session: int, number: int) -> Tuple[str, str]:
+    """Of an `exchange` of the collector's own, what tells each of its two from all others."""
+    key, run = literal(key), literal(run)
+    changes, makes = CHANGES.format(table=table), MAKES.format(table=table)
+    return changes % (run, session, number, key), makes % (key, "''", run, session, number)
+
+
+def asked(
+    dsn: Dict[str, str],
+    around: Dict[str, str],
+    table: str,
+    *,
+    ticket: Any,
+    seconds: float,
+    ends_it: bool = True,
+) -> FoundOut:
+    """What became of the transaction of a store whose process is killed. What its server's process
+    is still about is waited for, for half of the time; then, where it `ends_it`, that process is
+    ended. Else it may be asked from another machine, where its words may lead to another server:
+    that one knows nothing of it."""
+    transaction_id, pid, since, life, key, run, session, number = ticket
+    words = reached(dsn, around)
+    if words is None:
+        return UNKNOWN
+    asks = Asks(extensions.make_dsn(**words), table, time.monotonic() + seconds)
+    asks.ends_it = ends_it
+    if not ends_it and (life is None or asks.row(WHOSE, ()) != (life,)):
+        return UNKNOWN
+    its = (key, run, session, number)
+    if transaction_id is None:
+        statements = statements_of(table, *its)
+        seen = asks.seen_last(pid, since, statements, seconds) if since is not None else None
+        if seen is None:
+            return UNKNOWN
+        if "\n" in run:  # a name of more lines than one isn't found among them
+            return UNKNOWN
+        row = asks.row(THE_ROW, (*its[1:], key))
+        if row is not None and row[0]:
+            return "committed", overwritten(row[1])[:1]
+        if row is not None and not key.startswith(FLAG):  # others write it, too, as who joins does
+            behind = from_name(overwritten(row[1]), (run, session, number))
+            return ("committed", behind[1:2] or None) if behind else UNKNOWN
+        # Where there was no row an `exchange` goes on with another statement.
+        is_done = seen == "gone" or (seen == "changes" and row is not None)
+        return ("aborted", None) if is_done else UNKNOWN
+    status, now = asks.status(transaction_id, pid, since, seconds)
+    if status == "aborted":
+        return "aborted", None
+    if status == "committed" and (now == life or asks.row(ITS_ROW, its) is not None):
+        return "committed", None
+    return UNKNOWN
+
+
+def overwritten(value: Optional[str]) -> Sequence[Name]:
+    """The names that a row of the collector's own keeps, the last first, as far as they are any."""
+    found: List[Name] = []
+    for line in (value or "").split("\n"):
+        parts = line.split(" ", 2)
+        if len(parts) < 3 or not (parts[0].isdecimal() and parts[1].isdecimal()):
+            break
+        found.append((parts[2], int(parts[0]), int(parts[1])))
+    return tuple(found)
+
+
+def from_name(names: Sequence[Name], name: Name) -> Sequence[Name]:
+    """This name, and those that are behind it; none where it isn't among them."""
+    return names[names.index(name) :] if name in names else ()
+
+
+class Asks:
+    """Until then, by the monotonic clock; raises psycopg2's errors."""
+
+    ends_it = True  # what isn't over by half of the time
+
+    def __init__(self, dsn: str, table: str, ends: float) -> None:
+        self.dsn, self.table, self.ends = dsn, table, ends
+
+    def left(self) -> float:
+        return max(0.05, self.ends - time.monotonic())
+
+    def row(self, text: str, values: Sequence[Any]) -> Any:
+        return answer(self.dsn, text.format(table=self.table), values, self.left())
+
+    def again(
+        self, seconds: float, pid: Any, since: Any, transaction_id: Any, statements: Sequence[str]
+    ) -> bool:
+        """Whether there is time to ask again, in a while."""
+        left = self.ends - time.monotonic()
+        if left < seconds / 2 and since is not None and self.ends_it:
+            is_alone = transaction_id is None
+            self.row(END_IT, (pid, since, is_alone, *statements, transaction_id or "0"))
+        time.sleep(min(0.02, max(0.0, left)))
+        return left > 0
+
+    def status(self, transaction_id: Any, pid: Any, since: Any, seconds: float) -> Any:
+        """Of the transaction, and the server's life as it was asked."""
+        while True:
+            status, life = self.row(WHAT_BECAME, (transaction_id,))
+            if status != "in progress":
+                return status, life
+            if not self.again(seconds, pid, since, transaction_id, ("", "")):
+                return None, life
+
+    def seen_last(
+        self, pid: Any, since: Any, statements: Sequence[str], seconds: float
+    ) -> Optional[str]:
+        """Which of the killed process's two statements its server's process has done and does no
+        more: "changes" or "makes"; "gone" where there is no such process any more; or None."""
+        while True:
+            found = self.row(RUNS_STILL, (*statements, pid, since))
+            if found is None:
+                return "gone"
+            is_idle, changes, makes = found
+            if is_idle and (changes or makes):
+                return "changes" if changes else "makes"
+            if not self.again(seconds, pid, since, None, statements):
+                return None

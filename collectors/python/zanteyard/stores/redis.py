@@ -1,0 +1,386 @@
+"""Keys of a Redis as a store. Each has, in one text behind a mark, the value and its writer's name
+as JSON; the value null marks a deleted key.
+
+What a transaction writes is queued by MULTI and done by EXEC, which does nothing where a key that
+was watched has changed. Each store has a key of its own, which it watches as a transaction begins
+and writes by the same EXEC: it says what was committed last. Who asks for an outcome that isn't
+known writes there that the attempt was aborted, which keeps its EXEC from being done later.
+"""
+
+from __future__ import annotations
+
+import json
+import logging
+import secrets
+import socket
+import time
+from typing import Any, Dict, List, Optional, Sequence, Tuple
+
+import redis
+
+from ..core._commit_status import Found as FoundOut
+from ..core._records import Found, Name
+from ..core._redis_wire import BROKEN, Command, connected, limit, replies
+from ..core.errors import StoreUnfitError
+from ..session._session import Aborted, NameTaken, OutcomeUnknown
+
+# What is watched: each key, before it is read; or a key that is written, which is then compared
+# with what was read before; or nothing. And in "single commands" each write is done at once.
+WATCHED, COMPARED, UNWATCHED, SINGLE = "watched", "compared", "unwatched", "single commands"
+LEVELS = (WATCHED, COMPARED, UNWATCHED, SINGLE)
+PREFIX = "zanteyard:"  # before each key
+RUN = "zanteyard run "  # before a run's name: the key that says whose it is
+LAST = "zanteyard last "  # before a store's token: the key that tells its outcomes
+PATIENCE = 5.0  # seconds for a connection, and for an outcome
+MARK = "zanteyard "  # before each text: what another program writes hasn't it
+logger = logging.getLogger("zanteyard")
+
+
+def text_of(value: Any, name: Name) -> str:
+    """Raises ValueError, or TypeError, where JSON has no such value, or would make it another
+    one."""
+    text = json.dumps([value, *name])
+    if value is not None and not isinstance(value, str) and json.loads(text)[0] != value:
+        raise ValueError(f"{value!r} would be another value as JSON")
+    return MARK + text
+
+
+def found_in(text: Optional[str]) -> Optional[Found]:
+    """A text that no store of this kind has written has no name, and is the value as a whole."""
+    if text is None:
+        return None
+    if text.startswith(MARK):
+        try:
+            value, run, session, number = json.loads(text[len(MARK) :])
+        except (ValueError, TypeError):
+            pass
+        else:
+            if (type(run), type(session), type(number)) == (str, int, int):
+                return value, (run, session, number)
+    return text, None  # type: ignore[return-value]
+
+
+class RedisStore:
+    """One connection, for one thread at a time. `url` is what redis-py takes, with the database in
+    it; `level` is one of LEVELS. A connection, and the end of a statement of the collector's own,
+    are waited for no longer than `patience` seconds."""
+
+    errors = (redis.RedisError, ConnectionError)
+
+    def __init__(
+        self,
+        url: str,
+        level: str = WATCHED,
+        prefix: str = PREFIX,
+        patience: float = PATIENCE,
+    ) -> None:
+        if level not in LEVELS:
+            raise ValueError(f"{level} is none of {', '.join(LEVELS)}")
+        self.url, self.level, self.prefix, self.patience = url, level, prefix, patience
+        self.connection: Any = None
+        self.statement: Optional[str] = None
+        self.own, self.count = f"{prefix}{LAST}{secrets.token_hex(8)}", 0
+        self.seen: Dict[str, Optional[str]] = {}  # by key what was read
+        self.queued: List[Command] = []
+        self.is_alone = self.is_hung_up = False
+        self.ends = 0.0  # when a statement of the collector's own isn't waited for any more
+        # Of the transaction: whether something of it was done by itself, and whether it was done
+        # in part.
+        self.has_failed = self.is_torn = False
+
+    # the connection
+
+    def connect(self, seconds: Optional[float] = None) -> None:
+        """Opens the connection, and raises redis-py's errors where it can't; StoreUnfitError where
+        the server may drop any key."""
+        self.is_hung_up = False
+        waits = self.patience if seconds is None else seconds
+        ends = time.monotonic() + waits
+        connection = self.connected(waits)
+        try:
+            limit(connection, ends)
+            self.see_that_nothing_is_dropped(connection)
+            limit(connection)
+        except BaseException:
+            connection.disconnect()
+            raise
+        self.connection = connection
+
+    def connected(self, seconds: float) -> Any:
+        # What isn't UTF-8, as another program may have written, is a text too.
+        more: Dict[str, Any] = {"decode_responses": True, "encoding_errors": "surrogateescape"}
+        return connected(self.url, seconds, **more)
+
+    def see_that_nothing_is_dropped(self, connection: Any) -> None:
+        try:
+            (told,) = replies(connection, [("INFO", "memory")])
+        except redis.ResponseError as error:
+            logger.warning("whether this Redis drops keys can't be seen: %s", error)
+            return
+        found = dict(line.split(":", 1) for line in told.splitlines() if ":" in line)
+        policy = found.get("maxmemory_policy", "noeviction")
+        if found.get("maxmemory", "0") != "0" and policy.startswith("allkeys"):
+            raise StoreUnfitError(
+                f"this Redis drops any key where memory is short ({policy}), and its writer's name "
+                "with it: what it drops would be told as a lost write"
+            )
+
+    def send(self, *commands: Command) -> List[Any]:
+        """All that is sent to the server goes through here: one call is one way there and back. A
+        connection is never opened here: what the other one has watched would be forgotten."""
+        connection = self.connection
+        if connection is None:
+            raise redis.ConnectionError("the connection is lost")
+        try:
+            return replies(connection, commands)
+        except redis.ResponseError:
+            raise
+        except BaseException:  # answers may come that nobody waits for any more
+            self.close()
+            raise
+
+    def told(self, *commands: Command) -> None:
+        self.statement = "; ".join(" ".join(map(str, command)) for command in commands)
+
+    # what sessions call
+
+    def begin(self) -> None:
+        self.get_ready()
+        self.is_alone = False
+        try:
+            self.watch_own()
+        except BROKEN:
+            if self.is_hung_up:
+                raise
+            self.connect()  # it was idle for too long: nothing has begun
+            self.watch_own()
+
+    def watch_own(self) -> None:
+        """Before anything else; and nothing else is watched any more."""
+        self.sent_in_time(("UNWATCH",), ("WATCH", self.own))
+
+    def get_ready(self, seconds: Optional[float] = None) -> None:
+        if self.is_hung_up:
+            self.close()
+        if self.connection is None:
+            self.connect(seconds)
+        self.count += 1
+        self.seen, self.queued = {}, []
+        self.has_failed = self.is_torn = False
+
+    def begin_alone(self, seconds: float) -> None:
+        """Instead of `begin`, where what follows are statements that need no other one: each is a
+        transaction by itself, and no answer is waited for longer than so many seconds."""
+        waits = min(seconds, self.patience)
+        self.ends = time.monotonic() + waits
+        self.get_ready(waits)
+        self.is_alone = True
+
+    def its(self, key: str) -> str:
+        """As the server has it. Raises UnicodeEncodeError for what is no text: it might be sent as
+        another key's bytes."""
+        key.encode()
+        return self.prefix + key
+
+    def read(self, key: str) -> Optional[Found]:
+        return self.read_all([key]).get(key)
+
+    def read_all(self, keys: Sequence[str]) -> Dict[str, Found]:
+        if not keys:
+            return {}
+        its = [self.its(key) for key in keys]
+        commands: List[Command] = [("MGET", *its)] if len(its) > 1 else [("GET", *its)]
+        if self.level == WATCHED and not self.is_alone:
+            commands.insert(0, ("WATCH", *its))  # in front: what comes between is found out
+        texts = self.texts_of(its, commands)
+        self.told(*commands)
+        if not self.is_alone:
+            self.seen.update(zip(keys, texts))
+        found = {key: found_in(text) for key, text in zip(keys, texts)}
+        return {key: it for key, it in found.items() if it is not None}
+
+    def texts_of(self, its: Sequence[str], commands: Sequence[Command]) -> List[Optional[str]]:
+        """What the last command is answered. MGET tells of a list, or the like, that no key is
+        there; GET raises, as it does where one key is read."""
+        answer = self.asked(commands)[-1]
+        if len(its) == 1:
+            return [answer]
+        texts: List[Optional[str]] = answer
+        absent = [("GET", each) for each, text in zip(its, texts) if text is None]
+        if absent:
+            self.asked(absent)
+        return texts
+
+    def asked(self, commands: Sequence[Command]) -> List[Any]:
+        """Where a transaction's connection is lost, it can't be committed any more."""
+        try:
+            return self.sent_in_time(*commands)
+        except BROKEN as error:
+            if self.is_alone:
+                raise OutcomeUnknown(str(error)) from error
+            raise
+
+    def sent_in_time(self, *commands: Command) -> List[Any]:
+        """Behind it the application waits as long again as it has said itself."""
+        if not self.is_alone:
+            return self.send(*commands)
+        limit(self.connection, self.ends)
+        try:
+            return self.send(*commands)
+        finally:
+            limit(self.connection)
+
+    def write(self, key: str, value: Any, name: Name) -> None:
+        command = ("SET", self.its(key), text_of(value, name))
+        self.told(command)
+        if self.level == SINGLE:
+            self.sent_by_itself(command)
+        else:
+            self.queued.append(command)
+
+    def sent_by_itself(self, command: Command) -> Any:
+        """Where no answer comes nobody knows whether it was done."""
+        try:
+            return self.send(command)[0]
+        except BROKEN as error:
+            raise OutcomeUnknown(str(error)) from error
+
+    def exchange(self, key: str, value: Any, name: Name) -> Optional[Found]:
+        """In a transaction the key is watched, at every level but where each write is done at
+        once."""
+        its = self.its(key)
+        command = ("SET", its, text_of(value, name), "GET")
+        if self.is_alone:
+            return self.exchanged_alone(command)
+        if self.level == SINGLE:
+            text = self.sent_by_itself(command)
+            self.told(command)
+            return found_in(text)
+        text = self.send(("WATCH", its), ("GET", its))[-1]
+        self.told(("WATCH", its), ("GET", its))
+        self.seen[key] = text
+        self.queued.append(command[:-1])
+        return found_in(text)
+
+    def exchanged_alone(self, command: Command) -> Optional[Found]:
+        try:
+            self.watch_own()
+        except BROKEN as error:
+            raise Aborted(str(error)) from error  # nothing was sent that does anything
+        answers = self.executed([command])
+        self.told(command)
+        return found_in(answers[0])
+
+    def commit(self) -> None:
+        if self.is_alone or self.level == SINGLE:
+            return  # nothing is open
+        if self.connection is None:
+            raise Aborted("the connection was lost before the commit was sent")
+        if self.level == COMPARED and self.queued:
+            self.compare()
+        if self.queued or self.level == WATCHED:
+            try:
+                self.executed(self.queued)
+            except redis.ResponseError as error:
+                raise Aborted(str(error)) from error  # nothing was done
+
+    def compare(self) -> None:
+        keys = [key for key in self.seen if any(it[1] == self.prefix + key for it in self.queued)]
+        if keys:
+            its = [self.prefix + key for key in keys]
+            texts = self.send(("WATCH", *its), ("MGET", *its))[-1]
+            if texts != [self.seen[key] for key in keys]:
+                raise Aborted("what was read and is to be written has changed")
+
+    def executed(self, commands: Sequence[Command]) -> List[Any]:
+        """What each command is answered. Raises Aborted where a key that was watched has changed,
+        and redis-py's ResponseError where the server has refused the whole."""
+        own = [("SET", self.own, f"{self.count} committed")] if commands else []
+        try:
+            answers = self.send_exec([("MULTI",), *commands, *own, ("EXEC",)])
+        except BROKEN as error:
+            raise OutcomeUnknown(str(error)) from error
+        if answers is None:
+            raise Aborted("a key that was watched has changed")
+        failed = [it for it in answers if isinstance(it, Exception)]
+        if failed:  # the others were done: Redis takes nothing back
+            self.is_torn = True
+            raise OutcomeUnknown(f"{len(failed)} of {len(answers)} commands failed: {failed[0]}")
+        return list(answers)
+
+    def send_exec(self, commands: Sequence[Command]) -> Any:
+        return self.sent_in_time(*commands)[-1]
+
+    def rollback(self) -> None:
+        """What was only queued was never sent; what was done at once stays."""
+        self.queued = []
+
+    def close(self) -> None:
+        """Closes the connection; the next transaction opens another one. May be called twice."""
+        connection, self.connection = self.connection, None
+        if connection is not None:
+            connection.disconnect()
+
+    def hang_up(self) -> None:
+        """From any thread: what waits for the server raises OutcomeUnknown at once, or redis-py's
+        error, and the next transaction opens another connection."""
+        connection, self.is_hung_up = self.connection, True
+        try:
+            connection._sock.shutdown(socket.SHUT_RDWR)
+        except (AttributeError, OSError):
+            pass  # none is open
+
+    def outcome(self) -> str:
+        return self.outcome_within(self.patience)
+
+    def outcome_within(self, seconds: float) -> str:
+        """By a connection of its own, since the one at hand may be broken."""
+        if self.is_torn or self.level == SINGLE and not self.is_alone:
+            return "unknown"
+        ends = time.monotonic() + seconds
+        try:
+            connection = self.connected(seconds)
+            limit(connection, ends)
+            try:
+                return self.decided(connection)
+            finally:
+                connection.disconnect()
+        except (redis.RedisError, OSError):
+            return "unknown"
+
+    def decided(self, connection: Any) -> str:
+        """What the store's own key says, with "aborted" in it where nothing was there yet."""
+        _, text = replies(connection, [("WATCH", self.own), ("GET", self.own)])
+        count, _, outcome = (text or "0 ").partition(" ")
+        if int(count) == self.count:
+            return str(outcome)
+        aborted = ("SET", self.own, f"{self.count} aborted")
+        *_, done = replies(connection, [("MULTI",), aborted, ("EXEC",)])
+        return "unknown" if done is None else "aborted"
+
+    @property
+    def writes_at_once(self) -> bool:
+        return self.level == SINGLE
+
+    def asks(self) -> Any:
+        return ("redis", self.url, self.prefix, self.own)
+
+    def ticket(self, written: Sequence[Any]) -> Any:
+        return None if self.level == SINGLE and not self.is_alone else self.count
+
+    def claim(self, run_name: str, token: str, seconds: float) -> None:
+        """Makes the name that of one run, or raises NameTaken where it is another's; OutcomeUnknown
+        where the server hasn't answered after so many seconds."""
+        self.begin_alone(seconds)
+        its = f"{self.prefix}{RUN}{run_name}"
+        *_, owner = self.asked([("SET", its, token, "NX"), ("GET", its)])
+        if owner != token:
+            raise NameTaken(f"{self.prefix} knows the name {run_name}: an earlier run had it")
+
+
+def asked(url: str, prefix: str, own: str, *, ticket: Any, seconds: float) -> FoundOut:
+    """What became of the transaction of a store whose process is killed; what an `exchange` by
+    itself has overwritten isn't kept."""
+    store = RedisStore(url, prefix=prefix, patience=seconds)
+    store.own, store.count = own, ticket
+    return store.outcome_within(seconds), None

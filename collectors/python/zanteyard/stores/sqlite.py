@@ -1,0 +1,345 @@
+"""A table in a file of SQLite as a store, for clients in threads and in processes. Each row has its
+writer's name beside the value; the value NULL marks a deleted key.
+
+Each store has a row of its own, which it writes in each transaction that writes: where a commit
+fails otherwise than by what others do, it says whether it was done all the same. Where it says that
+it wasn't, who asks writes so there: in WAL that overwrites what such a commit has left in the log,
+which would else be found, and be done, once the file is opened anew.
+"""
+
+from __future__ import annotations
+
+import os
+import secrets
+import sqlite3
+import time
+from typing import Any, Dict, List, Optional, Sequence, Tuple
+
+from ..core._commit_status import Found as FoundOut
+from ..core._commit_status import kept, overwritten
+from ..core._records import Found, Name
+from ..session._session import Aborted, NameTaken, OutcomeUnknown
+
+# "read uncommitted" is of connections that share a cache, which those of one process do; and in
+# "autocommit" each statement is a transaction by itself, as where an application begins none.
+DEFERRED, IMMEDIATE = "deferred", "immediate"
+UNCOMMITTED, AUTOCOMMIT = "read uncommitted", "autocommit"
+LEVELS = (IMMEDIATE, DEFERRED, UNCOMMITTED, AUTOCOMMIT)
+JOURNALS = ("delete", "wal")
+TABLE = """CREATE TABLE IF NOT EXISTS {table} (
+    key TEXT PRIMARY KEY NOT NULL, value,
+    run TEXT NOT NULL, session INTEGER NOT NULL, number INTEGER NOT NULL)"""
+READ = "SELECT value, run, session, number FROM {table} WHERE key = ?"
+READ_ALL = "SELECT key, value, run, session, number FROM {table} WHERE key IN ({keys})"
+ROW = "(?, ?, ?, ?, ?)"
+WRITE = """INSERT INTO {table} VALUES {rows} ON CONFLICT (key) DO UPDATE SET
+    value = excluded.value, run = excluded.run, session = excluded.session,
+    number = excluded.number"""
+FIRST = "INSERT INTO {table} VALUES (?, ?, ?, ?, ?) ON CONFLICT (key) DO NOTHING"
+BUSY, LOCKED = 5, 6  # somebody else has what is wanted: in another process, or in the same cache
+CODE = 0xFF  # of an error's code the part that says which of these it is
+PATIENCE = 5.0  # seconds that a lock is waited for
+PAUSE = 0.002  # seconds between two attempts to begin, where SQLite itself doesn't wait
+RUN = "zanteyard run "  # before a run's name: the key of the row that says whose it is
+LAST = "zanteyard last "  # before a store's token: the key of the row that tells its outcomes
+OWN = -2  # in place of a session, in that row
+ABORTED = "aborted"  # the value there, where somebody has asked; else it is NULL
+
+
+def quoted(table: str) -> str:
+    return '"' + table.replace('"', '""') + '"'
+
+
+def prepare(path: str, journal: str = "wal", table: str = "zanteyard") -> None:
+    """Makes the file and the table, where they aren't there, and sets the file's journal mode, one
+    of JOURNALS."""
+    if journal not in JOURNALS:
+        raise ValueError(f"{journal} is none of {', '.join(JOURNALS)}")
+    connection = sqlite3.connect(path, isolation_level=None)
+    try:
+        connection.execute(f"PRAGMA journal_mode = {journal}")
+        connection.execute(TABLE.format(table=quoted(table)))
+    finally:
+        connection.close()
+
+
+def is_busy(error: BaseException) -> bool:
+    """Whether somebody else stood in the way; before Python 3.11 errors have no codes."""
+    code = getattr(error, "sqlite_errorcode", None)
+    if code is not None:
+        return int(code) & CODE in (BUSY, LOCKED)
+    return isinstance(error, sqlite3.OperationalError) and "locked" in str(error)
+
+
+class SQLiteStore:
+    """One connection, for one thread at a time. `level` is one of LEVELS. A lock is waited for no
+    longer than `patience` seconds, but where SQLite sees that waiting is in vain."""
+
+    errors = (sqlite3.Error,)
+
+    def __init__(
+        self,
+        path: str,
+        level: str = IMMEDIATE,
+        table: str = "zanteyard",
+        patience: float = PATIENCE,
+    ) -> None:
+        if level not in LEVELS:
+            raise ValueError(f"{level} is none of {', '.join(LEVELS)}")
+        self.path, self.level, self.table, self.patience = path, level, quoted(table), patience
+        self.connection: Any = None
+        self.statement: Optional[str] = None  # what was run last, with its values behind it
+        self.own, self.count = f"{LAST}{secrets.token_hex(8)}", 0
+        self.is_alone = self.has_failed = False
+        self.waits = 0.0  # seconds, as the connection was told
+
+    # the connection
+
+    def connect(self) -> None:
+        """Opens the file, and raises sqlite3's errors where it can't."""
+        self.connection = self.connected()
+
+    def connected(self) -> Any:
+        more: Dict[str, Any] = {"isolation_level": None, "check_same_thread": False}
+        more["timeout"] = self.waits = self.patience
+        if self.level != UNCOMMITTED:
+            return sqlite3.connect(self.path, **more)
+        path = self.path.replace("%", "%25").replace("?", "%3f").replace("#", "%23")
+        connection = sqlite3.connect(f"file:{path}?cache=shared", uri=True, **more)
+        connection.execute("PRAGMA read_uncommitted = 1")
+        return connection
+
+    def wait_for_locks(self, seconds: float) -> None:
+        if seconds != self.waits:
+            self.connection.execute(f"PRAGMA busy_timeout = {int(1000 * seconds)}")
+            self.waits = seconds
+
+    def send(self, text: str, values: Sequence[Any] = ()) -> Any:
+        """All that is run goes through here. Raises Aborted where somebody else stood in the
+        way."""
+        try:
+            cursor = self.connection.execute(text, values)
+        except sqlite3.Error as error:
+            self.has_failed = True  # else what follows might be committed without this
+            if is_busy(error):
+                raise Aborted(str(error)) from error
+            raise
+        self.statement = f"{text} -- {', '.join(map(repr, values))}" if values else text
+        return cursor
+
+    def ask(self, text: str, values: Sequence[Any] = (), **more: str) -> Any:
+        if self.has_failed:
+            raise Aborted("the transaction had failed before")
+        if not (self.is_alone or self.level == AUTOCOMMIT or self.connection.in_transaction):
+            self.has_failed = True
+            raise Aborted("SQLite, or something else, has ended the transaction")
+        return self.send(text.format(table=self.table, **more), values)
+
+    # what sessions call
+
+    def begin(self) -> None:
+        """Raises Aborted where another client writes for too long: then nothing has begun."""
+        self.get_ready(self.patience)
+        self.is_alone = False
+        if self.level != AUTOCOMMIT:
+            self.start(self.level == IMMEDIATE, self.patience)
+
+    def get_ready(self, waits: float) -> None:
+        if self.connection is None:
+            self.connect()
+        self.rollback()
+        self.wait_for_locks(waits)
+        self.count += 1
+        self.has_failed = False
+
+    def start(self, is_writing: bool, seconds: float) -> None:
+        """Who shares a cache isn't waited for by SQLite itself."""
+        ends = time.monotonic() + (seconds if self.level == UNCOMMITTED else 0.0)
+        while True:
+            try:
+                self.send("BEGIN IMMEDIATE" if is_writing else "BEGIN DEFERRED")
+                return
+            except Aborted:
+                if time.monotonic() >= ends:
+                    raise
+                self.has_failed = False
+                time.sleep(PAUSE)
+
+    def begin_alone(self, seconds: float) -> None:
+        """Instead of `begin`, where what follows are statements that need no other one: each is a
+        transaction by itself, and is done or not after so many seconds."""
+        self.get_ready(min(seconds, self.patience))
+        self.is_alone = True
+
+    def read(self, key: str) -> Optional[Found]:
+        return self.read_all([key]).get(key)
+
+    def read_all(self, keys: Sequence[str]) -> Dict[str, Found]:
+        """What is read alone at "read uncommitted" is read where nobody else writes: it is what was
+        committed, and of one moment."""
+        is_guarded = self.is_alone and self.level == UNCOMMITTED
+        if is_guarded:
+            self.start(True, self.waits)
+        try:
+            if len(keys) == 1:
+                rows: List[Any] = [(keys[0], *row) for row in self.ask(READ, keys)]
+            else:
+                marks = ", ".join("?" * len(keys))
+                rows = self.ask(READ_ALL, [*keys], keys=marks).fetchall()
+        finally:
+            if is_guarded:
+                self.rollback()
+        return {row[0]: (row[1], row[2:]) for row in rows}
+
+    def write(self, key: str, value: Any, name: Name) -> None:
+        own = (self.own, None, name[0], OWN, self.count)
+        self.ask(WRITE, [*own, key, value, *name], rows=f"{ROW}, {ROW}")
+
+    def exchange(self, key: str, value: Any, name: Name) -> Optional[Found]:
+        """Nobody else writes from before it reads."""
+        is_by_itself = self.is_alone or self.level == AUTOCOMMIT
+        if is_by_itself:
+            self.start(True, self.waits)
+        try:
+            own = (self.own, None, name[0], OWN, self.count)
+            self.ask(WRITE, own, rows=ROW)  # from here on this is who writes
+            rows = self.ask(READ, (key,)).fetchall()
+            if self.is_alone:  # a key of the collector's own
+                value = kept(rows[0][1:] if rows else None)
+            self.ask(WRITE, (key, value, *name), rows=ROW)
+            if is_by_itself:
+                written = self.statement
+                self.end()
+                self.statement = written
+        except BaseException:
+            if is_by_itself:
+                self.rollback()
+            raise
+        return (rows[0][0], rows[0][1:]) if rows else None
+
+    def commit(self) -> None:
+        if self.is_alone or (self.level == AUTOCOMMIT and not self.has_failed):
+            return  # nothing is open
+        if self.has_failed:
+            raise Aborted("the transaction had failed before its commit")
+        if not self.connection.in_transaction:
+            raise Aborted("SQLite, or something else, has ended the transaction")
+        self.end()
+
+    def end(self) -> None:
+        """Where readers stand in the way of a commit for too long, the transaction is still open,
+        and is aborted here."""
+        try:
+            self.send_commit()
+        except Aborted:
+            self.rollback()
+            raise
+        except sqlite3.Error as error:
+            self.close()
+            raise OutcomeUnknown(str(error)) from error
+
+    def send_commit(self) -> None:
+        self.send("COMMIT")
+
+    def rollback(self) -> None:
+        """Where that fails, the connection is closed: what it hadn't committed is gone then."""
+        try:
+            if self.connection is not None and self.connection.in_transaction:
+                self.connection.execute("ROLLBACK")
+        except sqlite3.Error:
+            self.close()
+
+    def close(self) -> None:
+        """Closes the connection; the next transaction opens another one. May be called twice."""
+        connection, self.connection = self.connection, None
+        if connection is not None:
+            connection.close()
+
+    def hang_up(self) -> None:
+        """From any thread: what runs is interrupted. A lock is waited for as long as was said."""
+        connection = self.connection
+        try:
+            if connection is not None:
+                connection.interrupt()
+        except sqlite3.Error:
+            pass  # it is closed
+
+    def outcome(self) -> str:
+        return self.outcome_within(self.patience)
+
+    def outcome_within(self, seconds: float) -> str:
+        """As the next transaction that writes finds it. Of statements that are each done by
+        themselves nobody can say."""
+        self.close()
+        if self.level == AUTOCOMMIT and not self.is_alone:
+            return "unknown"
+        try:
+            connection = sqlite3.connect(self.path, isolation_level=None, timeout=seconds)
+            try:
+                return self.decided(connection)
+            finally:
+                connection.close()
+        except sqlite3.Error:
+            return "unknown"
+
+    def decided(self, connection: Any) -> str:
+        """With a journal what a broken commit has left is rolled back before this begins to write;
+        in WAL it is, in effect, once this has committed."""
+        (journal,) = connection.execute("PRAGMA journal_mode").fetchone()
+        connection.execute("BEGIN IMMEDIATE")
+        found = connection.execute(READ.format(table=self.table), (self.own,)).fetchone()
+        if found is not None and found[3] == self.count:
+            connection.execute("ROLLBACK")
+            return ABORTED if found[0] == ABORTED else "committed"
+        if journal == "wal":
+            row = (self.own, ABORTED, "", OWN, self.count)
+            connection.execute(WRITE.format(table=self.table, rows=ROW), row)
+        connection.execute("COMMIT")
+        return ABORTED
+
+    @property
+    def writes_at_once(self) -> bool:
+        return self.level == AUTOCOMMIT
+
+    def asks(self) -> Any:
+        return ("sqlite", os.path.abspath(self.path), self.table, self.own)
+
+    def ticket(self, written: Sequence[Any]) -> Any:
+        if self.level == AUTOCOMMIT and not self.is_alone:
+            return None
+        return (self.count, self.is_alone, *written)
+
+    def claim(self, run_name: str, token: str, seconds: float) -> None:
+        """Makes the name that of one run, or raises NameTaken where it is another's; Aborted where
+        somebody else writes for so many seconds."""
+        self.begin_alone(seconds)
+        self.start(True, self.waits)
+        row = (RUN + run_name, token, run_name, -1, 0)
+        try:
+            self.ask(FIRST, row)
+            found: List[Tuple[Any, ...]] = self.ask(READ, row[:1]).fetchall()
+            self.end()
+        except BaseException:
+            self.rollback()
+            raise
+        if found[0][0] != token:
+            raise NameTaken(f"{self.table} knows the name {run_name}: an earlier run had it")
+
+
+ITS_ROW = "SELECT value FROM {table} WHERE key = ? AND run = ? AND session = ? AND number = ?"
+
+
+def asked(path: str, table: str, own: str, *, ticket: Any, seconds: float) -> FoundOut:
+    """What became of the transaction of a store whose process is killed."""
+    store = SQLiteStore(path, patience=seconds)
+    store.table, store.own = table, own
+    store.count, is_alone, *its = ticket
+    outcome = store.outcome_within(seconds)
+    if outcome != "committed" or not is_alone:
+        return outcome, None
+    try:
+        store.connect()
+        row = store.connection.execute(ITS_ROW.format(table=table), its).fetchone()
+        return outcome, None if row is None else overwritten(row[0])
+    finally:
+        store.close()

@@ -1,0 +1,97 @@
+"""A server's program in a folder that is thrown away."""
+
+from __future__ import annotations
+
+import os
+import shutil
+import subprocess
+import time
+from typing import Any, Dict, List, Optional
+
+from ._throwaway_folder import PID, OwnFolder
+
+STARTING = 60.0  # seconds for a server to take connections
+
+
+class CantStartError(OSError):
+    """The server's program has ended, or takes no connections in time."""
+
+
+class OwnServer:
+    """Listens on a socket in its folder alone. Where root runs it and `user` is given, the server
+    runs as that user."""
+
+    program = ""
+    user: Optional[str] = None
+
+    def __init__(self) -> None:
+        self.process: Optional[subprocess.Popen[bytes]] = None
+        self.own_folder = OwnFolder()
+
+    def call(self) -> List[str]:
+        """The program, with its arguments."""
+        raise NotImplementedError
+
+    def answers(self) -> bool:
+        """Whether it takes connections."""
+        raise NotImplementedError
+
+    def prepare_folder(self) -> None:
+        """Before it is started for the first time."""
+
+    @property
+    def folder(self) -> str:
+        return self.own_folder.path
+
+    @property
+    def socket(self) -> str:
+        return f"{self.folder}/socket"
+
+    def __enter__(self) -> Any:
+        try:
+            self.own_folder.make()
+            self.prepare_folder()
+            self.start()
+        except BaseException:
+            self.__exit__()
+            raise
+        return self
+
+    def own(self, path: str) -> None:
+        """Gives it to the user as whom the server runs."""
+        if self.user is not None and os.geteuid() == 0:
+            shutil.chown(path, self.user, self.user)
+
+    def start(self) -> None:
+        """Again, where it was stopped."""
+        with open(f"{self.folder}/log", "ab") as log:
+            quiet: Dict[str, Any] = {"stdin": subprocess.DEVNULL, "stdout": log, "stderr": log}
+            self.process = process = subprocess.Popen(self.call(), cwd=self.folder, **quiet)
+        with open(f"{self.folder}/{PID}", "w", encoding="ascii") as file:
+            file.write(f"{process.pid}\n")
+        ends = time.monotonic() + STARTING
+        while not self.answers():
+            if process.poll() is not None or time.monotonic() > ends:
+                raise CantStartError(f"{self.program} can't be started: {self.last_words()}")
+            time.sleep(0.02)
+
+    def last_words(self) -> str:
+        with open(f"{self.folder}/log", encoding="utf-8", errors="replace") as file:
+            return " ".join(file.read().splitlines()[-3:])
+
+    def stop(self) -> None:
+        """At once, as if it were killed; does nothing where it doesn't run."""
+        if self.process is not None:
+            self.process.kill()
+            self.process.wait()
+
+    def restart(self) -> None:
+        """Ends it in good order, and starts it again."""
+        if self.process is not None:
+            self.process.terminate()
+            self.process.wait(STARTING)
+        self.start()
+
+    def __exit__(self, *_: object) -> None:
+        self.stop()
+        self.own_folder.remove()

@@ -1,0 +1,266 @@
+"""Clients that are driven in lockstep, one step after another, so that a fault shows each time
+where the store allows it: which levels have which faults.
+
+What a store doesn't let a client do, as where it would have to wait for another one, aborts that
+client's transaction: stores are to be told not to wait for locks.
+"""
+
+from __future__ import annotations
+
+from contextlib import suppress
+from dataclasses import dataclass
+from typing import Any, Callable, Dict, Iterator, List, Mapping, Optional, Sequence
+
+from ..core._outcome import RATHER_WAIT, Outcome
+from ..explain._anomalies import find_anomaly
+from ..explain._report import story_lines, story_of
+from ..explain._shrinking import name as plain_name
+from ..program._auditor import Auditor
+from ..session._session import Aborted, OutcomeUnknown, Session, Transaction
+
+SESSIONS = 3
+Steps = Callable[[Sequence["Client"]], None]
+
+
+class Client:
+    """A session, of whose transaction nothing more is done once the store has aborted it."""
+
+    def __init__(self, session: Session) -> None:
+        self.session = session
+        self.transaction: Optional[Transaction] = None
+
+    def begin(self) -> None:
+        with suppress(Aborted):
+            self.transaction = self.session.begin()
+
+    def do(self, step: Callable[[Transaction], Any]) -> Any:
+        """What the step gives; None where there is no transaction any more."""
+        try:
+            return step(self.transaction) if self.transaction is not None else None
+        except Aborted:
+            self.give_up()
+            return None
+
+    def give_up(self) -> None:
+        transaction, self.transaction = self.transaction, None
+        if transaction is not None:
+            transaction.rollback()
+
+    def commit(self) -> None:
+        transaction, self.transaction = self.transaction, None
+        if transaction is not None and not transaction.is_over:
+            with suppress(Aborted):
+                transaction.commit()
+
+    def get(self, key: str) -> Any:
+        return self.do(lambda transaction: transaction.get(key))
+
+    def put(self, key: str, value: str) -> None:
+        self.do(lambda transaction: transaction.put(key, value))
+
+    def exchange(self, key: str, value: str) -> None:
+        """Reads the key and writes it at once, while the transaction goes on."""
+        self.do(lambda transaction: transaction.exchange(key, value))
+
+    def run(self, **values: str) -> None:
+        """Writes these in a transaction."""
+        self.begin()
+        for key, value in values.items():
+            self.put(key, value)
+        self.commit()
+
+    def look(self, *keys: str) -> None:
+        """Reads these in a transaction."""
+        self.begin()
+        for key in keys:
+            self.get(key)
+        self.commit()
+
+
+def _dirty_read(clients: Sequence[Client]) -> None:
+    """A client reads what another one has written and then takes back."""
+    writer, reader, _ = clients
+    writer.run(x="1")
+    writer.begin()
+    writer.exchange("x", "2")
+    reader.look("x")
+    writer.give_up()
+
+
+def _half_written(clients: Sequence[Client]) -> None:
+    """A client reads two keys while another one has written one of the two."""
+    writer, reader, _ = clients
+    writer.run(x="1", y="1")
+    writer.begin()
+    writer.exchange("x", "2")
+    reader.look("x", "y")
+    writer.exchange("y", "2")
+    writer.commit()
+
+
+def _torn_read(clients: Sequence[Client]) -> None:
+    """A client reads one key, another one writes two, and the first one reads the second key."""
+    writer, reader, _ = clients
+    writer.run(x="1", y="1")
+    reader.begin()
+    reader.get("x")
+    writer.run(x="2", y="2")
+    reader.get("y")
+    reader.commit()
+
+
+def _newer_write(clients: Sequence[Client]) -> None:
+    """A client reads one key, another one writes two, and the first one overwrites the second key
+    by a statement that reads it."""
+    writer, reader, _ = clients
+    writer.run(x="1", y="1")
+    reader.begin()
+    reader.get("x")
+    writer.run(x="2", y="2")
+    reader.exchange("y", "3")
+    reader.commit()
+
+
+def _lost_update(clients: Sequence[Client]) -> None:
+    """Two clients count up from the same number."""
+    one, other, _ = clients
+    one.run(x="1")
+    for client in (one, other):
+        client.begin()
+        client.get("x")
+    for client in (one, other):
+        client.put("x", "2")
+        client.commit()
+
+
+def _write_skew(clients: Sequence[Client]) -> None:
+    """Two clients each see two coins, and each takes one that the other leaves."""
+    one, other, _ = clients
+    one.run(x="1", y="1")
+    _take_each_one(one, other)
+
+
+def _absent_keys(clients: Sequence[Client]) -> None:
+    """Two clients each see that neither of two keys is there, and each makes one."""
+    _take_each_one(*clients[:2])
+
+
+def _take_each_one(one: Client, other: Client) -> None:
+    for client in (one, other):
+        client.begin()
+        client.get("x")
+        client.get("y")
+    for client, key in ((one, "x"), (other, "y")):
+        client.put(key, "0")
+        client.commit()
+
+
+FAULTS: Mapping[str, Steps] = {
+    "dirty read": _dirty_read,
+    "half written": _half_written,
+    "torn read": _torn_read,
+    "newer write": _newer_write,
+    "lost update": _lost_update,
+    "write skew": _write_skew,
+    "absent keys": _absent_keys,
+}
+
+
+@dataclass(frozen=True)
+class Seen:
+    """What was said of it: the verdict; the anomaly's name, where it was violated; of each
+    session's transactions how they ended; and the whole in words, where it was asked for."""
+
+    kind: str
+    anomaly: str
+    outcomes: Sequence[Sequence[str]]
+    lines: Sequence[str] = ()
+
+    def __str__(self) -> str:
+        return self.anomaly or self.kind
+
+
+def about(fault: str) -> str:
+    """What the clients do, in a sentence."""
+    return " ".join((FAULTS[fault].__doc__ or "").split()).rstrip(".")
+
+
+def run_lockstep(
+    fault: str, stores: Sequence[Any], prefix: str = "", tells: bool = False
+) -> Seen:
+    """Has clients do that over these stores, SESSIONS of them, each with a connection of its own.
+    Their keys begin with the prefix, so that none is there before."""
+    with Auditor(SESSIONS, 64, policy=RATHER_WAIT) as auditor:
+        sessions = [
+            Session(auditor, number, _OwnKeys(store, prefix)) for number, store in enumerate(stores)
+        ]
+        clients = [Client(session) for session in sessions]
+        with suppress(OutcomeUnknown):
+            FAULTS[fault](clients)
+        outcome = auditor.outcome()
+        history = auditor.history
+        ended = [[logged.outcome for logged in transactions] for transactions in history]
+        anomaly = find_anomaly(history) if outcome.kind == "violated" else None
+        lines = [*_told(auditor, outcome)] if tells else []
+    named = anomaly.name if anomaly is not None else ""
+    return Seen(outcome.kind, named, ended, lines)
+
+
+def _told(auditor: Auditor, outcome: Outcome) -> Iterator[str]:
+    for session, transactions in enumerate(auditor.history):
+        for number, logged in enumerate(transactions):
+            yield f"  {session}.{number} {logged.outcome}"
+    if outcome.kind == "violated":
+        yield from story_lines(story_of(auditor.history, plain_name))
+    else:
+        yield str(outcome)
+
+
+class _OwnKeys:
+    """A store, of which these clients use keys of their own."""
+
+    def __init__(self, store: Any, prefix: str) -> None:
+        self.store, self.prefix = store, prefix
+        self.begin, self.commit = store.begin, store.commit
+        self.rollback, self.outcome = store.rollback, store.outcome
+        self.claim = store.claim
+
+    @property
+    def statement(self) -> Optional[str]:
+        told: Optional[str] = self.store.statement
+        return told
+
+    def read(self, key: str) -> Any:
+        return self.store.read(self.prefix + key)
+
+    def write(self, key: str, value: Any, name: Any) -> None:
+        self.store.write(self.prefix + key, value, name)
+
+    def exchange(self, key: str, value: Any, name: Any) -> Any:
+        return self.store.exchange(self.prefix + key, value, name)
+
+
+def table_lines(found: Mapping[str, Sequence[Seen]], levels: Sequence[str]) -> List[str]:
+    """As a table, with a column for each level."""
+    rows = [["", *levels]]
+    rows += [[fault, *(str(one) for one in seen)] for fault, seen in found.items()]
+    widths = [max(map(len, column)) for column in zip(*rows)]
+    return [
+        "  ".join(text.ljust(width) for text, width in zip(row, widths)).rstrip() for row in rows
+    ]
+
+
+def table_of(
+    make_stores: Callable[[str], Sequence[Any]], levels: Sequence[str]
+) -> Dict[str, List[Seen]]:
+    """Of each fault what was seen at each level; `make_stores` makes SESSIONS stores of a level."""
+    found: Dict[str, List[Seen]] = {fault: [] for fault in FAULTS}
+    for level in levels:
+        stores = make_stores(level)
+        try:
+            for fault, seen in found.items():
+                seen.append(run_lockstep(fault, stores, f"{level}/{fault}/"))
+        finally:
+            for store in stores:
+                store.close()
+    return found

@@ -1,0 +1,70 @@
+"""A Redis server of its own, in a folder that is thrown away."""
+
+from __future__ import annotations
+
+import secrets
+import shutil
+import socket
+from typing import Any, Callable, List, Optional, Tuple
+
+from ._throwaway_server import OwnServer
+
+
+def redis_server() -> Optional[str]:
+    """Where the server's program is; None where it isn't installed."""
+    return shutil.which("redis-server")
+
+
+class RedisServer(OwnServer):
+    """`options` are more of its arguments. With `keeps` it has what it was told also after it was
+    killed, and started again."""
+
+    program, prefix = "redis-server", "zanteyard:"
+
+    def __init__(self, *options: str, keeps: bool = False) -> None:
+        super().__init__()
+        kept = ("yes", "--appendfsync", "always") if keeps else ("no",)
+        self.options = ("--appendonly", *kept, *options)
+
+    @property
+    def dsn(self) -> str:
+        return f"unix://{self.socket}?db=0"
+
+    def call(self) -> List[str]:
+        own = ("--port", "0", "--unixsocket", self.socket, "--dir", self.folder, "--save", "")
+        return [redis_server() or "redis-server", *own, *self.options]
+
+    def answers(self) -> bool:
+        with socket.socket(socket.AF_UNIX) as one:
+            one.settimeout(5.0)
+            try:
+                one.connect(self.socket)
+                one.sendall(b"PING\r\n")
+                return one.recv(64).startswith(b"+PONG")  # not while it loads what it has kept
+            except OSError:
+                return False
+
+
+class RedisGuest:
+    """Keys of one's own in a server that is there, under a prefix that nothing else has; they are
+    deleted at the end."""
+
+    def __init__(self, dsn: str, tell: Callable[[str], object] = print) -> None:
+        self.dsn, self.tell = dsn, tell
+        self.prefix = f"zanteyard_{secrets.token_hex(6)}:"
+
+    def __enter__(self) -> RedisGuest:
+        self.tell(f"writes keys that begin with {self.prefix}, and deletes them")
+        return self
+
+    def __exit__(self, *_: object) -> None:
+        import redis
+
+        try:
+            client = redis.Redis.from_url(self.dsn)
+            for key in client.scan_iter(match=f"{self.prefix}*", count=1000):
+                client.delete(key)
+            client.close()
+        except redis.RedisError as error:
+            told = f"what it made is left, and is to be deleted by hand ({self.prefix}*)"
+            self.tell(f"{told}: {error}".strip())

@@ -1,0 +1,341 @@
+"""The kinds of stores that the command audits: how each is started, or found, and how a client's
+store is made."""
+
+from __future__ import annotations
+
+import argparse
+import os
+from typing import Any, Callable, Dict, List, Mapping, Sequence
+
+from ..core.errors import ZanteyardError
+from ._throwaway_folder import OwnFolder
+from .mariadb_server import MariaDBGuest, MariaDBServer, mariadbd
+from .postgres_server import Cluster, program
+from .redis_server import RedisGuest, RedisServer, redis_server
+from .workloads import LEVELS as POSTGRES_LEVELS
+
+MakesStore = Callable[[], Any]
+
+
+class CantAuditError(ZanteyardError):
+    """What is wanted for an audit of this store and isn't there."""
+
+
+class MakeStore:
+    """Makes a client's store, here or in another process."""
+
+    def __init__(self, kind: str, *arguments: Any, **more: Any) -> None:
+        self.kind, self.arguments, self.more = kind, arguments, more
+
+    def __call__(self) -> Any:
+        return _STORES[self.kind]()(*self.arguments, **self.more)
+
+
+def _postgres_store() -> Any:
+    from ..stores.postgres import PostgresStore
+
+    return PostgresStore
+
+
+def _mariadb_store() -> Any:
+    from ..stores.mariadb import MariaDBStore
+
+    return MariaDBStore
+
+
+def _redis_store() -> Any:
+    from ..stores.redis import RedisStore
+
+    return RedisStore
+
+
+def _sqlite_store() -> Any:
+    from ..stores.sqlite import SQLiteStore
+
+    return SQLiteStore
+
+
+_STORES: Mapping[str, Callable[[], Any]] = {
+    "postgres": _postgres_store,
+    "mariadb": _mariadb_store,
+    "redis": _redis_store,
+    "sqlite": _sqlite_store,
+}
+
+
+class StoreKind:
+    """`levels` are the names in full by those of the command; the first is the strictest."""
+
+    command, name = "", ""
+    levels: Mapping[str, str] = {}
+    server_help = ""
+
+    @property
+    def default_level(self) -> str:
+        return next(iter(self.levels))
+
+    def lacking(self) -> str:
+        """What has to be installed first, and how; empty where nothing has."""
+        raise NotImplementedError
+
+    def add_arguments(self, asked: argparse.ArgumentParser) -> None:
+        asked.add_argument("--dsn", help=self.server_help)
+
+    def server(self, asked: Any) -> Any:
+        """What is audited, cleaned up at the end of the `with`. Raises CantAuditError."""
+        lacking = self.lacking()
+        if lacking:
+            raise CantAuditError(lacking)
+        return self._server(asked)
+
+    def _server(self, asked: Any) -> Any:
+        raise NotImplementedError
+
+    def maker(self, asked: Any, server: Any, **more: Any) -> MakesStore:
+        """What makes a client's store of the level that was asked for."""
+        raise NotImplementedError
+
+    def version(self, server: Any) -> str:
+        """Of the server and of the driver."""
+        raise NotImplementedError
+
+    no_waiting: Mapping[str, Any] = {}  # what a store is told so that it waits for no locks
+
+
+def _wanted(module: str, package: str) -> str:
+    return (
+        f"{module} is wanted: apt-get install {package}, and run this by the Python that it is for "
+        f"(/usr/bin/python3), or pip install {module}"
+    )
+
+
+def _is_there(module: str) -> bool:
+    try:
+        __import__(module)
+    except ImportError:
+        return False
+    return True
+
+
+class _Postgres(StoreKind):
+    command, name = "postgres", "PostgreSQL"
+    levels = POSTGRES_LEVELS
+    server_help = (
+        "a server that is there, in a schema of this program's own; without a value, the one that "
+        "PGHOST, PGDATABASE and the like name"
+    )
+
+    def add_arguments(self, asked: argparse.ArgumentParser) -> None:
+        asked.add_argument("--dsn", nargs="?", const="", help=self.server_help)
+
+    def server(self, asked: Any) -> Any:
+        if not _is_there("psycopg2"):
+            raise CantAuditError(_wanted("psycopg2", "python3-psycopg2"))
+        if asked.dsn is not None:
+            from ._guest_schema import Guest
+
+            return Guest(asked.dsn)
+        if not program("initdb"):
+            raise CantAuditError("PostgreSQL is wanted: apt-get install postgresql")
+        return Cluster()
+
+    def maker(self, asked: Any, server: Any, **more: Any) -> MakesStore:
+        if asked.dsn is None:
+            from ..stores.postgres import prepare
+
+            prepare(server.dsn)
+        return MakeStore(self.command, server.dsn, self.levels[asked.level], server.table, **more)
+
+
+class _MariaDB(StoreKind):
+    command, name = "mariadb", "MariaDB"
+    levels = {
+        "serializable": "serializable",
+        "snapshot": "snapshot isolation",
+        "repeatable": "repeatable read",
+        "committed": "read committed",
+        "uncommitted": "read uncommitted",
+    }
+    server_help = (
+        "a server that is there, in a table of this program's own, as words for pymysql: "
+        "'host=.. user=.. password=.. database=..', or 'read_default_file=~/.my.cnf database=..'"
+    )
+    no_waiting = {"lock_wait": 0}
+
+    def lacking(self) -> str:
+        return "" if _is_there("pymysql") else _wanted("pymysql", "python3-pymysql")
+
+    def _server(self, asked: Any) -> Any:
+        if asked.dsn is not None:
+            return MariaDBGuest(words_of(asked.dsn))
+        if not mariadbd():
+            raise CantAuditError("MariaDB is wanted: apt-get install mariadb-server")
+        return MariaDBServer()
+
+    def maker(self, asked: Any, server: Any, **more: Any) -> MakesStore:
+        from ..stores.mariadb import prepare
+
+        prepare(server.dsn, server.table)
+        return MakeStore(self.command, server.dsn, self.levels[asked.level], server.table, **more)
+
+    def version(self, server: Any) -> str:
+        import pymysql
+
+        connection = pymysql.connect(**server.dsn)
+        cursor = connection.cursor()
+        cursor.execute("SELECT VERSION()")
+        (found,) = cursor.fetchone()
+        connection.close()
+        return f"MariaDB {found.split('-')[0]}, pymysql {pymysql.__version__}"
+
+
+def words_of(text: str) -> Dict[str, Any]:
+    """`host=.. port=.. user=..` as what pymysql's `connect` takes. Raises CantAuditError."""
+    found: Dict[str, Any] = {}
+    for word in text.split():
+        name, equals, value = word.partition("=")
+        if not equals:
+            raise CantAuditError(f"{word} has no = in it")
+        found[name] = int(value) if name == "port" else value
+    if "database" not in found:
+        raise CantAuditError("which database= is wanted")
+    if "read_default_file" in found:
+        found["read_default_file"] = os.path.expanduser(found["read_default_file"])
+    return found
+
+
+class _Redis(StoreKind):
+    command, name = "redis", "Redis"
+    levels = {
+        "watched": "watched",
+        "compared": "compared",
+        "unwatched": "unwatched",
+        "single": "single commands",
+    }
+    server_help = (
+        "a server that is there, under a prefix of this program's own, as a URL: "
+        "redis://host:6379/0, or unix:///run/redis.sock?db=0"
+    )
+
+    def lacking(self) -> str:
+        return "" if _is_there("redis") else _wanted("redis", "python3-redis")
+
+    def _server(self, asked: Any) -> Any:
+        if asked.dsn is not None:
+            return RedisGuest(asked.dsn)
+        if not redis_server():
+            raise CantAuditError("Redis is wanted: apt-get install redis-server")
+        return RedisServer()
+
+    def maker(self, asked: Any, server: Any, **more: Any) -> MakesStore:
+        return MakeStore(self.command, server.dsn, self.levels[asked.level], server.prefix, **more)
+
+    def version(self, server: Any) -> str:
+        import redis
+
+        with redis.Redis.from_url(server.dsn) as client:
+            found: Dict[str, Any] = dict(client.info("server"))
+        return f"Redis {found['redis_version']}, redis-py {redis.__version__}"
+
+
+class _SQLite(StoreKind):
+    command, name = "sqlite", "SQLite"
+    levels = {
+        "immediate": "immediate",
+        "deferred": "deferred",
+        "uncommitted": "read uncommitted",
+        "autocommit": "autocommit",
+    }
+    server_help = "a file that is there, in a table of this program's own; in its own journal mode"
+    no_waiting = {"patience": 0.0}
+
+    def lacking(self) -> str:
+        return "" if _is_there("sqlite3") else "this Python was built without sqlite3"
+
+    def add_arguments(self, asked: argparse.ArgumentParser) -> None:
+        super().add_arguments(asked)
+        asked.add_argument("--journal", choices=("wal", "delete"), default="wal")
+
+    def _server(self, asked: Any) -> Any:
+        return SQLiteFile(asked.journal) if asked.dsn is None else SQLiteGuest(asked.dsn)
+
+    def maker(self, asked: Any, server: Any, **more: Any) -> MakesStore:
+        if asked.level == "uncommitted" and getattr(asked, "processes", False):
+            raise CantAuditError("only connections of one process share a cache")
+        server.prepare()
+        return MakeStore(self.command, server.dsn, self.levels[asked.level], server.table, **more)
+
+    def version(self, server: Any) -> str:
+        import sqlite3
+
+        return f"SQLite {sqlite3.sqlite_version}, journal {server.journal}"
+
+
+class SQLiteFile:
+    """A file in a folder that is thrown away."""
+
+    table = "zanteyard"
+
+    def __init__(self, journal: str) -> None:
+        self.journal, self.folder = journal, OwnFolder()
+
+    def __enter__(self) -> SQLiteFile:
+        self.folder.make()
+        self.dsn = f"{self.folder.path}/store"
+        return self
+
+    def prepare(self) -> None:
+        from ..stores.sqlite import prepare
+
+        prepare(self.dsn, self.journal, self.table)
+
+    def __exit__(self, *_: object) -> None:
+        self.folder.remove()
+
+
+class SQLiteGuest(SQLiteFile):
+    """A table of one's own in a file that is there, which is dropped at the end."""
+
+    def __init__(self, path: str) -> None:
+        import sqlite3
+
+        if not os.path.isfile(path):  # else it would be made
+            raise CantAuditError(f"{path} isn't there")
+        connection = sqlite3.connect(path)
+        try:
+            (journal,) = connection.execute("PRAGMA journal_mode").fetchone()
+        except sqlite3.Error as error:
+            raise CantAuditError(f"{path} is no file of SQLite's ({error})") from error
+        finally:
+            connection.close()
+        super().__init__(journal)
+        self.dsn, self.table = path, f"zanteyard_{os.urandom(6).hex()}"
+
+    def __enter__(self) -> SQLiteGuest:
+        print(f"makes the table {self.table} in {self.dsn}, and drops it")
+        return self
+
+    def __exit__(self, *_: object) -> None:
+        import sqlite3
+
+        connection = sqlite3.connect(self.dsn, isolation_level=None, timeout=10.0)
+        try:
+            connection.execute(f"DROP TABLE IF EXISTS {self.table}")
+        except sqlite3.Error as error:
+            print(f"what it made is left (DROP TABLE {self.table}): {error}")
+        finally:
+            connection.close()
+
+
+POSTGRES = _Postgres()
+KINDS: Sequence[StoreKind] = (POSTGRES, _MariaDB(), _Redis(), _SQLite())
+
+
+def kind_named(command: str) -> StoreKind:
+    """Of the command's name for it."""
+    (found,) = [kind for kind in KINDS if kind.command == command]
+    return found
+
+
+def names() -> List[str]:
+    return [kind.command for kind in KINDS]

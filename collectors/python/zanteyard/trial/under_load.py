@@ -1,0 +1,83 @@
+"""Clients that run at the same time until a fault shows, or the time is up: which levels have which
+faults under load."""
+
+from __future__ import annotations
+
+import time
+from typing import Any, Callable, Dict, List, Mapping, Sequence
+
+from ..core._outcome import RATHER_WAIT
+from ..explain._anomalies import find_anomaly
+from ..explain._shrinking import from_start, refuted, smaller
+from ..program._auditor import Auditor
+from ..session._session import Session
+from .lockstep import Seen
+from .workloads import EVERY_WORKLOAD, Clients
+
+CLIENTS = 4
+RATE = 400.0  # transactions a second of all clients
+PART = 0.5  # seconds between two rounds
+MOST = 4000  # transactions of one run
+SHRINKING = 5.0  # seconds for what a violation is called
+
+
+class Slow:
+    """A store that takes its time over each read, so that others come between."""
+
+    def __init__(self, store: Any, seconds: float = 0.002) -> None:
+        self._store, self._seconds = store, seconds
+
+    def __getattr__(self, name: str) -> Any:
+        return getattr(self._store, name)
+
+    def read(self, key: str) -> Any:
+        found = self._store.read(key)
+        time.sleep(self._seconds)
+        return found
+
+
+def run_at_once(
+    workload: str, stores: Sequence[Any], seconds: float, names_it: bool = True
+) -> Seen:
+    """Has a client over each of these stores run the workload for so many seconds, or until it is
+    violated. Raises what a client's transaction raised, but for AbortedError."""
+    with Auditor(len(stores), MOST, policy=RATHER_WAIT) as auditor:
+        sessions = [Session(auditor, number, Slow(store)) for number, store in enumerate(stores)]
+        ends = time.monotonic() + seconds
+        kind = "serial"
+        while kind == "serial" and time.monotonic() < ends and auditor.remaining < 0.9 * MOST:
+            clients = Clients(sessions, EVERY_WORKLOAD[workload], PART, lambda: False, RATE)
+            if clients.failures:
+                raise clients.failures[0]
+            report = auditor.round()
+            kind = report.kind
+        if kind != "violated":
+            kind = auditor.outcome().kind  # incomplete, where something wasn't audited
+        outcomes = [[logged.outcome for logged in txns] for txns in auditor.history]
+        named = ""
+        if kind == "violated" and names_it:
+            history, _ = from_start(auditor)
+            known = refuted(auditor, report.certificate)
+            anomaly = find_anomaly(smaller(history, seconds=SHRINKING, known=known))
+            named = anomaly.name if anomaly is not None else ""
+    return Seen(kind, named, outcomes)
+
+
+def at_once_table(
+    make_stores: Callable[[str], Sequence[Any]],
+    levels: Sequence[str],
+    seconds: float,
+    workloads: Sequence[str] = tuple(EVERY_WORKLOAD),
+) -> Mapping[str, List[Seen]]:
+    """Of each workload what was seen at each level. Each begins with new connections, and goes on
+    in the rows of the one before it."""
+    found: Dict[str, List[Seen]] = {workload: [] for workload in workloads}
+    for level in levels:
+        for workload, seen in found.items():
+            stores = make_stores(level)
+            try:
+                seen.append(run_at_once(workload, stores, seconds))
+            finally:
+                for store in stores:
+                    store.close()
+    return found

@@ -1,0 +1,284 @@
+"""Clients that run transactions on a store at the same time, in threads or in processes: what is
+audited where nothing else is at hand."""
+
+from __future__ import annotations
+
+import multiprocessing
+import random
+import threading
+import time
+from typing import Any, Callable, Dict, List, Optional, Sequence
+
+from ..remote._client import AuditClient
+from ..session._session import Aborted, Session
+
+LEVELS = {
+    "serializable": "serializable",
+    "repeatable": "repeatable read",
+    "committed": "read committed",
+}
+PAIRS = 8  # of keys
+READY = 60.0  # seconds for all clients' processes to start
+SHORT = 0.002  # seconds between a write and what takes it back
+LIFE = 2.0  # seconds for which a client is there that another one follows
+
+
+def number_at(transaction: Any, key: str) -> int:
+    return int(transaction.get(key) or 0)
+
+
+def counter(transaction: Any, client: int) -> None:
+    key = f"count {random.randrange(PAIRS)}"
+    transaction.put(key, str(number_at(transaction, key) + 1))
+
+
+def skew(transaction: Any, client: int) -> None:
+    pair = random.randrange(PAIRS)
+    both = number_at(transaction, f"left {pair}") + number_at(transaction, f"right {pair}")
+    side = random.choice((f"left {pair}", f"right {pair}"))
+    transaction.put(side, str((both + 1) % 1000))  # else it would double and double
+
+
+def mixed(transaction: Any, client: int) -> None:
+    for key in random.sample(range(2 * PAIRS), 2):
+        number_at(transaction, f"key {key}")
+    transaction.put(f"key {random.randrange(2 * PAIRS)}", str(client))
+
+
+def blind(transaction: Any, client: int) -> None:
+    if random.random() < 0.5:
+        number_at(transaction, f"key {random.randrange(2 * PAIRS)}")
+    else:
+        transaction.put(f"key {random.randrange(2 * PAIRS)}", str(client))
+
+
+Workload = Callable[[Any, int], None]
+WORKLOADS: Dict[str, Workload] = {"counter": counter, "skew": skew, "mixed": mixed, "blind": blind}
+
+
+def pairs(transaction: Any, client: int) -> None:
+    """Writes two keys, or reads both."""
+    pair = random.randrange(PAIRS)
+    for key in (f"left {pair}", f"right {pair}"):
+        if client % 2:
+            number_at(transaction, key)
+        else:
+            transaction.put(key, str(client))
+
+
+def undone(transaction: Any, client: int) -> None:
+    """Reads a key, or writes it at once and mostly takes that back."""
+    key = f"key {random.randrange(PAIRS)}"
+    if client % 2:
+        number_at(transaction, key)
+        return
+    transaction.exchange(key, str(client))
+    time.sleep(SHORT)
+    if random.random() < 0.75:
+        raise Aborted("the client takes back what it wrote")
+
+
+# Of the others each shows a fault of some level below serializable; so do these, of lower ones.
+EVERY_WORKLOAD: Dict[str, Workload] = {**WORKLOADS, "pairs": pairs, "undone": undone}
+
+
+class Nothing:
+    """In place of an auditor."""
+
+    def take(self, *_: object) -> None:
+        pass
+
+    take_close = take
+
+
+class Clients:
+    """Each in a thread, over a session of its own, until the time is up or `is_over()`; the first
+    has this number."""
+
+    def __init__(
+        self,
+        sessions: Sequence[Any],
+        workload: Workload,
+        seconds: float,
+        is_over: Callable[[], bool],
+        rate: Optional[float] = None,
+        first: int = 0,
+    ) -> None:
+        self.workload, self.is_over, self.committed, self.aborted = workload, is_over, 0, 0
+        self.failures: List[Exception] = []
+        self.longest, self.lock = 0.0, threading.Lock()
+        self.count = len(sessions)
+        # Of each client, from the begin of a transaction to that of the next.
+        self.pause = self.count / rate if rate else 0.0
+        self.began = time.monotonic()
+        self.until = self.began + seconds
+        threads = [
+            threading.Thread(target=self.client, args=it, daemon=True)
+            for it in enumerate(sessions, first)
+        ]
+        for thread in threads:
+            thread.start()
+        for thread in threads:
+            thread.join()
+        self.took = time.monotonic() - self.began
+        waited = sum(session.waited for session in sessions if session is not None)
+        self.waited = waited / (self.took * len(sessions))
+
+    def client(self, number: int, session: Any) -> None:
+        self.live_until(self.until, number, session)
+
+    def live_until(self, until: float, number: int, session: Any) -> None:
+        committed = aborted = 0
+        due = time.monotonic() + random.random() * self.pause  # not all at once
+        longest = 0.0
+        try:
+            while time.monotonic() < until and not self.is_over():
+                due = self.wait(due)
+                began = time.monotonic()
+                try:
+                    session.run(lambda transaction: self.workload(transaction, number), attempts=1)
+                    committed += 1
+                except Aborted:
+                    aborted += 1
+                longest = max(longest, time.monotonic() - began)
+        except Exception as error:  # told by the main thread
+            self.failures.append(error)
+        with self.lock:
+            self.committed += committed
+            self.aborted += aborted
+            self.longest = max(self.longest, longest)
+
+    def wait(self, due: float) -> float:
+        """Until then; returns when the next transaction is due. Who is late doesn't catch up."""
+        if self.pause:
+            time.sleep(max(0.0, min(due, self.until) - time.monotonic()))
+        return max(due, time.monotonic() - self.pause) + self.pause
+
+    def rate(self) -> float:
+        if self.failures:
+            raise self.failures[0]
+        return float(self.committed / self.took)
+
+
+class ChurningClients(Clients):
+    """Each in the place of one that has gone: so many at a time, each of which comes with a store
+    of its own and leaves after so many seconds, until the time is up or `is_over()`."""
+
+    def __init__(
+        self,
+        live: Any,
+        make_store: Callable[[], Any],
+        count: int,
+        workload: Workload,
+        seconds: float,
+        rate: Optional[float] = None,
+        life: float = LIFE,
+    ) -> None:
+        self.live, self.make_store, self.life = live, make_store, life
+        self.came, self.total = 0, 0.0
+        super().__init__([None] * count, workload, seconds, lambda: bool(live.is_over), rate)
+        self.waited = self.total / (self.took * count)
+
+    def client(self, number: int, session: Any) -> None:
+        # They don't all change at once.
+        until, life = self.until, random.uniform(0.5, 1.0) * self.life
+        while time.monotonic() < until and not (self.is_over() or self.failures):
+            store = self.make_store()
+            try:
+                with self.live.session(store) as its:
+                    self.live_until(min(until, time.monotonic() + life), number, its)
+                    with self.lock:
+                        self.came, self.total = self.came + 1, self.total + its.waited
+            except Exception as error:  # told by the main thread
+                self.failures.append(error)
+            finally:
+                store.close()
+            life = self.life
+
+
+class ClientProcesses(Clients):
+    """The same, each in a process of its own, which is let into the audit at this path; None for no
+    audit. `make_store` makes a client's store, and is sent to its process."""
+
+    def __init__(
+        self,
+        path: Optional[str],
+        make_store: Callable[[], Any],
+        count: int,
+        workload: str,
+        seconds: float,
+        rate: Optional[float] = None,
+    ) -> None:
+        self.committed = self.aborted = 0
+        # Processor time while transactions ran, and of the processes.
+        self.used = self.whole = 0.0
+        self.failures = []
+        waited: List[float] = []
+        took: List[float] = []
+        longest: List[float] = []
+        spawned = multiprocessing.get_context(
+            "spawn"
+        )  # a fork would have half of the auditor's threads
+        told, ready = spawned.SimpleQueue(), spawned.Barrier(count)
+        asked = (path, make_store, workload, seconds, rate and rate / count)
+        processes = [
+            spawned.Process(target=client_process, args=(told, ready, number, *asked), daemon=True)
+            for number in range(count)
+        ]
+        try:
+            for process in processes:
+                process.start()
+            for process in processes:
+                process.join()
+        finally:
+            for process in processes:
+                if process.is_alive():
+                    process.terminate()
+        for _ in processes:
+            if told.empty():
+                self.failures.append(RuntimeError("a client's process ended without a word"))
+                break
+            failure, *counts = told.get()
+            if failure is not None:
+                self.failures.append(RuntimeError(failure))
+                continue
+            self.committed += counts[0]
+            self.aborted += counts[1]
+            self.used += counts[2]
+            self.whole += counts[3]
+            for values, value in zip((took, waited, longest), counts[4:]):
+                values.append(value)
+        self.took, self.waited = max(took, default=1.0), sum(waited) / max(1, len(waited))
+        self.longest = max(longest, default=0.0)
+
+
+def client_process(
+    told: Any,
+    ready: Any,
+    number: int,
+    path: Optional[str],
+    make_store: Callable[[], Any],
+    workload: str,
+    seconds: float,
+    rate: Optional[float],
+) -> None:
+    """One client, beside whose transactions its process does nothing else. Tells what failed, or
+    what it did."""
+    try:
+        store = make_store()
+        store.connect()
+        audit = AuditClient(path) if path else None
+        session = audit.session(store) if audit else Session(Nothing(), number, store, "unaudited")
+        ready.wait(READY)
+        began = time.process_time()
+        is_over = lambda: audit is not None and audit.is_over
+        clients = Clients([session], EVERY_WORKLOAD[workload], seconds, is_over, rate, number)
+        if audit:
+            audit.leave()
+        failure = next((str(it) or type(it).__name__ for it in clients.failures), None)
+        used = time.process_time()
+        counts = (clients.committed, clients.aborted, used - began, used)
+        told.put((failure, *counts, clients.took, clients.waited, clients.longest))
+    except Exception as error:
+        told.put((f"client {number}: {str(error) or type(error).__name__}",))
+        ready.abort()  # nobody waits for it
