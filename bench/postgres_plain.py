@@ -22,7 +22,7 @@ from psycopg2 import errors
 TOP = os.path.join(os.path.dirname(os.path.abspath(__file__)), "..")
 sys.path[:0] = [os.path.join(TOP, "examples"), os.path.join(TOP, "collectors/python")]
 from postgres_live import WORKLOADS, Clients, Nothing
-from zanteyard import Aborted, AuditorApart, LiveAuditor, Session
+from zanteyard import AbortedError, AuditorApart, LiveAuditor, Session
 from zanteyard.trial.postgres_server import Cluster
 from zanteyard.stores.postgres import PostgresStore, prepare
 
@@ -55,7 +55,7 @@ class Plain:
             self.connection.commit()
         except (errors.SerializationFailure, errors.DeadlockDetected) as error:
             self.connection.rollback()
-            raise Aborted(str(error)) from error
+            raise AbortedError(str(error)) from error
 
 
 def run(way, cluster, asked, workload):

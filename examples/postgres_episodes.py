@@ -17,7 +17,7 @@ from collections import Counter
 
 TOP = os.path.join(os.path.dirname(os.path.abspath(__file__)), "..")
 sys.path.insert(0, os.path.join(TOP, "collectors/python"))
-from zanteyard import Aborted, Auditor, Ended, Session, tell_violation
+from zanteyard import AbortedError, Auditor, ProgramEndedError, Session, tell_violation
 from zanteyard.trial.postgres_server import Cluster, ended_by_signals, program
 
 LEVELS = {
@@ -77,7 +77,7 @@ def client_runs(session, client, workload, count, failures):
         for _ in range(count):
             try:
                 session.run(lambda transaction: workload(transaction, client), attempts=1)
-            except Aborted:
+            except AbortedError:
                 pass
     except Exception as error:  # told by the main thread
         failures.append(error)
@@ -159,5 +159,5 @@ def main():
 if __name__ == "__main__":
     try:
         main()
-    except Ended as error:
+    except ProgramEndedError as error:
         sys.exit(str(error))

@@ -18,7 +18,7 @@ import sys
 
 TOP = os.path.join(os.path.dirname(os.path.abspath(__file__)), "..")
 sys.path.insert(0, os.path.join(TOP, "collectors/python"))
-from zanteyard import Ended
+from zanteyard import ProgramEndedError
 from zanteyard.cli.audit import CantAuditError, add_arguments, run
 from zanteyard.trial.workloads import LEVELS, WORKLOADS, ClientProcesses, Clients, Nothing
 
@@ -30,7 +30,7 @@ def main():
     add_arguments(asked)
     try:
         ran = run(asked.parse_args())
-    except (CantAuditError, Ended) as error:
+    except (CantAuditError, ProgramEndedError) as error:
         sys.exit(str(error))
     for line in ran.lines():
         print(line)

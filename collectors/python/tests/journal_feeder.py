@@ -13,7 +13,7 @@ import pickle
 import sys
 
 sys.path.insert(0, os.path.dirname(os.path.dirname(os.path.abspath(__file__))))
-from zanteyard import Auditor, NoCut  # noqa: E402
+from zanteyard import Auditor, NoCutError  # noqa: E402
 
 
 def note(told, report):
@@ -41,7 +41,7 @@ def main():
                 note(told, auditor.round())
                 try:
                     auditor.truncate()
-                except NoCut:
+                except NoCutError:
                     pass
         report = auditor.round()
         note(told, report)

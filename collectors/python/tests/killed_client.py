@@ -11,7 +11,7 @@ from contextlib import suppress
 sys.path.insert(0, sys.argv[1])
 logging.getLogger("zanteyard").setLevel(logging.CRITICAL)
 
-from zanteyard import Aborted, AuditClient, OutcomeUnknown, ProgramEndedError  # noqa: E402
+from zanteyard import AbortedError, AuditClient, OutcomeUnknownError, ProgramEndedError  # noqa: E402
 from zanteyard.trial.store_kinds import MakeStore  # noqa: E402
 
 
@@ -87,10 +87,10 @@ def work(session, client, seed, pause, workload, took):
             elif workload == "mixed":
                 transaction.put(keys[0], str(count))
                 if chance.random() < 0.2:
-                    raise Aborted("for the sake of it")
+                    raise AbortedError("for the sake of it")
 
         began = time.monotonic()
-        with suppress(Aborted, OutcomeUnknown):
+        with suppress(AbortedError, OutcomeUnknownError):
             try:
                 session.run(body, attempts=1)
             except ValueError:

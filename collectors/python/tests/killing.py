@@ -6,7 +6,7 @@ import subprocess
 import time
 from contextlib import suppress
 
-from zanteyard import Aborted, Session
+from zanteyard import AbortedError, Session
 from zanteyard.core._own_keys import FENCE
 from zanteyard.program._auditor import PROGRAM
 from zanteyard.stores.memory import MemoryStore
@@ -112,7 +112,7 @@ class Log:
             for _, transaction in begun:
                 try:
                     transaction.commit()
-                except Aborted:
+                except AbortedError:
                     pass
 
     def meet(self):

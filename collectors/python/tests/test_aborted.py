@@ -7,8 +7,8 @@ import unittest
 from contextlib import redirect_stderr, redirect_stdout
 from unittest import mock
 
-from zanteyard import Aborted, Auditor, AuditorApart, AuditLostError, LiveAuditor, Logged
-from zanteyard import OutcomeUnknown, Session
+from zanteyard import AbortedError, Auditor, AuditorApart, AuditLostError, LiveAuditor, Logged
+from zanteyard import OutcomeUnknownError, Session
 from zanteyard import audited, from_start, reasons, smaller, words
 from zanteyard.explain._anomalies import find_anomaly
 from zanteyard.core._own_keys import FENCE, FLAG
@@ -216,7 +216,7 @@ class Found(WithFolder):
         add_one(late)
         late.put("y", 5)
         a.run(add_one)
-        with self.assertRaises(Aborted):
+        with self.assertRaises(AbortedError):
             late.commit()
         b.run(put(z=1))  # the retry has another number
         c.run(read("x"))
@@ -267,10 +267,10 @@ class Found(WithFolder):
 
             def refuses(key, value, name):
                 if key == "y":
-                    raise Aborted("no")
+                    raise AbortedError("no")
                 write(key, value, name)
 
-            with mock.patch.object(a.store, "write", refuses), self.assertRaises(Aborted):
+            with mock.patch.object(a.store, "write", refuses), self.assertRaises(AbortedError):
                 a.run(put(x=1, y=1, z=1), attempts=1)
             self.assertEqual(auditor.history[0][0].tried_writes, ["x", "y"])
 
@@ -279,7 +279,7 @@ class Found(WithFolder):
         with self.auditor() as auditor:
             a, *_ = self.sessions(auditor)
             for deed in (a.fence, a.flag):
-                with mock.patch.object(a.store, "commit", side_effect=Aborted("no")), self.assertRaises(Aborted):
+                with mock.patch.object(a.store, "commit", side_effect=AbortedError("no")), self.assertRaises(AbortedError):
                     deed()
             told = [one.did for one in auditor.history[0]]
             self.assertEqual(auditor.round().kind, "serial")
@@ -338,8 +338,8 @@ class NotKnown(WithFolder):
         """Whatever the store's rollback says then, and whatever comes in between."""
         failed = ValueError("of a handler of SIGALRM")
         for name, error in (
-            ("rollback", Aborted("so it says of the rollback")),
-            ("rollback", OutcomeUnknown("nor of the rollback")),
+            ("rollback", AbortedError("so it says of the rollback")),
+            ("rollback", OutcomeUnknownError("nor of the rollback")),
             ("rollback", OSError("the connection is gone")),
             ("rollback", KeyboardInterrupt()),
             ("has_answered", KeyboardInterrupt()),
@@ -348,7 +348,7 @@ class NotKnown(WithFolder):
             with self.subTest(name=name, error=error):
                 store = self.store(commit=self.raises(failed), **{name: self.raises(error)})
                 store.known = False
-                logged = self.outcome_of(store, ValueError, OutcomeUnknown, KeyboardInterrupt)
+                logged = self.outcome_of(store, ValueError, OutcomeUnknownError, KeyboardInterrupt)
                 self.assertEqual((logged.outcome, logged.writes, logged.did), ("unknown", ["x"], ([], ["x"])))
 
     def test_nor_what_its_client_knows_nothing_of(self):
@@ -372,8 +372,8 @@ class NotKnown(WithFolder):
                 self.assertEqual((logged.outcome, logged.tried_writes), ("aborted", ["x"]))
 
     def test_before_the_commit_is_sent_it_is(self):
-        for error in (ValueError("of the driver"), Aborted("a conflict")):
-            logged = self.outcome_of(self.store(write=self.raises(error)), ValueError, Aborted)
+        for error in (ValueError("of the driver"), AbortedError("a conflict")):
+            logged = self.outcome_of(self.store(write=self.raises(error)), ValueError, AbortedError)
             self.assertEqual((logged.outcome, logged.tried_writes), ("aborted", ["x"]))
 
 

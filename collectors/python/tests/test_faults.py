@@ -11,7 +11,7 @@ import threading
 import time
 import unittest
 
-from zanteyard import FENCE, Aborted, AuditorApart, AuditServer, LiveAuditor, OutcomeUnknown
+from zanteyard import FENCE, AbortedError, AuditorApart, AuditServer, LiveAuditor, OutcomeUnknownError
 from zanteyard.program._auditor import PROGRAM
 from zanteyard.trial.postgres_server import Cluster, program
 
@@ -43,7 +43,7 @@ import sys, time
 from contextlib import suppress
 sys.path.insert(0, sys.argv[1])
 import logging; logging.getLogger("zanteyard").setLevel(logging.CRITICAL)
-from zanteyard import Aborted, AuditClient
+from zanteyard import AbortedError, AuditClient
 from zanteyard.stores.postgres import PostgresStore
 from tests.lateness import Lateness
 from tests.test_faults import add_one
@@ -53,7 +53,7 @@ with AuditClient(sys.argv[2]) as audit:
     ends = time.monotonic() + float(sys.argv[4])
     with Lateness() as lateness:
         while time.monotonic() < ends:
-            with suppress(Aborted):
+            with suppress(AbortedError):
                 session.run(add_one, attempts=1)
                 print("+", end="", flush=True)
             time.sleep(float(sys.argv[5]))
@@ -86,9 +86,9 @@ class Application:
                 session.run(add_one, attempts=1)
                 with self.lock:
                     self.done += 1
-            except Aborted:
+            except AbortedError:
                 pass
-            except OutcomeUnknown:
+            except OutcomeUnknownError:
                 with self.lock:
                     self.unknown += 1
             except Exception as error:
@@ -249,7 +249,7 @@ class Faults(unittest.TestCase):
         transaction.put("y", "1")
         try:
             transaction.commit()
-        except Aborted:
+        except AbortedError:
             pass  # the store's own
         hung.run(lambda t: t.get("y"))
         outcome = self.ended(application, "a client hangs in a transaction")

@@ -11,8 +11,8 @@ import unittest
 from contextlib import ExitStack, contextmanager
 from unittest import mock
 
-from zanteyard import FENCE, Aborted, Auditor, AuditorApart, LiveAuditor, Logged, OutcomeUnknown
-from zanteyard import AuditClient, AuditServer, Policy, Refused, from_start
+from zanteyard import FENCE, AbortedError, Auditor, AuditorApart, LiveAuditor, Logged, OutcomeUnknownError
+from zanteyard import AuditClient, AuditServer, Policy, RefusedError, from_start
 from zanteyard.live._audit import Audit, Figures
 from zanteyard.core._own_keys import FLAG
 from zanteyard.program._auditor import PROGRAM
@@ -232,7 +232,7 @@ class TakenIn(WithProgram):
 
     def test_what_follows_a_missing_one_is_not_told_in_its_place(self):
         """Else 1.0 would have read what 0.1 didn't write: a violation that never was."""
-        with self.assertRaisesRegex(Refused, "Gap"):
+        with self.assertRaisesRegex(RefusedError, "Gap"):
             self.hand_in((0, 0, wrote("w")), (0, 2, wrote("y")), (1, 0, read("x", (0, 1))))
         self.audit.run_round()
         self.assertEqual((self.audit.report.kind, self.received()), ("pending", [1, 1]))
@@ -620,14 +620,14 @@ class Fences(WithProgram):
         return [sorted(one.writes) for one in self.auditor.history[session]]
 
     def test_an_attempt_that_aborts_leaves_its_number_to_the_next(self):
-        session = self.joining(*[(Aborted("again"), None)] * 63)  # as where so many join at once
+        session = self.joining(*[(AbortedError("again"), None)] * 63)  # as where so many join at once
         session.run(add_one("x"))
         self.assertEqual((session.number, session.begun), (1, 2))
         self.assertEqual(self.ended(self.one).kind, "serial")
         self.assertEqual(self.done(1), [[FENCE], ["x"]])
 
     def test_where_it_always_aborts_the_client_goes_on_unaudited(self):
-        session = self.joining(*[(Aborted("again"), None)] * 200)
+        session = self.joining(*[(AbortedError("again"), None)] * 200)
         session.run(add_one("x"))
         self.assertEqual((session.number, session.begun), (64, 1))
         outcome = self.one.stop()

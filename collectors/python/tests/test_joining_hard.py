@@ -7,7 +7,7 @@ import time
 import unittest
 from unittest import mock
 
-from zanteyard import FENCE, AuditClient, AuditServer, Logged, OutcomeUnknown, Policy
+from zanteyard import FENCE, AuditClient, AuditServer, Logged, OutcomeUnknownError, Policy
 from zanteyard.core._own_keys import FLAG
 from zanteyard.live._backlog import Backlog
 from zanteyard.core.errors import AuditLostError
@@ -76,7 +76,7 @@ class Interrupted(WithProgram):
 
     def test_a_fence_that_is_there_has_its_name_for_itself(self):
         """An interrupt comes behind the store's answer; the client is told of that, and goes on."""
-        for error in (KeyboardInterrupt(), TimeoutError("of a handler of SIGALRM"), OutcomeUnknown("it is late")):
+        for error in (KeyboardInterrupt(), TimeoutError("of a handler of SIGALRM"), OutcomeUnknownError("it is late")):
             for knows in (True, False):
                 with self.subTest(type(error).__name__, knows=knows):
                     live, store = self.met()
@@ -87,7 +87,7 @@ class Interrupted(WithProgram):
                     del comes.begin_alone
                     comes._raises.append(error)
                     comes.knows = knows
-                    if isinstance(error, OutcomeUnknown):  # of the collector's own: none of the client's business
+                    if isinstance(error, OutcomeUnknownError):  # of the collector's own: none of the client's business
                         session.run(add_one("x"))
                     else:
                         with self.assertRaises(type(error)):
@@ -254,7 +254,7 @@ class Harmless(WithProgram):
                     calls.append(1)
                     if len(calls) == call:
                         connection.lost, connection.known = "committed", False
-                        with self.assertRaises(OutcomeUnknown):
+                        with self.assertRaises(OutcomeUnknownError):
                             ends.run(add_one("y"))
                         connection.lost, connection.known = None, True
                     return whole()
@@ -280,7 +280,7 @@ class Harmless(WithProgram):
                 sessions = [client.session(it, patience=0.1) for it in connections]
                 for session, connection in zip(sessions, connections):
                     connection.lost, connection.known = "committed", False
-                    with self.assertRaises(OutcomeUnknown):
+                    with self.assertRaises(OutcomeUnknownError):
                         session.run(add_one(f"x{session.number}"))
                     connection.lost, connection.known = None, True
                 for session in sessions:
@@ -297,7 +297,7 @@ class Harmless(WithProgram):
                 connection = store.connect()
                 session = client.session(connection, patience=0.1)
                 connection.lost, connection.known = "committed", False
-                with self.assertRaises(OutcomeUnknown):
+                with self.assertRaises(OutcomeUnknownError):
                     session.run(add_one("x"))
                 connection.lost, connection.known = None, True
                 with mock.patch.object(live._places, "take", lambda *_: time.sleep(1.0)):

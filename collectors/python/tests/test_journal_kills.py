@@ -14,7 +14,7 @@ import time
 import unittest
 from contextlib import suppress
 
-from zanteyard import RATHER_WAIT, Aborted, AuditorApart, AuditServer, LiveAuditor, Logged
+from zanteyard import RATHER_WAIT, AbortedError, AuditorApart, AuditServer, LiveAuditor, Logged
 from zanteyard.program._auditor import PROGRAM as BUILT
 from zanteyard.trial.postgres_server import Cluster, program
 from zanteyard.stores.memory import FAULTS, MemoryStore
@@ -357,9 +357,9 @@ class Lockstep(threading.Thread):
             sessions = [self.live.session(store) for store in stores]
             wait_until(self.have_begun)
             self.wait_for_kills(sessions[0])
-            with suppress(Aborted), sessions[0].transaction() as one:
+            with suppress(AbortedError), sessions[0].transaction() as one:
                 self.read(one)
-                with suppress(Aborted), sessions[1].transaction() as other:
+                with suppress(AbortedError), sessions[1].transaction() as other:
                     self.read(other)
                     other.put("that side", "1")
                     other.commit()
@@ -376,7 +376,7 @@ class Lockstep(threading.Thread):
         """It is killed only where something is done meanwhile."""
         until, before = time.monotonic() + ENOUGH, self.killing.kills
         while self.kills < KILLS and time.monotonic() < until:
-            with suppress(Aborted):
+            with suppress(AbortedError):
                 session.run(lambda transaction: transaction.put("while it is killed", "1"))
             time.sleep(0.05)
             self.kills = self.killing.kills - before

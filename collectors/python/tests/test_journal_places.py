@@ -5,7 +5,7 @@ import stat
 import time
 import unittest
 
-from zanteyard import Auditor, AuditorApart, AuditLostError, Ended, LiveAuditor, Logged, Policy
+from zanteyard import Auditor, AuditorApart, AuditLostError, ProgramEndedError, LiveAuditor, Logged, Policy
 from zanteyard.core._window import Coverage
 from zanteyard.core.errors import JournalError, JournalInUseError, JournalVersionError
 from zanteyard.core._own_keys import FENCE
@@ -35,7 +35,7 @@ class Forked(WithJournal):
             try:
                 os.close(told)
                 auditor.offer(0, 1, ONE)
-            except Ended as error:
+            except ProgramEndedError as error:
                 os.read(ends, 1)  # until its parent has done
                 os._exit(0 if "forked" in str(error) and auditor.program.keeping.journal._file is None else 1)
             except BaseException:
@@ -206,7 +206,7 @@ class Sessions(WithJournal):
             with of(3, 512, PROGRAM) as auditor:
                 with self.assertRaises(JournalError):
                     auditor.keep_journal(os.path.join(self.path, "nowhere"))
-                with self.assertRaises(Ended):
+                with self.assertRaises(ProgramEndedError):
                     auditor.keep_journal(self.path)
             with of(3, 512, PROGRAM) as auditor:
                 auditor.keep_journal(self.path)

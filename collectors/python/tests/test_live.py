@@ -7,8 +7,8 @@ import threading
 import time
 import unittest
 
-from zanteyard import FENCE, Aborted, Auditor, AuditorApart, Ended, Full, LiveAuditor, Logged, NoCut
-from zanteyard import NoMemory, Policy, Refused, audited, dot_text, draw, from_start, reasons, smaller, words
+from zanteyard import FENCE, AbortedError, Auditor, AuditorApart, ProgramEndedError, FullError, LiveAuditor, Logged, NoCutError
+from zanteyard import NoMemoryError, Policy, RefusedError, audited, dot_text, draw, from_start, reasons, smaller, words
 from zanteyard.core._own_keys import FLAG, MARK
 from zanteyard.program._auditor import PROGRAM
 from zanteyard.live._audit import fragments
@@ -55,7 +55,7 @@ def run_clients(live, stores, count, body):
                 break
             try:
                 session.run(body, attempts=1)
-            except Aborted:
+            except AbortedError:
                 pass
 
     sessions = [live.session(store) for store in stores]
@@ -202,7 +202,7 @@ class Meetings(WithProgram):
 
         def abort(session):
             if aborts:
-                raise Aborted(aborts.pop())
+                raise AbortedError(aborts.pop())
 
         live, store = self.live(2, every=2), MemoryStore()
         a, b = self.with_write(live, store, abort), live.session(store.connect())
@@ -303,7 +303,7 @@ class Meetings(WithProgram):
         for _ in range(5):
             a.run(add_one("x")), b.run(add_one("x"))
         live.stop()
-        self.assertIsInstance(live.failure, Full)
+        self.assertIsInstance(live.failure, FullError)
         self.assertEqual((live.taken_in, sum(map(len, self.auditor.history))), (7, 7))
 
     def test_whether_another_meeting_comes_in_time(self):
@@ -378,24 +378,24 @@ class MeetingsApart(Meetings):
         with AuditorApart(2, 3) as auditor:
             self.assertEqual(auditor.offer_all([(0, 0, [lost]), (1, 0, [lost])]), [])
             self.assertEqual(auditor.offer_all([(0, 1, [lost, lost]), (1, 1, [Logged((), ())])]), [(0, 1, [lost, lost])])  # there is room for one
-            with self.assertRaises(Full):
+            with self.assertRaises(FullError):
                 auditor.offer(0, 1, lost)
-            with self.assertRaises(Refused):
+            with self.assertRaises(RefusedError):
                 auditor.close(7)
-            with self.assertRaises(NoCut):
+            with self.assertRaises(NoCutError):
                 auditor.truncate()
             self.assertTrue(auditor.can_cut)
             self.assertEqual((auditor.round().kind, auditor.remaining, auditor.marks, auditor.base), ("violated", 3, [0, 0], {}))
             self.assertEqual(auditor.history, [[lost], [lost, Logged((), ())]])
         self.assertEqual((auditor.end(), auditor.process.returncode), (None, 0))
-        with self.assertRaises(Ended):
+        with self.assertRaises(ProgramEndedError):
             auditor.round()
 
     def test_a_key_that_can_not_be_handed_over_ends_the_audit_and_no_client(self):
         self.assertIsInstance(self.failure_by_a_key(), ValueError)
 
     def test_a_program_that_is_not_there(self):
-        with self.assertRaisesRegex(Ended, "nowhere can't be started"):
+        with self.assertRaisesRegex(ProgramEndedError, "nowhere can't be started"):
             AuditorApart(1, program="/nowhere")
 
 
@@ -485,7 +485,7 @@ class MadeUp(unittest.TestCase):
         refused, report = ["no", 16, "NoMemory"], ["report", 1, "serial", [0], []]
         auditor = self.auditor(1, {"round": [refused, report, *3 * [refused], report]})
         self.assertEqual(auditor.round().kind, "serial")
-        with self.assertRaises(NoMemory):
+        with self.assertRaises(NoMemoryError):
             auditor.round()
         self.assertEqual(auditor.round().kind, "serial")
 
@@ -499,7 +499,7 @@ class MadeUp(unittest.TestCase):
     def test_a_program_without_the_command(self):
         auditor = self.auditor(1, {"truncate": [["no", 13, "NoCut"], ["no", 1, "BadLine"]]})
         for can_cut in (True, False):
-            with self.assertRaises(NoCut):
+            with self.assertRaises(NoCutError):
                 auditor.truncate()
             self.assertEqual(auditor.can_cut, can_cut)
 

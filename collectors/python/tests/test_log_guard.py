@@ -87,11 +87,11 @@ class Guarded(unittest.TestCase):
             self.assertIn("one (the log can't be written: FileNotFoundError", told.getvalue())
 
     def test_without_standard_error(self) -> None:
-        class Full(io.StringIO):
+        class FullError(io.StringIO):
             def write(self, _: str) -> int:
                 raise OSError(28, "No space left on device")
 
-        for its in (None, Full()):
+        for its in (None, FullError()):
             with handled(Raising(ValueError())), mock.patch("sys.stderr", its):
                 LOGGER.error("one")
 

@@ -5,7 +5,7 @@ import threading
 import time
 import unittest
 
-from zanteyard import Aborted, Auditor, OutcomeUnknown, Session, StoreLateError
+from zanteyard import AbortedError, Auditor, OutcomeUnknownError, Session, StoreLateError
 from zanteyard.core._own_keys import FLAG
 from zanteyard.program._auditor import PROGRAM
 from zanteyard.session._quiesce import Group, Missed
@@ -58,7 +58,7 @@ class Meetings(unittest.TestCase):
         def write(key, value, name):
             if key.startswith(FLAG):
                 self.answers.wait(SECONDS)
-                raise OutcomeUnknown("no answer")
+                raise OutcomeUnknownError("no answer")
             plain(key, value, name)
 
         store.write, store.known = write, False
@@ -101,13 +101,13 @@ class Meetings(unittest.TestCase):
         def commit():
             attempts.append(time.monotonic())
             time.sleep(0.02)
-            raise Aborted("for what another did")
+            raise AbortedError("for what another did")
 
         store.commit = commit
         session = self.session(0, store)
         for seconds, count in ((0.01, 1), (SECONDS, 3)):
             attempts.clear()
-            with self.subTest(seconds=seconds), self.assertRaises(Aborted):
+            with self.subTest(seconds=seconds), self.assertRaises(AbortedError):
                 session.flag(seconds)
             self.assertEqual(len(attempts), count)
 
@@ -119,7 +119,7 @@ class Meetings(unittest.TestCase):
             seconds.append(given)
             time.sleep(0.02)
             if len(seconds) < 3:
-                raise Aborted("for what another did")
+                raise AbortedError("for what another did")
 
         store.begin_alone = begin_alone
         self.session(0, store).flag(SECONDS)

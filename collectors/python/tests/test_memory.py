@@ -3,7 +3,7 @@ import os
 import tempfile
 import unittest
 
-from zanteyard import Aborted, Auditor, Ended, Full, OutcomeUnknown, Refused, Session, audited, smaller, words
+from zanteyard import AbortedError, Auditor, ProgramEndedError, FullError, OutcomeUnknownError, RefusedError, Session, audited, smaller, words
 from zanteyard.program._auditor import PROGRAM
 from zanteyard.stores.memory import MemoryStore
 
@@ -43,7 +43,7 @@ def commits(transaction):
     try:
         transaction.commit()
         return True
-    except Aborted:
+    except AbortedError:
         return False
 
 
@@ -166,21 +166,21 @@ class Recipes(WithAuditor):
         a, _, _ = self.sessions()
         for _ in range(9):
             a.run(put(x=1))
-        with self.assertRaises(Full):
+        with self.assertRaises(FullError):
             self.kind()
         outcome = self.auditor.outcome()
         self.assertEqual((outcome.kind, outcome.audited, outcome.handed_in), ("incomplete", 8, 9))
         self.assertEqual(outcome.report.kind, "serial")
 
     def test_a_wrong_log_is_refused(self):
-        with self.assertRaises(Refused):
+        with self.assertRaises(RefusedError):
             self.auditor.ask(["offer", 0, 0, [[[["x", "init"]], []]]])
 
     def test_a_program_that_ends_is_told(self):
         a, _, _ = self.sessions()
         self.auditor.program.kill()
         a.run(put(x=1))
-        with self.assertRaises(Ended):
+        with self.assertRaises(ProgramEndedError):
             self.kind()
 
     def test_a_reply_that_can_not_be_written(self):
@@ -189,11 +189,11 @@ class Recipes(WithAuditor):
             with open(full, "w") as file:
                 file.write(f'#!/bin/sh\nexec "{PROGRAM}" > /dev/full\n')
             os.chmod(full, 0o755)
-            with self.assertRaisesRegex(Ended, "status 1: device failed"):
+            with self.assertRaisesRegex(ProgramEndedError, "status 1: device failed"):
                 Auditor(1, program=full)
 
     def test_a_program_that_is_not_there(self):
-        with self.assertRaises(Ended):
+        with self.assertRaises(ProgramEndedError):
             Auditor(1, program="/nowhere/cobra_audit")
 
 
@@ -212,7 +212,7 @@ class UnknownOutcomes(WithAuditor):
 
     def test_it_was_aborted(self):
         a, b = self.lose("aborted", True)
-        with self.assertRaises(Aborted):
+        with self.assertRaises(AbortedError):
             a.run(add_one, attempts=2)
         self.assertEqual(b.run(read("x")), [1])
         self.assertEqual([it.outcome for it in self.auditor.history[0]], ["committed", "aborted", "aborted"])
@@ -225,7 +225,7 @@ class UnknownOutcomes(WithAuditor):
                 self.auditor = Auditor(sessions=3, limit=8)
                 self.addCleanup(self.auditor.end)
                 a, b = self.lose(took_effect, False)
-                with self.assertRaises(OutcomeUnknown):
+                with self.assertRaises(OutcomeUnknownError):
                     a.run(add_one)
                 with self.assertRaises(ValueError):  # the session has ended
                     a.begin()
@@ -236,7 +236,7 @@ class UnknownOutcomes(WithAuditor):
 
     def test_without_writes_it_makes_no_difference(self):
         a, b = self.lose("aborted", False)
-        with self.assertRaises(OutcomeUnknown):
+        with self.assertRaises(OutcomeUnknownError):
             a.run(read("x"))
         a.store.lost = None
         self.assertEqual(a.run(read("x")), [1])
@@ -279,7 +279,7 @@ class Telling(WithAuditor):
         with self.assertRaises(ZeroDivisionError):
             a.run(lambda t: (t.get("x"), 1 // 0))
         a.store.lost, a.store.known = "committed", False
-        with self.assertRaises(OutcomeUnknown):
+        with self.assertRaises(OutcomeUnknownError):
             a.run(add_one)
         aborted, unknown = self.auditor.history[0][2:]
         for one, deed in ((aborted, ("x", (0, 1))), (unknown, ("x",))):

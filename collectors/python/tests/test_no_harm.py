@@ -12,7 +12,7 @@ import time
 import unittest
 
 import zanteyard
-from zanteyard import Aborted, AuditClient, Auditor, AuditorApart, AuditServer, LiveAuditor, Session
+from zanteyard import AbortedError, AuditClient, Auditor, AuditorApart, AuditServer, LiveAuditor, Session
 from zanteyard.core._own_keys import FENCE, FLAG, MARK
 from zanteyard.program._auditor import PROGRAM
 from zanteyard.live._backlog import Backlog
@@ -125,7 +125,7 @@ class AfterTheCommit(NoHarm):
             try:
                 session.run(lambda t: t.put("balance", t.get("balance") - 10))
                 break
-            except Aborted:
+            except AbortedError:
                 raise
             except Exception:
                 continue
@@ -363,7 +363,7 @@ class Names(NoHarm):
             auditor = self.auditor()
             a, b = (Session(auditor, number, store.connect(), "monday") for number in range(2))
             if wanted is None:
-                with self.assertRaisesRegex(zanteyard.NameTaken, "monday"):
+                with self.assertRaisesRegex(zanteyard.NameTakenError, "monday"):
                     a.run(add_one("x"))
                 self.assertEqual((store.versions["x"][-1][0], auditor.remaining), (2, 0))
             else:
@@ -550,7 +550,7 @@ class Standing(NoHarm):
                         session.run(add_one("x"), attempts=1)
                         session.run(lambda t: (t.get("x"), t.put("y", t.get("y"))), attempts=1)
                         session.run(set_to("z", session.number), attempts=1)
-                    except Aborted:
+                    except AbortedError:
                         pass
             except Exception as error:
                 errors.append(error)
@@ -587,7 +587,7 @@ class Standing(NoHarm):
         self.assertGreater(session.waited - before, 0.49)
 
 
-class Late(NoHarm):
+class ProgramLateError(NoHarm):
     """What was on its way, and of which nobody knows whether it was written, is written when
     another audit goes on."""
 
@@ -602,11 +602,11 @@ class Late(NoHarm):
         number = a.number
 
         def commit():
-            raise zanteyard.OutcomeUnknown("no answer")
+            raise zanteyard.OutcomeUnknownError("no answer")
 
         a.store.commit, a.store.known, a.patience = commit, False, 0.0
         begun = a.begun
-        with self.assertRaises(zanteyard.OutcomeUnknown):
+        with self.assertRaises(zanteyard.OutcomeUnknownError):
             deed(a)
         self.running.lose(RuntimeError("for the sake of it"))
         self.wait_for(lambda: self.running.earlier)

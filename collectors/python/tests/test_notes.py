@@ -21,7 +21,8 @@ from zanteyard.remote._crash_recovery import NOTHING, Killed, LostError, in_file
 from zanteyard.stores.memory import MemoryStore
 from zanteyard.core._crash_notes import FORKED, HEAD, ROOM, Notes, notes_of
 from zanteyard.core._records import as_bytes, unpacked
-from zanteyard.session._session import OutcomeUnknown, Place
+from zanteyard.core.errors import OutcomeUnknownError
+from zanteyard.session._session import Place
 
 from .test_live import add_one
 
@@ -270,7 +271,7 @@ class WhatIsNoted(unittest.TestCase):
         self.assertEqual([str(error) for _, _, error in told], [self.UNCLEAR])
 
 
-class Lost(unittest.TestCase):
+class AuditLostError(unittest.TestCase):
     def test_why_is_sent_before_what_was_missed(self):
         """Else who is killed in between is taken for one that has told all."""
         messages, sent = mock.Mock(), []
@@ -452,10 +453,10 @@ os.kill(os.getpid(), signal.SIGKILL)
         def unanswered():
             commit()
             self.assertEqual(other.run(lambda transaction: transaction.get("x")), "1")
-            raise OutcomeUnknown("no answer came")
+            raise OutcomeUnknownError("no answer came")
 
         one.store.commit, one.store.outcome = unanswered, lambda: "unknown"
-        with self.assertRaises(OutcomeUnknown), client._handover._sending:
+        with self.assertRaises(OutcomeUnknownError), client._handover._sending:
             one.run(lambda transaction: transaction.put("x", "1"))
         client.leave()
         outcome = live.stop()

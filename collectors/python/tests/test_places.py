@@ -5,7 +5,7 @@ import unittest
 from contextlib import suppress
 from dataclasses import fields
 
-from zanteyard import Aborted, Auditor, LiveAuditor
+from zanteyard import AbortedError, Auditor, LiveAuditor
 from zanteyard.program._auditor import PROGRAM
 from zanteyard.live._backlog import Backlog
 from zanteyard.live._audit_start import coverage_from_now
@@ -191,7 +191,7 @@ class Clients(unittest.TestCase):
                         continue
                     if held.setdefault(session.number, session) is not session:
                         errors.append(session.number)
-                    with suppress(Aborted):
+                    with suppress(AbortedError):
                         session.run(add_one("x"))
                     del held[session.number]
                     session.close()

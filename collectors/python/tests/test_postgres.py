@@ -7,7 +7,7 @@ import time
 import unittest
 from unittest import mock
 
-from zanteyard import FENCE, Aborted, Auditor, NameTaken, OutcomeUnknown, Session, smaller, words
+from zanteyard import FENCE, AbortedError, Auditor, NameTakenError, OutcomeUnknownError, Session, smaller, words
 from zanteyard.program._auditor import PROGRAM
 from zanteyard.trial.postgres_server import Cluster, program
 
@@ -75,7 +75,7 @@ class Postgres(unittest.TestCase):
         one.commit()
         try:
             other.commit()
-        except Aborted:
+        except AbortedError:
             pass
         return self.kind()
 
@@ -201,7 +201,7 @@ class Postgres(unittest.TestCase):
             for session in (a, b):
                 self.addCleanup(session.store.close)
             if attempt:
-                with self.assertRaisesRegex(NameTaken, "monday"):
+                with self.assertRaisesRegex(NameTakenError, "monday"):
                     a.run(lambda t: t.put("x", "1"))
             else:
                 a.run(lambda t: t.put("x", "1"))
@@ -213,7 +213,7 @@ class Postgres(unittest.TestCase):
         self.admin.cursor().execute("DELETE FROM zanteyard")
         self.admin.cursor().execute("INSERT INTO zanteyard VALUES ('x', '1', 'run', 0, 0)")
         prepare(self.dsn)
-        with self.assertRaises(NameTaken):
+        with self.assertRaises(NameTakenError):
             self.sessions()[0].run(lambda t: t.put("x", "1"))
 
     def test_a_name_is_claimed_without_a_scan(self):
@@ -307,7 +307,7 @@ class Postgres(unittest.TestCase):
         other.close()
         session.claim_at = 0.0
         session.run(lambda t: t.get("x"))
-        self.assertIsInstance(session.unclaimed, NameTaken)
+        self.assertIsInstance(session.unclaimed, NameTakenError)
         self.assertEqual((auditor.outcome().kind, auditor.handed_in), ("incomplete", 2))
 
     def test_the_answer_to_a_statement_that_is_a_transaction_is_lost(self):
@@ -322,7 +322,7 @@ class Postgres(unittest.TestCase):
         a, b, c = (*self.sessions(store=LosesOne)[:2], self.sessions()[2])
         c.fence()
         for session, lost, found in ((a, a.flag, lambda: None), (b, b.fence, c.fence)):
-            with self.assertRaises(OutcomeUnknown):
+            with self.assertRaises(OutcomeUnknownError):
                 lost()
             found()
             self.assertFalse(session.is_open)
@@ -371,7 +371,7 @@ class Postgres(unittest.TestCase):
         transaction = a.begin()
         transaction.put("x", "2")
         broken["id"] = a.store.ask("SELECT pg_current_xact_id()::text").fetchone()[0]
-        with self.assertRaises(Aborted):
+        with self.assertRaises(AbortedError):
             transaction.commit()
         a.run(lambda t: t.put("x", "3"))  # over a new connection
         self.assertEqual(b.run(lambda t: t.get("x")), "3")
@@ -388,7 +388,7 @@ class Postgres(unittest.TestCase):
             transaction.get("x"), transaction.get("y")
             transaction.put(coin, "0")
         one.commit()
-        with self.assertRaises(Aborted):
+        with self.assertRaises(AbortedError):
             other.commit()
         with self.assertRaises(ZeroDivisionError):
             c.run(lambda t: (t.exchange("x", "7"), 1 // 0))
@@ -424,7 +424,7 @@ class Postgres(unittest.TestCase):
                 try:
                     deposit.put("deposits", "10")
                     deposit.commit()
-                except Aborted:
+                except AbortedError:
                     pass
                 self.assertEqual(self.kind(), wanted)
 
@@ -454,7 +454,7 @@ class Postgres(unittest.TestCase):
                 store = PostgresStore(cluster.dsn, patience=0.5)
                 self.took(0.5, psycopg2.OperationalError, store.begin)
                 self.took(0.2, psycopg2.OperationalError, lambda: store.begin_alone(0.2))
-                self.took(1.0, OutcomeUnknown, lambda: sessions.pop().run(lambda t: t.put("x", "1")))
+                self.took(1.0, OutcomeUnknownError, lambda: sessions.pop().run(lambda t: t.put("x", "1")))
             finally:
                 os.kill(cluster.runs(), signal.SIGCONT)
 
@@ -468,7 +468,7 @@ class Postgres(unittest.TestCase):
                     super().send_commit()
 
             session = Session(self.auditor, 0, Killing(cluster.dsn), "run", patience=0.2)
-            with self.assertRaises(OutcomeUnknown):
+            with self.assertRaises(OutcomeUnknownError):
                 session.run(lambda t: (t.get("x"), t.put("x", "1")))
             self.assertFalse(session.is_open)
             session.store.connection.close()

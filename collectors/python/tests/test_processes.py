@@ -6,7 +6,7 @@ import sys
 import tempfile
 import time
 
-from zanteyard import AuditClient, AuditServer, Ended
+from zanteyard import AuditClient, AuditServer, ProgramEndedError
 from zanteyard.stores.memory import MemoryStore
 from zanteyard.remote._remote_sessions import RemoteGroup
 
@@ -92,7 +92,7 @@ class Elsewhere(TwoProcesses, test_live.Meetings):
         self.wait_for(lambda: live.taken_in == 2)
         self.cut_off(other)
         self.wait_for(lambda: live.is_over and self.client.is_over and other.is_over)
-        self.assertIsInstance(live.failure, Ended)
+        self.assertIsInstance(live.failure, ProgramEndedError)
         self.assertIn(f"the process of the sessions {b.number} is lost", str(live.failure))
         self.assertEqual((live.report.kind, live.taken_in), ("serial", 2))
         a.run(add_one("x"))  # the client goes on

@@ -8,7 +8,7 @@ import sys
 import time
 import unittest
 
-from zanteyard import RATHER_WAIT, Auditor, Ended, LiveAuditor, Logged, NoCut, Session
+from zanteyard import RATHER_WAIT, Auditor, ProgramEndedError, LiveAuditor, Logged, NoCutError, Session
 from zanteyard.core.errors import JournalDamagedError, JournalError, JournalInUseError
 from zanteyard.core.errors import JournalVersionError, RoundTooLongError
 from zanteyard.journal import _writer as journal_writer
@@ -55,7 +55,7 @@ def steps(auditor, entries, every=20):
             yield auditor.round()
             try:
                 yield auditor.truncate()
-            except NoCut:
+            except NoCutError:
                 yield None
     auditor.close(0)
     yield auditor.round()
@@ -141,10 +141,10 @@ class Killed(WithJournal):
         with self.auditor() as auditor:
             auditor.offer(0, 0, ONE)
             with Killer(lambda _: BEFORE) as killer:
-                with self.assertRaisesRegex(Ended, "status -9"):
+                with self.assertRaisesRegex(ProgramEndedError, "status -9"):
                     auditor.offer(0, 1, ONE)
             self.assertGreaterEqual(killer.kills, 3)
-            with self.assertRaises(Ended):
+            with self.assertRaises(ProgramEndedError):
                 auditor.offer(0, 1, ONE)
             self.assertEqual(auditor.outcome().kind, "incomplete")
         with self.resumed() as auditor:
@@ -334,7 +334,7 @@ class Resumed(WithJournal):
             os.kill(auditor.program.process.pid, signal.SIGKILL)
             with self.assertRaises(JournalDamagedError):
                 auditor.offer(0, 1, ONE)
-            with self.assertRaisesRegex(Ended, "is damaged"):
+            with self.assertRaisesRegex(ProgramEndedError, "is damaged"):
                 auditor.round()
             self.assertEqual(auditor.outcome().kind, "incomplete")
 
@@ -366,7 +366,7 @@ class Resumed(WithJournal):
         with self.assertRaisesRegex(JournalError, "can't be locked"):
             self.auditor()
         self.path = os.path.join(self.folder, "another")
-        with self.assertRaises(Ended):
+        with self.assertRaises(ProgramEndedError):
             Auditor(1, 1, "/nowhere", journal=self.path)
         with self.assertRaisesRegex(JournalError, "can't give out what it keeps"):
             Auditor(1, 1, self.old_program(), journal=self.path)
@@ -391,7 +391,7 @@ class Resumed(WithJournal):
             self.room(len(self.bytes()) + 10)
             with self.assertRaisesRegex(JournalError, "can't be written"):
                 auditor.offer(0, 1, ONE)
-            with self.assertRaisesRegex(Ended, "can't be written"):
+            with self.assertRaisesRegex(ProgramEndedError, "can't be written"):
                 auditor.round()
             self.assertEqual(auditor.outcome().kind, "incomplete")
             self.room(None)
@@ -400,7 +400,7 @@ class Resumed(WithJournal):
             auditor.offer(0, 1, Logged([("x", "init")], ()))
             self.room(len(self.bytes()))
             self.assertEqual(auditor.round().kind, "violated")
-            with self.assertRaisesRegex(Ended, "can't be written"):
+            with self.assertRaisesRegex(ProgramEndedError, "can't be written"):
                 auditor.round()
             self.assertEqual(auditor.outcome().kind, "violated")
             self.room(None)

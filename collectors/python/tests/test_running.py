@@ -12,8 +12,8 @@ import time
 import unittest
 import unittest.mock
 
-from zanteyard import FENCE, Auditor, AuditorApart, Ended, Full, LiveAuditor, Logged, NoCut
-from zanteyard import NoMemory, Policy, Refused
+from zanteyard import FENCE, Auditor, AuditorApart, ProgramEndedError, FullError, LiveAuditor, Logged, NoCutError
+from zanteyard import NoMemoryError, Policy, RefusedError
 from zanteyard.program._auditor import PROGRAM
 from zanteyard.program._check_report import by_turns
 from zanteyard.core.errors import NotAnchoredError
@@ -108,7 +108,7 @@ class Both:
         for auditor in (self.plain, self.running):
             try:
                 found.append(tuple(auditor.truncate()))
-            except NoCut:
+            except NoCutError:
                 found.append(None)
         self.test.assertEqual(found[0] and found[0][1], found[1] and found[1][1])
         return found[0] is not None
@@ -271,7 +271,7 @@ class WhereItGoesOnByTurns(WithMadeUp):
         audit = made_up(self.folder, "audit", instead=refusals)
         auditor = self.auditor(audit=audit, instead={"1": ["refused", 0, 0, 16, "NoMemory"]})
         auditor.offer_all([(0, 0, [WRITES]), (1, 0, [WRITES])])
-        with self.assertRaisesRegex(NoMemory, r'\["offer",0,0,.* was answered NoMemory'):
+        with self.assertRaisesRegex(NoMemoryError, r'\["offer",0,0,.* was answered NoMemory'):
             auditor.last_round()
         self.assertEqual((auditor.received, auditor.remaining), ([0, 1], 1))
         self.assertEqual(auditor.last_round().counts, [0, 1])
@@ -279,7 +279,7 @@ class WhereItGoesOnByTurns(WithMadeUp):
     def test_a_transaction_that_is_wrong_is_told_by_the_round(self):
         auditor = self.auditor(sessions=3)
         auditor.offer_all([(0, 0, [BAD]), (1, 0, [WRITES]), (0, 1, [WRITES])])
-        with self.assertRaisesRegex(Refused, r'\["offer",0,0,.* was answered BadTxn'):
+        with self.assertRaisesRegex(RefusedError, r'\["offer",0,0,.* was answered BadTxn'):
             auditor.last_round()
         self.assertEqual(auditor.received, [0, 1, 0])
         self.assertEqual(auditor.last_round().counts, [0, 1, 0])
@@ -295,7 +295,7 @@ class WhereItGoesOnByTurns(WithMadeUp):
                 auditor = self.auditor()
                 auditor.offer_all([(0, 0, [WRITES])])
                 auditor.close(1)
-                with self.assertRaisesRegex(Refused, f"was answered {name}$"):
+                with self.assertRaisesRegex(RefusedError, f"was answered {name}$"):
                     auditor.offer_all([(session, first, txns)])
                 self.assertEqual((auditor.received, auditor.closed), ([1, 0], [False, True]))
                 self.gone_on(auditor)
@@ -307,7 +307,7 @@ class WhereItGoesOnByTurns(WithMadeUp):
                 auditor = self.auditor()
                 auditor.offer_all([(1, 0, [WRITES])])
                 auditor.close(0)
-                with self.assertRaisesRegex(Refused, f"was answered {name}$"):
+                with self.assertRaisesRegex(RefusedError, f"was answered {name}$"):
                     auditor.close(session)
                 self.assertEqual((auditor.received, auditor.closed), ([0, 1], [True, False]))
                 self.assertEqual(auditor.last_round().counts, [0, 1])
@@ -346,7 +346,7 @@ class WhereItGoesOnByTurns(WithMadeUp):
         auditor = self.auditor(audit=audit, reports={"1": "spent", "2": "spent"})
         auditor.offer_all([(0, 0, [WRITES])])
         for _ in range(2):
-            with self.assertRaisesRegex(Ended, "cobra_audit can't go on: .*NoMemory"):
+            with self.assertRaisesRegex(ProgramEndedError, "cobra_audit can't go on: .*NoMemory"):
                 auditor.last_round()
 
 
@@ -368,12 +368,12 @@ class WhatBecomesOfIt(WithMadeUp):
         for ends in range(5):
             with self.subTest(ends=ends):
                 auditor = self.auditor(ends=ends)
-                with self.assertRaisesRegex(Ended, told):
+                with self.assertRaisesRegex(ProgramEndedError, told):
                     for at in range(3):
                         auditor.offer_all([(0, at, [WRITES])])
                         auditor.last_round()
                 for call in (auditor.last_round, lambda: auditor.offer_all([(1, 0, [WRITES])])):
-                    with self.assertRaisesRegex(Ended, told):
+                    with self.assertRaisesRegex(ProgramEndedError, told):
                         call()
                 self.assertIsNotNone(auditor.end())
 
@@ -383,7 +383,7 @@ class WhatBecomesOfIt(WithMadeUp):
         self.assertEqual(auditor.last_round().kind, "violated")
         auditor.offer_all([(0, 1, [WRITES]), (1, 1, [WRITES])])
         self.assertEqual(auditor.last_round().kind, "violated")
-        with self.assertRaises(Ended):
+        with self.assertRaises(ProgramEndedError):
             auditor.offer_all([(0, 2, [WRITES])])
         self.assertEqual(auditor.last_round().kind, "violated")
 
@@ -393,7 +393,7 @@ class WhatBecomesOfIt(WithMadeUp):
         process = auditor.live.process
         with unittest.mock.patch("zanteyard.program._running.SECONDS", 0.3):
             for _ in range(2):
-                with self.assertRaisesRegex(Ended, "cobra_live hasn't answered in time"):
+                with self.assertRaisesRegex(ProgramEndedError, "cobra_live hasn't answered in time"):
                     auditor.last_round()
         auditor.end()
         self.assertEqual(process.returncode, -9)
@@ -405,7 +405,7 @@ class WhatBecomesOfIt(WithMadeUp):
                 auditor = self.auditor(instead={"1": told})
                 auditor.offer_all([(0, 0, [WRITES])])
                 for _ in range(2):
-                    with self.assertRaisesRegex(Ended, "cobra_live told .* of"):
+                    with self.assertRaisesRegex(ProgramEndedError, "cobra_live told .* of"):
                         auditor.last_round()
 
     def test_more_than_its_pipes_hold(self):
@@ -421,7 +421,7 @@ class WhatBecomesOfIt(WithMadeUp):
         two = [WRITES, WRITES]
         its = [(0, 0, two), (1, 0, two), (0, 2, [WRITES]), (1, 2, [WRITES])]
         self.assertEqual(auditor.offer_all(its), [its[1], its[3]])
-        with self.assertRaises(Full):
+        with self.assertRaises(FullError):
             auditor.offer(1, 0, WRITES)
         self.assertEqual(auditor.last_round().counts, [3, 0])
 
@@ -433,7 +433,7 @@ class WhatBecomesOfIt(WithMadeUp):
         self.assertEqual(auditor.marks, [1, 0])
         self.assertEqual(auditor.last_round(), (3, "serial", [1, 1], [[1, 0]]))  # of what remains
         self.assertEqual(auditor.truncate(), ((0, 0), 1))
-        with self.assertRaisesRegex(NoCut, "NoCut$"):
+        with self.assertRaisesRegex(NoCutError, "NoCut$"):
             auditor.truncate()
 
     def test_what_was_never_asked_about_is_in_the_script(self):
@@ -449,9 +449,9 @@ class WhatBecomesOfIt(WithMadeUp):
         auditor.last_round()
         process = auditor.live.process
         self.assertEqual((auditor.end(), process.returncode, auditor.end()), (0, 0, None))
-        with self.assertRaises(Ended):
+        with self.assertRaises(ProgramEndedError):
             auditor.last_round()
-        with self.assertRaises(Ended):
+        with self.assertRaises(ProgramEndedError):
             auditor.offer_all([(0, 1, [WRITES])])
 
     def test_it_does_not_end_by_itself(self):
@@ -493,15 +493,15 @@ class Apart(WithMadeUp):
         self.assertEqual(auditor.offer_all([(0, 0, [lost]), (1, 0, [lost])]), [])
         two = [(0, 1, [lost, lost])]
         self.assertEqual(auditor.offer_all([*two, (1, 1, [Logged((), ())])]), two)
-        with self.assertRaises(Full):
+        with self.assertRaises(FullError):
             auditor.offer(0, 1, lost)
         self.assertEqual((auditor.received, auditor.remaining), ([1, 2], 3))
         self.assertEqual(auditor.round()[1:3], ("violated", [1, 2]))
         self.assertEqual(auditor.history, [[lost], [lost, Logged((), ())]])
-        with self.assertRaisesRegex(Refused, "BadSession"):
+        with self.assertRaisesRegex(RefusedError, "BadSession"):
             auditor.close(7)
         self.assertEqual((auditor.end(), auditor.process.returncode), (0, 0))
-        with self.assertRaises(Ended):
+        with self.assertRaises(ProgramEndedError):
             auditor.round()
 
     def test_reads_that_wait_are_told_beside_what_was_forgotten(self):
@@ -531,7 +531,7 @@ class Apart(WithMadeUp):
             with AuditorApart(2, 64, audit) as auditor:
                 self.assertEqual(auditor.running, "")
                 auditor.keep_journal(f"{journal}.2")
-        with self.assertRaisesRegex(Ended, "nowhere can't be started"):
+        with self.assertRaisesRegex(ProgramEndedError, "nowhere can't be started"):
             AuditorApart(2, running="/nowhere")
 
     def test_clients_are_taken_in_while_a_round_is_made(self):

@@ -6,7 +6,7 @@ import sys
 import time
 import unittest
 
-from zanteyard import Aborted, Logged, Session, audited, dot_text, smaller, tell_violation
+from zanteyard import AbortedError, Logged, Session, audited, dot_text, smaller, tell_violation
 from zanteyard.explain import _shrinking as shrinking
 from zanteyard.program._auditor import PROGRAM
 from zanteyard.explain._reasons import explain_history
@@ -54,7 +54,7 @@ def history_of(workload, fault, honest, count=MOST, clients=8):
         if session in running:
             try:
                 running.pop(session).commit()
-            except Aborted:
+            except AbortedError:
                 pass
         elif begun < count:
             begun += 1

@@ -16,7 +16,7 @@ import threading
 import time
 import unittest
 
-from zanteyard import Aborted, AuditorApart, Auditor, LiveAuditor, NameTaken, OutcomeUnknown, Session
+from zanteyard import AbortedError, AuditorApart, Auditor, LiveAuditor, NameTakenError, OutcomeUnknownError, Session
 from zanteyard.trial.under_load import CLIENTS, run_at_once
 from zanteyard.core._own_keys import FENCE
 from zanteyard.program._auditor import PROGRAM
@@ -139,7 +139,7 @@ class Each:
         self.assertEqual([self.value(key) for key in alike], ["0", "1", "2", "3", "4"])
 
     def test_a_name_that_the_store_knows_is_refused(self):
-        for token, wanted in (("one", None), ("one", None), ("other", NameTaken)):
+        for token, wanted in (("one", None), ("one", None), ("other", NameTakenError)):
             store = self.made()
             with self.assertRaises(wanted) if wanted else contextlib.nullcontext():
                 store.claim("monday", token, 20)
@@ -296,7 +296,7 @@ class Each:
         auditor, (a, b) = self.sessions(loses, self.made())
         try:
             a.run(lambda t: (t.get("lost"), t.put("lost", "1")), attempts=1)
-        except Aborted:
+        except AbortedError:
             self.assertEqual(outcome, "aborted")
         wanted = "1" if outcome == "committed" else None
         self.assertEqual(b.run(lambda t: t.get("lost")), wanted)
@@ -358,10 +358,10 @@ class MariaDB(Each, unittest.TestCase):
             one, other = self.made(level), self.made(level)
             one.begin(), one.write("x", "1", NAME)
             other.begin(), other.write("a", "2", NAME)
-            with self.assertRaisesRegex(Aborted, "1205"):
+            with self.assertRaisesRegex(AbortedError, "1205"):
                 other.write("x", "2", NAME)
             for more in (lambda: other.read("x"), lambda: other.write("b", "2", NAME), other.commit):
-                self.assertRaises(Aborted, more)
+                self.assertRaises(AbortedError, more)
             other.rollback(), one.rollback()
             self.assertEqual([self.value(key) for key in "abx"], [None] * 3)
 
@@ -392,7 +392,7 @@ class MariaDB(Each, unittest.TestCase):
         def waits():
             try:
                 one.write("y", "1", NAME)
-            except Aborted:
+            except AbortedError:
                 ended.append(one)
 
         thread = threading.Thread(target=waits)
@@ -400,15 +400,15 @@ class MariaDB(Each, unittest.TestCase):
         time.sleep(0.2)
         try:
             other.write("x", "1", NAME)
-        except Aborted:
+        except AbortedError:
             ended.append(other)
         thread.join()
         (victim,) = ended
         with contextlib.closing(victim.connection.cursor()) as cursor:
             cursor.execute("SELECT @@in_transaction")
             self.assertEqual(cursor.fetchone(), (0,))  # else this would be another test
-        self.assertRaises(Aborted, victim.write, "z", "1", NAME)
-        self.assertRaises(Aborted, victim.commit)
+        self.assertRaises(AbortedError, victim.write, "z", "1", NAME)
+        self.assertRaises(AbortedError, victim.commit)
         victim.rollback()
         (other if victim is one else one).commit()
         self.assertEqual([self.value(key) for key in "xyz"], ["1", "1", None])
@@ -422,7 +422,7 @@ class MariaDB(Each, unittest.TestCase):
         a.store.connection.cursor().execute(make)
         b.run(lambda t: t.put("x", "2"))
         transaction.put("x", "3")
-        with self.assertRaisesRegex(Aborted, "make tables"):
+        with self.assertRaisesRegex(AbortedError, "make tables"):
             transaction.commit()
         self.assertEqual(self.value("x"), "2")
         transaction = a.begin()
@@ -438,7 +438,7 @@ class MariaDB(Each, unittest.TestCase):
                 self.connection.cursor().execute("CREATE TABLE IF NOT EXISTS other (a int)")
 
         auditor, (a, b) = self.sessions(self.made(of=Tears), self.made(), patience=0.5)
-        with self.assertRaises(OutcomeUnknown):
+        with self.assertRaises(OutcomeUnknownError):
             a.run(lambda t: (t.get("z"), t.put("x", "1"), t.put("y", "1")))
         self.assertEqual(b.run(lambda t: (t.get("x"), t.get("y"))), ("1", None))
         self.assertEqual((auditor.history[0][0].outcome, a.is_open), ("unknown", False))
@@ -463,7 +463,7 @@ class MariaDB(Each, unittest.TestCase):
         for read in (lambda: other.read("x"), lambda: other.read_all(["w", "x"]), lambda: other.exchange("x", "", NAME)):
             other.begin_alone(0.2)
             began = time.monotonic()
-            self.assertRaises(Aborted, read)
+            self.assertRaises(AbortedError, read)
             self.assertLess(time.monotonic() - began, 10.0)
         one.rollback()
         other.begin_alone(5.0)
@@ -476,7 +476,7 @@ class MariaDB(Each, unittest.TestCase):
         hangs_up = threading.Thread(target=lambda: self.begin_to_wait() and other.hang_up())
         hangs_up.start()
         began = time.monotonic()
-        self.assertRaises(OutcomeUnknown, other.exchange, "x", "2", NAME)
+        self.assertRaises(OutcomeUnknownError, other.exchange, "x", "2", NAME)
         self.assertLess(time.monotonic() - began, 10.0)
         hangs_up.join()
         one.rollback()  # now the server may go on with it, or find that nobody waits
@@ -526,7 +526,7 @@ class MariaDB(Each, unittest.TestCase):
             ended = []
 
             def run():
-                with self.assertRaises(OutcomeUnknown):
+                with self.assertRaises(OutcomeUnknownError):
                     call()
                 ended.append(store.outcome_within(0.5))
 
@@ -564,7 +564,7 @@ class MariaDB(Each, unittest.TestCase):
         store.begin()
         self.assertEqual([store.outcome_within(10.0) for _ in range(2)], ["aborted"] * 2)
         self.assertRaises(pymysql.IntegrityError, store.write, "x", "2", NAME)
-        self.assertRaises(Aborted, store.commit)
+        self.assertRaises(AbortedError, store.commit)
         store.rollback()
         self.assertEqual(self.value("x"), "1")
         store.begin(), store.write("x", "3", NAME), store.commit()
@@ -579,7 +579,7 @@ class MariaDB(Each, unittest.TestCase):
         transaction.get("x")
         self.end_connection(a.store)
         transaction.put("x", "3")
-        self.assertRaises((pymysql.MySQLError, Aborted), transaction.commit)
+        self.assertRaises((pymysql.MySQLError, AbortedError), transaction.commit)
         a.run(lambda t: t.get("x"))
         self.assertEqual([it.outcome for it in auditor.history[0]], ["committed"] * 2 + ["aborted", "committed"])
         self.assertEqual(auditor.round().kind, "serial")
@@ -598,7 +598,7 @@ class MariaDB(Each, unittest.TestCase):
             stores = (Killing(server.dsn), mariadb_store.MariaDBStore(server.dsn))
             auditor, (a, b) = self.sessions(*stores, patience=120)
             b.run(lambda t: t.put("y", "1"))
-            with contextlib.suppress(Aborted):
+            with contextlib.suppress(AbortedError):
                 a.run(lambda t: (t.get("y"), t.put("x", "1")), attempts=1)
             starting.join()
             with contextlib.suppress(pymysql.MySQLError):
@@ -660,14 +660,14 @@ class Redis(Each, unittest.TestCase):
         return (of or redis_store.RedisStore)(self.server.dsn, level, **more)
 
     def test_a_key_that_is_watched_after_it_was_read_is_read_too_early(self):
-        class Late(redis_store.RedisStore):
+        class ProgramLateError(redis_store.RedisStore):
             def read(self, key):
                 (text,) = self.send(("GET", self.prefix + key))
                 self.meanwhile()
                 self.send(("WATCH", self.prefix + key))
                 return redis_store.found_in(text)
 
-        auditor, (a, b) = self.sessions(self.made(of=Late), self.made())
+        auditor, (a, b) = self.sessions(self.made(of=ProgramLateError), self.made())
         b.run(lambda t: t.put("x", "1"))
         a.store.meanwhile = lambda: b.run(lambda t: t.exchange("x", "2"))
         a.run(lambda t: t.put("x", str(int(t.get("x")) + 1)))
@@ -693,7 +693,7 @@ class Redis(Each, unittest.TestCase):
                     change()
                     if writes:
                         transaction.put("y", "1")
-                    self.assertRaises(Aborted, transaction.commit)
+                    self.assertRaises(AbortedError, transaction.commit)
                     self.assertIsNone(self.value("y"))
 
     def test_a_value_that_no_store_has_written_was_there_before(self):
@@ -755,7 +755,7 @@ class Redis(Each, unittest.TestCase):
             b.run(lambda t: t.exchange("x", "2"))
         b.run(lambda t: t.exchange("x", "2"))
         transaction.put("x", "3")
-        with self.assertRaises((Aborted, redis.ConnectionError, OutcomeUnknown)):
+        with self.assertRaises((AbortedError, redis.ConnectionError, OutcomeUnknownError)):
             transaction.commit()
         self.assertEqual(self.value("x"), "2")
         a.run(lambda t: t.put("x", "4"))
@@ -794,7 +794,7 @@ class Redis(Each, unittest.TestCase):
                 return answers
 
         auditor, (a, b) = self.sessions(self.made("single commands", of=Lossy), self.made(), patience=0.5)
-        with self.assertRaises(OutcomeUnknown):
+        with self.assertRaises(OutcomeUnknownError):
             a.run(lambda t: (t.put("x", "1"), t.put("y", "1")))
         self.assertEqual(b.run(lambda t: (t.get("x"), t.get("y"))), ("1", None))
         self.assertEqual((auditor.history[0][0].outcome, a.is_open), ("unknown", False))
@@ -805,7 +805,7 @@ class Redis(Each, unittest.TestCase):
                 return super().send_exec([*commands[:-1], ("INCR", self.prefix + "x"), commands[-1]])
 
         auditor, (a, b) = self.sessions(self.made(of=Fails), self.made(), patience=0.5)
-        with self.assertRaises(OutcomeUnknown):
+        with self.assertRaises(OutcomeUnknownError):
             a.run(lambda t: (t.get("z"), t.put("x", "1")))
         self.assertEqual(b.run(lambda t: t.get("x")), "1")
         self.assertEqual((auditor.history[0][0].outcome, auditor.history[0][0].reads, a.is_open), ("unknown", [], False))
@@ -816,7 +816,7 @@ class Redis(Each, unittest.TestCase):
             stores = [redis_store.RedisStore(server.dsn) for _ in range(2)]
             auditor, (a, b) = self.sessions(*stores)
             redis.Redis.from_url(server.dsn).config_set("maxmemory", 1)
-            with self.assertRaisesRegex(Aborted, "OOM|discarded"):
+            with self.assertRaisesRegex(AbortedError, "OOM|discarded"):
                 a.run(lambda t: (t.put("x", "1"), t.put("y", "1")), attempts=1)
             self.assertEqual(b.run(lambda t: (t.get("x"), t.get("y"))), (None, None))
             self.assertEqual(auditor.round().kind, "serial")
@@ -839,9 +839,9 @@ class Redis(Each, unittest.TestCase):
             os.kill(server.process.pid, signal.SIGSTOP)
             try:
                 began = time.monotonic()
-                with self.assertRaises((Aborted, OutcomeUnknown)):
+                with self.assertRaises((AbortedError, OutcomeUnknownError)):
                     a.run_alone(lambda t: t.get("x"), 0.3)
-                with self.assertRaises((Aborted, OutcomeUnknown, redis.RedisError)):
+                with self.assertRaises((AbortedError, OutcomeUnknownError, redis.RedisError)):
                     b.run_alone(lambda t: t.exchange("x", "2"), 0.3)
                 self.assertLess(time.monotonic() - began, 15.0)
             finally:
@@ -897,7 +897,7 @@ class Redis(Each, unittest.TestCase):
             stores = (Killing(server.dsn), redis_store.RedisStore(server.dsn))
             auditor, (a, b) = self.sessions(*stores, patience=120)
             b.run(lambda t: t.put("y", "1"))
-            with self.assertRaises(Aborted):
+            with self.assertRaises(AbortedError):
                 a.run(lambda t: (t.get("y"), t.put("x", "1")), attempts=1)
             starting.join()
             self.assertEqual(b.run(lambda t: (t.get("x"), t.get("y"))), (None, "1"))
@@ -961,9 +961,9 @@ class SQLite(Each, unittest.TestCase):
                 one.begin(), one.exchange("x", "1", NAME)
                 other.begin_alone(0.2)
                 began = time.monotonic()
-                self.assertRaises(Aborted, other.exchange, "y", "1", NAME)
+                self.assertRaises(AbortedError, other.exchange, "y", "1", NAME)
                 if level == "read uncommitted":
-                    self.assertRaises(Aborted, other.read, "x")  # it wasn't committed
+                    self.assertRaises(AbortedError, other.read, "x")  # it wasn't committed
                 self.assertLess(time.monotonic() - began, 10.0)
                 one.rollback()
                 other.begin_alone(5.0)
@@ -972,7 +972,7 @@ class SQLite(Each, unittest.TestCase):
     def test_who_cant_begin_takes_no_number(self):
         auditor, (a, b) = self.sessions(self.made(), self.made())
         transaction = a.begin()
-        self.assertRaises(Aborted, b.begin)
+        self.assertRaises(AbortedError, b.begin)
         self.assertEqual(b.begun, 0)
         transaction.put("x", "1")
         transaction.commit()
@@ -985,12 +985,12 @@ class SQLite(Each, unittest.TestCase):
         auditor, (a, b) = self.sessions(self.made("deferred", patience=20.0), self.made("deferred"))
         transaction = a.begin()
         transaction.get("x")
-        with contextlib.suppress(Aborted):
+        with contextlib.suppress(AbortedError):
             b.run(lambda t: t.put("x", "2"), attempts=1)
         transaction.put("x", "1")
         began = time.monotonic()
         if self.journal == "wal":
-            self.assertRaises(Aborted, transaction.commit)
+            self.assertRaises(AbortedError, transaction.commit)
             self.assertLess(time.monotonic() - began, 10.0)
         else:
             transaction.commit()
@@ -1008,14 +1008,14 @@ class SQLite(Each, unittest.TestCase):
             ending.start()
             self.addCleanup(ending.join)  # a connection that is closed while it is used crashes
             self.assertTrue(eventually(lambda: self.is_pending()))
-        self.assertRaises(Aborted, other.write, "x", "2", NAME)
+        self.assertRaises(AbortedError, other.write, "x", "2", NAME)
         self.assertLess(time.monotonic() - began, 15.0)
         other.rollback()
         if self.journal == "delete":
             ending.join()
 
     def end(self, store):
-        with contextlib.suppress(Aborted):
+        with contextlib.suppress(AbortedError):
             store.commit()
 
     def is_pending(self):
@@ -1035,7 +1035,7 @@ class SQLite(Each, unittest.TestCase):
         reader.get("x")
         writer = b.begin()
         writer.put("x", "1")
-        self.assertRaises(Aborted, writer.commit)
+        self.assertRaises(AbortedError, writer.commit)
         self.assertFalse(b.store.connection.in_transaction)
         reader.commit()
         b.store.patience = 20.0
@@ -1083,7 +1083,7 @@ class SQLite(Each, unittest.TestCase):
                     store = self.made(level, of=Fails, patience=5.0)
                     auditor, (a, b) = self.sessions(store, self.made())
                     b.run(lambda t: t.put("x", "0"))
-                    self.assertRaises(Aborted, a.run, lambda t: t.put("x", value), attempts=1)
+                    self.assertRaises(AbortedError, a.run, lambda t: t.put("x", value), attempts=1)
                     self.assertEqual([store.outcome_within(5.0) for _ in range(2)], ["aborted"] * 2)
                     anew = f"{self.folder}/anew {level} {len(value)}"
                     for end in ("", "-wal"):
@@ -1101,7 +1101,7 @@ class SQLite(Each, unittest.TestCase):
             transaction.get("x")
             a.store.connection.execute(ends)
             transaction.put("x", "1")
-            self.assertRaises(Aborted, transaction.commit)
+            self.assertRaises(AbortedError, transaction.commit)
             self.assertIsNone(self.value("x"))
 
     def test_processes_that_are_killed(self):

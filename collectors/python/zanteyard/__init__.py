@@ -17,9 +17,8 @@
 - What came of it: an Outcome, with the Report of its last round and what is Pending.
 - What is told of a violation: tell_violation does all of it; from_start, smaller, words,
   explain_history, reasons, audited, dot_text and draw are its parts.
-- What is raised is a ZanteyardError; Aborted, Ended, Full, Lost, NameTaken, NoCut, NoMemory,
-  OutcomeUnknown and Refused are the same classes under shorter names. What fails behind a commit
-  is never raised to who runs transactions: outcomes tell it, and the log `zanteyard`.
+- What is raised is a ZanteyardError. What fails after a commit is never raised to the client that
+  runs transactions: outcomes report it, and the log `zanteyard`.
 
 docs/COLLECTORS.md says what is logged, and why.
 """
@@ -58,14 +57,12 @@ from .explain._graphviz import dot_text, draw
 from .explain._reasons import Explanation, explain_history, reasons
 from .explain._shrinking import audited, from_start, smaller, words
 from .explain._violation_text import tell_violation
-from .live._live_auditor import LiveAuditor, Lost
-from .program._auditor import Auditor, NoCut, NoMemory, Refused
-from .program._intake import Full
-from .program._pipes import Ended
+from .live._live_auditor import LiveAuditor
+from .program._auditor import Auditor
 from .program._subprocess import AuditorApart
 from .remote._client import AuditClient
 from .remote._server import AuditServer
-from .session._session import Aborted, NameTaken, OutcomeUnknown, Session, Transaction
+from .session._session import Session, Transaction
 
 _guard(_logging.getLogger("zanteyard"))
 
@@ -88,7 +85,5 @@ __all__ = [
     *("ProgramLateError", "ProgramMissingError", "ProgramTooOldError"),
     *("RefusedError", "ScriptMistakeError"),
     *("StoreLateError", "StoreUnfitError", "ZanteyardError"),
-    *("Aborted", "Ended", "Full", "Lost", "NameTaken", "NoCut", "NoMemory", "OutcomeUnknown"),
-    "Refused",
     "__version__",
 ]

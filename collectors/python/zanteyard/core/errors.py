@@ -1,8 +1,4 @@
-"""What this package raises. All of it is a ZanteyardError.
-
-The shorter names that modules have beside these (Aborted, Ended, Full and the like) are the same
-classes.
-"""
+"""What this package raises. All of it is a ZanteyardError."""
 
 from __future__ import annotations
 

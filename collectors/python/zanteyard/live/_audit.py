@@ -13,10 +13,10 @@ from ..core._own_keys import FENCE, LONGEST
 from ..core._records import Pending, Report, TransactionId, unpacked
 from ..core._tenancy import Stints
 from ..core._window import SESSIONS, Coverage
-from ..core.errors import AuditLostError, MissingError, NotAnchoredError
+from ..core.errors import AuditLostError, FullError, MissingError, NoCutError, NotAnchoredError
 from ..explain._shrinking import is_collectors_own
-from ..program._auditor import Auditor, NoCut
-from ..program._intake import Fragment, Full, never_came
+from ..program._auditor import Auditor
+from ..program._intake import Fragment, never_came
 from ..program._subprocess import AuditorApart
 from ._backlog import Backlog, HandedIn
 
@@ -124,8 +124,8 @@ class Audit:
             count -= self.take_in(count)
 
     def take_in(self, most: int = LONGEST) -> int:
-        """What waits, up to so many; gives how many these were. Raises Full where there is no room,
-        and what the auditor raises."""
+        """What waits, up to so many; gives how many these were. Raises FullError where there is no
+        room, and what the auditor raises."""
         held = sum(map(len, self._held.values()))
         free = self._auditor.limit - self._auditor.remaining - self.reserve
         self._backlog.leave_room(free - held)
@@ -279,10 +279,10 @@ class Audit:
     def _offer(self, session: int, number: int, logged: Any, joins: bool) -> None:
         try:
             (self._auditor.join if joins else self._auditor.offer)(session, number, logged)
-        except Full as error:
+        except FullError as error:
             why = f", since {self.why_no_cut}" if self.why_no_cut else ""
             limit = self._auditor.limit
-            raise Full(f"{limit} transactions remain, and no more are held{why}") from error
+            raise FullError(f"{limit} transactions remain, and no more are held{why}") from error
         self.taken_in += 1
 
     # rounds
@@ -352,7 +352,7 @@ class Audit:
             return forgets_nothing
         try:
             cut = self._auditor.truncate()
-        except NoCut as error:
+        except NoCutError as error:
             if not self._auditor.can_cut:
                 return forgets_nothing
             is_none = str(error).endswith("NoCut")

@@ -43,8 +43,6 @@ STOPPING = 120.0  # seconds for what was handed in to be audited, as it is stopp
 GIVING_UP = 1.0  # the same, where an exception ends it
 EARLIER = "an audit of this run had ended before, in a process that is gone"
 
-Lost = AuditLostError  # the same error under a shorter name
-
 
 class Killing:
     """While it is found out what killed processes did; for threads."""
@@ -180,7 +178,7 @@ class LiveAuditor(SessionsHere):
         self._is_stopping = True
         self._thread.join(seconds)
         if self._thread.is_alive():
-            self.lose(Lost(f"it hasn't audited what was handed in after {seconds:g} s"))
+            self.lose(AuditLostError(f"it hasn't audited what was handed in after {seconds:g} s"))
             self._failure, self._has_ended = self._lost, True
         return self.outcome
 
@@ -197,7 +195,7 @@ class LiveAuditor(SessionsHere):
     def __exit__(self, kind: Optional[type], *_: object) -> None:
         """As `stop` does; at once, where an exception ends it."""
         if kind is not None:
-            self.lose(Lost(f"it was given up ({kind.__name__})"))
+            self.lose(AuditLostError(f"it was given up ({kind.__name__})"))
         self.stop(STOPPING if kind is None else GIVING_UP)
 
     # what is known by now
@@ -316,7 +314,7 @@ class LiveAuditor(SessionsHere):
         ends = time.monotonic() + self.policy.wait
         while self._backlog.is_over_full and not self._goes_on():
             if time.monotonic() > ends:
-                self.lose(Lost(self._no_room()))
+                self.lose(AuditLostError(self._no_room()))
             time.sleep(pause)
 
     def _goes_on(self) -> bool:
@@ -342,10 +340,10 @@ class LiveAuditor(SessionsHere):
     def _lose_for_a_client(self) -> None:
         """One goes on unaudited, since there are more than sessions."""
         if not self.is_over:
-            self.lose(Lost(f"no session is left for a client: {self._no_place()}"))
+            self.lose(AuditLostError(f"no session is left for a client: {self._no_place()}"))
 
     def _cant_join(self, session: Session, why: Exception) -> Optional[Place]:
-        self.lose(Lost(f"a client can't join: {str(why).strip() or type(why).__name__}"))
+        self.lose(AuditLostError(f"a client can't join: {str(why).strip() or type(why).__name__}"))
         self._give_back(session.place)
         return self._places.take_unaudited()
 
@@ -466,7 +464,9 @@ class LiveAuditor(SessionsHere):
             self._backlog.begin_behind(session, (coverage.first[session] or 0) + count, count)
             if auditor.closed[session]:
                 self._backlog.note_taken(session, None)
-        earlier = (Outcome(INCOMPLETE, failure=Lost(EARLIER)),) if auditor.audits > 1 else ()
+        earlier = (
+            (Outcome(INCOMPLETE, failure=AuditLostError(EARLIER)),) if auditor.audits > 1 else ()
+        )
         its = (self._backlog, self._figures, self._tell, self.run_name, coverage, 0, earlier)
         closed = [session for session, it in enumerate(auditor.closed) if it]
         audit = Audit(auditor, *its, stints=self._places.stints, closed=closed)

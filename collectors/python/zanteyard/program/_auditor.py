@@ -14,19 +14,26 @@ from ..core._own_keys import FENCE, FORM
 from ..core._records import ABORTED, Cut, Logged, Report, TransactionId
 from ..core._tenancy import Stints
 from ..core._window import Coverage
-from ..core.errors import AuditLostError, JournalError, NoCutError, NoMemoryError, NotAnchoredError
-from ..core.errors import ProgramTooOldError, RefusedError, RoundTooLongError
+from ..core.errors import (
+    AuditLostError,
+    FullError,
+    JournalError,
+    NoCutError,
+    NoMemoryError,
+    NotAnchoredError,
+    ProgramEndedError,
+    ProgramLateError,
+    ProgramTooOldError,
+    RefusedError,
+    RoundTooLongError,
+)
 from ..journal._entries import Head
 from ._binaries import PROGRAM as PROGRAM
-from ._intake import EFFORTS, SECONDS, Effort, Fragment, Full, Takes
-from ._pipes import Ended, Late, Pipes
+from ._intake import EFFORTS, SECONDS, Effort, Fragment, Takes
+from ._pipes import Pipes
 from ._resuming import Reopened, journaled, reopened
 from ._supervised import Restarting
 
-# The same errors under shorter names.
-Refused = RefusedError
-NoMemory = NoMemoryError
-NoCut = NoCutError
 
 BAD_LINE = "BadLine"
 TOO_OLD = (
@@ -37,18 +44,18 @@ WAITS = (0.1, 0.5)  # seconds after which a line that was answered NoMemory is g
 ENDED = "cobra_audit has been ended"
 UNKNOWN = "the process that audited has ended, and what its sessions did last isn't known"
 logger = logging.getLogger("zanteyard")
-KINDS: Mapping[str, Type[Refused]] = {
-    "Backlog": Full,
-    "NoCut": NoCut,
-    "NoMemory": NoMemory,
+KINDS: Mapping[str, Type[RefusedError]] = {
+    "Backlog": FullError,
+    "NoCut": NoCutError,
+    "NoMemory": NoMemoryError,
     "NotAnchored": NotAnchoredError,
 }
 
 
 class Auditor(Takes):
     """The program cobra_audit. For threads: each call is one line and its reply. What sessions hand
-    in (`take`) never raises; all other calls raise Ended where the program is gone and Refused
-    where it refuses a line.
+    in (`take`) never raises; all other calls raise ProgramEndedError where the program is gone and
+    RefusedError where it refuses a line.
 
     `sessions` are 1 to 64 at first, and as many as `join` has made them later; at most `limit`
     transactions may remain, which is 4,096 at most.
@@ -199,19 +206,19 @@ class Auditor(Takes):
 
     def _settled(
         self, text: str, reply: List[Any], seconds: float = SECONDS
-    ) -> Tuple[List[Any], Optional[Refused]]:
+    ) -> Tuple[List[Any], Optional[RefusedError]]:
         """The reply once the line isn't refused for want of memory, and what it refuses."""
         for wait in WAITS:
             if reply[0] != "no" or reply[2] != "NoMemory" or wait > seconds:
                 break
             time.sleep(wait)
             (reply,) = self._replies_to([text])
-        refused = reply[0] == "no" and KINDS.get(reply[2], Refused)
+        refused = reply[0] == "no" and KINDS.get(reply[2], RefusedError)
         return reply, refused(f"{text} was answered {reply[2]}") if refused else None
 
     def _replies_to(self, texts: Sequence[str]) -> List[List[Any]]:
-        """Of lines that are given one behind the other; raises Late where that takes too long. For
-        who has left the step."""
+        """Of lines that are given one behind the other; raises ProgramLateError where that takes
+        too long. For who has left the step."""
         self._give(texts)
         try:
             assert self.program is not None
@@ -220,9 +227,9 @@ class Auditor(Takes):
         except RoundTooLongError:
             self._be_in_step()  # another program goes on
             raise
-        except (Ended, JournalError) as error:
+        except (ProgramEndedError, JournalError) as error:
             self._why_out = str(error)
-            if isinstance(error, Late):
+            if isinstance(error, ProgramLateError):
                 self._give_up()
             raise
 
@@ -232,7 +239,7 @@ class Auditor(Takes):
 
     def _give(self, texts: Sequence[str]) -> None:
         if self.program is None:
-            raise Ended(ENDED)
+            raise ProgramEndedError(ENDED)
         lines = [text.encode() for text in texts]
         self._keep(lines)
         self.program.ask(lines)
@@ -252,19 +259,19 @@ class Auditor(Takes):
 
     def _wait_for_take(self, seconds: float) -> None:
         if self.program is None:
-            raise Ended(ENDED)
+            raise ProgramEndedError(ENDED)
         self.program.wait(1, seconds)
 
     def _end_take(
         self, kind: str, asked: Tuple[str, Any], seconds: float
-    ) -> Optional[Refused]:
+    ) -> Optional[RefusedError]:
         text, fragment = asked
         assert self.program is not None
         (answer,) = self.program.answers(1, seconds)
         _, refusal = self._settled(text, json.loads(answer), seconds)
-        if isinstance(refusal, Full):
+        if isinstance(refusal, FullError):
             told = f"there is no room for transaction {fragment[1]} of session {fragment[0]}"
-            return Full(told)
+            return FullError(told)
         if kind == "offer" and refusal is None:
             self._keep_history(fragment)
         if kind == "close" and refusal is None:
@@ -330,7 +337,7 @@ class Auditor(Takes):
                 _, refusal = self._settled(text, reply)
                 if refusal is None:
                     self._keep_history(its, fragment[0] in joining)
-                elif isinstance(refusal, Full):
+                elif isinstance(refusal, FullError):
                     refused.append(fragment)
                 else:
                     wrong = wrong or refusal
@@ -401,7 +408,7 @@ class Auditor(Takes):
 
     def truncate(self) -> Cut:
         """Has the auditor forget what the last round found settled. The lines keep in which order
-        what remains stands to it. Raises NoCut where nothing is."""
+        what remains stands to it. Raises NoCutError where nothing is."""
         text = written(["truncate"])
         with self.lock:
             self._begin_to_ask()
@@ -411,10 +418,10 @@ class Auditor(Takes):
             self._be_in_step()
         if cut is not None:
             return cut
-        if isinstance(refusal, NoCut):
+        if isinstance(refusal, NoCutError):
             raise refusal
         self.can_cut = "BadLine" not in str(refusal)
-        raise NoCut(str(refusal)) from refusal
+        raise NoCutError(str(refusal)) from refusal
 
     def _forget(self, fence: Sequence[int], gone: Sequence[Any], last: Sequence[Any]) -> Cut:
         self.base.update((self.names[key], (session, number)) for key, session, number in last)

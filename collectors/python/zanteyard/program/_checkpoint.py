@@ -5,8 +5,7 @@ from __future__ import annotations
 import json
 from typing import Generator, List, Sequence
 
-from ..core.errors import JournalError, ZanteyardError
-from ._pipes import Ended
+from ..core.errors import JournalError, ProgramEndedError, ZanteyardError
 
 Answers = Generator[List[bytes], List[bytes], List[bytes]]  # gives lines, and is sent their answers
 
@@ -85,7 +84,7 @@ def _answers(lines: List[bytes]) -> Answers:
 def why_not_resumed(answer: bytes, path: str) -> ZanteyardError:
     """By what a line was answered in place of ok."""
     if answer.startswith(NO_MEMORY):
-        return Ended("cobra_audit has no memory for what it is to begin with")
+        return ProgramEndedError("cobra_audit has no memory for what it is to begin with")
     told = answer.decode(errors="replace")
     if answer == BAD_LINE:
         told += ", as one of an earlier version than this package does"

@@ -15,12 +15,10 @@ from ..core._locks import give_back, take
 from ..core._outcome import RATHER_LOSE_THE_AUDIT, VIOLATED, Outcome, Policy, kind_of
 from ..core._records import History, Logged, Names, Pending, Report, TransactionId
 from ..core._window import Coverage
-from ..core.errors import FullError, RefusedError
+from ..core.errors import FullError, ProgramEndedError, ProgramLateError, RefusedError
 from ._binaries import PROGRAM
-from ._pipes import Ended, Late
 from ._resuming import Reopened
 
-Full = FullError  # the same error under a shorter name
 
 LIMIT = 4096  # the most transactions that may remain
 # Of a round: how many nodes of the search it may look at, how deep the search is split, and how
@@ -100,8 +98,8 @@ class Takes:
         raise NotImplementedError
 
     def _wait_for_take(self, seconds: float) -> None:
-        """Until its answer can be read. Raises Late, and may then be called again, as after an
-        interrupt."""
+        """Until its answer can be read. Raises ProgramLateError, and may then be called again, as
+        after an interrupt."""
         raise NotImplementedError
 
     def _end_take(self, kind: str, asked: Any, seconds: float) -> Optional[RefusedError]:
@@ -124,10 +122,12 @@ class Takes:
         self._is_in_step = False
 
     def _still_in_step(self) -> None:
-        """Raises Ended where it has been left before and for good."""
+        """Raises ProgramEndedError where it has been left before and for good."""
         if not self._is_in_step:
             self._give_up()
-            raise Ended(self._why_out or "what was asked and what was answered are out of step")
+            raise ProgramEndedError(
+                self._why_out or "what was asked and what was answered are out of step"
+            )
 
     def _be_in_step(self) -> None:
         """An answer was read to its end, and what it says is kept."""
@@ -186,19 +186,19 @@ class Takes:
     # what users call
 
     def offer(self, session: int, number: int, *logged: Any) -> None:
-        """Transactions that follow one another, the first of this number. Raises Full where there
-        is no room."""
+        """Transactions that follow one another, the first of this number. Raises FullError where
+        there is no room."""
         if self.offer_all([(session, number, logged)]):
-            raise Full(f"there is no room for transaction {number} of session {session}")
+            raise FullError(f"there is no room for transaction {number} of session {session}")
 
     def join(self, session: int, number: int, *logged: Any) -> None:
         """Lets a session join with its first transactions: a new one, whose number is that of the
         sessions so far, from 0 on; or one that was closed and of which nothing remains (`vacant`),
         from where it has ended. The first is a fence that reads from one that remains, or from the
-        last that is forgotten; else it raises NotAnchoredError. Raises Full where there is no
+        last that is forgotten; else it raises NotAnchoredError. Raises FullError where there is no
         room."""
         if self.offer_all([(session, number, logged)], (session,)):
-            raise Full(f"there is no room for transaction {number} of session {session}")
+            raise FullError(f"there is no room for transaction {number} of session {session}")
 
     @property
     def vacant(self) -> List[int]:
@@ -216,7 +216,7 @@ class Takes:
 
     def start_anew(self, coverage: Optional[Coverage] = None) -> None:
         """Another program, which knows nothing of what the one before it was given. By a Coverage,
-        numbers count from where the audit begins. Raises Ended behind `end`."""
+        numbers count from where the audit begins. Raises ProgramEndedError behind `end`."""
         with self.lock:
             self._check_end()
             self._end_program()
@@ -296,7 +296,7 @@ class Takes:
                     elif ends is not None:
                         ends = min(ends, self._late[2] + self.policy.wait)
                     self._end_late(SECONDS if ends is None else max(0.0, ends - time.monotonic()))
-                except Late as error:
+                except ProgramLateError as error:
                     if ends is None or time.monotonic() > self._late[2] + LATEST:
                         self._give_up()
                         self._lose(error)
@@ -316,10 +316,11 @@ class Takes:
 
     def _check_end(self) -> None:
         if self.is_ended:
-            raise Ended("the auditor has been ended")
+            raise ProgramEndedError("the auditor has been ended")
 
     def _end_late(self, seconds: float) -> None:
-        """The answer to what was asked for a session; raises Late, and may then be called again."""
+        """The answer to what was asked for a session; raises ProgramLateError, and may then be
+        called again."""
         (kind, *_), asked, _ = self._late
         self._still_in_step()
         self._wait_for_take(seconds)

@@ -11,16 +11,13 @@ from typing import Iterable, List, NoReturn
 
 from ..core.errors import ProgramEndedError, ProgramLateError
 
-# The same errors under shorter names.
-Ended = ProgramEndedError
-Late = ProgramLateError
 
 ENDING = 5.0  # seconds for a program to end by itself, once its input has ended
 
 
 class Pipes:
     """For one thread at a time. What an interrupt leaves half done may have an answer be read for
-    another line: from then on, and once it was killed, every call raises Ended."""
+    another line: from then on, and once it was killed, every call raises ProgramEndedError."""
 
     program = "cobra_audit"  # how it is told
 
@@ -30,7 +27,7 @@ class Pipes:
             self.process = subprocess.Popen([path], stdin=pipe, stdout=pipe, stderr=pipe, bufsize=0)
         except OSError as error:
             told = f"{path} can't be started ({error}); README.md says how it is built"
-            raise Ended(told) from error
+            raise ProgramEndedError(told) from error
         assert self.process.stdin and self.process.stdout and self.process.stderr
         self.input, self.output = self.process.stdin, self.process.stdout
         self.errors = self.process.stderr
@@ -56,14 +53,15 @@ class Pipes:
         return answers
 
     def still_in_step(self) -> None:
-        """Raises Ended where it isn't known any more to which line an answer belongs."""
+        """Raises ProgramEndedError where it isn't known any more to which line an answer
+        belongs."""
         if not self.is_in_step:
             self.kill()
             self.tell_end()
 
     def wait(self, count: int, seconds: float) -> None:
-        """Until so many answers are there. Raises Ended; or Late after so many seconds, and may
-        then be called again, as after an interrupt."""
+        """Until so many answers are there. Raises ProgramEndedError; or ProgramLateError after so
+        many seconds, and may then be called again, as after an interrupt."""
         self.still_in_step()
         until = time.monotonic() + seconds
         try:
@@ -74,7 +72,7 @@ class Pipes:
         except BrokenPipeError:
             self.tell_end()
         except (OSError, ValueError) as error:
-            raise Ended(f"{self.program} can't be reached: {error}") from error
+            raise ProgramEndedError(f"{self.program} can't be reached: {error}") from error
 
     def write(self, until: float) -> None:
         """What the program takes, unless answers have to be read first."""
@@ -85,13 +83,13 @@ class Pipes:
         except BlockingIOError:
             self.is_in_step = True
             if not self.waits.poll(0) and not self.takes.poll(self.left(until)):
-                raise Late(f"{self.program} hasn't answered in time") from None
+                raise ProgramLateError(f"{self.program} hasn't answered in time") from None
 
     def read(self, until: float, is_blocking: bool) -> None:
         left = self.left(until) if is_blocking else 0
         if not self.waits.poll(left):
             if is_blocking:
-                raise Late(f"{self.program} hasn't answered in time")
+                raise ProgramLateError(f"{self.program} hasn't answered in time")
             return
         self.is_in_step = False
         got = os.read(self.output.fileno(), 1 << 20)
@@ -107,7 +105,7 @@ class Pipes:
 
     def tell_end(self) -> NoReturn:
         status, error = self.end(), self.error
-        raise Ended(f"{self.program} ended with status {status}: {error}")
+        raise ProgramEndedError(f"{self.program} ended with status {status}: {error}")
 
     error = ""  # what it told as it ended
 

@@ -23,11 +23,12 @@ from ..core._outcome import PENDING, SERIAL, VIOLATED
 from ..core._own_keys import FENCE, FORM
 from ..core._records import Cut, Report
 from ..core._window import SESSIONS
-from ._auditor import WAITS, Auditor, NoCut, Refused, written
+from ..core.errors import NoCutError, ProgramEndedError, ProgramLateError, RefusedError
+from ._auditor import WAITS, Auditor, written
 from ._checkpoint import NO_MEMORY, OK
 from ._intake import EFFORTS, SECONDS, Effort, Fragment
 from ._live_lines import Line, LivePipes, is_fence, pieces_of, standing
-from ._pipes import Ended, Late, Pipes
+from ._pipes import Pipes
 
 EFFORT = EFFORTS[0]  # of all rounds of cobra_live
 MOST = 256  # transactions of a line, and reads or writes of a transaction
@@ -149,21 +150,21 @@ class RunningAuditor(Auditor):
             self.closed[session] = True
 
     def _check_program(self) -> None:
-        """Raises Ended where it has died, which the next round would tell else."""
+        """Raises ProgramEndedError where it has died, which the next round would tell else."""
         self._still_in_step()
         assert self.live is not None
         if self.live.process.poll() is not None:
             try:
                 self.live.tell_end()
-            except Ended as error:
+            except ProgramEndedError as error:
                 self._be_over(error)
 
-    def _be_over(self, error: Ended) -> NoReturn:
+    def _be_over(self, error: ProgramEndedError) -> NoReturn:
         """What it had told by its end stays."""
         self._is_in_step, self._why_out = False, str(error)
         try:
             self._note_all()
-        except (Ended, ValueError):
+        except (ProgramEndedError, ValueError):
             pass  # a piece of a line, as where it was killed
         self._give_up()
         raise error
@@ -185,7 +186,7 @@ class RunningAuditor(Auditor):
                 self.begin_round()
                 while not self.has_round(SECONDS):
                     pass
-            except Ended:
+            except ProgramEndedError:
                 if self._violated is None:
                     raise
                 self._last = self._violated
@@ -219,7 +220,7 @@ class RunningAuditor(Auditor):
             while self._goes_on():
                 if not self._hear(until):
                     return False
-        except Ended:
+        except ProgramEndedError:
             if self._violated is None:
                 raise
             self._last, self._round = self._violated, None
@@ -235,17 +236,18 @@ class RunningAuditor(Auditor):
         return self._round is not None
 
     def _hear(self, until: float) -> bool:
-        """Whether more was told by then. Raises Late where nothing has come for too long."""
+        """Whether more was told by then. Raises ProgramLateError where nothing has come for too
+        long."""
         assert self.live is not None
         self._leave_step()
         try:
             self.live.wait(1, max(0.0, until - time.monotonic()))
-        except Late as error:
+        except ProgramLateError as error:
             if time.monotonic() < self._heard_at + SECONDS:
                 self._be_in_step()
                 return False
             self._be_over(error)
-        except Ended as error:
+        except ProgramEndedError as error:
             self._be_over(error)
         self._heard_at = time.monotonic()
         self._note_all()
@@ -320,11 +322,11 @@ class RunningAuditor(Auditor):
             if self.live is None:
                 try:
                     cuts.append(super().truncate())
-                except NoCut:
+                except NoCutError:
                     if not cuts:
                         raise
         if not cuts:
-            raise NoCut(NO_CUT)
+            raise NoCutError(NO_CUT)
         return Cut(cuts[-1].fence, sum(cut.gone for cut in cuts))
 
     # what is told
@@ -356,7 +358,7 @@ class RunningAuditor(Auditor):
     def _note_answer(self, told: Sequence[Any]) -> None:
         line = self._sent.popleft() if self._sent else None
         if line is None or not line.is_answered_by(told):
-            self._be_over(Ended(f"cobra_live told {told} of {line and line.text}"))
+            self._be_over(ProgramEndedError(f"cobra_live told {told} of {line and line.text}"))
         if told[0] in ("refused", "badline"):
             if not self._refused:
                 self._refused_at = self._told
@@ -398,11 +400,11 @@ class RunningAuditor(Auditor):
         live.kill()
         live.end()
         self._bring()
-        wrong: Optional[Refused] = None
+        wrong: Optional[RefusedError] = None
         for line in lines:
             try:
                 self._give_by_turns(line)
-            except Refused as error:
+            except RefusedError as error:
                 wrong = wrong or error
         if wrong is not None:
             raise wrong
@@ -430,7 +432,7 @@ class RunningAuditor(Auditor):
                 self.program = Pipes(self.path)
                 self.program.ask(texts)
                 answers = self.program.answers(len(texts), SECONDS)
-            except Ended as error:
+            except ProgramEndedError as error:
                 self._why_out = str(error)
                 raise
             wrong = [it for it in zip(texts, answers) if it[1] != OK]
@@ -444,7 +446,7 @@ class RunningAuditor(Auditor):
         text, answer = wrong[0]
         told = f"{text[:40].decode()}.. was answered {answer.decode(errors='replace')}"
         self._why_out = f"cobra_audit can't go on: {told}"
-        raise Ended(self._why_out)
+        raise ProgramEndedError(self._why_out)
 
     def _give_by_turns(self, line: Line) -> None:
         if line.fragment is None:

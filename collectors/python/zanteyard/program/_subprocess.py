@@ -21,11 +21,19 @@ from ..core._outcome import RATHER_LOSE_THE_AUDIT, Policy
 from ..core._own_keys import FENCE
 from ..core._records import Cut, History, Logged, Report, as_bytes, unpacked
 from ..core._window import Coverage
-from ..core.errors import ProgramUnreachableError, RefusedError, ZanteyardError
-from ._auditor import Auditor, NoCut
+from ..core.errors import (
+    FullError,
+    NoCutError,
+    ProgramEndedError,
+    ProgramLateError,
+    ProgramUnreachableError,
+    RefusedError,
+    ZanteyardError,
+)
+from ._auditor import Auditor
 from ._binaries import PROGRAM, found_live
-from ._intake import EFFORTS, LIMIT, SECONDS, Effort, Fragment, Full, Takes
-from ._pipes import ENDING, Ended, Late
+from ._intake import EFFORTS, LIMIT, SECONDS, Effort, Fragment, Takes
+from ._pipes import ENDING
 from ._resuming import Reopened
 from ._running import RunningAuditor
 
@@ -42,9 +50,9 @@ logger = logging.getLogger("zanteyard")
 
 class AuditorApart(Takes):
     """In place of an Auditor: calls go to one in another process, and their results come from
-    there. For threads. Raises Ended where that process can't be reached. With a journal another one
-    is started then, where it is a call that waits for it; what goes on there are lines' logs, since
-    statements and values are in no journal.
+    there. For threads. Raises ProgramEndedError where that process can't be reached. With a journal
+    another one is started then, where it is a call that waits for it; what goes on there are lines'
+    logs, since statements and values are in no journal.
 
     `running` is the file of a cobra_live, which then makes the rounds; an empty one, as a journal,
     is for cobra_audit alone. Where none is given it is the one that is there, if there is any and
@@ -122,7 +130,7 @@ class AuditorApart(Takes):
                     why = error
             raise why
 
-    def _start_again(self, error: Ended) -> None:
+    def _start_again(self, error: ProgramEndedError) -> None:
         """Another process goes on by the journal."""
         self._end_program()
         logger.warning("%s; another one goes on by %s", error, self.journal)
@@ -156,7 +164,7 @@ class AuditorApart(Takes):
             self._send(packed)
             try:
                 self._wait(seconds)
-            except Late as error:
+            except ProgramLateError as error:
                 self._why_out = str(error)
                 self._give_up()
                 raise
@@ -180,7 +188,7 @@ class AuditorApart(Takes):
         except BlockingIOError as error:
             self._give_up()
             self._why_out = f"{UNREACHABLE}: it has taken nothing for {seconds:.3g} s"
-            raise Ended(self._why_out) from error
+            raise ProgramEndedError(self._why_out) from error
         except (OSError, ValueError) as error:
             self._why_out = f"{UNREACHABLE}: {error}"
             raise ProgramUnreachableError(self._why_out) from error
@@ -193,11 +201,11 @@ class AuditorApart(Takes):
             same.setsockopt(socket.SOL_SOCKET, socket.SO_SNDTIMEO, limit)
 
     def _wait(self, seconds: float) -> None:
-        """Until an answer is there. Raises Late, and may then be called again, as after an
-        interrupt."""
+        """Until an answer is there. Raises ProgramLateError, and may then be called again, as after
+        an interrupt."""
         try:
             if not self._connection.poll(seconds):
-                raise Late(f"{UNREACHABLE}: it hasn't answered for {seconds:.3g} s")
+                raise ProgramLateError(f"{UNREACHABLE}: it hasn't answered for {seconds:.3g} s")
         except (OSError, EOFError) as error:
             raise ProgramUnreachableError(f"{UNREACHABLE}: {error}") from error
 
@@ -233,7 +241,9 @@ class AuditorApart(Takes):
         if kind == "offer":
             refused, self.left_out, self.remaining = result
             if refused:
-                return Full(f"there is no room for transaction {asked[2]} of session {asked[1]}")
+                return FullError(
+                    f"there is no room for transaction {asked[2]} of session {asked[1]}"
+                )
         return None
 
     @staticmethod
@@ -289,7 +299,7 @@ class AuditorApart(Takes):
         try:
             cut: Cut
             cut, self.remaining = self._call("truncate")
-        except NoCut:
+        except NoCutError:
             self.can_cut = self._call("get", "can_cut")
             raise
         return cut
@@ -337,7 +347,7 @@ class AuditorApart(Takes):
         self._late = None
         try:
             status: Optional[int] = self._ask("end", seconds=2 * ENDING)
-        except Ended:
+        except ProgramEndedError:
             status = None
         self._connection.close()
         try:

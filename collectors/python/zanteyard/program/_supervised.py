@@ -17,13 +17,13 @@ from itertools import islice, takewhile
 from typing import Deque, Generator, List, Optional, Sequence, Union
 
 from ..core._forks import is_forked
-from ..core.errors import JournalError, RoundTooLongError
+from ..core.errors import JournalError, ProgramEndedError, ProgramLateError, RoundTooLongError
 from ..journal._entries import Kept
 from ..journal._history import state_of
 from ..journal._writer import Keeping
 from ._checkpoint import OK, REFUSED, Answers, is_standing, saved_lines, standing_lines
 from ._checkpoint import why_not_resumed
-from ._pipes import Ended, Late, Pipes
+from ._pipes import Pipes
 
 Talk = Generator[List[bytes], List[bytes], None]  # gives lines, and is sent their answers
 Found = Union[bytes, RoundTooLongError]
@@ -108,11 +108,13 @@ class Restarting:
 
     def _still_in_step(self) -> None:
         if is_forked(self):
-            raise Ended("a process that was forked from the auditor's has no part in the audit")
+            raise ProgramEndedError(
+                "a process that was forked from the auditor's has no part in the audit"
+            )
         if not self._is_in_step:
             self.kill()
             status = self._pipes.end()
-            raise Ended(self._why_over or f"cobra_audit ended with status {status}")
+            raise ProgramEndedError(self._why_over or f"cobra_audit ended with status {status}")
 
     def _be_over(self, error: Exception) -> None:
         self._why_over = str(error)
@@ -121,8 +123,8 @@ class Restarting:
     # its conversation with the program
 
     def _go_on(self, until: float) -> None:
-        """Sends what may be sent, and takes what is answered. Raises Late at that time, and may
-        then be called again."""
+        """Sends what may be sent, and takes what is answered. Raises ProgramLateError at that time,
+        and may then be called again."""
         try:
             if self._is_down:
                 self._start(until)
@@ -134,11 +136,11 @@ class Restarting:
             answers, self._pipes.found = self._pipes.found, []
             self._take(answers)
             self._is_in_step = not self._why_over
-        except Late:
+        except ProgramLateError:
             if until <= self._round_ends:
                 raise
             self._give_up_round()
-        except Ended as error:
+        except ProgramEndedError as error:
             self._die(error)
         except JournalError as error:
             self._be_over(error)
@@ -171,7 +173,7 @@ class Restarting:
             self._go_on_talking(answers)
             return
         if len(answers) > self._sent:
-            raise Ended("cobra_audit answered what it wasn't asked")
+            raise ProgramEndedError("cobra_audit answered what it wasn't asked")
         changes = [
             given
             for given, answer in zip(self._given, answers)
@@ -295,9 +297,9 @@ class Restarting:
             self._tell(RoundTooLongError(f"{told}, twice"))
         else:
             self._too_long += 1
-        self._die(Ended(told))
+        self._die(ProgramEndedError(told))
 
-    def _die(self, error: Ended) -> None:
+    def _die(self, error: ProgramEndedError) -> None:
         """Another one is started, if not too many have died over the same line."""
         self._is_in_step = False
         self._deaths += 1
@@ -318,7 +320,7 @@ class Restarting:
         if now < self._starts_at:
             time.sleep(max(0.0, min(until, self._starts_at) - now))
             if until < self._starts_at:
-                raise Late("cobra_audit is being started again")
+                raise ProgramLateError("cobra_audit is being started again")
         self._is_in_step = False
         kept = self.keeping.kept()
         self._pipes = Pipes(self.path)

@@ -23,9 +23,9 @@ from typing import Any, Dict, List
 
 from ..core._outcome import Outcome
 from ..core._version import FORM, VERSION
-from ..core.errors import AuditTakenError, JournalError, MissingError
+from ..core.errors import AuditLostError, AuditTakenError, JournalError, MissingError
 from ..live._backlog import keys_written_unseen
-from ..live._live_auditor import LiveAuditor, Lost
+from ..live._live_auditor import LiveAuditor
 from ..session._session import Place
 from ._live_state import LiveState, StateFile
 from ._stream_ends import Link, asked
@@ -376,7 +376,7 @@ class StreamServer:
         if state.missing:
             live.note_missing(MissingError(state.missing))
         if state.failure:
-            live.lose(Lost(state.failure))
+            live.lose(AuditLostError(state.failure))
         lent: List[Place] = []
         for client, of_client in state.clients.items():
             lent += self._add(client).begin_behind(of_client)

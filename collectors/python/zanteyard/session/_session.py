@@ -1,32 +1,32 @@
 """One client's transactions, numbered as they begin, and logged when their outcome is known.
 
-A store, as a session wants it, has six calls and may raise Aborted from all but the last. `begin()`
-and `rollback()`; `read(key)`, which gives (value, name), or None where the key isn't there, with
-the name that was written beside the value; `write(key, value, name)`, where the value None deletes
-the key and leaves the name behind; `commit()`, which raises OutcomeUnknown where no answer came;
-and `outcome()`, which says of the transaction whose commit was sent last, and which had written,
-whether it is "committed", "aborted" or "unknown".
+A store, as a session wants it, has six calls and may raise AbortedError from all but the last.
+`begin()` and `rollback()`; `read(key)`, which gives (value, name), or None where the key isn't
+there, with the name that was written beside the value; `write(key, value, name)`, where the value
+None deletes the key and leaves the name behind; `commit()`, which raises OutcomeUnknownError where
+no answer came; and `outcome()`, which says of the transaction whose commit was sent last, and which
+had written, whether it is "committed", "aborted" or "unknown".
 
 It may have more. `outcome_within(seconds)` does what `outcome` does, and takes no longer; without
 it `outcome` is called, however long it takes. `read_all(keys)` gives by key what `read` gives, for
 those that are there. `exchange(key, value, name)` writes as `write` does and gives what `read` gave
 of the version that it overwrites: nothing may come between the two, at whatever level the store
 runs. `begin_alone(seconds)` begins, in place of `begin`, transactions of one statement each, which
-end within so many seconds; these calls may then raise OutcomeUnknown themselves. `hang_up()`, from
-any thread, has whatever waits for an answer over this connection wait no more, and the next
+end within so many seconds; these calls may then raise OutcomeUnknownError themselves. `hang_up()`,
+from any thread, has whatever waits for an answer over this connection wait no more, and the next
 transaction begin over another one: it is called where a client waits for what the audit asks.
-`claim(run_name, token, seconds)` raises NameTaken where the store knows the name, but for a run
-with this token, and OutcomeUnknown where it hasn't said so after so many seconds.
+`claim(run_name, token, seconds)` raises NameTakenError where the store knows the name, but for a
+run with this token, and OutcomeUnknownError where it hasn't said so after so many seconds.
 `has_answered(error)` says that what `commit` raised is the store's own answer: nothing of it was
 committed, and nobody has to ask. `look_up(transaction)` comes before a client's commit is noted and
-sent, and raises Aborted alone: a store whose clients don't read and write by a Transaction says
-there what they did, or, as its `unclear`, why that isn't known; `has_number` says that the store
-may be asked all the same what became of that. `statement` is what it has run last, as who is told
-of a violation should see it. `tried` gives the keys that a client has written by statements of its
-own, for an attempt that was aborted. `errors` are the classes of what its driver raises: a client
-joins by a statement of the collector's own, in the application's thread, and what comes of that is
-kept from the application, unless it is of none of these, nor of this package's, as what a handler
-of SIGALRM raises.
+sent, and raises AbortedError alone: a store whose clients don't read and write by a Transaction
+says there what they did, or, as its `unclear`, why that isn't known; `has_number` says that the
+store may be asked all the same what became of that. `statement` is what it has run last, as who is
+told of a violation should see it. `tried` gives the keys that a client has written by statements of
+its own, for an attempt that was aborted. `errors` are the classes of what its driver raises: a
+client joins by a statement of the collector's own, in the application's thread, and what comes of
+that is kept from the application, unless it is of none of these, nor of this package's, as what a
+handler of SIGALRM raises.
 """
 
 from __future__ import annotations
@@ -47,13 +47,15 @@ from ..core._forks import UNAUDITED, keep
 from ..core._locks import give_back, take
 from ..core._own_keys import FENCE, FLAG, MARK
 from ..core._records import Deed, Found, Logged, Name, Read, Source, Store, as_bytes, undone
-from ..core.errors import AbortedError, AuditLostError, NameTakenError, OutcomeUnknownError
-from ..core.errors import StoreLateError, ZanteyardError
+from ..core.errors import (
+    AbortedError,
+    AuditLostError,
+    NameTakenError,
+    OutcomeUnknownError,
+    StoreLateError,
+    ZanteyardError,
+)
 
-# The same errors under shorter names.
-Aborted = AbortedError
-OutcomeUnknown = OutcomeUnknownError
-NameTaken = NameTakenError
 
 SHORTEST = 0.001  # seconds that the store is given for a transaction
 RANGES = 16  # of numbers that a place keeps
@@ -329,11 +331,11 @@ class Session:
             if self.is_named and claim is not None and token is not None:
                 claim(self.run_name, token, self.wait)
             self.is_claimed, self.unclaimed = True, None
-        except NameTaken as error:
+        except NameTakenError as error:
             if self.unclaimed is None:
                 raise
             self.unclaimed, self.claim_at = error, math.inf
-        except (Aborted, OutcomeUnknown) as error:
+        except (AbortedError, OutcomeUnknownError) as error:
             told = f"whether the name {self.run_name} is this run's can't be found out in time"
             self.unclaimed = AuditLostError(f"{told}: {error}")
             self.claim_at = time.monotonic() + AGAIN
@@ -484,7 +486,7 @@ def join_behind(transaction: Transaction) -> None:
 def whole(transaction: Transaction) -> Iterator[Transaction]:
     try:
         yield transaction
-    except OutcomeUnknown:
+    except OutcomeUnknownError:
         if transaction.is_committing:  # of a statement that is a transaction by itself
             transaction.find_out()
         else:
@@ -509,7 +511,7 @@ def attempted(
             with whole(begin()) as transaction:
                 result = body(transaction)
             return result
-        except Aborted:
+        except AbortedError:
             if not left or time.monotonic() >= ends:
                 raise
     raise ValueError("it is to be attempted once at least")
@@ -631,9 +633,9 @@ class Transaction:
             self.is_in_doubt = bool(self.written) or self.unclear is not None
             self.store.commit()
             self.log(self.reads, self.written, "committed")
-        except OutcomeUnknown:
+        except OutcomeUnknownError:
             self.find_out()
-        except Aborted:
+        except AbortedError:
             self.is_in_doubt = False
             self.rollback()
             raise
@@ -712,7 +714,7 @@ class Transaction:
     def find_out_behind(self) -> None:
         """Something else was raised than stores do, as by a handler of SIGALRM: it may have come
         behind the store's answer."""
-        with suppress(Aborted, OutcomeUnknown):
+        with suppress(AbortedError, OutcomeUnknownError):
             try:
                 self.store.rollback()
             except Exception as error:  # it says nothing of the commit
@@ -723,7 +725,7 @@ class Transaction:
         """Where this came behind a statement of the collector's own that is a transaction by
         itself, and it isn't known to be the store's answer: a client joins in the application's
         thread, where an interrupt may come behind that answer, too."""
-        if self.is_over or self.holds or not self.sent or isinstance(error, Aborted):
+        if self.is_over or self.holds or not self.sent or isinstance(error, AbortedError):
             return
         if not isinstance(error, Exception):
             self.log((), self.written, "unknown", is_last=True)
@@ -742,7 +744,9 @@ class Transaction:
                 if outcome == "aborted":
                     self.is_in_doubt = False
                     self.give_up()
-                    raise Aborted("the commit was not answered, and the store says that it aborted")
+                    raise AbortedError(
+                        "the commit was not answered, and the store says that it aborted"
+                    )
                 if time.monotonic() >= until:
                     break
                 time.sleep(0.05)
@@ -751,7 +755,7 @@ class Transaction:
                 self.log((), self.written, "unknown", is_last=True)
             raise
         self.log((), self.written, "unknown", is_last=bool(self.written))
-        raise OutcomeUnknown(f"{self.session.number}.{self.number}")
+        raise OutcomeUnknownError(f"{self.session.number}.{self.number}")
 
     @property
     def may_be_told(self) -> bool:

@@ -16,8 +16,14 @@ from ..core._forks import is_forked
 from ..core._locks import give_back
 from ..core._log_dedup import Unaudited
 from ..core._signal_errors import is_foreign
-from ..core.errors import AbortedError, AuditLostError, OutcomeUnknownError, StatementRefusedError
-from ..core.errors import StoreUnfitError, ZanteyardError
+from ..core.errors import (
+    AbortedError,
+    AuditLostError,
+    OutcomeUnknownError,
+    StatementRefusedError,
+    StoreUnfitError,
+    ZanteyardError,
+)
 from ..session._session import Session, Transaction
 from ._commit import Commit
 from ._cursor import STRICT, brief_statement, place_of

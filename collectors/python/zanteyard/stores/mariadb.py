@@ -22,7 +22,7 @@ from pymysql.constants import SERVER_STATUS
 from ..core._commit_status import Found as FoundOut
 from ..core._records import Found, Name
 from ..core._timeouts import LateError, within
-from ..session._session import Aborted, NameTaken, OutcomeUnknown
+from ..core.errors import AbortedError, NameTakenError, OutcomeUnknownError
 
 SNAPSHOT = "snapshot isolation"  # repeatable read, where innodb_snapshot_isolation is on
 LEVELS = ("serializable", SNAPSHOT, "repeatable read", "read committed", "read uncommitted")
@@ -196,21 +196,21 @@ class MariaDBStore:
     def raise_what_it_means(self, error: pymysql.MySQLError) -> None:
         told = f"{' '.join(map(str, error.args))}".strip()
         if self.is_alone and self.is_broken(error):
-            raise OutcomeUnknown(told) from error
+            raise OutcomeUnknownError(told) from error
         if code_of(error) in CONFLICTS or (self.is_alone and code_of(error) == TIME_IS_UP):
-            raise Aborted(told) from error
+            raise AbortedError(told) from error
 
     def still_open(self) -> None:
         """A statement of a transaction that the server has ended would be one by itself."""
         if self.has_failed:
-            raise Aborted("the transaction had failed before")
+            raise AbortedError("the transaction had failed before")
         if self.is_connected and not self.is_in_transaction:
             self.has_failed = True
             told = "something else has ended the transaction, as statements that make tables do"
             if self.has_written:
                 self.is_torn = True
-                raise OutcomeUnknown(told)
-            raise Aborted(told)
+                raise OutcomeUnknownError(told)
+            raise AbortedError(told)
 
     # what sessions call
 
@@ -281,14 +281,14 @@ class MariaDBStore:
         if self.is_alone:
             return  # nothing is open
         if not self.is_connected:
-            raise Aborted("the connection was lost before the commit was sent")
+            raise AbortedError("the connection was lost before the commit was sent")
         if self.has_failed or self.has_written:
             self.still_open()
         try:
             self.send_commit()
         except pymysql.MySQLError as error:
             if self.is_broken(error):
-                raise OutcomeUnknown(str(error)) from error
+                raise OutcomeUnknownError(str(error)) from error
             self.has_failed = True
             self.raise_what_it_means(error)
             raise  # the server has answered: it is aborted
@@ -312,8 +312,8 @@ class MariaDBStore:
             _close(self.connection)
 
     def hang_up(self) -> None:
-        """From any thread: what waits for the server raises OutcomeUnknown at once, or pymysql's
-        error, and the next transaction opens another connection."""
+        """From any thread: what waits for the server raises OutcomeUnknownError at once, or
+        pymysql's error, and the next transaction opens another connection."""
         connection, self.is_hung_up = self.connection, True
         try:
             connection._sock.shutdown(socket.SHUT_RDWR)
@@ -355,14 +355,15 @@ class MariaDBStore:
         return (self.count, self.is_alone, *written)
 
     def claim(self, run_name: str, token: str, seconds: float) -> None:
-        """Makes the name that of one run, or raises NameTaken where it is another's; OutcomeUnknown
-        or Aborted where the server hasn't answered after so many seconds."""
+        """Makes the name that of one run, or raises NameTakenError where it is another's;
+        OutcomeUnknownError or AbortedError where the server hasn't answered after so many
+        seconds."""
         self.get_ready()  # what connects is waited for by the client, whose connection it is
         self.begin_alone(seconds)
         row = (RUN + run_name, token, run_name, -1, 0)
         (owner,) = self.ask(CLAIM, row).fetchone()
         if owner != token:
-            raise NameTaken(f"{self.table} knows the name {run_name}: an earlier run had it")
+            raise NameTakenError(f"{self.table} knows the name {run_name}: an earlier run had it")
 
 
 def limited(seconds: float) -> str:

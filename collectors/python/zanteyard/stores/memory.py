@@ -9,7 +9,7 @@ import time
 from typing import Any, Dict, List, Optional, Tuple
 
 from ..core._records import Found, Name
-from ..session._session import Aborted, NameTaken, OutcomeUnknown
+from ..core.errors import AbortedError, NameTakenError, OutcomeUnknownError
 
 FAULTS = (
     *("stale-read", "lost-update", "write-skew", "torn-read"),
@@ -84,10 +84,10 @@ class Connection:
             changed &= set(self.writes)
         if changed:
             self.end("aborted")
-            raise Aborted(f"{sorted(changed)} changed")
+            raise AbortedError(f"{sorted(changed)} changed")
         self.end("committed")
         if self.lost is not None:
-            raise OutcomeUnknown("no answer")
+            raise OutcomeUnknownError("no answer")
 
     def rollback(self) -> None:
         if self.shared.fault == "dirty-read" and self.writes:
@@ -112,7 +112,7 @@ class Connection:
     def claim(self, run_name: str, token: str, seconds: float) -> None:
         with self.shared.lock:
             if self.shared.runs.setdefault(run_name, token) != token:
-                raise NameTaken(f"the store knows the name {run_name}: an earlier run had it")
+                raise NameTakenError(f"the store knows the name {run_name}: an earlier run had it")
 
     def outcome(self) -> str:
         return self.last_outcome if self.known else "unknown"

@@ -17,7 +17,7 @@ from ..core._commit_status import UNKNOWN
 from ..core._commit_status import Found as FoundOut
 from ..core._own_keys import FLAG
 from ..core._records import Found, Name
-from ..session._session import Aborted, NameTaken, OutcomeUnknown
+from ..core.errors import AbortedError, NameTakenError, OutcomeUnknownError
 from ._postgres_connection import answer, connected, outcome_told
 
 LEVELS = ("serializable", "repeatable read", "read committed")
@@ -168,10 +168,10 @@ class PostgresStore:
         try:
             cursor = self.send(before + text.format(table=self.table), values)
         except CONFLICTS as error:
-            raise Aborted(str(error).strip()) from error
+            raise AbortedError(str(error).strip()) from error
         except psycopg2.Error as error:
             if self.is_alone and (error.pgcode is None or self.connection.closed):
-                raise OutcomeUnknown(str(error).strip()) from error
+                raise OutcomeUnknownError(str(error).strip()) from error
             raise
         self.statement = cursor.query.decode(errors="replace")[len(before) :]
         return cursor
@@ -227,16 +227,16 @@ class PostgresStore:
             if row is not None:
                 (self.transaction_id,) = row
                 return None
-        raise Aborted(f"{key} came and went {ATTEMPTS} times")
+        raise AbortedError(f"{key} came and went {ATTEMPTS} times")
 
     def commit(self) -> None:
         try:
             self.send_commit()
         except CONFLICTS as error:
-            raise Aborted(str(error).strip()) from error
+            raise AbortedError(str(error).strip()) from error
         except psycopg2.Error as error:
             if error.pgcode is None or self.connection.closed:
-                raise OutcomeUnknown(str(error).strip()) from error
+                raise OutcomeUnknownError(str(error).strip()) from error
             raise  # the server has answered: it is aborted
 
     def has_answered(self, error: BaseException) -> bool:
@@ -252,7 +252,7 @@ class PostgresStore:
         if self.is_alone or self.before:
             return  # nothing is open
         if self.send("COMMIT").statusmessage != "COMMIT":  # a statement of it has failed
-            raise Aborted("the transaction had failed before its commit")
+            raise AbortedError("the transaction had failed before its commit")
 
     def rollback(self) -> None:
         """Where the server can't be told, the connection is closed: then it finds out by itself."""
@@ -269,8 +269,8 @@ class PostgresStore:
             self.connection.close()
 
     def hang_up(self) -> None:
-        """From any thread: what waits for the server raises OutcomeUnknown at once, or psycopg2's
-        error, and the next transaction opens another connection."""
+        """From any thread: what waits for the server raises OutcomeUnknownError at once, or
+        psycopg2's error, and the next transaction opens another connection."""
         connection, self.is_hung_up = self.connection, True
         try:
             with socket.socket(fileno=os.dup(connection.fileno())) as same:
@@ -298,8 +298,8 @@ class PostgresStore:
         return (None if self.is_alone else self.transaction_id, *self.life, *written)
 
     def claim(self, run_name: str, token: str, seconds: float) -> None:
-        """Makes the name that of one run, or raises NameTaken where it is another's; OutcomeUnknown
-        where the server hasn't answered after so many seconds."""
+        """Makes the name that of one run, or raises NameTakenError where it is another's;
+        OutcomeUnknownError where the server hasn't answered after so many seconds."""
         self.begin()  # what connects is waited for by the client, whose connection it is
         self.begin_alone(0.8 * seconds)  # the server ends it, unless nothing comes through
         ends = threading.Timer(seconds, self.hang_up)
@@ -308,19 +308,19 @@ class PostgresStore:
         try:
             owner = self.owner(RUN + run_name, token, run_name)
         except errors.QueryCanceled as error:
-            raise OutcomeUnknown(str(error).strip()) from error
+            raise OutcomeUnknownError(str(error).strip()) from error
         finally:
             ends.cancel()
             ends.join()  # so that it is known by now whether this connection can be used
         if owner != token:
-            raise NameTaken(f"{self.table} knows the name {run_name}: an earlier run had it")
+            raise NameTakenError(f"{self.table} knows the name {run_name}: an earlier run had it")
 
     def owner(self, key: str, token: str, run_name: str) -> str:
         for _ in range(ATTEMPTS):
             row = self.ask(CLAIM, (key, token, run_name, -1, 0, key)).fetchone()
             if row is not None:
                 return str(row[0])
-        raise Aborted(f"{key} came and went {ATTEMPTS} times")
+        raise AbortedError(f"{key} came and went {ATTEMPTS} times")
 
 
 # What libpq takes from the environment where a dsn doesn't say it.

@@ -21,8 +21,7 @@ import redis
 from ..core._commit_status import Found as FoundOut
 from ..core._records import Found, Name
 from ..core._redis_wire import BROKEN, Command, connected, limit, replies
-from ..core.errors import StoreUnfitError
-from ..session._session import Aborted, NameTaken, OutcomeUnknown
+from ..core.errors import AbortedError, NameTakenError, OutcomeUnknownError, StoreUnfitError
 
 # What is watched: each key, before it is read; or a key that is written, which is then compared
 # with what was read before; or nothing. And in "single commands" each write is done at once.
@@ -217,7 +216,7 @@ class RedisStore:
             return self.sent_in_time(*commands)
         except BROKEN as error:
             if self.is_alone:
-                raise OutcomeUnknown(str(error)) from error
+                raise OutcomeUnknownError(str(error)) from error
             raise
 
     def sent_in_time(self, *commands: Command) -> List[Any]:
@@ -243,7 +242,7 @@ class RedisStore:
         try:
             return self.send(command)[0]
         except BROKEN as error:
-            raise OutcomeUnknown(str(error)) from error
+            raise OutcomeUnknownError(str(error)) from error
 
     def exchange(self, key: str, value: Any, name: Name) -> Optional[Found]:
         """In a transaction the key is watched, at every level but where each write is done at
@@ -266,7 +265,7 @@ class RedisStore:
         try:
             self.watch_own()
         except BROKEN as error:
-            raise Aborted(str(error)) from error  # nothing was sent that does anything
+            raise AbortedError(str(error)) from error  # nothing was sent that does anything
         answers = self.executed([command])
         self.told(command)
         return found_in(answers[0])
@@ -275,14 +274,14 @@ class RedisStore:
         if self.is_alone or self.level == SINGLE:
             return  # nothing is open
         if self.connection is None:
-            raise Aborted("the connection was lost before the commit was sent")
+            raise AbortedError("the connection was lost before the commit was sent")
         if self.level == COMPARED and self.queued:
             self.compare()
         if self.queued or self.level == WATCHED:
             try:
                 self.executed(self.queued)
             except redis.ResponseError as error:
-                raise Aborted(str(error)) from error  # nothing was done
+                raise AbortedError(str(error)) from error  # nothing was done
 
     def compare(self) -> None:
         keys = [key for key in self.seen if any(it[1] == self.prefix + key for it in self.queued)]
@@ -290,22 +289,24 @@ class RedisStore:
             its = [self.prefix + key for key in keys]
             texts = self.send(("WATCH", *its), ("MGET", *its))[-1]
             if texts != [self.seen[key] for key in keys]:
-                raise Aborted("what was read and is to be written has changed")
+                raise AbortedError("what was read and is to be written has changed")
 
     def executed(self, commands: Sequence[Command]) -> List[Any]:
-        """What each command is answered. Raises Aborted where a key that was watched has changed,
-        and redis-py's ResponseError where the server has refused the whole."""
+        """What each command is answered. Raises AbortedError where a key that was watched has
+        changed, and redis-py's ResponseError where the server has refused the whole."""
         own = [("SET", self.own, f"{self.count} committed")] if commands else []
         try:
             answers = self.send_exec([("MULTI",), *commands, *own, ("EXEC",)])
         except BROKEN as error:
-            raise OutcomeUnknown(str(error)) from error
+            raise OutcomeUnknownError(str(error)) from error
         if answers is None:
-            raise Aborted("a key that was watched has changed")
+            raise AbortedError("a key that was watched has changed")
         failed = [it for it in answers if isinstance(it, Exception)]
         if failed:  # the others were done: Redis takes nothing back
             self.is_torn = True
-            raise OutcomeUnknown(f"{len(failed)} of {len(answers)} commands failed: {failed[0]}")
+            raise OutcomeUnknownError(
+                f"{len(failed)} of {len(answers)} commands failed: {failed[0]}"
+            )
         return list(answers)
 
     def send_exec(self, commands: Sequence[Command]) -> Any:
@@ -322,8 +323,8 @@ class RedisStore:
             connection.disconnect()
 
     def hang_up(self) -> None:
-        """From any thread: what waits for the server raises OutcomeUnknown at once, or redis-py's
-        error, and the next transaction opens another connection."""
+        """From any thread: what waits for the server raises OutcomeUnknownError at once, or
+        redis-py's error, and the next transaction opens another connection."""
         connection, self.is_hung_up = self.connection, True
         try:
             connection._sock.shutdown(socket.SHUT_RDWR)
@@ -369,13 +370,13 @@ class RedisStore:
         return None if self.level == SINGLE and not self.is_alone else self.count
 
     def claim(self, run_name: str, token: str, seconds: float) -> None:
-        """Makes the name that of one run, or raises NameTaken where it is another's; OutcomeUnknown
-        where the server hasn't answered after so many seconds."""
+        """Makes the name that of one run, or raises NameTakenError where it is another's;
+        OutcomeUnknownError where the server hasn't answered after so many seconds."""
         self.begin_alone(seconds)
         its = f"{self.prefix}{RUN}{run_name}"
         *_, owner = self.asked([("SET", its, token, "NX"), ("GET", its)])
         if owner != token:
-            raise NameTaken(f"{self.prefix} knows the name {run_name}: an earlier run had it")
+            raise NameTakenError(f"{self.prefix} knows the name {run_name}: an earlier run had it")
 
 
 def asked(url: str, prefix: str, own: str, *, ticket: Any, seconds: float) -> FoundOut:

@@ -18,7 +18,7 @@ from typing import Any, Dict, List, Optional, Sequence, Tuple
 from ..core._commit_status import Found as FoundOut
 from ..core._commit_status import kept, overwritten
 from ..core._records import Found, Name
-from ..session._session import Aborted, NameTaken, OutcomeUnknown
+from ..core.errors import AbortedError, NameTakenError, OutcomeUnknownError
 
 # "read uncommitted" is of connections that share a cache, which those of one process do; and in
 # "autocommit" each statement is a transaction by itself, as where an application begins none.
@@ -115,30 +115,30 @@ class SQLiteStore:
             self.waits = seconds
 
     def send(self, text: str, values: Sequence[Any] = ()) -> Any:
-        """All that is run goes through here. Raises Aborted where somebody else stood in the
+        """All that is run goes through here. Raises AbortedError where somebody else stood in the
         way."""
         try:
             cursor = self.connection.execute(text, values)
         except sqlite3.Error as error:
             self.has_failed = True  # else what follows might be committed without this
             if is_busy(error):
-                raise Aborted(str(error)) from error
+                raise AbortedError(str(error)) from error
             raise
         self.statement = f"{text} -- {', '.join(map(repr, values))}" if values else text
         return cursor
 
     def ask(self, text: str, values: Sequence[Any] = (), **more: str) -> Any:
         if self.has_failed:
-            raise Aborted("the transaction had failed before")
+            raise AbortedError("the transaction had failed before")
         if not (self.is_alone or self.level == AUTOCOMMIT or self.connection.in_transaction):
             self.has_failed = True
-            raise Aborted("SQLite, or something else, has ended the transaction")
+            raise AbortedError("SQLite, or something else, has ended the transaction")
         return self.send(text.format(table=self.table, **more), values)
 
     # what sessions call
 
     def begin(self) -> None:
-        """Raises Aborted where another client writes for too long: then nothing has begun."""
+        """Raises AbortedError where another client writes for too long: then nothing has begun."""
         self.get_ready(self.patience)
         self.is_alone = False
         if self.level != AUTOCOMMIT:
@@ -159,7 +159,7 @@ class SQLiteStore:
             try:
                 self.send("BEGIN IMMEDIATE" if is_writing else "BEGIN DEFERRED")
                 return
-            except Aborted:
+            except AbortedError:
                 if time.monotonic() >= ends:
                     raise
                 self.has_failed = False
@@ -221,9 +221,9 @@ class SQLiteStore:
         if self.is_alone or (self.level == AUTOCOMMIT and not self.has_failed):
             return  # nothing is open
         if self.has_failed:
-            raise Aborted("the transaction had failed before its commit")
+            raise AbortedError("the transaction had failed before its commit")
         if not self.connection.in_transaction:
-            raise Aborted("SQLite, or something else, has ended the transaction")
+            raise AbortedError("SQLite, or something else, has ended the transaction")
         self.end()
 
     def end(self) -> None:
@@ -231,12 +231,12 @@ class SQLiteStore:
         and is aborted here."""
         try:
             self.send_commit()
-        except Aborted:
+        except AbortedError:
             self.rollback()
             raise
         except sqlite3.Error as error:
             self.close()
-            raise OutcomeUnknown(str(error)) from error
+            raise OutcomeUnknownError(str(error)) from error
 
     def send_commit(self) -> None:
         self.send("COMMIT")
@@ -310,8 +310,8 @@ class SQLiteStore:
         return (self.count, self.is_alone, *written)
 
     def claim(self, run_name: str, token: str, seconds: float) -> None:
-        """Makes the name that of one run, or raises NameTaken where it is another's; Aborted where
-        somebody else writes for so many seconds."""
+        """Makes the name that of one run, or raises NameTakenError where it is another's;
+        AbortedError where somebody else writes for so many seconds."""
         self.begin_alone(seconds)
         self.start(True, self.waits)
         row = (RUN + run_name, token, run_name, -1, 0)
@@ -323,7 +323,7 @@ class SQLiteStore:
             self.rollback()
             raise
         if found[0][0] != token:
-            raise NameTaken(f"{self.table} knows the name {run_name}: an earlier run had it")
+            raise NameTakenError(f"{self.table} knows the name {run_name}: an earlier run had it")
 
 
 ITS_ROW = "SELECT value FROM {table} WHERE key = ? AND run = ? AND session = ? AND number = ?"

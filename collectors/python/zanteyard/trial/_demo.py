@@ -4,8 +4,9 @@ from __future__ import annotations
 
 from typing import Any, Callable, Mapping, Sequence
 
+from ..core.errors import AbortedError
 from ..program._auditor import Auditor
-from ..session._session import Aborted, Session
+from ..session._session import Session
 from ..stores.memory import MemoryStore
 
 Body = Callable[[Any], Any]
@@ -32,7 +33,7 @@ def _add_one(transaction: Any) -> None:
 def _is_committed(transaction: Any) -> bool:
     try:
         transaction.commit()
-    except Aborted:
+    except AbortedError:
         return False
     return True
 

@@ -12,11 +12,12 @@ from dataclasses import dataclass
 from typing import Any, Callable, Dict, Iterator, List, Mapping, Optional, Sequence
 
 from ..core._outcome import RATHER_WAIT, Outcome
+from ..core.errors import AbortedError, OutcomeUnknownError
 from ..explain._anomalies import find_anomaly
 from ..explain._report import story_lines, story_of
 from ..explain._shrinking import name as plain_name
 from ..program._auditor import Auditor
-from ..session._session import Aborted, OutcomeUnknown, Session, Transaction
+from ..session._session import Session, Transaction
 
 SESSIONS = 3
 Steps = Callable[[Sequence["Client"]], None]
@@ -30,14 +31,14 @@ class Client:
         self.transaction: Optional[Transaction] = None
 
     def begin(self) -> None:
-        with suppress(Aborted):
+        with suppress(AbortedError):
             self.transaction = self.session.begin()
 
     def do(self, step: Callable[[Transaction], Any]) -> Any:
         """What the step gives; None where there is no transaction any more."""
         try:
             return step(self.transaction) if self.transaction is not None else None
-        except Aborted:
+        except AbortedError:
             self.give_up()
             return None
 
@@ -49,7 +50,7 @@ class Client:
     def commit(self) -> None:
         transaction, self.transaction = self.transaction, None
         if transaction is not None and not transaction.is_over:
-            with suppress(Aborted):
+            with suppress(AbortedError):
                 transaction.commit()
 
     def get(self, key: str) -> Any:
@@ -195,7 +196,7 @@ def run_lockstep(
             Session(auditor, number, _OwnKeys(store, prefix)) for number, store in enumerate(stores)
         ]
         clients = [Client(session) for session in sessions]
-        with suppress(OutcomeUnknown):
+        with suppress(OutcomeUnknownError):
             FAULTS[fault](clients)
         outcome = auditor.outcome()
         history = auditor.history

@@ -9,8 +9,9 @@ import threading
 import time
 from typing import Any, Callable, Dict, List, Optional, Sequence
 
+from ..core.errors import AbortedError
 from ..remote._client import AuditClient
-from ..session._session import Aborted, Session
+from ..session._session import Session
 
 LEVELS = {
     "serializable": "serializable",
@@ -75,7 +76,7 @@ def undone(transaction: Any, client: int) -> None:
     transaction.exchange(key, str(client))
     time.sleep(SHORT)
     if random.random() < 0.75:
-        raise Aborted("the client takes back what it wrote")
+        raise AbortedError("the client takes back what it wrote")
 
 
 # Of the others each shows a fault of some level below serializable; so do these, of lower ones.
@@ -138,7 +139,7 @@ class Clients:
                 try:
                     session.run(lambda transaction: self.workload(transaction, number), attempts=1)
                     committed += 1
-                except Aborted:
+                except AbortedError:
                     aborted += 1
                 longest = max(longest, time.monotonic() - began)
         except Exception as error:  # told by the main thread
