@@ -26,7 +26,7 @@ import psycopg2
 
 TOP = os.path.join(os.path.dirname(os.path.abspath(__file__)), "..")
 sys.path[:0] = [os.path.join(TOP, "examples"), os.path.join(TOP, "collectors/python")]
-from postgres_live import LEVELS, WORKLOADS, ClientProcesses, Clients, Nothing
+from postgres_live import WORKLOADS, ClientProcesses, Clients, Nothing
 from zanteyard import AuditorApart, AuditServer, LiveAuditor, Session
 from zanteyard.trial.postgres_server import Cluster, ended_by_signals
 from zanteyard.stores.postgres import PostgresStore, prepare
@@ -36,7 +36,7 @@ class FarStore(PostgresStore):
     """Each statement takes so many seconds more."""
 
     def __init__(self, dsn, delay):
-        super().__init__(dsn, LEVELS["serializable"])
+        super().__init__(dsn, "serializable")
         self.delay = delay
 
     def send(self, text, values=()):

@@ -18,13 +18,8 @@ from collections import Counter
 TOP = os.path.join(os.path.dirname(os.path.abspath(__file__)), "..")
 sys.path.insert(0, os.path.join(TOP, "collectors/python"))
 from zanteyard import AbortedError, Auditor, ProgramEndedError, Session, tell_violation
+from zanteyard.stores.levels import LEVELS
 from zanteyard.trial.postgres_server import Cluster, ended_by_signals, program
-
-LEVELS = {
-    "serializable": "serializable",
-    "repeatable": "repeatable read",
-    "committed": "read committed",
-}
 
 
 def number_at(transaction, key):
@@ -119,7 +114,7 @@ def count_of_transactions(text):
 
 def main():
     asked = argparse.ArgumentParser(description=__doc__.splitlines()[0])
-    asked.add_argument("--level", choices=LEVELS, default="serializable")
+    asked.add_argument("--level", choices=LEVELS["postgres"], default="serializable")
     asked.add_argument("--workload", choices=WORKLOADS, default="mixed")
     asked.add_argument("--episodes", type=int, default=10)
     told = "of an episode, 8 to 4096"
@@ -136,7 +131,7 @@ def main():
     if not program("initdb"):
         sys.exit("PostgreSQL is wanted: apt-get install postgresql")
     with ended_by_signals(), Cluster() as cluster:
-        stores = [PostgresStore(cluster.dsn, LEVELS[asked.level]) for _ in range(asked.clients)]
+        stores = [PostgresStore(cluster.dsn, LEVELS["postgres"][asked.level]) for _ in range(asked.clients)]
         prepare(cluster.dsn)
         began, kinds, aborted = time.monotonic(), Counter(), 0
         for number in range(asked.episodes):
@@ -150,7 +145,7 @@ def main():
     count = asked.episodes * (asked.transactions // asked.clients) * asked.clients
     told = ", ".join(f"{how_many} {kind}" for kind, how_many in sorted(kinds.items()))
     print(
-        f"{asked.workload} at {LEVELS[asked.level]}: of {asked.episodes} episodes {told}; "
+        f"{asked.workload} at {LEVELS["postgres"][asked.level]}: of {asked.episodes} episodes {told}; "
         f"{aborted} of {count} transactions aborted; {took:.1f} s"
     )
     sys.exit(0 if kinds["serial"] == asked.episodes else 1)

@@ -20,9 +20,9 @@ TOP = os.path.join(os.path.dirname(os.path.abspath(__file__)), "..")
 sys.path.insert(0, os.path.join(TOP, "collectors/python"))
 from zanteyard import ProgramEndedError
 from zanteyard.cli.audit import CantAuditError, add_arguments, run
-from zanteyard.trial.workloads import LEVELS, WORKLOADS, ClientProcesses, Clients, Nothing
+from zanteyard.trial.workloads import WORKLOADS, ClientProcesses, Clients, Nothing
 
-__all__ = ["LEVELS", "WORKLOADS", "ClientProcesses", "Clients", "Nothing"]  # what benches use
+__all__ = ["WORKLOADS", "ClientProcesses", "Clients", "Nothing"]  # what benches use
 
 
 def main():

@@ -25,6 +25,7 @@ from zanteyard.trial.lockstep import run_lockstep, table_lines, table_of
 from zanteyard.trial.mariadb_server import MariaDBServer, mariadbd
 from zanteyard.core._outcome import RATHER_WAIT
 from zanteyard.trial.redis_server import RedisServer, redis_server
+from zanteyard.stores.levels import LEVELS
 from zanteyard.stores.sqlite import JOURNALS, SQLiteStore
 from zanteyard.stores.sqlite import prepare as prepare_sqlite
 from zanteyard.trial.store_kinds import kind_named
@@ -306,7 +307,7 @@ class Each:
 
 @unittest.skipIf(lacking(pymysql=pymysql, mariadbd=mariadbd()), lacking(pymysql=pymysql, mariadbd=mariadbd()))
 class MariaDB(Each, unittest.TestCase):
-    levels = mariadb_store.LEVELS if pymysql else ()
+    levels = tuple(LEVELS["mariadb"].values()) if pymysql else ()
     faults = {
         "dirty read": ("dirty read", levels[4:]),
         "half written": ("fractured read", levels[4:]),
@@ -619,7 +620,7 @@ class MariaDB(Each, unittest.TestCase):
 
 @unittest.skipIf(lacking(redis=redis, redis_server=redis_server()), lacking(redis=redis, redis_server=redis_server()))
 class Redis(Each, unittest.TestCase):
-    levels = redis_store.LEVELS if redis else ()
+    levels = tuple(LEVELS["redis"].values()) if redis else ()
     faults = {
         "dirty read": ("dirty read", levels[3:]),
         "half written": ("fractured read", levels[3:]),

@@ -23,9 +23,8 @@ from ..core._commit_status import Found as FoundOut
 from ..core._records import Found, Name
 from ..core._timeouts import LateError, within
 from ..core.errors import AbortedError, NameTakenError, OutcomeUnknownError
+from .levels import SNAPSHOT, checked_level
 
-SNAPSHOT = "snapshot isolation"  # repeatable read, where innodb_snapshot_isolation is on
-LEVELS = ("serializable", SNAPSHOT, "repeatable read", "read committed", "read uncommitted")
 # Keys are compared byte by byte: most collations take "x", "X" and "x " for one.
 TABLE = """CREATE TABLE IF NOT EXISTS {table} (
     `key` varchar(512) PRIMARY KEY, value longtext,
@@ -92,7 +91,7 @@ def code_of(error: BaseException) -> int:
 
 class MariaDBStore:
     """One connection, for one thread at a time. `dsn` is what `pymysql.connect` takes, `level` one
-    of LEVELS, and `table` may be "database.table". A connection is waited for no longer than
+    of MariaDB's in `levels.py`, and `table` may be "database.table". A connection is waited for no longer than
     `patience` seconds, and a lock no longer than `lock_wait`, whole seconds; where none are given,
     as long as the server says. Where it is `for_update` all reads are SELECT .. FOR UPDATE."""
 
@@ -107,8 +106,7 @@ class MariaDBStore:
         lock_wait: Optional[int] = None,
         for_update: bool = False,
     ) -> None:
-        if level not in LEVELS:
-            raise ValueError(f"{level} is none of {', '.join(LEVELS)}")
+        checked_level("mariadb", level)
         self.dsn, self.level, self.table, self.patience = dict(dsn), level, quoted(table), patience
         self.lock_wait, self.locks = lock_wait, FOR_UPDATE if for_update else ""
         self.connection: Any = None

@@ -19,8 +19,8 @@ from ..core._own_keys import FLAG
 from ..core._records import Found, Name
 from ..core.errors import AbortedError, NameTakenError, OutcomeUnknownError
 from ._postgres_connection import answer, connected, outcome_told
+from .levels import checked_level
 
-LEVELS = ("serializable", "repeatable read", "read committed")
 TABLE = """CREATE TABLE IF NOT EXISTS {table} (
     key text PRIMARY KEY, value text,
     run text NOT NULL, session int NOT NULL, number bigint NOT NULL)"""
@@ -129,8 +129,7 @@ class PostgresStore:
         table: str = "zanteyard",
         patience: float = PATIENCE,
     ) -> None:
-        if level not in LEVELS:
-            raise ValueError(f"{level} is none of {', '.join(LEVELS)}")
+        checked_level("postgres", level)
         self.dsn, self.level, self.table, self.patience = dsn, level, quoted(table), patience
         self.connection: Any = None
         self.transaction_id: Optional[str] = None

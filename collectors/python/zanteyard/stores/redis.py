@@ -22,11 +22,8 @@ from ..core._commit_status import Found as FoundOut
 from ..core._records import Found, Name
 from ..core._redis_wire import BROKEN, Command, connected, limit, replies
 from ..core.errors import AbortedError, NameTakenError, OutcomeUnknownError, StoreUnfitError
+from .levels import COMPARED, SINGLE, WATCHED, checked_level
 
-# What is watched: each key, before it is read; or a key that is written, which is then compared
-# with what was read before; or nothing. And in "single commands" each write is done at once.
-WATCHED, COMPARED, UNWATCHED, SINGLE = "watched", "compared", "unwatched", "single commands"
-LEVELS = (WATCHED, COMPARED, UNWATCHED, SINGLE)
 PREFIX = "zanteyard:"  # before each key
 RUN = "zanteyard run "  # before a run's name: the key that says whose it is
 LAST = "zanteyard last "  # before a store's token: the key that tells its outcomes
@@ -61,7 +58,7 @@ def found_in(text: Optional[str]) -> Optional[Found]:
 
 class RedisStore:
     """One connection, for one thread at a time. `url` is what redis-py takes, with the database in
-    it; `level` is one of LEVELS. A connection, and the end of a statement of the collector's own,
+    it; `level` is one of Redis's in `levels.py`. A connection, and the end of a statement of the collector's own,
     are waited for no longer than `patience` seconds."""
 
     errors = (redis.RedisError, ConnectionError)
@@ -73,8 +70,7 @@ class RedisStore:
         prefix: str = PREFIX,
         patience: float = PATIENCE,
     ) -> None:
-        if level not in LEVELS:
-            raise ValueError(f"{level} is none of {', '.join(LEVELS)}")
+        checked_level("redis", level)
         self.url, self.level, self.prefix, self.patience = url, level, prefix, patience
         self.connection: Any = None
         self.statement: Optional[str] = None

@@ -19,12 +19,8 @@ from ..core._commit_status import Found as FoundOut
 from ..core._commit_status import kept, overwritten
 from ..core._records import Found, Name
 from ..core.errors import AbortedError, NameTakenError, OutcomeUnknownError
+from .levels import AUTOCOMMIT, IMMEDIATE, UNCOMMITTED, checked_level
 
-# "read uncommitted" is of connections that share a cache, which those of one process do; and in
-# "autocommit" each statement is a transaction by itself, as where an application begins none.
-DEFERRED, IMMEDIATE = "deferred", "immediate"
-UNCOMMITTED, AUTOCOMMIT = "read uncommitted", "autocommit"
-LEVELS = (IMMEDIATE, DEFERRED, UNCOMMITTED, AUTOCOMMIT)
 JOURNALS = ("delete", "wal")
 TABLE = """CREATE TABLE IF NOT EXISTS {table} (
     key TEXT PRIMARY KEY NOT NULL, value,
@@ -72,7 +68,7 @@ def is_busy(error: BaseException) -> bool:
 
 
 class SQLiteStore:
-    """One connection, for one thread at a time. `level` is one of LEVELS. A lock is waited for no
+    """One connection, for one thread at a time. `level` is one of SQLite's in `levels.py`. A lock is waited for no
     longer than `patience` seconds, but where SQLite sees that waiting is in vain."""
 
     errors = (sqlite3.Error,)
@@ -84,8 +80,7 @@ class SQLiteStore:
         table: str = "zanteyard",
         patience: float = PATIENCE,
     ) -> None:
-        if level not in LEVELS:
-            raise ValueError(f"{level} is none of {', '.join(LEVELS)}")
+        checked_level("sqlite", level)
         self.path, self.level, self.table, self.patience = path, level, quoted(table), patience
         self.connection: Any = None
         self.statement: Optional[str] = None  # what was run last, with its values behind it

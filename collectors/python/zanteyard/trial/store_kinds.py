@@ -8,11 +8,11 @@ import os
 from typing import Any, Callable, Dict, List, Mapping, Sequence
 
 from ..core.errors import ZanteyardError
+from ..stores.levels import LEVELS
 from ._throwaway_folder import OwnFolder
 from .mariadb_server import MariaDBGuest, MariaDBServer, mariadbd
 from .postgres_server import Cluster, program
 from .redis_server import RedisGuest, RedisServer, redis_server
-from .workloads import LEVELS as POSTGRES_LEVELS
 
 MakesStore = Callable[[], Any]
 
@@ -64,11 +64,13 @@ _STORES: Mapping[str, Callable[[], Any]] = {
 
 
 class StoreKind:
-    """`levels` are the names in full by those of the command; the first is the strictest."""
-
     command, name = "", ""
-    levels: Mapping[str, str] = {}
     server_help = ""
+
+    @property
+    def levels(self) -> Mapping[str, str]:
+        """The names in full by those of the command; the first is the strictest."""
+        return LEVELS[self.command]
 
     @property
     def default_level(self) -> str:
@@ -119,7 +121,6 @@ def _is_there(module: str) -> bool:
 
 class _Postgres(StoreKind):
     command, name = "postgres", "PostgreSQL"
-    levels = POSTGRES_LEVELS
     server_help = (
         "a server that is there, in a schema of this program's own; without a value, the one that "
         "PGHOST, PGDATABASE and the like name"
@@ -149,13 +150,6 @@ class _Postgres(StoreKind):
 
 class _MariaDB(StoreKind):
     command, name = "mariadb", "MariaDB"
-    levels = {
-        "serializable": "serializable",
-        "snapshot": "snapshot isolation",
-        "repeatable": "repeatable read",
-        "committed": "read committed",
-        "uncommitted": "read uncommitted",
-    }
     server_help = (
         "a server that is there, in a table of this program's own, as words for pymysql: "
         "'host=.. user=.. password=.. database=..', or 'read_default_file=~/.my.cnf database=..'"
@@ -206,12 +200,6 @@ def words_of(text: str) -> Dict[str, Any]:
 
 class _Redis(StoreKind):
     command, name = "redis", "Redis"
-    levels = {
-        "watched": "watched",
-        "compared": "compared",
-        "unwatched": "unwatched",
-        "single": "single commands",
-    }
     server_help = (
         "a server that is there, under a prefix of this program's own, as a URL: "
         "redis://host:6379/0, or unix:///run/redis.sock?db=0"
@@ -240,12 +228,6 @@ class _Redis(StoreKind):
 
 class _SQLite(StoreKind):
     command, name = "sqlite", "SQLite"
-    levels = {
-        "immediate": "immediate",
-        "deferred": "deferred",
-        "uncommitted": "read uncommitted",
-        "autocommit": "autocommit",
-    }
     server_help = "a file that is there, in a table of this program's own; in its own journal mode"
     no_waiting = {"patience": 0.0}
 

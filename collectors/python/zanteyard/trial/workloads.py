@@ -13,11 +13,6 @@ from ..core.errors import AbortedError
 from ..remote._client import AuditClient
 from ..session._session import Session
 
-LEVELS = {
-    "serializable": "serializable",
-    "repeatable": "repeatable read",
-    "committed": "read committed",
-}
 PAIRS = 8  # of keys
 READY = 60.0  # seconds for all clients' processes to start
 SHORT = 0.002  # seconds between a write and what takes it back
