@@ -87,11 +87,11 @@ class Guarded(unittest.TestCase):
             self.assertIn("one (the log can't be written: FileNotFoundError", told.getvalue())
 
     def test_without_standard_error(self) -> None:
-        class FullError(io.StringIO):
+        class Full(io.StringIO):
             def write(self, _: str) -> int:
                 raise OSError(28, "No space left on device")
 
-        for its in (None, FullError()):
+        for its in (None, Full()):
             with handled(Raising(ValueError())), mock.patch("sys.stderr", its):
                 LOGGER.error("one")
 

@@ -587,7 +587,7 @@ class Standing(NoHarm):
         self.assertGreater(session.waited - before, 0.49)
 
 
-class ProgramLateError(NoHarm):
+class Late(NoHarm):
     """What was on its way, and of which nobody knows whether it was written, is written when
     another audit goes on."""
 

@@ -271,7 +271,7 @@ class WhatIsNoted(unittest.TestCase):
         self.assertEqual([str(error) for _, _, error in told], [self.UNCLEAR])
 
 
-class AuditLostError(unittest.TestCase):
+class Lost(unittest.TestCase):
     def test_why_is_sent_before_what_was_missed(self):
         """Else who is killed in between is taken for one that has told all."""
         messages, sent = mock.Mock(), []

@@ -661,14 +661,14 @@ class Redis(Each, unittest.TestCase):
         return (of or redis_store.RedisStore)(self.server.dsn, level, **more)
 
     def test_a_key_that_is_watched_after_it_was_read_is_read_too_early(self):
-        class ProgramLateError(redis_store.RedisStore):
+        class Late(redis_store.RedisStore):
             def read(self, key):
                 (text,) = self.send(("GET", self.prefix + key))
                 self.meanwhile()
                 self.send(("WATCH", self.prefix + key))
                 return redis_store.found_in(text)
 
-        auditor, (a, b) = self.sessions(self.made(of=ProgramLateError), self.made())
+        auditor, (a, b) = self.sessions(self.made(of=Late), self.made())
         b.run(lambda t: t.put("x", "1"))
         a.store.meanwhile = lambda: b.run(lambda t: t.exchange("x", "2"))
         a.run(lambda t: t.put("x", str(int(t.get("x")) + 1)))
