@@ -14,7 +14,7 @@ import time
 sys.path.insert(0, os.path.join(os.path.dirname(os.path.abspath(__file__)), "../collectors/python"))
 
 from zanteyard import Session  # noqa: E402
-from zanteyard.core._crash_notes import Notes  # noqa: E402
+from zanteyard.core._crash_notes import CrashNotes  # noqa: E402
 from zanteyard.core._records import as_bytes  # noqa: E402
 
 
@@ -56,7 +56,7 @@ class Taking:
 def seconds(count, path):
     session = Session(Taking(), 0, Nowhere())
     Taking.sent = {}
-    session.notes = notes = Notes(path, Taking.sent, lambda: None) if path else None
+    session.notes = notes = CrashNotes(path, Taking.sent, lambda: None) if path else None
     body = lambda t: t.put("x", str(int(t.get("x") or 0) + 1))
     began = time.thread_time()
     for _ in range(count):

@@ -121,6 +121,7 @@ def main():
     asked.add_argument("--transactions", type=count_of_transactions, default=400, help=told)
     asked.add_argument("--clients", type=int, choices=(2, 4, 8), default=4)
     asked = asked.parse_args()
+    level = LEVELS["postgres"][asked.level]
     try:
         from zanteyard.stores.postgres import PostgresStore, prepare
     except ImportError:
@@ -131,7 +132,7 @@ def main():
     if not program("initdb"):
         sys.exit("PostgreSQL is wanted: apt-get install postgresql")
     with ended_by_signals(), Cluster() as cluster:
-        stores = [PostgresStore(cluster.dsn, LEVELS["postgres"][asked.level]) for _ in range(asked.clients)]
+        stores = [PostgresStore(cluster.dsn, level) for _ in range(asked.clients)]
         prepare(cluster.dsn)
         began, kinds, aborted = time.monotonic(), Counter(), 0
         for number in range(asked.episodes):
@@ -145,7 +146,7 @@ def main():
     count = asked.episodes * (asked.transactions // asked.clients) * asked.clients
     told = ", ".join(f"{how_many} {kind}" for kind, how_many in sorted(kinds.items()))
     print(
-        f"{asked.workload} at {LEVELS["postgres"][asked.level]}: of {asked.episodes} episodes {told}; "
+        f"{asked.workload} at {level}: of {asked.episodes} episodes {told}; "
         f"{aborted} of {count} transactions aborted; {took:.1f} s"
     )
     sys.exit(0 if kinds["serial"] == asked.episodes else 1)

@@ -14,7 +14,7 @@ from zanteyard.program._auditor import PROGRAM
 from zanteyard.trial.postgres_server import program
 from zanteyard.cli._main import main
 from zanteyard.core._outcome import Outcome
-from zanteyard.program._binaries import Origin, find_program, found_live, program_path
+from zanteyard.program._binaries import ProgramOrigin, find_program, found_live, program_path
 from zanteyard.core._version import VERSION
 
 TOP = os.path.normpath(os.path.join(os.path.dirname(os.path.abspath(__file__)), "../../.."))
@@ -290,10 +290,10 @@ class Programs(unittest.TestCase):
                     self.assertEqual(found_live(its), wanted)
 
     def test_its_origin_is_told(self):
-        self.assertEqual(Origin("p", True, "kit", "abc").sentence(), "p: proved by kit, commit abc")
-        self.assertIn("NOT PROVED", Origin("p", False).sentence())
-        self.assertIn("NOT THE FILE", Origin("p", True, is_as_noted=False).sentence())
-        self.assertIn("isn't noted", Origin("p", None).sentence())
+        self.assertEqual(ProgramOrigin("p", True, "kit", "abc").sentence(), "p: proved by kit, commit abc")
+        self.assertIn("NOT PROVED", ProgramOrigin("p", False).sentence())
+        self.assertIn("NOT THE FILE", ProgramOrigin("p", True, is_as_noted=False).sentence())
+        self.assertIn("isn't noted", ProgramOrigin("p", None).sentence())
 
     def test_the_version(self):
         with open(os.path.join(TOP, "VERSION"), encoding="utf-8") as file:

@@ -22,7 +22,7 @@ from zanteyard.live._audit_start import coverage_from_now
 from zanteyard.core.errors import AuditLostError, NotAnchoredError
 from zanteyard.remote._crash_recovery import NOTHING, Killed
 from zanteyard.stores.memory import MemoryStore
-from zanteyard.core._crash_notes import Note
+from zanteyard.core._crash_notes import CrashNote
 from zanteyard.live._session_pool import Places
 from zanteyard.core._records import as_bytes
 from zanteyard.session._session import Place, Session
@@ -713,7 +713,7 @@ class Fences(WithProgram):
 
     def test_it_is_a_killed_process_s(self):
         logged = as_bytes(fence((0, 3)))
-        told = lambda *notes: Killed({4: [(Note(4, *it), None) for it in notes]}, "run", Backlog(8))
+        told = lambda *notes: Killed({4: [(CrashNote(4, *it), None) for it in notes]}, "run", Backlog(8))
         for notes, found, begun, must_join in (
             ((), (), 7, True),
             (((7, None, logged), (7, "aborted")), (), 7, True),

@@ -13,7 +13,7 @@ from zanteyard.live._backlog import Backlog
 from zanteyard.core.errors import AuditLostError
 from zanteyard.remote._crash_recovery import Killed
 from zanteyard.stores.memory import MemoryStore
-from zanteyard.core._crash_notes import Note
+from zanteyard.core._crash_notes import CrashNote
 from zanteyard.live._session_pool import Places
 from zanteyard.core._records import as_bytes
 from zanteyard.session._session import Place, Session
@@ -384,7 +384,7 @@ class UsedAgain(WithProgram):
     def test_a_second_attempt_that_was_on_its_way_as_its_process_was_killed(self):
         """What the store says may be about the first, which has the same name; or others' fences have overwritten it."""
         logged = as_bytes(Logged([(FENCE, (0, 3))], [FENCE]))
-        sent, aborted = Note(4, 7, None, logged), Note(4, 7, "aborted")
+        sent, aborted = CrashNote(4, 7, None, logged), CrashNote(4, 7, "aborted")
         for notes, begun, is_ended in (
             ((sent,), 8, True),
             ((sent, aborted), 7, False),
@@ -402,7 +402,7 @@ class UsedAgain(WithProgram):
         flag, done = Logged([(f"{FLAG}4", "init")], [f"{FLAG}4"]), Logged([("x", (0, 1))], ["x"])
         for outcome in ("committed", "aborted", "unknown"):
             told = lambda how, ticket, *_: ("committed", None) if ticket == "its" else (outcome, [("run", 4, 1)])
-            notes = [Note(4, 7, None, as_bytes(done), "its"), Note(4, 8, None, as_bytes(flag._replace(reads=[])), "flag", False)]
+            notes = [CrashNote(4, 7, None, as_bytes(done), "its"), CrashNote(4, 8, None, as_bytes(flag._replace(reads=[])), "flag", False)]
             with mock.patch("zanteyard.remote._crash_recovery.find_out", told):
                 place = Place(4, 7)
                 killed = Killed({4: [(note, None) for note in notes]}, "run", Backlog(8), is_dead=False)

@@ -19,7 +19,7 @@ from zanteyard.core.errors import AuditLostError
 from zanteyard.remote._outbox import Handover
 from zanteyard.remote._crash_recovery import NOTHING, Killed, LostError, in_files
 from zanteyard.stores.memory import MemoryStore
-from zanteyard.core._crash_notes import FORKED, HEAD, ROOM, Notes, notes_of
+from zanteyard.core._crash_notes import FORKED, HEAD, ROOM, CrashNotes, notes_of
 from zanteyard.core._records import as_bytes, unpacked
 from zanteyard.core.errors import OutcomeUnknownError
 from zanteyard.session._session import Place
@@ -37,7 +37,7 @@ class Noted(unittest.TestCase):
         folder = tempfile.TemporaryDirectory()
         self.addCleanup(folder.cleanup)
         self.path, self.sent, self.failures = f"{folder.name}/notes", {}, []
-        self.notes = Notes(self.path, self.sent, lambda: self.failures.append(True))
+        self.notes = CrashNotes(self.path, self.sent, lambda: self.failures.append(True))
         self.addCleanup(self.notes.close)
 
     def numbers(self):

@@ -6,7 +6,7 @@ import threading
 import unittest
 from typing import Any, List
 
-from zanteyard.sql._versions import CutError, Entry, History, Snapshot, UnclearError
+from zanteyard.sql._versions import CutError, Entry, RowHistory, Snapshot, UnclearError
 
 try:
     import psycopg2
@@ -29,7 +29,7 @@ class Histories(unittest.TestCase):
         self.assertFalse(Snapshot.of("10:10:").shows(10))
 
     def test_a_row_names_its_writer_or_nobody(self) -> None:
-        history = History("r", [entry(1, 5), entry(2, 4), entry(3, 2**32 + 7)])
+        history = RowHistory("r", [entry(1, 5), entry(2, 4), entry(3, 2**32 + 7)])
         now, before = Snapshot.of("90:90:"), Snapshot.of("4:4:")
         self.assertEqual(history.of_version(5, now), (0, 1))
         self.assertEqual(history.of_version(4, now), (0, 2))
@@ -38,12 +38,12 @@ class Histories(unittest.TestCase):
         for seen in (now, None):
             with self.assertRaises(UnclearError):  # a stranger's
                 history.of_version(3, seen)
-        others = History("r", [entry(1, 5, run="x"), entry(2, 6, run="y")])
+        others = RowHistory("r", [entry(1, 5, run="x"), entry(2, 6, run="y")])
         self.assertEqual(others.of_version(5, None), "init")
         self.assertEqual(others.of_version(77, None), "init")
 
     def test_an_absence_is_the_last_deletion_that_was_shown(self) -> None:
-        history = History("r", [entry(1, 5), entry(2, 6, True), entry(3, 7), entry(4, 8, True)])
+        history = RowHistory("r", [entry(1, 5), entry(2, 6, True), entry(3, 7), entry(4, 8, True)])
         self.assertEqual(history.of_absence(Snapshot.of("7:7:")), (0, 2))
         self.assertEqual(history.of_absence(Snapshot.of("9:9:")), (0, 4))
         self.assertEqual(history.of_absence(Snapshot.of("5:5:")), "init")
@@ -51,18 +51,18 @@ class Histories(unittest.TestCase):
             with self.assertRaises(UnclearError):  # a stranger's
                 history.of_absence(Snapshot.of(text))
         self.assertEqual(history.of_absence_now(), (0, 4))
-        again = History("r", [entry(1, 5), entry(2, 6)])
+        again = RowHistory("r", [entry(1, 5), entry(2, 6)])
         with self.assertRaises(UnclearError):
             again.of_absence_now()
 
     def test_what_cant_be_trusted_is_unclear(self) -> None:
-        twice = History("r", [entry(1, 5), entry(1, 6)])
+        twice = RowHistory("r", [entry(1, 5), entry(1, 6)])
         for find in (twice.of_absence_now, lambda: twice.of_version(5, None)):
             with self.assertRaises(UnclearError):
                 find()
 
     def test_the_newest_entries_tell_all_or_more_are_asked_for(self) -> None:
-        cut = History("r", [entry(8, 18), entry(9, 19, True)], is_cut=True)
+        cut = RowHistory("r", [entry(8, 18), entry(9, 19, True)], is_cut=True)
         self.assertEqual(cut.of_version(18, None), (0, 8))
         self.assertEqual(cut.of_absence(Snapshot.of("20:20:")), (0, 9))
         self.assertEqual(cut.of_absence_now(), (0, 9))
@@ -71,7 +71,7 @@ class Histories(unittest.TestCase):
                      lambda: cut.of_absence(early)):
             with self.assertRaises(CutError):
                 find()
-        others = History("r", [entry(8, 18, run="x")], is_cut=True)
+        others = RowHistory("r", [entry(8, 18, run="x")], is_cut=True)
         with self.assertRaises(CutError):
             others.of_version(17, None)
         others.is_new = True

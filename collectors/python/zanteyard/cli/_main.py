@@ -23,8 +23,8 @@ from ..program._auditor import Auditor
 from ..program._binaries import checker_path, find_program, origin_of, program_path
 from ..trial import _demo as demo
 from ..trial.store_kinds import KINDS
-from . import audit as audit_command
 from . import _serve as serve_command
+from . import audit as audit_command
 
 MISTAKE, UNDECIDED = 2, 4
 STATUSES: Mapping[str, int] = {"serial": 0, "violated": 1, "pending": 3, "spent": UNDECIDED}

@@ -25,8 +25,10 @@ from ..core._outcome import (
     RATHER_LOSE_THE_AUDIT,
     RATHER_WAIT,
     SERIAL,
+    UNDECIDED,
+    VIOLATED,
+    Outcome,
 )
-from ..core._outcome import UNDECIDED, VIOLATED, Outcome
 from ..core.errors import ZanteyardError
 from ..explain._shrinking import from_start, refuted
 from ..explain._violation_text import tell_violation

@@ -22,13 +22,12 @@ from ..remote._server import AuditServer
 from ..session._session import Session
 from ..trial._throwaway_folder import OwnFolder
 from ..trial.postgres_server import ended_by_signals
-from ..trial.store_kinds import POSTGRES, StoreKind
+from ..trial.store_kinds import POSTGRES, MakesStore, StoreKind
 from ..trial.store_kinds import CantAuditError as CantAuditError
 from ..trial.workloads import EVERY_WORKLOAD, ChurningClients, ClientProcesses, Clients, Nothing
 
 PAGE_SECONDS = 5.0  # that finding the reasons for the page may take
 STAYING, CHURNING = 8, 16  # clients at a time, where nothing else is asked for
-MakesStore = Callable[[], Any]
 logger = logging.getLogger("zanteyard")
 
 

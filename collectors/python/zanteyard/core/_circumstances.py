@@ -10,7 +10,7 @@ import threading
 import time
 from typing import Any, Dict, Iterator, List, Sequence, Tuple
 
-from ._records import History, Logged, Names
+from ._records import History, Logged, Naming
 
 PACKAGE = os.path.dirname(os.path.dirname(os.path.abspath(__file__))) + os.sep
 # Files, and folders, that call nothing by themselves.
@@ -94,7 +94,7 @@ def values_of(logged: Logged) -> Dict[Tuple[str, str], str]:
     return {deed: " and ".join(texts) for deed, texts in found.items() if texts}
 
 
-def circumstances(history: History, names: Names) -> Iterator[str]:
+def circumstances(history: History, names: Naming) -> Iterator[str]:
     """A line for each transaction of which something is known."""
     for session, transactions in enumerate(history):
         for number, logged in enumerate(transactions):

@@ -16,8 +16,8 @@ from ._records import Name
 
 # The outcome, and the name of what an `exchange` by itself has overwritten: a tuple of it, or of
 # nothing where there was none; None where that isn't known.
-Found = Tuple[str, Optional[Sequence[Name]]]
-UNKNOWN: Found = ("unknown", None)
+CommitStatus = Tuple[str, Optional[Sequence[Name]]]
+UNKNOWN: CommitStatus = ("unknown", None)
 logger = logging.getLogger("zanteyard")
 
 
@@ -28,7 +28,7 @@ MODULES = {  # that look an outcome up, by the word for the kind of store
 }
 
 
-def find_out(asks: Any, ticket: Any, seconds: float, is_dead: bool = True) -> Found:
+def find_out(asks: Any, ticket: Any, seconds: float, is_dead: bool = True) -> CommitStatus:
     """Raises nothing: what can't be asked is unknown. Where it isn't known that the client
     `is_dead`, nothing is ended that it may be about."""
     more: Dict[str, Any] = {}
@@ -39,7 +39,7 @@ def find_out(asks: Any, ticket: Any, seconds: float, is_dead: bool = True) -> Fo
     kind, *how = asks
     try:
         module = importlib.import_module(MODULES[kind])
-        found: Found = module.asked(*how, ticket=ticket, seconds=seconds, **more)
+        found: CommitStatus = module.asked(*how, ticket=ticket, seconds=seconds, **more)
         return found
     except Exception as error:
         logger.warning("what became of a commit can't be found out: %s", error)

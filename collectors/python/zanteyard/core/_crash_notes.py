@@ -25,7 +25,7 @@ FORKED = "-forked"  # behind a process's path: a file that is there once it has 
 logger = logging.getLogger("zanteyard")
 
 
-class Note(NamedTuple):
+class CrashNote(NamedTuple):
     """Of a transaction: `outcome` is None before its commit is sent, and then what was logged;
     `packed` is what is to be logged where it was committed, None where another note has it, or
     there is none, or what an attempt that was aborted had done; `ticket` is by what the store
@@ -52,7 +52,7 @@ class Half:
         os.posix_fallocate(self.file, 0, ROOM)
 
 
-class Notes:
+class CrashNotes:
     """Of one session, for who has its turn. What fails here harms nobody: the files are removed, so
     that nothing is taken from what they lack, and `tell_failure` is called."""
 
@@ -150,7 +150,7 @@ class Notes:
             os.close(half.file)
 
 
-def notes_of(path: str) -> Optional[List[Note]]:
+def notes_of(path: str) -> Optional[List[CrashNote]]:
     """Of a session that had this path, in the order in which they were written; None where they
     aren't there, or of another version."""
     found = {}
@@ -163,7 +163,7 @@ def notes_of(path: str) -> Optional[List[Note]]:
         for version, count, *fields in records(text):
             if version != VERSION:
                 return None
-            found[count] = Note(*fields)
+            found[count] = CrashNote(*fields)
     return [found[count] for count in sorted(found)]
 
 

@@ -3,7 +3,7 @@
 from __future__ import annotations
 
 import marshal
-from typing import Any, Callable, Iterable, List, NamedTuple, Optional, Protocol, Sequence
+from typing import Any, Callable, Iterable, List, Mapping, NamedTuple, Optional, Protocol, Sequence
 from typing import Tuple, Union
 
 TransactionId = Tuple[int, int]  # session and number
@@ -13,8 +13,8 @@ Source = (
 Read = Tuple[str, Source]  # a key's name, and who wrote what was read
 Deed = Union[Read, Tuple[str]]  # a read, or (key,) for a write
 Name = Tuple[str, int, int]  # beside a value: the run, the session, the number
-Found = Tuple[Any, Name]  # a value, and the name beside it
-Names = Callable[[TransactionId], str]  # how a transaction is told
+StoredValue = Tuple[Any, Name]  # a value, and the name beside it
+Naming = Callable[[TransactionId], str]  # how a transaction is told
 ABORTED = "aborted"  # an outcome, and what lines have behind what such an attempt did
 MOST = 256  # reads, or writes, that a line may have of a transaction
 SESSIONS, NUMBERS = 64, 1 << 48  # what names a transaction in a line is below these
@@ -114,6 +114,7 @@ class Cut(NamedTuple):
 
 
 History = List[List[Logged]]  # of each session what it did, in order
+Transactions = Mapping[TransactionId, Logged]
 
 
 class Store(Protocol):
@@ -122,7 +123,7 @@ class Store(Protocol):
     def begin(self) -> None:
         ...
 
-    def read(self, key: str) -> Optional[Found]:
+    def read(self, key: str) -> Optional[StoredValue]:
         ...
 
     def write(self, key: str, value: Any, name: Name) -> None:

@@ -12,12 +12,11 @@ from dataclasses import dataclass
 from typing import Dict, Iterator, List, Mapping, Optional, Sequence, Set, Tuple
 
 from ..core._own_keys import FENCE, PLAIN_FENCE
-from ..core._records import Logged, Names, Source, TransactionId
-from ._shrinking import name as plain_name
+from ..core._records import Logged, Naming, Source, TransactionId, Transactions
 from ._shrinking import told_undone, version
+from ._shrinking import name as plain_name
 
-Table = Mapping[TransactionId, Logged]
-Arc = Tuple[TransactionId, TransactionId]
+Edge = Tuple[TransactionId, TransactionId]
 
 
 @dataclass(frozen=True)
@@ -42,7 +41,7 @@ MEANINGS: Mapping[str, str] = {
 
 
 def find_anomaly(
-    history: Sequence[Sequence[Logged]], name: Names = plain_name
+    history: Sequence[Sequence[Logged]], name: Naming = plain_name
 ) -> Optional[Anomaly]:
     """The first of the patterns that the history has, or None. The history should be small."""
     table = {
@@ -61,7 +60,7 @@ def _told(key: str) -> str:
     return "the fences' row" if key in (FENCE, PLAIN_FENCE) else key
 
 
-def _plain_arcs(table: Table) -> Iterator[Arc]:
+def _plain_arcs(table: Transactions) -> Iterator[Edge]:
     """What comes before what by sessions and by who read from whom."""
     for one, logged in table.items():
         if (one[0], one[1] + 1) in table:
@@ -71,7 +70,7 @@ def _plain_arcs(table: Table) -> Iterator[Arc]:
                 yield source, one
 
 
-def _behind(table: Table) -> Dict[TransactionId, Set[TransactionId]]:
+def _behind(table: Transactions) -> Dict[TransactionId, Set[TransactionId]]:
     """Of each transaction, those that stand behind it by these arcs."""
     after: Dict[TransactionId, List[TransactionId]] = {one: [] for one in table}
     for start, end in _plain_arcs(table):
@@ -90,7 +89,7 @@ def _behind(table: Table) -> Dict[TransactionId, Set[TransactionId]]:
 
 
 def _overwritten(
-    table: Table, behind: Mapping[TransactionId, Set[TransactionId]]
+    table: Transactions, behind: Mapping[TransactionId, Set[TransactionId]]
 ) -> List[Tuple[TransactionId, str, Source, TransactionId]]:
     """Each (reader, key, source, other) where the other wrote a later version than was read."""
     found = []
@@ -104,7 +103,7 @@ def _overwritten(
     return found
 
 
-def _dirty_reads(table: Table, _: object, name: Names) -> Iterator[Anomaly]:
+def _dirty_reads(table: Transactions, _: object, name: Naming) -> Iterator[Anomaly]:
     for reader, logged in table.items():
         for key, source in logged.reads:
             if source in table and key not in table[source].writes:
@@ -128,7 +127,7 @@ def _wrong_read(source: Logged) -> Tuple[str, str]:
     return "read of what was never written", "which didn't write it"
 
 
-def _lost_updates(table: Table, _: object, name: Names) -> Iterator[Anomaly]:
+def _lost_updates(table: Transactions, _: object, name: Naming) -> Iterator[Anomaly]:
     first: Dict[Tuple[str, Source], TransactionId] = {}
     for one, logged in table.items():
         for key, source in logged.reads:
@@ -146,7 +145,7 @@ def _lost_updates(table: Table, _: object, name: Names) -> Iterator[Anomaly]:
 
 
 def _fractured_reads(
-    table: Table, behind: Mapping[TransactionId, Set[TransactionId]], name: Names
+    table: Transactions, behind: Mapping[TransactionId, Set[TransactionId]], name: Naming
 ) -> Iterator[Anomaly]:
     for reader, key, source, other in _overwritten(table, behind):
         for seen, where in table[reader].reads:
@@ -160,7 +159,7 @@ def _fractured_reads(
 
 
 def _stale_reads(
-    table: Table, behind: Mapping[TransactionId, Set[TransactionId]], name: Names
+    table: Transactions, behind: Mapping[TransactionId, Set[TransactionId]], name: Naming
 ) -> Iterator[Anomaly]:
     for reader, key, source, other in _overwritten(table, behind):
         if reader in behind[other]:
@@ -174,7 +173,7 @@ def _stale_reads(
 
 
 def _write_skews(
-    table: Table, behind: Mapping[TransactionId, Set[TransactionId]], name: Names
+    table: Transactions, behind: Mapping[TransactionId, Set[TransactionId]], name: Naming
 ) -> Iterator[Anomaly]:
     """Circles in which each transaction read what the next one overwrote."""
     after: Dict[TransactionId, Dict[TransactionId, str]] = {}

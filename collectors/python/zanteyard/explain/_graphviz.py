@@ -6,7 +6,7 @@ import shutil
 import subprocess
 from typing import Iterator, List, Optional, Sequence, Tuple
 
-from ..core._records import ABORTED, History, Names, TransactionId
+from ..core._records import ABORTED, History, Naming, TransactionId
 from ._reasons import Arc, below, explain_history, table
 from ._shrinking import deeds, name, statements_of
 
@@ -19,7 +19,7 @@ def quoted(*lines: str) -> str:
 
 
 def dot_text(
-    history: History, name: Names = name, arcs: Optional[Sequence[Arc]] = None
+    history: History, name: Naming = name, arcs: Optional[Sequence[Arc]] = None
 ) -> str:
     """Each transaction with what it did, a column for each session. The arcs are an explanation's,
     which is made where none are given. They are bold and red, those from which they follow are
@@ -61,7 +61,7 @@ def _reads_of_aborted(
 
 
 def draw(
-    history: History, path: str, name: Names = name, arcs: Optional[Sequence[Arc]] = None
+    history: History, path: str, name: Naming = name, arcs: Optional[Sequence[Arc]] = None
 ) -> List[str]:
     """Writes path.dot, and path.svg where `dot` is installed and makes one; gives the names of the
     files. Raises OSError where they can't be written."""

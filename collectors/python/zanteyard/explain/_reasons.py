@@ -12,7 +12,7 @@ import time
 from dataclasses import dataclass
 from typing import Any, Dict, Iterable, Iterator, List, NamedTuple, Optional, Tuple
 
-from ..core._records import History, Logged, Names, TransactionId
+from ..core._records import History, Logged, Naming, TransactionId, Transactions
 from ._shrinking import SECONDS, name, told_undone, version
 
 
@@ -25,7 +25,6 @@ class Arc(NamedTuple):
     needs: Tuple[Any, ...]  # of Arc, which this Python's types can't name here
 
 
-Table = Dict[TransactionId, Logged]
 ArcsFrom = Dict[TransactionId, List[Arc]]
 SESSION = "they are in one session"
 # Why a transaction of such an outcome can't be read from.
@@ -45,7 +44,7 @@ class Explanation:
     arcs: Tuple[Arc, ...] = ()
 
 
-def table(history: History) -> Table:
+def table(history: History) -> Transactions:
     return {
         (session, number): logged
         for session, txns in enumerate(history)
@@ -53,7 +52,7 @@ def table(history: History) -> Table:
     }
 
 
-def wrong_reads(history: History, name: Names = name) -> Iterator[str]:
+def wrong_reads(history: History, name: Naming = name) -> Iterator[str]:
     """Reads from a transaction that didn't write the key."""
     txns = table(history)
     for reader, logged in txns.items():
@@ -66,7 +65,7 @@ def wrong_reads(history: History, name: Names = name) -> Iterator[str]:
                 yield f"{name(reader)} read {key} from {name(source)}, {why}"
 
 
-def session_arcs(txns: Table) -> Iterator[Arc]:
+def session_arcs(txns: Transactions) -> Iterator[Arc]:
     """From each transaction that did something to the next one of its session that did."""
     last: Dict[int, TransactionId] = {}
     for id in sorted(id for id, logged in txns.items() if logged.reads or logged.writes):
@@ -75,7 +74,7 @@ def session_arcs(txns: Table) -> Iterator[Arc]:
         last[id[0]] = id
 
 
-def read_arcs(txns: Table, name: Names = name) -> Iterator[Arc]:
+def read_arcs(txns: Transactions, name: Naming = name) -> Iterator[Arc]:
     writers: Dict[str, List[TransactionId]] = {}
     for id, logged in txns.items():
         for key in logged.writes:
@@ -137,7 +136,7 @@ def by_start(arcs: Iterable[Arc]) -> ArcsFrom:
 
 
 def forced_arcs(
-    txns: Table, arcs: Iterable[Arc], name: Names, ends: float
+    txns: Transactions, arcs: Iterable[Arc], name: Naming, ends: float
 ) -> Iterator[Arc]:
     """What follows of other writers."""
     arcs_from = by_start(arcs)
@@ -158,7 +157,7 @@ def forced_arcs(
                     yield Arc(other, writer, f"{read} before {name(reader)}", tuple(merged(before)))
 
 
-def circles_of(txns: Table, arcs: Iterable[Arc], ends: float) -> Iterator[List[Arc]]:
+def circles_of(txns: Transactions, arcs: Iterable[Arc], ends: float) -> Iterator[List[Arc]]:
     arcs_from = by_start(arcs)
     for id in txns:
         check(ends)
@@ -170,7 +169,7 @@ def circles_of(txns: Table, arcs: Iterable[Arc], ends: float) -> Iterator[List[A
 
 
 def circle(
-    history: History, name: Names = name, seconds: float = SECONDS
+    history: History, name: Naming = name, seconds: float = SECONDS
 ) -> Optional[List[Arc]]:
     """Arcs that lead from a transaction back to itself, or None; raises TooLong."""
     ends = time.monotonic() + seconds
@@ -199,7 +198,7 @@ def below(arcs: Iterable[Arc]) -> List[Arc]:
 
 
 def explain_history(
-    history: History, name: Names = name, seconds: float = SECONDS
+    history: History, name: Naming = name, seconds: float = SECONDS
 ) -> Explanation:
     """The Explanation of a violated history; it says so where it takes longer."""
     wrong = tuple(wrong_reads(history, name))
@@ -218,7 +217,7 @@ def explain_history(
 
 
 def reasons(
-    history: History, name: Names = name, seconds: float = SECONDS
+    history: History, name: Naming = name, seconds: float = SECONDS
 ) -> List[str]:
     """The lines of its explanation."""
     return [*explain_history(history, name, seconds).lines]

@@ -10,7 +10,7 @@ from typing import Any, Dict, Iterable, Iterator, List, Mapping, Optional
 from typing import Sequence, Tuple
 
 from ..core._circumstances import caller_of, clock_of, values_of
-from ..core._records import History, Logged, Names, TransactionId
+from ..core._records import History, Logged, Naming, TransactionId
 from ._anomalies import MEANINGS, Anomaly, find_anomaly
 from ._reasons import SESSION, Explanation, below, explain_history
 from ._scripts import ScriptHistory, Verdict
@@ -30,7 +30,7 @@ SHOWN = 12  # transactions of an order, and reads that wait, which are told of a
 
 
 @dataclass(frozen=True)
-class Deed:
+class ShownAccess:
     """One read or write. `statement` is what was run for it, and `returned` what it gave, where
     the collector has logged that; else they are empty."""
 
@@ -47,7 +47,7 @@ class Step:
     id: TransactionId
     name: str
     outcome: str
-    deeds: Tuple[Deed, ...]
+    deeds: Tuple[ShownAccess, ...]
     sources: Tuple[TransactionId, ...] = ()  # from whom it read
     clock: str = ""
     caller: str = ""
@@ -122,7 +122,7 @@ def violation_story(
 
 def story_of(
     history: History,
-    names: Names,
+    names: Naming,
     script: str = "",
     counts: Sequence[int] = (),
     seconds: float = EXPLAINED,
@@ -144,7 +144,7 @@ def story_of(
     )
 
 
-def _steps(history: History, names: Names, told: Iterable[TransactionId]) -> Iterator[Step]:
+def _steps(history: History, names: Naming, told: Iterable[TransactionId]) -> Iterator[Step]:
     """The transactions that did something, and those that a link names."""
     told = set(told)
     for session, transactions in enumerate(history):
@@ -163,15 +163,17 @@ def _steps(history: History, names: Names, told: Iterable[TransactionId]) -> Ite
                 )
 
 
-def _deeds(logged: Logged, names: Names) -> Iterator[Deed]:
+def _deeds(logged: Logged, names: Naming) -> Iterator[ShownAccess]:
     statements: Dict[Any, str] = dict(logged.statements)
     values = values_of(logged)
     did_read, did_write = logged.did
     for key, source in did_read:
         text = f"read {key} {version_text(key, source, names)}"
-        yield Deed(text, statements.get((key, source), ""), values.get(("read", key), ""))
+        yield ShownAccess(text, statements.get((key, source), ""), values.get(("read", key), ""))
     for key in did_write:
-        yield Deed(f"wrote {key}", statements.get((key,), ""), values.get(("wrote", key), ""))
+        yield ShownAccess(
+            f"wrote {key}", statements.get((key,), ""), values.get(("wrote", key), "")
+        )
 
 
 def _links(explanation: Explanation) -> Iterator[Link]:

@@ -12,7 +12,7 @@ from typing import Optional, Set, Tuple
 
 from ..core._outcome import VIOLATED
 from ..core._own_keys import FENCE, FORM, LONGEST, PLAIN_FENCE, is_own
-from ..core._records import History, Logged, Names, Report, Source, TransactionId
+from ..core._records import History, Logged, Naming, Report, Source, TransactionId
 from ..program._auditor import Auditor, written
 from ..program._binaries import PROGRAM
 
@@ -46,12 +46,12 @@ def is_violated(history: History, program: str = PROGRAM) -> bool:
     return Part.of(history).report(program) is not None
 
 
-def from_start(auditor: Any) -> Tuple[History, Names]:
+def from_start(auditor: Any) -> Tuple[History, Naming]:
     """What remains as a history without a cut and without fences' own key, and the names of its
     transactions. Where something is forgotten, a first transaction stands for it: it writes the
     last version of each key, and every session begins with one that reads from it."""
     marks, base, history = auditor.marks, auditor.base, auditor.history
-    called: Names = getattr(auditor, "called", name)  # it may have names, or tell whose it was
+    called: Naming = getattr(auditor, "called", name)  # it may have names, or tell whose it was
     gone, some_gone = (0, 0), any(marks)
 
     def moved(key: str, source: Source) -> Source:
@@ -321,19 +321,19 @@ def next_smaller(
     return None
 
 
-def version(key: str, source: Source, name: Names) -> str:
+def version(key: str, source: Source, name: Naming) -> str:
     """Which version of the key was read."""
     if source != "init":
         return f"from {name(source)}"
     return getattr(name, "older", {}).get(key, "as it was at first")
 
 
-def told_undone(reader: TransactionId, key: str, source: TransactionId, name: Names) -> str:
+def told_undone(reader: TransactionId, key: str, source: TransactionId, name: Naming) -> str:
     """Of a read of what an attempt wrote that was aborted."""
     return f"of {key}, {name(reader)} read what {name(source)} wrote, which had aborted"
 
 
-def deeds(logged: Logged, name: Names) -> List[str]:
+def deeds(logged: Logged, name: Naming) -> List[str]:
     """What a transaction did."""
     did_read, did_write = logged.did
     told = [f"read {key} {version(key, source, name)}" for key, source in did_read]
@@ -356,7 +356,7 @@ def statements_of(logged: Logged) -> Iterator[str]:
         yield f"{', '.join(its)}: {short}"
 
 
-def words(history: History, name: Names = name) -> Iterator[str]:
+def words(history: History, name: Naming = name) -> Iterator[str]:
     """A line for each transaction, with its statements behind it."""
     for session, txns in enumerate(history):
         for number, logged in enumerate(txns):

@@ -6,7 +6,7 @@ import time
 from typing import Callable, Iterable
 
 from ..core._circumstances import circumstances
-from ..core._records import History, Names, TransactionId
+from ..core._records import History, Naming, TransactionId
 from ..program._binaries import PROGRAM
 from ._graphviz import draw
 from ._reasons import Explanation, explain_history
@@ -16,7 +16,7 @@ from ._shrinking import SECONDS, audited, name, smaller, words
 def tell_violation(
     history: History,
     path: str,
-    called: Names = name,
+    called: Naming = name,
     tell: Callable[[str], object] = print,
     seconds: float = SECONDS,
     program: str = PROGRAM,
@@ -49,7 +49,7 @@ def tell_violation(
 
 
 def write_script(
-    small: History, path: str, called: Names, explanation: Explanation, program: str
+    small: History, path: str, called: Naming, explanation: Explanation, program: str
 ) -> str:
     with open(f"{path}.jsonl", "w", encoding="utf-8") as file:
         file.write(audited(small, program)[1])
@@ -57,6 +57,6 @@ def write_script(
 
 
 def draw_picture(
-    small: History, path: str, called: Names, explanation: Explanation, program: str
+    small: History, path: str, called: Naming, explanation: Explanation, program: str
 ) -> str:
     return f"(drawn: {', '.join(draw(small, path, called, explanation.arcs))})"

@@ -9,8 +9,22 @@ from typing import Any, Dict, Iterator, List, Optional, Tuple
 from ..core.errors import ImportRefusedError
 from ._edn import EdnMap, EdnReader, Keyword
 from ._json import JsonReader
-from ._recording import ABORTED, APPEND, COMMITTED, NEVER, READ, READ_LIST, UNKNOWN, WRITE
-from ._recording import Access, Attempt, Recording, Value, optional_token, token
+from ._recording import (
+    ABORTED,
+    APPEND,
+    COMMITTED,
+    NEVER,
+    READ,
+    READ_LIST,
+    UNKNOWN,
+    WRITE,
+    Access,
+    Attempt,
+    Recording,
+    Value,
+    optional_token,
+    token,
+)
 
 OUTCOMES = {"ok": COMMITTED, "fail": ABORTED, "info": UNKNOWN}
 Micro = Tuple[str, str, Any]  # "r", "w" or "append", the key, and what stands behind it

@@ -11,8 +11,18 @@ from typing import Any, Dict, Iterator, List, Optional, Sequence, Tuple
 
 from ..core.errors import ImportRefusedError
 from ._json import JsonReader
-from ._recording import ABORTED, COMMITTED, READ, UNKNOWN, WRITE
-from ._recording import Access, Attempt, Recording, optional_token, token
+from ._recording import (
+    ABORTED,
+    COMMITTED,
+    READ,
+    UNKNOWN,
+    WRITE,
+    Access,
+    Attempt,
+    Recording,
+    optional_token,
+    token,
+)
 
 HEADER = ["session", "number", "operation", "key", "value"]
 OUTCOMES = {"commit": COMMITTED, "abort": ABORTED, "unknown": UNKNOWN}
@@ -32,7 +42,7 @@ def access_of(
 
 
 @dataclass
-class _Transaction:
+class _RecordedTransaction:
     """One that is being read."""
 
     session: str
@@ -43,18 +53,18 @@ class _Transaction:
     has_ended: bool = False
 
 
-class _Transactions:
+class _RecordedTransactions:
     """Puts the lines of transactions together. A session has one at a time."""
 
     def __init__(self) -> None:
-        self._all: List[_Transaction] = []
-        self._last: Dict[str, _Transaction] = {}  # of each session
+        self._all: List[_RecordedTransaction] = []
+        self._last: Dict[str, _RecordedTransaction] = {}  # of each session
 
-    def at(self, session: str, number: str, line: int) -> _Transaction:
+    def at(self, session: str, number: str, line: int) -> _RecordedTransaction:
         """The transaction that a line is of; a new one where it isn't the session's last."""
         last = self._last.get(session)
         if last is None or last.number != number:
-            last = _Transaction(session, number, line)
+            last = _RecordedTransaction(session, number, line)
             self._last[session] = last
             self._all.append(last)
         elif last.has_ended:
@@ -88,7 +98,7 @@ def read_csv(text: str, initial: str = "") -> Recording:
     """Rows of a session, a number in it, an operation, a key and a value; `initial` is the value
     that a key is read as before it is written. Raises ImportRefusedError."""
     rows = csv.reader(io.StringIO(text, newline=""), strict=True)
-    found = _Transactions()
+    found = _RecordedTransactions()
     line = 0
     try:
         for row in rows:
@@ -102,7 +112,7 @@ def read_csv(text: str, initial: str = "") -> Recording:
     return found.recording("csv", line)
 
 
-def _csv_row(row: Sequence[str], line: int, found: _Transactions, initial: str) -> None:
+def _csv_row(row: Sequence[str], line: int, found: _RecordedTransactions, initial: str) -> None:
     if len(row) != len(HEADER):
         raise ImportRefusedError(line, f"a line has {len(HEADER)} fields, and this has {len(row)}")
     session, number, operation, key, value = row
@@ -131,7 +141,7 @@ def _csv_row(row: Sequence[str], line: int, found: _Transactions, initial: str) 
 def read_polysi(text: str, initial: str = "0") -> Recording:
     """Lines `r(key,value,session,transaction)` and `w(..)`, whole numbers all; a session's lines
     stand in its order. Raises ImportRefusedError."""
-    found = _Transactions()
+    found = _RecordedTransactions()
     sessions: Dict[str, str] = {}  # of each transaction
     number = 0
     for number, line in enumerate(text.split("\n"), 1):
@@ -162,7 +172,7 @@ def read_polysi(text: str, initial: str = "0") -> Recording:
 def read_dbcop(text: str, initial: str = "0") -> Recording:
     """An object whose `data` is a list of sessions, or that list: each a list of transactions with
     `events` and `success`. Raises ImportRefusedError."""
-    found = _Transactions()
+    found = _RecordedTransactions()
     last_line = 0
     for session, (line, transactions) in enumerate(_dbcop_sessions(text)):
         last_line = line
@@ -188,7 +198,7 @@ def _dbcop_sessions(text: str) -> Iterator[Tuple[int, Any]]:
     yield from ((line, one) for one in whole["data"])
 
 
-def _dbcop_transaction(one: Any, found: _Transaction, where: str, initial: str) -> None:
+def _dbcop_transaction(one: Any, found: _RecordedTransaction, where: str, initial: str) -> None:
     if not isinstance(one, dict) or set(one) != {"events", "success"}:
         raise ImportRefusedError(found.line, f"{where}: it has events and success")
     if not isinstance(one["events"], list) or not isinstance(one["success"], bool):

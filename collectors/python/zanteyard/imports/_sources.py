@@ -10,8 +10,7 @@ from dataclasses import dataclass
 from typing import Dict, Iterator, List, Set, Tuple, Union
 
 from ..core.errors import ImportRefusedError
-from ._recording import ABORTED, APPEND, COMMITTED, READ, READ_LIST, WRITE
-from ._recording import Access, Recording
+from ._recording import ABORTED, APPEND, COMMITTED, READ, READ_LIST, WRITE, Access, Recording
 
 ELSEWHERE = "elsewhere"
 DRAFT = "draft"

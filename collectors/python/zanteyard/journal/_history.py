@@ -9,7 +9,7 @@ from typing import Any, Dict, Iterable, List, Sequence
 from ..core._records import ABORTED, History, Logged, TransactionId
 from ..core.errors import JournalDamagedError
 
-Line = List[Any]
+ScriptLine = List[Any]
 LAST = b'["last",'
 
 

@@ -6,8 +6,18 @@ import json
 from typing import Any, Callable, Dict, Iterable, List, Optional, Sequence, Tuple
 
 from ..core._records import ABORTED, TransactionId
-from ._entries import Head, Kept, Violation, checkpoint, figures, kept_in, keys, later, line
-from ._entries import violated
+from ._entries import (
+    Head,
+    Kept,
+    Violation,
+    checkpoint,
+    figures,
+    kept_in,
+    keys,
+    later,
+    line,
+    violated,
+)
 from ._file import Journal
 
 TELLS_ABORTED = b'"%s"' % ABORTED.encode()

@@ -30,7 +30,7 @@ LIVE_BUILT = os.path.join(CRATES, LIVE, "out", LIVE)
 
 
 @dataclass(frozen=True)
-class Origin:
+class ProgramOrigin:
     """How a program was made. `is_proved` is None where nobody noted it."""
 
     path: str
@@ -119,14 +119,16 @@ def _started(path: str, name: str) -> str:
     return path
 
 
-def origin_of(path: str) -> Origin:
+def origin_of(path: str) -> ProgramOrigin:
     """What is known of this program."""
     if os.path.dirname(path) != PACKED or not os.path.isfile(NOTE):
-        return Origin(path, None)
+        return ProgramOrigin(path, None)
     with open(NOTE, encoding="utf-8") as file:
         note: Mapping[str, Any] = json.load(file)
     noted = note["programs"].get(os.path.basename(path), {}).get("sha256")
-    return Origin(path, bool(note["proved"]), note["kit"], note["commit"], noted == sha256_of(path))
+    return ProgramOrigin(
+        path, bool(note["proved"]), note["kit"], note["commit"], noted == sha256_of(path)
+    )
 
 
 def sha256_of(path: str) -> str:

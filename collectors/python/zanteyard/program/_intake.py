@@ -13,7 +13,7 @@ from typing import Any, Container, Deque, Dict, Iterator, List, Optional, Sequen
 
 from ..core._locks import give_back, take
 from ..core._outcome import RATHER_LOSE_THE_AUDIT, VIOLATED, Outcome, Policy, kind_of
-from ..core._records import History, Logged, Names, Pending, Report, TransactionId
+from ..core._records import History, Logged, Naming, Pending, Report, TransactionId
 from ..core._window import Coverage
 from ..core.errors import FullError, ProgramEndedError, ProgramLateError, RefusedError
 from ._binaries import PROGRAM
@@ -44,7 +44,7 @@ class Takes:
     history: History  # of each session what was taken in and isn't forgotten
     has_sessions = False  # which hand in to it
     cuts_by_itself = False  # behind any round; `truncate` then tells of it
-    live_called: Optional[Names] = None  # how a live audit tells transactions
+    live_called: Optional[Naming] = None  # how a live audit tells transactions
 
     def __init__(
         self,

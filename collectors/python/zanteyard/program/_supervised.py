@@ -21,12 +21,19 @@ from ..core.errors import JournalError, ProgramEndedError, ProgramLateError, Rou
 from ..journal._entries import Kept
 from ..journal._history import state_of
 from ..journal._writer import Keeping
-from ._checkpoint import OK, REFUSED, Answers, is_standing, saved_lines, standing_lines
-from ._checkpoint import why_not_resumed
+from ._checkpoint import (
+    OK,
+    REFUSED,
+    Answers,
+    is_standing,
+    saved_lines,
+    standing_lines,
+    why_not_resumed,
+)
 from ._pipes import Pipes
 
 Talk = Generator[List[bytes], List[bytes], None]  # gives lines, and is sent their answers
-Found = Union[bytes, RoundTooLongError]
+AnswerOrError = Union[bytes, RoundTooLongError]
 
 MOST = 8  # programs that may die over one line
 PAUSE, LONGEST_PAUSE = 0.02, 0.5  # seconds before the third; twice as many before each next
@@ -57,7 +64,7 @@ class Restarting:
         self.restarts, self.made_in = 0, os.getpid()
         self._given: Deque[bytes] = deque()  # lines whose answers weren't told
         self._sent = 0  # so many of these
-        self._found: Deque[Found] = deque()  # answers that nobody has yet
+        self._found: Deque[AnswerOrError] = deque()  # answers that nobody has yet
         self._talk: Optional[Talk] = None  # of its own, while nothing of the caller's is sent
         self._asked = 0  # lines of it that were sent last
         self._last_round: Optional[bytes] = None  # by which a cut may have been found
@@ -197,7 +204,7 @@ class Restarting:
                 self._open_at = self.keeping.changes
             self._tell(answer)
 
-    def _tell(self, answer: Found) -> None:
+    def _tell(self, answer: AnswerOrError) -> None:
         """To the first line."""
         self._given.popleft()
         self._sent -= 1

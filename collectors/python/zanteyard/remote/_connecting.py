@@ -8,7 +8,7 @@ import os
 from multiprocessing.connection import Client
 from typing import Any, Dict, Protocol
 
-from ..core._crash_notes import FORKED, Notes
+from ..core._crash_notes import FORKED, CrashNotes
 from ..core._version import FORM, VERSION
 from ..core.errors import OtherVersionError, ProgramEndedError
 from ._messages import Messages
@@ -68,12 +68,12 @@ class SocketDoor:
             raise
         return found
 
-    def notes(self, which: int, handover: Handover) -> Notes:
+    def notes(self, which: int, handover: Handover) -> CrashNotes:
         """In files. Nobody waits for it where they fail: they aren't there then, which tells the
         same."""
         tell = functools.partial(handover.put_behind, "unnoted")
         sent: Dict[int, int] = handover.sent
-        return Notes(f"{self._notes_path}-{which}", sent, tell)
+        return CrashNotes(f"{self._notes_path}-{which}", sent, tell)
 
     def note_fork(self) -> None:
         flags = os.O_WRONLY | os.O_CREAT | os.O_CLOEXEC

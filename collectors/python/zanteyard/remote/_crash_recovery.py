@@ -15,7 +15,7 @@ import time
 from typing import Any, Dict, Iterable, List, Optional, Sequence, Set, Tuple
 
 from ..core._commit_status import find_out
-from ..core._crash_notes import Note, notes_of
+from ..core._crash_notes import CrashNote, notes_of
 from ..core._own_keys import FENCE, FLAG
 from ..core._records import Logged, TransactionId, as_bytes, undone, unpacked
 from ..live._backlog import Backlog, keys_written_unseen
@@ -23,7 +23,7 @@ from ..session._session import Place
 
 SECONDS = 5.0  # in which the store is asked for one outcome
 NOTHING = Logged((), (), "aborted")
-Noted = Dict[int, List[Tuple[Note, Any]]]  # of each session, with how the store is asked
+Noted = Dict[int, List[Tuple[CrashNote, Any]]]  # of each session, with how the store is asked
 logger = logging.getLogger("zanteyard")
 
 
@@ -96,11 +96,11 @@ class Killed:
 
     def sorted_out(
         self, session: int, first: int
-    ) -> Tuple[Dict[int, Tuple[Note, Any]], Dict[int, Note]]:
+    ) -> Tuple[Dict[int, Tuple[CrashNote, Any]], Dict[int, CrashNote]]:
         """By number, from the first on: what was noted before a commit was sent, with how the
         store is asked, and what was noted when it was answered."""
-        before: Dict[int, Tuple[Note, Any]] = {}
-        answered: Dict[int, Note] = {}
+        before: Dict[int, Tuple[CrashNote, Any]] = {}
+        answered: Dict[int, CrashNote] = {}
         for note, how in self.notes.get(session, ()):
             if note.number < first:
                 continue
@@ -115,7 +115,7 @@ class Killed:
         return before, answered
 
     def logged(
-        self, number: int, before: Optional[Tuple[Note, Any]], answered: Optional[Note]
+        self, number: int, before: Optional[Tuple[CrashNote, Any]], answered: Optional[CrashNote]
     ) -> Optional[Logged]:
         """None for a fence of which nobody knows whether it is there."""
         if answered is None:
@@ -135,7 +135,7 @@ class Killed:
             raise LostError("its notes lack what it wrote")
         return writes_alone(unpacked(before[0].packed))
 
-    def asked(self, note: Note, how: Any) -> Optional[Logged]:
+    def asked(self, note: CrashNote, how: Any) -> Optional[Logged]:
         """What was sent to be committed and not answered."""
         assert note.packed is not None
         logged = unpacked(note.packed)

@@ -13,7 +13,9 @@ from ..session._session import Place
 from ._messages import Messages
 from ._outbox import Handover
 
-Call = Tuple[int, str, Sequence[Any]]  # its number, 0 where no answer is wanted; name; arguments
+IncomingCall = Tuple[
+    int, str, Sequence[Any]
+]  # its number, 0 where no answer is wanted; name; arguments
 
 
 class GroupCalls:
@@ -26,7 +28,7 @@ class GroupCalls:
         them yet."""
         self._group, self._messages, self._handover = group, messages, handover
         self._coming = coming
-        self._waiting: queue.SimpleQueue[Optional[Call]] = queue.SimpleQueue()
+        self._waiting: queue.SimpleQueue[Optional[IncomingCall]] = queue.SimpleQueue()
         self.is_leaving = False  # it takes part in no meeting any more
         self._deeds: Dict[str, Callable[..., Any]] = {
             "edges": self._edges,

@@ -17,7 +17,7 @@ PATIENCE = 5.0  # seconds for an answer, beside those that the call may take
 
 
 @dataclass
-class _Call:
+class _OutgoingCall:
     """What was asked: the places that are lent for it, and once it is there the answer, which is
     the result, what failed, and whether that is a meeting that was missed."""
 
@@ -51,8 +51,8 @@ class RemoteGroup:
         self._had_ended: Set[int] = set()  # of `ended`, by then
         self._has_left = False
         self._changed = threading.Condition()  # around what follows
-        self._calls: Dict[int, _Call] = {}
-        self._unread: List[_Call] = []  # that are answered
+        self._calls: Dict[int, _OutgoingCall] = {}
+        self._unread: List[_OutgoingCall] = []  # that are answered
         self._asked = 0
 
     def add(self, place: Place) -> None:
@@ -119,7 +119,9 @@ class RemoteGroup:
         for place in places:
             self.add(place)
         self.ended.update(ended)
-        self._calls.update((which, _Call(name, lent, None, True)) for which, name, lent in calls)
+        self._calls.update(
+            (which, _OutgoingCall(name, lent, None, True)) for which, name, lent in calls
+        )
 
     def leave(self) -> None:
         """Nothing more is answered."""
@@ -221,7 +223,7 @@ class RemoteGroup:
             self._give_back(call.lent)
             self._leave_idle(call, result)
 
-    def _leave_idle(self, call: _Call, result: Any) -> None:
+    def _leave_idle(self, call: _OutgoingCall, result: Any) -> None:
         """Whose clients have given back their places, as they were idle, has none of them."""
         if call.name == "gather" and result:
             places = [Place(*place) for place in result[1]]
@@ -231,7 +233,7 @@ class RemoteGroup:
 
     def _begin(self, name: str, *arguments: Any, lent: Sequence[Place] = ()) -> Wait[Any]:
         """Gives what waits for the answer, until then and a little longer."""
-        call = _Call(name, lent)
+        call = _OutgoingCall(name, lent)
         told = (*arguments, [astuple(place) for place in lent])
         with self._changed:
             if self._has_left:
@@ -250,7 +252,7 @@ class RemoteGroup:
             raise Missed(LEFT)
         return lambda ends: self._answer_to(call, ends)
 
-    def _answer_to(self, call: _Call, ends: float) -> Any:
+    def _answer_to(self, call: _OutgoingCall, ends: float) -> Any:
         seconds = max(0.0, ends - time.monotonic()) + min(self.patience, self._wait)
         with self._changed:
             self._changed.wait_for(lambda: call.answer or self._has_left, seconds)

@@ -12,7 +12,7 @@ from ..core.errors import ProgramLateError
 from ..session._session import Place
 from ._messages import Messages
 
-Answer = Tuple[int, Optional[Sequence[Any]]]  # the request's number, and a place or none
+PlaceAnswer = Tuple[int, Optional[Sequence[Any]]]  # the request's number, and a place or none
 
 
 class PlaceRequests:
@@ -21,7 +21,7 @@ class PlaceRequests:
     def __init__(self, messages: Messages) -> None:
         self._messages, self._asking = messages, threading.Lock()
         self._asked, self.has_ended = 0, False
-        self._answers: queue.SimpleQueue[Optional[Answer]] = queue.SimpleQueue()
+        self._answers: queue.SimpleQueue[Optional[PlaceAnswer]] = queue.SimpleQueue()
         # The numbers of open ones that were given to clients here, who may not have them yet.
         self.coming: Set[int] = set()
 

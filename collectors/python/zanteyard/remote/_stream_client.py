@@ -9,7 +9,7 @@ from typing import Any, Callable, Optional
 
 from ._connecting import ANSWERING, welcomed
 from ._outbox import Handover
-from ._stream_ends import Link, asked
+from ._stream_ends import RedisLink, asked
 from ._stream_messages import ClientsEnd
 from ._stream_names import HERE
 
@@ -23,7 +23,7 @@ class StreamDoor:
     def __init__(self, url: str, audit: str) -> None:
         client = secrets.token_hex(8)
         self.messages, self._wait = ClientsEnd(url, audit, client), 0.0
-        self._link = Link(url)
+        self._link = RedisLink(url)
         try:
             self.messages.send("hello", socket.gethostname(), os.getpid(), seconds=ANSWERING)
             names = self.messages.names

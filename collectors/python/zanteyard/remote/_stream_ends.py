@@ -32,7 +32,7 @@ class Gap(Exception):
     """Messages are missing that nobody gives again, and which."""
 
 
-class Link:
+class RedisLink:
     """A connection that is opened as it is needed. For threads, one after another."""
 
     def __init__(self, url: str) -> None:
@@ -117,9 +117,9 @@ class Appender:
     is for good, or None where it can't be found out; else it is made again."""
 
     def __init__(
-        self, url: str, key: str, is_over: Optional[Callable[[Link, float], Any]] = None
+        self, url: str, key: str, is_over: Optional[Callable[[RedisLink, float], Any]] = None
     ) -> None:
-        self.key, self._link, self._is_over = key, Link(url), is_over
+        self.key, self._link, self._is_over = key, RedisLink(url), is_over
         self._sending, self._numbering = threading.Lock(), threading.Lock()
         self._kept: Deque[Tuple[int, bytes]] = deque()  # what isn't confirmed
         self.last = 0  # number that was given
@@ -247,7 +247,7 @@ class Reader:
         """Behind the message of this number. Where it `has_gaps` what is missing isn't waited
         for."""
         self.key, self.last, self._has_gaps = key, last, has_gaps
-        self._link = Link(url)
+        self._link = RedisLink(url)
         self._found: Deque[Tuple[int, Any]] = deque()
         self.read_at = time.monotonic()  # when Redis has answered last
 
@@ -292,7 +292,7 @@ def entry(found: Any) -> Tuple[int, Any]:
     return int(name.split(b"-")[0]), marshal.loads(fields[1])
 
 
-def asked(link: Link, commands: List[Command], seconds: float) -> List[Any]:
+def asked(link: RedisLink, commands: List[Command], seconds: float) -> List[Any]:
     """Raises OSError where Redis can't be reached, or refuses one of them."""
     found = link.ask(commands, seconds)
     if found is None:

@@ -14,8 +14,8 @@ import time
 from collections import deque
 from typing import Any, Callable, Deque, Optional, Tuple
 
-from ._stream_ends import AGAIN, Appender, Link, Reader
-from ._stream_names import Names
+from ._stream_ends import AGAIN, Appender, Reader, RedisLink
+from ._stream_names import StreamKeys
 
 SENDING = 2.0  # seconds in which Redis has to take what is sent, before it is left for later
 BEAT = 1.0  # seconds between two signs of life
@@ -59,7 +59,7 @@ class ClientsEnd(StreamMessages):
     """What the auditor has taken for good is told to who hands over, as `taken`."""
 
     def __init__(self, url: str, audit: str, client: str) -> None:
-        self.names, self.client = Names(audit), client
+        self.names, self.client = StreamKeys(audit), client
         up = Appender(url, self.names.up(client), self._is_buried)
         super().__init__(up, Reader(url, self.names.down(client), has_gaps=True))
         self._made_in = os.getpid()
@@ -70,7 +70,7 @@ class ClientsEnd(StreamMessages):
         self._has_ended = threading.Event()
         self._beating = threading.Thread(target=self._beat, daemon=True)
 
-    def _is_buried(self, link: Link, seconds: float) -> Optional[bool]:
+    def _is_buried(self, link: RedisLink, seconds: float) -> Optional[bool]:
         found = link.ask([("EXISTS", self.names.buried(self.client))], seconds)
         return None if found is None else found[0] == 1
 
@@ -149,7 +149,7 @@ class AuditorsEnd(StreamMessages):
     def __init__(
         self, url: str, audit: str, client: str, before_given: Callable[[], object]
     ) -> None:
-        names = Names(audit)
+        names = StreamKeys(audit)
         super().__init__(Appender(url, names.down(client)), Reader(url, names.up(client)))
         self.client, self._before_given = client, before_given
 

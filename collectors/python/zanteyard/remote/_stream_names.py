@@ -29,7 +29,7 @@ HERE = b"here"
 PREFIX = "zanteyard audit "
 
 
-class Names(NamedTuple):
+class StreamKeys(NamedTuple):
     """Of an audit of this name."""
 
     audit: str

@@ -7,7 +7,7 @@ from collections import deque
 from dataclasses import astuple
 from typing import Any, Callable, Deque, Dict, List, Optional, Sequence, Tuple
 
-from ..core._crash_notes import Note
+from ..core._crash_notes import CrashNote
 from ..core._records import unpacked
 from ..core.errors import MissingError
 from ..live._live_auditor import PAUSE, LiveAuditor
@@ -59,7 +59,7 @@ class StreamProcess(ClientProcess):
         # What isn't taken in for good: of messages that logged something, each session's last
         # number; and notes of what isn't handed over.
         self._logged: Deque[Tuple[int, Dict[int, Optional[int]]]] = deque()
-        self._notes: Dict[int, Deque[Tuple[int, int, Note]]] = {}
+        self._notes: Dict[int, Deque[Tuple[int, int, CrashNote]]] = {}
         self._held: Dict[int, List[Tuple[float, int, Optional[int], Any, Any]]] = {}
         self._quiet_since: Optional[float] = None
         self._deeds.update(
@@ -183,7 +183,7 @@ class StreamProcess(ClientProcess):
             super()._take_one(*its)
 
     def _take_note(self, which: int, *note: Any) -> None:
-        its = Note(*note)
+        its = CrashNote(*note)
         self._notes.setdefault(its.session, deque()).append((self._at, which, its))
         self._drop_notes(its.session)
 

@@ -28,9 +28,9 @@ from ..live._backlog import keys_written_unseen
 from ..live._live_auditor import LiveAuditor
 from ..session._session import Place
 from ._live_state import LiveState, StateFile
-from ._stream_ends import Link, asked
+from ._stream_ends import RedisLink, asked
 from ._stream_messages import AuditorsEnd
-from ._stream_names import HERE, Names
+from ._stream_names import HERE, StreamKeys
 from ._stream_process import ON_THEIR_WAY, SILENCE, StreamProcess
 
 logger = logging.getLogger("zanteyard")
@@ -69,9 +69,9 @@ class StreamServer:
         silence: float = SILENCE,
         on_their_way: int = ON_THEIR_WAY,
     ) -> None:
-        self.url, self.names, self._live = url, Names(audit), live
+        self.url, self.names, self._live = url, StreamKeys(audit), live
         self._silence, self._on_their_way = silence, on_their_way
-        self._link = Link(url)
+        self._link = RedisLink(url)
         self._lock = threading.RLock()  # around what the state tells
         self._processes: Dict[str, StreamProcess] = {}
         self._is_closing = self._is_left = False
@@ -299,7 +299,7 @@ class StreamServer:
         that. What it told by then is heard there. Whether that was done: it may have told something
         in this very moment."""
         up, rest_of_it = self.names.up(ends.client), self.names.rest(ends.client)
-        link = Link(self.url)
+        link = RedisLink(self.url)
         try:
             rest = ("XRANGE", up, f"{ends.reader.last + 1}-0", "+", "COUNT", 1)
             _, found = asked(link, [("WATCH", up), rest], WAITS)

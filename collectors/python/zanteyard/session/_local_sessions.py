@@ -5,7 +5,7 @@ from __future__ import annotations
 import os
 from typing import List, Optional
 
-from ..core._crash_notes import Notes
+from ..core._crash_notes import CrashNotes
 from ..core._locks import give_back, take
 from ..core._outcome import Policy
 from ..core._records import Store
@@ -77,11 +77,11 @@ class SessionsHere:
         """Whether what is done in sessions that are added from here on isn't handed in."""
         return False
 
-    def _notes_of(self, store: Store) -> Optional[Notes]:
+    def _notes_of(self, store: Store) -> Optional[CrashNotes]:
         """Where what a session does is noted for who finds this process killed."""
         return None
 
-    def _forget(self, notes: Notes) -> None:
+    def _forget(self, notes: CrashNotes) -> None:
         """Of a session that does nothing more, for who has its turn."""
 
     def _renew(self, session: Session) -> Optional[Place]:

@@ -15,11 +15,10 @@ from __future__ import annotations
 import threading
 import time
 from concurrent.futures import Future, ThreadPoolExecutor, wait
-from typing import Any, Callable, Dict, List, Optional, Sequence, Tuple, TypeVar
+from typing import Any, Callable, Dict, List, Optional, Sequence, Tuple
 
-from ._session import Place, Session
+from ._session import Place, Result, Session
 
-Result = TypeVar("Result")
 Wait = Callable[[float], Result]  # until then, by the monotonic clock; raises Missed
 
 

@@ -42,11 +42,11 @@ from typing import Tuple, TypeVar
 
 from ..core._circumstances import brief, caller
 from ..core._commit_status import ticket_of
-from ..core._crash_notes import Notes
+from ..core._crash_notes import CrashNotes
 from ..core._forks import UNAUDITED, keep
 from ..core._locks import give_back, take
 from ..core._own_keys import FENCE, FLAG, MARK
-from ..core._records import Deed, Found, Logged, Name, Read, Source, Store, as_bytes, undone
+from ..core._records import Deed, Logged, Name, Read, Source, Store, StoredValue, as_bytes, undone
 from ..core.errors import (
     AbortedError,
     AuditLostError,
@@ -145,7 +145,7 @@ class Session:
         self.running: Optional[Transaction] = None  # the same, or the collector's own
         self.used_at = time.monotonic()
         self.failure: Optional[Exception] = None
-        self.notes: Optional[Notes] = None  # for who finds this process killed
+        self.notes: Optional[CrashNotes] = None  # for who finds this process killed
         # For how many seconds this client waited for the audit: in all, and at most at a time.
         self.waited = self.longest = 0.0
         keep(self)
@@ -555,7 +555,7 @@ class Transaction:
         return {key: self.was_read(key, found.get(key)) for key in keys}
 
     def was_read(
-        self, key: str, found: Optional[Found], statement: Optional[str] = None
+        self, key: str, found: Optional[StoredValue], statement: Optional[str] = None
     ) -> Any:
         read = (key, "init" if found is None else self.source(found[1]))
         self.reads.add(read)

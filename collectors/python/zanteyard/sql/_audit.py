@@ -19,7 +19,7 @@ _numbers: weakref.WeakKeyDictionary[Any, Any] = weakref.WeakKeyDictionary()
 _unlogged: weakref.WeakKeyDictionary[Any, Unlogged] = weakref.WeakKeyDictionary()  # of each auditor
 
 
-class Audit:
+class SqlAudit:
     """`unaudited` says what becomes of a statement that can't be audited: "refuse" or "run". A
     commit waits up to `wait` seconds for what is asked beside it, and as long for its entry in the
     log of writes: as the auditor's policy says, where none is given; for others' locks not longer

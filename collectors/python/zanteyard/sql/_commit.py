@@ -22,7 +22,7 @@ from typing import Any, List, Optional, Sequence, Tuple
 from ..core._signal_errors import is_foreign
 from ..core.errors import AbortedError, AuditLostError, StoreUnfitError
 from ..session._session import Transaction
-from ._notes import ENDED, MANY, TOO_MANY, Notes, Write
+from ._notes import ENDED, MANY, TOO_MANY, Notes, RowWrite
 from ._side_connection import limits
 from ._tables import renewed
 from ._versions import MOST, CutError
@@ -95,7 +95,7 @@ class Commit:
         if notes.transaction is None or self.store.side.is_away:
             self._ask_number()  # which finds a connection that is lost before a commit is sent
 
-    def _found(self) -> Sequence[Write]:
+    def _found(self) -> Sequence[RowWrite]:
         """What it has written; the transaction then has that too, and what it has read."""
         notes, transaction, connection = self.notes, self.transaction, self.connection
         asked = (connection.tables, connection.session.run_name, notes.keys, notes.overwritten)
@@ -131,7 +131,7 @@ class Commit:
         transaction.sent = tuple(transaction.written)
         return writes
 
-    def _append(self, writes: Sequence[Write]) -> None:
+    def _append(self, writes: Sequence[RowWrite]) -> None:
         """What fails here, or waits, is undone alone: the commit goes on without."""
         if not writes:
             return

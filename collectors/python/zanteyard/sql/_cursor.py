@@ -16,7 +16,7 @@ from typing import Any, Callable, Dict, Iterator, List, Optional, Sequence, Tupl
 from ..core._circumstances import caller
 from ..core._signal_errors import is_foreign
 from ._notes import Notes, Row
-from ._statements import DELETE, INSERT, SELECT, Joined, Part, Statement
+from ._statements import DELETE, INSERT, SELECT, Joined, Statement, TextPart
 from ._tables import ITS, Table, quoted
 from ._versions import Snapshot
 
@@ -37,7 +37,7 @@ def is_as_it_is(statement: Optional[Statement]) -> bool:
     return statement is None or statement.table is None or statement.parts is None
 
 
-def sent(statement: Statement, notes: Notes, bound: Callable[[Part], str] = str) -> str:
+def sent(statement: Statement, notes: Notes, bound: Callable[[TextPart], str] = str) -> str:
     """The text that is sent in its place; `bound` gives the expression for a part of a key that
     isn't one by itself."""
     version = ITS_NUMBERS if notes.has_saved else ITS_NUMBER
@@ -82,7 +82,7 @@ def status_of(statement: Statement, count: int) -> str:
     return f"{its}0 {count}" if statement.kind == INSERT else f"{its}{count}"
 
 
-def _found(statement: Statement, version: str, bound: Callable[[Part], str]) -> str:
+def _found(statement: Statement, version: str, bound: Callable[[TextPart], str]) -> str:
     """Of rows that are found, or not: the statement as it is, and beside it, also where it finds
     nothing, the snapshot that it was run in: all parts of one statement have the same."""
     table = statement.table

@@ -7,13 +7,13 @@ from typing import Callable, Dict, List, Mapping, NamedTuple, Optional, Sequence
 
 from ..core._records import Source
 from ._tables import Table
-from ._versions import MOST, CutError, History, Snapshot, UnclearError
+from ._versions import MOST, CutError, RowHistory, Snapshot, UnclearError
 
 RowKey = Tuple[int, str]  # the table's oid, and the text of the row's key
 ENDED = "its transaction was ended by what isn't seen"
 MANY = 256  # reads, or writes, of a transaction that can be audited
 TOO_MANY = f"it has more than {MANY} reads, or writes"
-Finds = Callable[[History], Source]
+Finds = Callable[[RowHistory], Source]
 
 
 @dataclass
@@ -30,7 +30,7 @@ class Row:
         return self.table.key_of(self.parts)
 
 
-class Seen(NamedTuple):
+class RowSeen(NamedTuple):
     """A read, and how its source is found in the row's history."""
 
     row: Row
@@ -55,14 +55,14 @@ class Changed:
         return self.was_there or self.is_there
 
 
-class Read(NamedTuple):
+class RowRead(NamedTuple):
     name: str
     source: Source
     statement: str
     value: str
 
 
-class Write(NamedTuple):
+class RowWrite(NamedTuple):
     """An entry of the log, but for who writes it."""
 
     row: Row
@@ -83,7 +83,7 @@ class Notes:
     unclear: Optional[str] = None
     snapshot: Optional[Snapshot] = None  # which all statements of a transaction have
     pending: Optional[str] = None  # a statement that was sent, and of which nothing is noted yet
-    seen: Dict[Tuple[RowKey, Optional[int]], Seen] = field(default_factory=dict)
+    seen: Dict[Tuple[RowKey, Optional[int]], RowSeen] = field(default_factory=dict)
     changed: Dict[RowKey, Changed] = field(default_factory=dict)
     own: Set[int] = field(default_factory=set)
     savepoints: List[Tuple[str, Dict[RowKey, Changed]]] = field(default_factory=list)
@@ -131,7 +131,7 @@ class Notes:
                 self.doubt(f"{row.name} isn't as this transaction has written it")
                 return
         find: Finds = lambda history: history.of_version(version, seen)
-        self._keep(version, Seen(row, find, statement, value))
+        self._keep(version, RowSeen(row, find, statement, value))
 
     def missed(self, row: Row, seen: Snapshot, statement: str) -> None:
         """A row that wasn't there."""
@@ -141,9 +141,9 @@ class Notes:
                 self.doubt(f"{row.name} isn't there, which this transaction has written")
             return
         find: Finds = lambda history: history.of_absence(seen)
-        self._keep(None, Seen(row, find, statement, "nothing"))
+        self._keep(None, RowSeen(row, find, statement, "nothing"))
 
-    def _keep(self, version: Optional[int], seen: Seen) -> None:
+    def _keep(self, version: Optional[int], seen: RowSeen) -> None:
         """One for each version, of however many statements: all have the same snapshot."""
         if len(self.seen) > MANY:
             self.doubt(TOO_MANY)
@@ -211,7 +211,7 @@ class Notes:
             return
         del self.savepoints[place - 1 :]
 
-    def has_read(self, seen: Seen) -> None:
+    def has_read(self, seen: RowSeen) -> None:
         """What was found out already. Its key is no other's."""
         if len(self.seen) > MANY:
             self.doubt(TOO_MANY)
@@ -244,8 +244,8 @@ class Notes:
         return [it.row for it in self.changed.values() if it.was_there]
 
     def reads(
-        self, histories: Mapping[RowKey, History], versions: Mapping[RowKey, Optional[int]]
-    ) -> List[Read]:
+        self, histories: Mapping[RowKey, RowHistory], versions: Mapping[RowKey, Optional[int]]
+    ) -> List[RowRead]:
         """Where one is unclear it is left out, and the reason is kept. Raises CutError where more
         entries would tell it."""
         found = [
@@ -255,7 +255,7 @@ class Notes:
         for key, it in self.changed.items():
             version = versions.get(key)
             if not it.was_there:
-                find: Finds = History.of_absence_now
+                find: Finds = RowHistory.of_absence_now
             elif version is None:
                 self.doubt(f"{it.row.name} isn't there for others, who can't have deleted it")
                 continue
@@ -271,10 +271,10 @@ class Notes:
         find: Finds,
         statement: str,
         value: str,
-        histories: Mapping[RowKey, History],
-    ) -> Optional[Read]:
+        histories: Mapping[RowKey, RowHistory],
+    ) -> Optional[RowRead]:
         try:
-            return Read(row.name, find(histories[row.key]), statement, value)
+            return RowRead(row.name, find(histories[row.key]), statement, value)
         except CutError as error:
             if len(histories[row.key].entries) < MOST:
                 raise
@@ -283,9 +283,9 @@ class Notes:
             self.doubt(f"of {row.name} {error}")
         return None
 
-    def writes(self, histories: Mapping[RowKey, History]) -> Sequence[Write]:
+    def writes(self, histories: Mapping[RowKey, RowHistory]) -> Sequence[RowWrite]:
         return [
-            Write(
+            RowWrite(
                 it.row,
                 histories[key].last_number + 1,
                 not it.is_there,

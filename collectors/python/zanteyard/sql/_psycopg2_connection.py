@@ -14,9 +14,18 @@ from ..core._circumstances import brief_row
 from ..core._log_dedup import Unaudited
 from ..core.errors import StatementRefusedError
 from . import _savepoints as savepoints
-from ._connection import NO_AUTOCOMMIT, NOT_AUDITED, Audits
-from ._cursor import gives_rows, is_as_it_is, is_there, note, own_columns, pending, sent
-from ._cursor import status_of, told_of
+from ._connection import NOT_AUDITED, NO_AUTOCOMMIT, Audits
+from ._cursor import (
+    gives_rows,
+    is_as_it_is,
+    is_there,
+    note,
+    own_columns,
+    pending,
+    sent,
+    status_of,
+    told_of,
+)
 from ._statements import Statement
 
 TEXT = 25  # the type's number

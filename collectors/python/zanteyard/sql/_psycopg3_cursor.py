@@ -18,8 +18,18 @@ from psycopg import adapt, pq
 from ..core._circumstances import LETTERS
 from ..core.errors import StatementRefusedError
 from . import _savepoints as savepoints
-from ._cursor import Own, gives_rows, is_as_it_is, is_there, note, own_columns, pending, sent
-from ._cursor import status_of, told_of
+from ._cursor import (
+    Own,
+    gives_rows,
+    is_as_it_is,
+    is_there,
+    note,
+    own_columns,
+    pending,
+    sent,
+    status_of,
+    told_of,
+)
 from ._statements import NULL, OTHER, UNTYPED, Bound, Kinds, Statement
 
 TEXT, BINARY = pq.Format.TEXT, pq.Format.BINARY
@@ -103,7 +113,7 @@ def told_row(result: Any, row: int, columns: int) -> str:
     return its if len(its) <= LETTERS and len(texts) == columns else its[:LETTERS] + " .."
 
 
-class Cut(pq.PGresult):
+class CutResult(pq.PGresult):
     """What the application sees of a result: these rows, and so many of the columns, or nothing but
     how many rows there were."""
 
@@ -165,7 +175,7 @@ class Cut(pq.PGresult):
 
 
 def _of_column(name: str) -> Any:
-    def ask(self: Cut, column_number: int) -> Any:
+    def ask(self: CutResult, column_number: int) -> Any:
         beyond = None if name == "fname" else 0
         is_its = 0 <= column_number < self.columns
         return getattr(self.whole, name)(column_number) if is_its else beyond
@@ -174,7 +184,7 @@ def _of_column(name: str) -> Any:
 
 
 for _name in ("fname", "ftable", "ftablecol", "fformat", "ftype", "fmod", "fsize"):
-    setattr(Cut, _name, _of_column(_name))
+    setattr(CutResult, _name, _of_column(_name))
 
 
 class Statements:
@@ -188,7 +198,7 @@ class Statements:
     _results: Any
     _ready: Any = None  # what is to be sent
     _statement: Optional[Statement] = None  # where it is sent with what is asked beside
-    _cut: Optional[Cut] = None  # what came of that
+    _cut: Optional[CutResult] = None  # what came of that
     _is_many = False  # while statements are run whose rows nobody asks for, but for the first's
 
     def execute(
@@ -337,7 +347,7 @@ class Statements:
         is_found = (is_there([whole.get_value(at, columns)]) for at in range(whole.ntuples))
         rows = [at for at, is_row in enumerate(is_found) if is_row]
         said = status_of(statement, len(rows))
-        self._cut = Cut(whole, rows, columns, said, gives_rows(statement))
+        self._cut = CutResult(whole, rows, columns, said, gives_rows(statement))
         return [self._cut]
 
     def _make_row_maker(self) -> Any:

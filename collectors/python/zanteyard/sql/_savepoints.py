@@ -22,9 +22,9 @@ import time
 from typing import Any, Callable, Dict, List
 
 from ..core._signal_errors import is_foreign
-from ._notes import Changed, Notes, Read, RowKey, Seen
+from ._notes import Changed, Notes, RowKey, RowRead, RowSeen
 from ._statements import BACK, RELEASE, SAVE, Statement
-from ._versions import MOST, CutError, History
+from ._versions import MOST, CutError, RowHistory
 
 KINDS = (SAVE, RELEASE, BACK)  # of statements that are about one
 
@@ -44,14 +44,14 @@ def run(connection: Any, statement: Statement, send: Callable[[], None]) -> None
         notes.release(statement.written)
     rows = {it.row.name: it.row for it in undone.values()}
     for read in reads:
-        notes.has_read(Seen(rows[read.name], _known(read), read.statement, read.value))
+        notes.has_read(RowSeen(rows[read.name], _known(read), read.statement, read.value))
 
 
-def _known(read: Read) -> Callable[[History], Any]:
+def _known(read: RowRead) -> Callable[[RowHistory], Any]:
     return lambda history: read.source
 
 
-def looked_up(connection: Any, undone: Dict[RowKey, Changed]) -> List[Read]:
+def looked_up(connection: Any, undone: Dict[RowKey, Changed]) -> List[RowRead]:
     """What these rows were before this transaction's first write, as far as that is known."""
     notes, side = connection.notes, connection.store.side
     its = Notes(changed=undone)

@@ -15,13 +15,13 @@ from typing import Any, Dict, List, NamedTuple, Optional, Sequence, Tuple
 
 import psycopg2
 
-from ..core._records import Found
+from ..core._records import StoredValue
 from ..core.errors import AbortedError, AuditLostError
 from ..stores.postgres import PostgresStore
 from ._notes import Row, RowKey
 from ._tables import ALL, Table, Tables, quoted
 from ._unlogged import Unlogged
-from ._versions import FEW, Entry, History, UnclearError
+from ._versions import FEW, Entry, RowHistory, UnclearError
 
 # In one transaction by itself, so that no level of the user's default comes in.
 ALONE = "SET TRANSACTION ISOLATION LEVEL READ COMMITTED, READ ONLY; "
@@ -46,10 +46,10 @@ TYPES = {"int": "int8", "text": "text", "uuid": "uuid"}
 
 
 class Answer(NamedTuple):
-    histories: Dict[RowKey, History]
+    histories: Dict[RowKey, RowHistory]
     versions: Dict[RowKey, Optional[int]]
     fit: Tuple[str, ...]
-    own: Dict[str, Found]
+    own: Dict[str, StoredValue]
 
 
 def limits(seconds: float) -> str:
@@ -107,7 +107,7 @@ class Side:
                 raise
         return self._run(*self._planned(text, values))
 
-    def read_all(self, tables: Tables, run: str, keys: Sequence[str]) -> Dict[str, Found]:
+    def read_all(self, tables: Tables, run: str, keys: Sequence[str]) -> Dict[str, StoredValue]:
         """What a meeting reads: keys of rows, and of the collector's own table, at once. Raises
         AbortedError where a row isn't as its last writer has left it."""
         rows = [Row(*found) for found in map(tables.of_key, keys) if found is not None]
@@ -161,7 +161,7 @@ class Side:
             else:
                 own[at] = (first, (name, int(session), int(number)))
         histories = {
-            key: History(run, its, len(its) >= most, whose=self.unlogged.whose(key))
+            key: RowHistory(run, its, len(its) >= most, whose=self.unlogged.whose(key))
             for key, its in entries.items()
         }
         return Answer(histories, versions, tuple(sorted(fit)), own)

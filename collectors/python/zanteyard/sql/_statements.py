@@ -56,7 +56,7 @@ class Bound(NamedTuple):
     kind: str
 
 
-Part = Union[str, Bound]
+TextPart = Union[str, Bound]
 
 
 @dataclass(frozen=True)
@@ -83,19 +83,19 @@ class Statement:
 
     kind: str
     table: Optional[Table] = None
-    parts: Optional[Tuple[Part, ...]] = None
+    parts: Optional[Tuple[TextPart, ...]] = None
     front: str = ""
     rest: str = ""
     gives_rows: bool = False
     written: str = ""  # the table's name, as it stands there; or a savepoint's
-    others: Tuple[Tuple[Part, ...], ...] = ()
+    others: Tuple[Tuple[TextPart, ...], ...] = ()
     is_tested: bool = False
     is_fixed: bool = False
     alias: str = ""
     joined: Tuple[Joined, ...] = ()
 
     @property
-    def keys(self) -> Tuple[Tuple[Part, ...], ...]:
+    def keys(self) -> Tuple[Tuple[TextPart, ...], ...]:
         """Of all rows that it names."""
         return () if self.parts is None else (self.parts, *self.others)
 
@@ -104,7 +104,7 @@ class Statement:
 class Condition:
     """Of a statement: the keys of the rows that it names, and whether it says more of them."""
 
-    keys: Tuple[Tuple[Part, ...], ...]
+    keys: Tuple[Tuple[TextPart, ...], ...]
     is_tested: bool = False
 
 
@@ -395,7 +395,7 @@ class _Reader:
         is_and = isinstance(where, ast.BoolExpr) and where.boolop == enums.BoolExprType.AND_EXPR
         wanted = [name for name, _ in self.table.key]
         told = f"its condition isn't equality of the whole key ({', '.join(wanted)})"
-        found: List[Dict[str, Optional[Part]]] = [{}]
+        found: List[Dict[str, Optional[TextPart]]] = [{}]
         is_tested = False
         for one in where.args if is_and else (where,):
             its = self.named(one)
@@ -419,7 +419,7 @@ class _Reader:
             is_tested,
         )
 
-    def named(self, node: Any) -> Optional[List[Dict[str, Optional[Part]]]]:
+    def named(self, node: Any) -> Optional[List[Dict[str, Optional[TextPart]]]]:
         """Columns of the key, with the expressions that they have to be equal to, None for NULL:
         of each row that this part of a condition names. None where it says something else."""
         if not isinstance(node, ast.A_Expr):
@@ -453,7 +453,9 @@ class _Reader:
         alias, name = self.place(node)
         return alias == self.alias and name in dict(self.table.key)
 
-    def equal(self, names: Sequence[str], value: Any, is_row: bool) -> Dict[str, Optional[Part]]:
+    def equal(
+        self, names: Sequence[str], value: Any, is_row: bool
+    ) -> Dict[str, Optional[TextPart]]:
         assert self.table is not None
         if is_row and (not isinstance(value, ast.RowExpr) or len(value.args) != len(names)):
             self.no("its condition compares a row with something else")
@@ -462,7 +464,7 @@ class _Reader:
             name: self.constant(each, key[name], name) for name, each in zip(names, values)
         }
 
-    def constant(self, node: Any, kind: str, name: str) -> Optional[Part]:
+    def constant(self, node: Any, kind: str, name: str) -> Optional[TextPart]:
         is_cast = isinstance(node, ast.TypeCast)
         if is_cast:
             its = [each.sval for each in node.typeName.names]

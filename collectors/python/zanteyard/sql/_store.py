@@ -10,9 +10,8 @@ from typing import Any, Dict, Optional, Sequence, Tuple, Type
 
 from psycopg2 import extensions
 
-from ..core._commit_status import UNKNOWN
-from ..core._commit_status import Found as FoundOut
-from ..core._records import Found, Name
+from ..core._commit_status import UNKNOWN, CommitStatus
+from ..core._records import Name, StoredValue
 from ..core.errors import AbortedError, OutcomeUnknownError
 from ..session._session import Transaction
 from ..stores._postgres_connection import outcome_told
@@ -73,17 +72,17 @@ class SqlStore:
         self.is_alone = True
         self.beside.begin_alone(seconds)
 
-    def read(self, key: str) -> Optional[Found]:
+    def read(self, key: str) -> Optional[StoredValue]:
         return self.beside.read(key)
 
-    def read_all(self, keys: Sequence[str]) -> Dict[str, Found]:
+    def read_all(self, keys: Sequence[str]) -> Dict[str, StoredValue]:
         connection = self.connection
         return self.side.read_all(connection.tables, connection.session.run_name, keys)
 
     def write(self, key: str, value: Any, name: Name) -> None:
         self.beside.write(key, value, name)
 
-    def exchange(self, key: str, value: Any, name: Name) -> Optional[Found]:
+    def exchange(self, key: str, value: Any, name: Name) -> Optional[StoredValue]:
         return self.beside.exchange(key, value, name)
 
     def claim(self, run_name: str, token: str, seconds: float) -> None:
@@ -203,7 +202,7 @@ def asked(
     *,
     ticket: Any,
     seconds: float,
-) -> FoundOut:
+) -> CommitStatus:
     """What became of a transaction whose process is killed, as `postgres_store.asked` does."""
     kind, its = ticket
     if kind == BESIDE:

@@ -82,7 +82,7 @@ def nobody(version: Optional[int]) -> str:
     return f"who isn't audited{its}"
 
 
-class History:
+class RowHistory:
     """A row's entries, of all runs, as one run sees them; the newest come first. `is_cut` says that
     there are older ones, and `is_new` that none of all is of this run."""
 

@@ -20,7 +20,7 @@ import psycopg2
 
 from ..stores.postgres import ONE_AT_A_TIME
 from ..stores.postgres import prepare as prepare_store
-from ._audit import Audit
+from ._audit import SqlAudit
 from ._connection import REFUSE
 from ._psycopg2_connection import AuditedConnection, NotAuditedError
 from ._tables import look, make
@@ -43,7 +43,7 @@ def prepare(dsn: str, tables: Sequence[str]) -> None:
         connection.close()
 
 
-class Audited(Audit):
+class Audited(SqlAudit):
     """A connection factory: each connection that it makes is a session of the auditor's."""
 
     def __call__(self, dsn: str, is_async: int = 0) -> AuditedConnection:

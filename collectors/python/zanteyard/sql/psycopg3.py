@@ -17,7 +17,7 @@ from __future__ import annotations
 
 from typing import Any, Sequence, Type
 
-from ._audit import Audit
+from ._audit import SqlAudit
 from ._psycopg3_connection import AuditedConnection, made_for
 from ._psycopg3_cursor import AuditedClientCursor, AuditedCursor, NotAuditedError
 from .psycopg2 import prepare
@@ -31,4 +31,4 @@ __all__ = [
 def audited(auditor: Any, tables: Sequence[str], **more: Any) -> Type[AuditedConnection]:
     """A class of connections, each of which is a session of the auditor's: `Audit` has the other
     settings."""
-    return made_for(Audit(auditor, tables, **more))
+    return made_for(SqlAudit(auditor, tables, **more))

@@ -19,8 +19,8 @@ from typing import Any, Dict, Mapping, Optional, Sequence, Tuple
 import pymysql
 from pymysql.constants import SERVER_STATUS
 
-from ..core._commit_status import Found as FoundOut
-from ..core._records import Found, Name
+from ..core._commit_status import CommitStatus
+from ..core._records import Name, StoredValue
 from ..core._timeouts import LateError, within
 from ..core.errors import AbortedError, NameTakenError, OutcomeUnknownError
 from .levels import SNAPSHOT, checked_level
@@ -91,9 +91,10 @@ def code_of(error: BaseException) -> int:
 
 class MariaDBStore:
     """One connection, for one thread at a time. `dsn` is what `pymysql.connect` takes, `level` one
-    of MariaDB's in `levels.py`, and `table` may be "database.table". A connection is waited for no longer than
-    `patience` seconds, and a lock no longer than `lock_wait`, whole seconds; where none are given,
-    as long as the server says. Where it is `for_update` all reads are SELECT .. FOR UPDATE."""
+    of MariaDB's in `levels.py`, and `table` may be "database.table". A connection is waited for no
+    longer than `patience` seconds, and a lock no longer than `lock_wait`, whole seconds; where none
+    are given, as long as the server says. Where it is `for_update` all reads are SELECT .. FOR
+    UPDATE."""
 
     errors = (pymysql.MySQLError, LateError)
 
@@ -243,11 +244,11 @@ class MariaDBStore:
         self.is_alone = True
         self.before = limited(SHARE * (self.ends - time.monotonic()))
 
-    def read(self, key: str) -> Optional[Found]:
+    def read(self, key: str) -> Optional[StoredValue]:
         row = self.ask(READ + (LOCKING if self.is_alone else self.locks), (key,)).fetchone()
         return None if row is None else (row[0], row[1:])
 
-    def read_all(self, keys: Sequence[str]) -> Dict[str, Found]:
+    def read_all(self, keys: Sequence[str]) -> Dict[str, StoredValue]:
         if not keys:
             return {}
         locks = LOCKING if self.is_alone else self.locks
@@ -257,7 +258,7 @@ class MariaDBStore:
     def write(self, key: str, value: Any, name: Name) -> None:
         self.put(key, value, name, "", "")
 
-    def exchange(self, key: str, value: Any, name: Name) -> Optional[Found]:
+    def exchange(self, key: str, value: Any, name: Name) -> Optional[StoredValue]:
         """By one statement, which locks the row before it reads: what is given is what is
         overwritten, whatever snapshot the transaction has."""
         rows = self.put(key, value, name, KEEPING, BEFORE).fetchall()
@@ -391,7 +392,7 @@ ITS_ROW = """SELECT before_run, before_session, before_number FROM {table} WHERE
 
 def asked(
     dsn: Dict[str, Any], table: str, own: str, *, ticket: Any, seconds: float
-) -> FoundOut:
+) -> CommitStatus:
     """What became of the transaction of a store whose process is killed."""
     store = MariaDBStore(dsn, patience=seconds)
     store.table, store.own = table, own

@@ -8,7 +8,7 @@ import threading
 import time
 from typing import Any, Dict, List, Optional, Tuple
 
-from ..core._records import Found, Name
+from ..core._records import Name, StoredValue
 from ..core.errors import AbortedError, NameTakenError, OutcomeUnknownError
 
 FAULTS = (
@@ -42,14 +42,14 @@ class Connection:
         self.shared, self.known = shared, True
         self.lost: Optional[str] = None
         self.seen: Dict[str, int] = {}
-        self.writes: Dict[str, Found] = {}
+        self.writes: Dict[str, StoredValue] = {}
         self.last_outcome = "unknown"
 
     def begin(self) -> None:
         self.began, self.seen, self.writes = self.shared.moment, {}, {}
         self.last_outcome = "aborted"  # so far nothing is there
 
-    def read(self, key: str) -> Optional[Found]:
+    def read(self, key: str) -> Optional[StoredValue]:
         shared = self.shared
         at = shared.newest(key, shared.moment if shared.fault == "torn-read" else self.began)
         self.seen[key] = at

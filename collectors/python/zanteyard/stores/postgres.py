@@ -13,10 +13,9 @@ from typing import Any, Dict, List, Optional, Sequence, Tuple
 import psycopg2
 from psycopg2 import errors, extensions
 
-from ..core._commit_status import UNKNOWN
-from ..core._commit_status import Found as FoundOut
+from ..core._commit_status import UNKNOWN, CommitStatus
 from ..core._own_keys import FLAG
-from ..core._records import Found, Name
+from ..core._records import Name, StoredValue
 from ..core.errors import AbortedError, NameTakenError, OutcomeUnknownError
 from ._postgres_connection import answer, connected, outcome_told
 from .levels import checked_level
@@ -201,11 +200,11 @@ class PostgresStore:
         self.is_alone = True
         self.before = f"SET LOCAL statement_timeout = {max(1, int(1000 * seconds))}; "
 
-    def read(self, key: str) -> Optional[Found]:
+    def read(self, key: str) -> Optional[StoredValue]:
         row = self.ask(READ, (key,), is_reading=True).fetchone()
         return None if row is None else (row[0], row[1:])
 
-    def read_all(self, keys: Sequence[str]) -> Dict[str, Found]:
+    def read_all(self, keys: Sequence[str]) -> Dict[str, StoredValue]:
         rows = self.ask(READ_ALL, (keys,), is_reading=True)
         return {row[0]: (row[1], row[2:]) for row in rows}
 
@@ -213,7 +212,7 @@ class PostgresStore:
         self.written = (key, *name)
         (self.transaction_id,) = self.ask(WRITE, (key, value, *name)).fetchone()
 
-    def exchange(self, key: str, value: Any, name: Name) -> Optional[Found]:
+    def exchange(self, key: str, value: Any, name: Name) -> Optional[StoredValue]:
         self.written = (key, *name)
         keeps = KEPT if self.is_alone else "%s"
         values = (*name, key) if self.is_alone else (value, *name, key)
@@ -369,7 +368,7 @@ def asked(
     ticket: Any,
     seconds: float,
     ends_it: bool = True,
-) -> FoundOut:
+) -> CommitStatus:
     """What became of the transaction of a store whose process is killed. What its server's process
     is still about is waited for, for half of the time; then, where it `ends_it`, that process is
     ended. Else it may be asked from another machine, where its words may lead to another server:

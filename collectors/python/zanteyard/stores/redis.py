@@ -18,8 +18,8 @@ from typing import Any, Dict, List, Optional, Sequence, Tuple
 
 import redis
 
-from ..core._commit_status import Found as FoundOut
-from ..core._records import Found, Name
+from ..core._commit_status import CommitStatus
+from ..core._records import Name, StoredValue
 from ..core._redis_wire import BROKEN, Command, connected, limit, replies
 from ..core.errors import AbortedError, NameTakenError, OutcomeUnknownError, StoreUnfitError
 from .levels import COMPARED, SINGLE, WATCHED, checked_level
@@ -41,7 +41,7 @@ def text_of(value: Any, name: Name) -> str:
     return MARK + text
 
 
-def found_in(text: Optional[str]) -> Optional[Found]:
+def found_in(text: Optional[str]) -> Optional[StoredValue]:
     """A text that no store of this kind has written has no name, and is the value as a whole."""
     if text is None:
         return None
@@ -58,8 +58,8 @@ def found_in(text: Optional[str]) -> Optional[Found]:
 
 class RedisStore:
     """One connection, for one thread at a time. `url` is what redis-py takes, with the database in
-    it; `level` is one of Redis's in `levels.py`. A connection, and the end of a statement of the collector's own,
-    are waited for no longer than `patience` seconds."""
+    it; `level` is one of Redis's in `levels.py`. A connection, and the end of a statement of the
+    collector's own, are waited for no longer than `patience` seconds."""
 
     errors = (redis.RedisError, ConnectionError)
 
@@ -177,10 +177,10 @@ class RedisStore:
         key.encode()
         return self.prefix + key
 
-    def read(self, key: str) -> Optional[Found]:
+    def read(self, key: str) -> Optional[StoredValue]:
         return self.read_all([key]).get(key)
 
-    def read_all(self, keys: Sequence[str]) -> Dict[str, Found]:
+    def read_all(self, keys: Sequence[str]) -> Dict[str, StoredValue]:
         if not keys:
             return {}
         its = [self.its(key) for key in keys]
@@ -240,7 +240,7 @@ class RedisStore:
         except BROKEN as error:
             raise OutcomeUnknownError(str(error)) from error
 
-    def exchange(self, key: str, value: Any, name: Name) -> Optional[Found]:
+    def exchange(self, key: str, value: Any, name: Name) -> Optional[StoredValue]:
         """In a transaction the key is watched, at every level but where each write is done at
         once."""
         its = self.its(key)
@@ -257,7 +257,7 @@ class RedisStore:
         self.queued.append(command[:-1])
         return found_in(text)
 
-    def exchanged_alone(self, command: Command) -> Optional[Found]:
+    def exchanged_alone(self, command: Command) -> Optional[StoredValue]:
         try:
             self.watch_own()
         except BROKEN as error:
@@ -375,7 +375,7 @@ class RedisStore:
             raise NameTakenError(f"{self.prefix} knows the name {run_name}: an earlier run had it")
 
 
-def asked(url: str, prefix: str, own: str, *, ticket: Any, seconds: float) -> FoundOut:
+def asked(url: str, prefix: str, own: str, *, ticket: Any, seconds: float) -> CommitStatus:
     """What became of the transaction of a store whose process is killed; what an `exchange` by
     itself has overwritten isn't kept."""
     store = RedisStore(url, prefix=prefix, patience=seconds)

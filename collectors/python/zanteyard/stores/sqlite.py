@@ -15,9 +15,8 @@ import sqlite3
 import time
 from typing import Any, Dict, List, Optional, Sequence, Tuple
 
-from ..core._commit_status import Found as FoundOut
-from ..core._commit_status import kept, overwritten
-from ..core._records import Found, Name
+from ..core._commit_status import CommitStatus, kept, overwritten
+from ..core._records import Name, StoredValue
 from ..core.errors import AbortedError, NameTakenError, OutcomeUnknownError
 from .levels import AUTOCOMMIT, IMMEDIATE, UNCOMMITTED, checked_level
 
@@ -68,8 +67,9 @@ def is_busy(error: BaseException) -> bool:
 
 
 class SQLiteStore:
-    """One connection, for one thread at a time. `level` is one of SQLite's in `levels.py`. A lock is waited for no
-    longer than `patience` seconds, but where SQLite sees that waiting is in vain."""
+    """One connection, for one thread at a time. `level` is one of SQLite's in `levels.py`. A lock
+    is waited for no longer than `patience` seconds, but where SQLite sees that waiting is in
+    vain."""
 
     errors = (sqlite3.Error,)
 
@@ -166,10 +166,10 @@ class SQLiteStore:
         self.get_ready(min(seconds, self.patience))
         self.is_alone = True
 
-    def read(self, key: str) -> Optional[Found]:
+    def read(self, key: str) -> Optional[StoredValue]:
         return self.read_all([key]).get(key)
 
-    def read_all(self, keys: Sequence[str]) -> Dict[str, Found]:
+    def read_all(self, keys: Sequence[str]) -> Dict[str, StoredValue]:
         """What is read alone at "read uncommitted" is read where nobody else writes: it is what was
         committed, and of one moment."""
         is_guarded = self.is_alone and self.level == UNCOMMITTED
@@ -190,7 +190,7 @@ class SQLiteStore:
         own = (self.own, None, name[0], OWN, self.count)
         self.ask(WRITE, [*own, key, value, *name], rows=f"{ROW}, {ROW}")
 
-    def exchange(self, key: str, value: Any, name: Name) -> Optional[Found]:
+    def exchange(self, key: str, value: Any, name: Name) -> Optional[StoredValue]:
         """Nobody else writes from before it reads."""
         is_by_itself = self.is_alone or self.level == AUTOCOMMIT
         if is_by_itself:
@@ -324,7 +324,7 @@ class SQLiteStore:
 ITS_ROW = "SELECT value FROM {table} WHERE key = ? AND run = ? AND session = ? AND number = ?"
 
 
-def asked(path: str, table: str, own: str, *, ticket: Any, seconds: float) -> FoundOut:
+def asked(path: str, table: str, own: str, *, ticket: Any, seconds: float) -> CommitStatus:
     """What became of the transaction of a store whose process is killed."""
     store = SQLiteStore(path, patience=seconds)
     store.table, store.own = table, own
