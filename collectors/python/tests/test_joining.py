@@ -25,7 +25,8 @@ from zanteyard.stores.memory import MemoryStore
 from zanteyard.core._crash_notes import CrashNote
 from zanteyard.live._session_pool import Places
 from zanteyard.core._records import as_bytes
-from zanteyard.session._session import Place, Session
+from zanteyard.session._place import Place
+from zanteyard.session._session import Session
 from zanteyard.core._tenancy import Stints
 
 from zanteyard.trial.redis_server import redis_server

@@ -16,7 +16,8 @@ from zanteyard.stores.memory import MemoryStore
 from zanteyard.core._crash_notes import CrashNote
 from zanteyard.live._session_pool import Places
 from zanteyard.core._records import as_bytes
-from zanteyard.session._session import Place, Session
+from zanteyard.session._place import Place
+from zanteyard.session._session import Session
 
 try:
     from zanteyard.remote._stream_process import StreamProcess

@@ -10,7 +10,7 @@ from zanteyard.core._own_keys import FLAG
 from zanteyard.program._auditor import PROGRAM
 from zanteyard.session._quiesce import Group, Missed
 from zanteyard.stores.memory import MemoryStore
-from zanteyard.session._session import Place
+from zanteyard.session._place import Place
 
 SECONDS = 60.0
 SLOW = 20.0  # seconds in which anything is done that isn't waited for, beside other programs

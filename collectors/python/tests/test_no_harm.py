@@ -19,7 +19,8 @@ from zanteyard.live._backlog import Backlog
 from zanteyard.live._audit_start import coverage_from_now
 from zanteyard.stores.memory import MemoryStore
 from zanteyard.live._session_pool import Places
-from zanteyard.session._session import Place, whole
+from zanteyard.session._attempts import whole
+from zanteyard.session._place import Place
 
 from .lateness import BOUND, Lateness
 from .test_live import add_one, set_to

@@ -22,7 +22,7 @@ from zanteyard.stores.memory import MemoryStore
 from zanteyard.core._crash_notes import FORKED, HEAD, ROOM, CrashNotes, notes_of
 from zanteyard.core._records import as_bytes, unpacked
 from zanteyard.core.errors import OutcomeUnknownError
-from zanteyard.session._session import Place
+from zanteyard.session._place import Place
 
 from .test_live import add_one
 

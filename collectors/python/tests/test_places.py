@@ -12,7 +12,7 @@ from zanteyard.live._audit_start import coverage_from_now
 from zanteyard.stores.memory import MemoryStore
 from zanteyard.live._session_pool import Places
 from zanteyard.remote._remote_sessions import RemoteGroup
-from zanteyard.session._session import Place
+from zanteyard.session._place import Place
 from zanteyard.core._version import FORM
 
 from .test_live import add_one

@@ -27,7 +27,8 @@ import logging as _logging
 from .core._log_guard import guard as _guard
 from .core._outcome import RATHER_LOSE_THE_AUDIT, RATHER_WAIT, Outcome, Policy
 from .core._own_keys import FENCE
-from .core._records import Cut, Logged, Pending, Report, Store
+from .core._records import Cut, Logged, Pending, Report
+from .core._stores import Store
 from .core._version import VERSION as __version__
 from .core.errors import (
     AbortedError,
@@ -62,7 +63,8 @@ from .program._auditor import Auditor
 from .program._subprocess import AuditorApart
 from .remote._client import AuditClient
 from .remote._server import AuditServer
-from .session._session import Session, Transaction
+from .session._session import Session
+from .session._transaction import Transaction
 
 _guard(_logging.getLogger("zanteyard"))
 

@@ -8,7 +8,7 @@ import logging
 import sys
 import time
 from dataclasses import dataclass
-from typing import Any, Callable, List, Optional, Tuple
+from typing import Any, List, Optional, Tuple
 
 from ..core._outcome import RATHER_LOSE_THE_AUDIT, RATHER_WAIT, Outcome
 from ..explain._charts import RoundSeen

@@ -55,20 +55,6 @@ def harmlessly(asks: Any, ticket: Any) -> Tuple[Any, Dict[str, Any]]:
     return None, {}
 
 
-def asks_of(store: Any) -> Any:
-    asks = getattr(store, "asks", None)
-    try:
-        return asks() if asks is not None else None
-    except Exception as error:
-        logger.warning("how this store is asked can't be told: %s", error)
-        return None
-
-
-def ticket_of(store: Any, written: Sequence[Any]) -> Any:
-    ticket = getattr(store, "ticket", None)
-    return ticket(written) if ticket is not None else None
-
-
 def kept(overwritten: Optional[Name]) -> str:
     """The name of what an `exchange` of the collector's own overwrites, as the value that it
     writes: so it isn't lost where the answer is."""

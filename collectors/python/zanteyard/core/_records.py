@@ -1,9 +1,9 @@
-"""What is logged, and what is told of it, as plain values; and what a store has to offer."""
+"""What is logged, and what is told of it, as plain values."""
 
 from __future__ import annotations
 
 import marshal
-from typing import Any, Callable, Iterable, List, Mapping, NamedTuple, Optional, Protocol, Sequence
+from typing import Any, Callable, Iterable, List, Mapping, NamedTuple, Sequence
 from typing import Tuple, Union
 
 TransactionId = Tuple[int, int]  # session and number
@@ -115,25 +115,3 @@ class Cut(NamedTuple):
 
 History = List[List[Logged]]  # of each session what it did, in order
 Transactions = Mapping[TransactionId, Logged]
-
-
-class Store(Protocol):
-    """A store's connection, as a session wants it; `sessions` says what each call does."""
-
-    def begin(self) -> None:
-        ...
-
-    def read(self, key: str) -> Optional[StoredValue]:
-        ...
-
-    def write(self, key: str, value: Any, name: Name) -> None:
-        ...
-
-    def commit(self) -> None:
-        ...
-
-    def rollback(self) -> None:
-        ...
-
-    def outcome(self) -> str:
-        ...

@@ -12,7 +12,7 @@ import time
 from dataclasses import dataclass
 from typing import Any, Dict, Iterable, Iterator, List, NamedTuple, Optional, Tuple
 
-from ..core._records import History, Logged, Naming, TransactionId, Transactions
+from ..core._records import History, Naming, TransactionId, Transactions
 from ._shrinking import SECONDS, name, told_undone, version
 
 

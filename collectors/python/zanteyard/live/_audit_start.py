@@ -5,7 +5,7 @@ from __future__ import annotations
 from typing import Any, Iterable, List, Optional, Sequence, Tuple
 
 from ..core._window import SKIPPED, Coverage
-from ..session._session import Place
+from ..session._place import Place
 from ._backlog import Backlog
 from ._quiesce_coordinator import MeetingGroup
 from ._session_pool import Places

@@ -19,12 +19,14 @@ from typing import Any, Callable, Iterable, List, Optional, Tuple
 from ..core._forks import is_forked
 from ..core._outcome import INCOMPLETE, RATHER_LOSE_THE_AUDIT, Outcome, Policy
 from ..core._own_keys import FENCE, LONGEST
-from ..core._records import Logged, Report, Store, TransactionId
+from ..core._records import Logged, Report, TransactionId
+from ..core._stores import Store
 from ..core._window import Coverage
 from ..core.errors import AuditLostError, MissingError
 from ..program._subprocess import AuditorApart
 from ..session._local_sessions import PATIENCE, SessionsHere
-from ..session._session import Place, Session
+from ..session._place import Place
+from ..session._session import Session
 from ._audit import AnyAuditor, Audit, Figures
 from ._audit_start import coverage_from_now
 from ._backlog import Backlog, keys_written_unseen

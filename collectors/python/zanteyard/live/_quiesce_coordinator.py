@@ -6,8 +6,8 @@ import time
 from typing import Any, List, NamedTuple, Optional, Protocol, Sequence, Set, Tuple
 
 from ..core._own_keys import FLAG, is_own
+from ..session._place import Place
 from ..session._quiesce import Missed, Wait
-from ..session._session import Place
 from ._backlog import Backlog
 from ._session_pool import Places
 

@@ -9,7 +9,7 @@ from typing import Any, Deque, Dict, Iterable, List, Mapping, Optional, Set, Tup
 
 from ..core._tenancy import Stints
 from ..core._window import SESSIONS
-from ..session._session import Place
+from ..session._place import Place
 
 SPARE = 8  # that are to be there for clients that come, where there are enough
 # Seconds for a new one to join. Behind that it may never do so, as where nobody knows whether its

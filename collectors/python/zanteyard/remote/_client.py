@@ -10,13 +10,15 @@ import weakref
 from dataclasses import astuple
 from typing import Any, Callable, Dict, List, Optional
 
-from ..core._commit_status import asks_of
 from ..core._outcome import Policy
-from ..core._records import Logged, Store
+from ..core._records import Logged
+from ..core._stores import Store
 from ..core.errors import ProgramEndedError
 from ..live._live_auditor import PAUSE
 from ..session._local_sessions import PATIENCE, SessionsHere
-from ..session._session import Place, Session
+from ..session._place import Place
+from ..session._session import Session
+from ..session._store_calls import StoreCalls
 from ._connecting import ANSWERING, door_to
 from ._outbox import Handover
 from ._quiesce_calls import GroupCalls
@@ -231,7 +233,7 @@ class AuditClient(SessionsHere):
             self._messages.tell("unnoted", seconds=ANSWERING)
             return None
         self._notes[notes] = which
-        if not self._messages.tell("noted", which, asks_of(store), seconds=ANSWERING):
+        if not self._messages.tell("noted", which, StoreCalls(store).asks(), seconds=ANSWERING):
             self._messages.tell("noted", which, None, seconds=ANSWERING)  # it can't be told how
         if self._is_gone:
             notes.end()

@@ -12,7 +12,7 @@ from ..core._records import Logged, unpacked
 from ..core._version import FORM, VERSION
 from ..core.errors import AuditLostError, ProgramEndedError
 from ..live._live_auditor import PAUSE, LiveAuditor
-from ..session._session import Place
+from ..session._place import Place
 from ._crash_recovery import Killed, LostError, Noted, handed_in
 from ._remote_sessions import RemoteGroup
 

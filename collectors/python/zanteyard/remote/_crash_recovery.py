@@ -19,7 +19,7 @@ from ..core._crash_notes import CrashNote, notes_of
 from ..core._own_keys import FENCE, FLAG
 from ..core._records import Logged, TransactionId, as_bytes, undone, unpacked
 from ..live._backlog import Backlog, keys_written_unseen
-from ..session._session import Place
+from ..session._place import Place
 
 SECONDS = 5.0  # in which the store is asked for one outcome
 NOTHING = Logged((), (), "aborted")

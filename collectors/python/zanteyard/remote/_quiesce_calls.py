@@ -8,8 +8,8 @@ from dataclasses import astuple
 from typing import Any, Callable, Dict, List, Optional, Sequence, Set, Tuple
 
 from ..live._quiesce_coordinator import COMING
+from ..session._place import Place
 from ..session._quiesce import Group, Missed
-from ..session._session import Place
 from ._messages import Messages
 from ._outbox import Handover
 

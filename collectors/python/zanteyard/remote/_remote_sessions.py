@@ -8,8 +8,8 @@ from dataclasses import astuple, dataclass, replace
 from typing import Any, Callable, Dict, Iterable, List, Optional, Sequence, Set, Tuple
 
 from ..core.errors import ElsewhereError
+from ..session._place import Place
 from ..session._quiesce import Missed, Wait
-from ..session._session import Place
 from ._messages import Messages
 
 LEFT = "a process has left"

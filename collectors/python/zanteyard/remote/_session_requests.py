@@ -9,7 +9,7 @@ from typing import Any, List, Optional, Sequence, Set, Tuple
 
 from ..core._locks import give_back, take
 from ..core.errors import ProgramLateError
-from ..session._session import Place
+from ..session._place import Place
 from ._messages import Messages
 
 PlaceAnswer = Tuple[int, Optional[Sequence[Any]]]  # the request's number, and a place or none

@@ -11,7 +11,7 @@ from ..core._crash_notes import CrashNote
 from ..core._records import unpacked
 from ..core.errors import MissingError
 from ..live._live_auditor import PAUSE, LiveAuditor
-from ..session._session import Place
+from ..session._place import Place
 from ._client_process import ClientProcess
 from ._crash_recovery import Noted
 from ._stream_ends import Gap

@@ -26,7 +26,7 @@ from ..core._version import FORM, VERSION
 from ..core.errors import AuditLostError, AuditTakenError, JournalError, MissingError
 from ..live._backlog import keys_written_unseen
 from ..live._live_auditor import LiveAuditor
-from ..session._session import Place
+from ..session._place import Place
 from ._live_state import LiveState, StateFile
 from ._stream_ends import RedisLink, asked
 from ._stream_messages import AuditorsEnd

@@ -8,9 +8,10 @@ from typing import List, Optional
 from ..core._crash_notes import CrashNotes
 from ..core._locks import give_back, take
 from ..core._outcome import Policy
-from ..core._records import Store
+from ..core._stores import Store
+from ._place import Place
 from ._quiesce import Group
-from ._session import Place, Session
+from ._session import Session
 
 PATIENCE = 5.0  # seconds in which a store is asked for an outcome that isn't known
 

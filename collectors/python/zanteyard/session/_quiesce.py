@@ -17,7 +17,9 @@ import time
 from concurrent.futures import Future, ThreadPoolExecutor, wait
 from typing import Any, Callable, Dict, List, Optional, Sequence, Tuple
 
-from ._session import Place, Result, Session
+from ._attempts import Result
+from ._place import Place
+from ._session import Session
 
 Wait = Callable[[float], Result]  # until then, by the monotonic clock; raises Missed
 

@@ -21,7 +21,7 @@ from typing import Any, List, Optional, Sequence, Tuple
 
 from ..core._signal_errors import is_foreign
 from ..core.errors import AbortedError, AuditLostError, StoreUnfitError
-from ..session._session import Transaction
+from ..session._transaction import Transaction
 from ._notes import ENDED, MANY, TOO_MANY, Notes, RowWrite
 from ._side_connection import limits
 from ._tables import renewed

@@ -24,7 +24,8 @@ from ..core.errors import (
     StoreUnfitError,
     ZanteyardError,
 )
-from ..session._session import Session, Transaction
+from ..session._session import Session
+from ..session._transaction import Transaction
 from ._commit import Commit
 from ._cursor import STRICT, brief_statement, place_of
 from ._notes import ENDED, Notes

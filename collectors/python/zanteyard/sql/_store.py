@@ -13,7 +13,7 @@ from psycopg2 import extensions
 from ..core._commit_status import UNKNOWN, CommitStatus
 from ..core._records import Name, StoredValue
 from ..core.errors import AbortedError, OutcomeUnknownError
-from ..session._session import Transaction
+from ..session._transaction import Transaction
 from ..stores._postgres_connection import outcome_told
 from ..stores.postgres import LIFE, Asks, PostgresStore, reached
 from ..stores.postgres import asked as asked_beside

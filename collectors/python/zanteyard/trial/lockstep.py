@@ -17,7 +17,8 @@ from ..explain._anomalies import find_anomaly
 from ..explain._report import story_lines, story_of
 from ..explain._shrinking import name as plain_name
 from ..program._auditor import Auditor
-from ..session._session import Session, Transaction
+from ..session._session import Session
+from ..session._transaction import Transaction
 
 SESSIONS = 3
 Steps = Callable[[Sequence["Client"]], None]

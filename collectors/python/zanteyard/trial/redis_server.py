@@ -5,7 +5,7 @@ from __future__ import annotations
 import secrets
 import shutil
 import socket
-from typing import Any, Callable, List, Optional, Tuple
+from typing import Callable, List, Optional
 
 from ._throwaway_server import OwnServer
 

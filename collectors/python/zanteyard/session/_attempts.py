@@ -1,0 +1,54 @@
+"""Attempts at a transaction, the store's own ends of it, and the fence by which a client joins."""
+
+from __future__ import annotations
+
+import math
+import time
+from contextlib import contextmanager
+from typing import Callable, Iterator, TypeVar
+
+from ..core._own_keys import FENCE
+from ..core.errors import AbortedError, OutcomeUnknownError
+from ._transaction import Transaction
+
+Result = TypeVar("Result")
+
+
+def join_behind(transaction: Transaction) -> None:
+    """A fence, behind the last one."""
+    transaction.exchange(FENCE, "")
+
+
+@contextmanager
+def whole(transaction: Transaction) -> Iterator[Transaction]:
+    try:
+        yield transaction
+    except OutcomeUnknownError:
+        if transaction.is_committing:  # of a statement that is a transaction by itself
+            transaction.find_out()
+        else:
+            transaction.rollback()
+        raise
+    except BaseException as error:
+        transaction.find_out_alone(error)
+        transaction.rollback()
+        raise
+    if not transaction.is_over:  # the body may have ended it
+        transaction.commit()
+
+
+def attempted(
+    begin: Callable[[], Transaction],
+    body: Callable[[Transaction], Result],
+    attempts: int,
+    ends: float = math.inf,
+) -> Result:
+    for left in reversed(range(attempts)):
+        try:
+            with whole(begin()) as transaction:
+                result = body(transaction)
+            return result
+        except AbortedError:
+            if not left or time.monotonic() >= ends:
+                raise
+    raise ValueError("it is to be attempted once at least")

@@ -1,0 +1,118 @@
+"""All that a session may ask of a store, whichever of it the store has."""
+
+from __future__ import annotations
+
+import logging
+from typing import Any, Dict, Optional, Sequence, Tuple, Type
+
+from ..core._records import Name, StoredValue
+from ..core._stores import BoundedStore, BulkStore, ObservedStore, Store, TracedStore
+
+logger = logging.getLogger("zanteyard")
+
+
+class StoreCalls(BoundedStore, BulkStore, TracedStore, ObservedStore):
+    """A store with all four parts. What it lacks is made of what each store has, or does nothing.
+    For one thread at a time, but for `hang_up`."""
+
+    def __init__(self, store: Store) -> None:
+        self.store = store
+
+    def _own(self, name: str, otherwise: Any = None) -> Any:
+        """The store's own, if it has it by now."""
+        return getattr(self.store, name, otherwise)
+
+    # as a BoundedStore
+
+    def begin_alone(self, seconds: float) -> None:
+        begin = self._own("begin_alone")
+        if begin is not None:
+            begin(seconds)
+        else:
+            self.store.begin()
+
+    def outcome_within(self, seconds: float) -> str:
+        bounded = self._own("outcome_within")
+        return str(bounded(seconds) if bounded is not None else self.store.outcome())
+
+    def hang_up(self) -> None:
+        hang_up = self._own("hang_up")
+        if hang_up is not None:
+            hang_up()
+
+    # as a BulkStore
+
+    def read_all(self, keys: Sequence[str]) -> Dict[str, StoredValue]:
+        read_all = self._own("read_all")
+        if read_all is not None:
+            values: Dict[str, StoredValue] = read_all(keys)
+            return values
+        each = ((key, self.store.read(key)) for key in keys)
+        return {key: value for key, value in each if value is not None}
+
+    @property
+    def can_exchange(self) -> bool:
+        """Whether `exchange` may be called: nothing stands in for it."""
+        return self._own("exchange") is not None
+
+    def exchange(self, key: str, value: Any, name: Name) -> Optional[StoredValue]:
+        overwritten: Optional[StoredValue] = self._own("exchange")(key, value, name)
+        return overwritten
+
+    # as a TracedStore
+
+    @property
+    def writes_at_once(self) -> bool:
+        return bool(self._own("writes_at_once", False))
+
+    @property
+    def can_claim(self) -> bool:
+        """Whether the store knows whose a run's name is; else `claim` does nothing."""
+        return self._own("claim") is not None
+
+    def claim(self, run_name: str, token: str, seconds: float) -> None:
+        if self.can_claim:
+            self._own("claim")(run_name, token, seconds)
+
+    def asks(self) -> Any:
+        """None where the store can't be asked, or can't say how."""
+        asks = self._own("asks")
+        try:
+            return asks() if asks is not None else None
+        except Exception as error:
+            logger.warning("how this store is asked can't be told: %s", error)
+            return None
+
+    def ticket(self, written: Sequence[Any]) -> Any:
+        """None where there is none."""
+        ticket = self._own("ticket")
+        return ticket(written) if ticket is not None else None
+
+    # as an ObservedStore
+
+    @property
+    def errors(self) -> Tuple[Type[BaseException], ...]:
+        return tuple(self._own("errors", ()))
+
+    @property
+    def statement(self) -> Optional[str]:
+        statement: Optional[str] = self._own("statement")
+        return statement
+
+    def has_answered(self, error: BaseException) -> bool:
+        has_answered = self._own("has_answered")
+        return has_answered is not None and bool(has_answered(error))
+
+    def look_up(self, transaction: Any) -> None:
+        look_up = self._own("look_up")
+        if look_up is not None:
+            look_up(transaction)
+
+    @property
+    def has_number(self) -> bool:
+        return bool(self._own("has_number", False))
+
+    def tried(self) -> Sequence[str]:
+        tried = self._own("tried")
+        keys: Sequence[str] = tried() if tried is not None else ()
+        return keys

@@ -1,0 +1,347 @@
+"""One transaction of a session: what it reads and writes, and what becomes of its commit."""
+
+from __future__ import annotations
+
+import logging
+import time
+from contextlib import suppress
+from typing import TYPE_CHECKING, Any, Dict, Iterable, List, Optional, Sequence, Set, Tuple
+
+from ..core._circumstances import brief, caller
+from ..core._forks import UNAUDITED
+from ..core._own_keys import FENCE, FLAG
+from ..core._records import Deed, Logged, Name, Read, Source, StoredValue, as_bytes, undone
+from ..core.errors import AbortedError, AuditLostError, OutcomeUnknownError
+
+if TYPE_CHECKING:
+    from ._session import Session
+
+LEAST = 0.1  # seconds for an outcome, where nobody was promised any
+logger = logging.getLogger("zanteyard")
+
+
+class Transaction:
+    def __init__(self, session: Session, number: int, holds: bool = True) -> None:
+        self.session, self.store, self.number, self.holds = session, session.store, number, holds
+        self.calls = session.calls  # what the store may have besides
+        self.reads: Set[Read] = set()
+        self.written: Dict[str, Any] = {}
+        self.is_over = False
+        self.is_committing = not holds  # from here on the store may have what it writes
+        self.is_in_doubt = False  # its commit was sent, and what came of that isn't known
+        # For who is told of a violation; the collector's own transactions have none of it.
+        self.values: List[Tuple[str, str, str]] = []
+        self.began, self.caller = (time.time(), caller()) if holds else (0.0, "")
+        self.sent: Tuple[str, ...] = ()  # keys that were written and needn't be at the commit
+        self.tried: List[str] = []  # keys of which a write went to the store, whatever came of it
+        self.statements: Dict[Deed, str] = {}  # of each deed, as Logged has them
+        self.prepared: Any = None  # what is logged where it is committed, and the same as bytes
+        self.unclear: Optional[Exception] = None  # why what it did isn't known, if that is so
+
+    def still_open(self) -> None:
+        """What is done with a transaction that has ended would be one of its own in the store."""
+        if self.is_over:
+            raise ValueError(f"transaction {self.session.number}.{self.number} has ended")
+
+    def get(self, key: str, statement: Optional[str] = None) -> Any:
+        """`statement` is told of a violation in place of the store's."""
+        self.still_open()
+        if key in self.written:
+            return self.written[key]  # its own write: not logged
+        return self.was_read(key, self.store.read(key), statement)
+
+    def get_all(self, keys: Sequence[str]) -> Dict[str, Any]:
+        """The values of keys that weren't written here, by key; at once, where the store has a call
+        for that."""
+        self.still_open()
+        values = self.calls.read_all(keys)
+        return {key: self.was_read(key, values.get(key)) for key in keys}
+
+    def was_read(
+        self, key: str, found: Optional[StoredValue], statement: Optional[str] = None
+    ) -> Any:
+        read = (key, "init" if found is None else self.source(found[1]))
+        self.reads.add(read)
+        self.was_run(read, statement)
+        if self.holds:
+            self.values.append(("read", key, brief(None if found is None else found[0])))
+        return None if found is None else found[0]
+
+    def was_run(self, deed: Deed, statement: Optional[str] = None) -> None:
+        statement = statement or self.calls.statement
+        if statement:
+            self.statements.setdefault(deed, statement)
+
+    def source(self, name: Optional[Name]) -> Source:
+        if name is None or name[0] != self.session.run_name:
+            return "init"  # it was there before this run
+        if name[1] >= UNAUDITED > (self.session.number or 0) and self.unclear is None:
+            self.unclear = AuditLostError("it has read what a forked child wrote, unaudited")
+        return (name[1], name[2])
+
+    def put(self, key: str, value: Any, statement: Optional[str] = None) -> None:
+        # It goes to the store at the commit, once, so that no version is there to be read but the
+        # last.
+        self.still_open()
+        self.written[key] = value
+        if statement:
+            self.statements[(key,)] = statement
+
+    def delete(self, key: str, statement: Optional[str] = None) -> None:
+        self.put(key, None, statement)
+
+    def exchange(self, key: str, value: Any) -> None:
+        """Reads the key and writes it: at once, where the store has a call for that. It has to be
+        the last that is done with the key."""
+        self.still_open()
+        if not self.calls.can_exchange:
+            self.get(key)
+            self.put(key, value)
+            return
+        self.is_committing = True
+        self.written[key] = value
+        self.sent = (*self.sent, key)
+        self.tried.append(key)
+        if self.session.notes is not None and (not self.holds or self.calls.writes_at_once):
+            self.note_before(key, has_reads=False)
+        self.was_read(key, self.calls.exchange(key, value, self.name))
+        self.was_run((key,))
+
+    @property
+    def name(self) -> Any:
+        """Which is written beside values."""
+        return (self.session.run_name, self.session.number, self.number)
+
+    def commit(self) -> None:
+        self.still_open()
+        self.is_committing = True
+        is_late = False  # it is noted when it is known by what the store is asked for it
+        try:
+            if self.holds:
+                self.calls.look_up(self)
+            is_to_note = self.holds or len(self.sent) < len(self.written)
+            if is_to_note and self.session.notes is not None:
+                is_late = not self.calls.writes_at_once
+                if not is_late:
+                    self.note_before(max(self.written, default=""))
+            for key in sorted(self.written):
+                if key not in self.sent:
+                    self.tried.append(key)
+                    self.store.write(key, self.written[key], self.name)
+                    self.was_run((key,))
+            if is_late:
+                self.note_before(max(self.written, default=""))
+            self.is_in_doubt = bool(self.written) or self.unclear is not None
+            self.store.commit()
+            self.log(self.reads, self.written, "committed")
+        except OutcomeUnknownError:
+            self.find_out()
+        except AbortedError:
+            self.is_in_doubt = False
+            self.rollback()
+            raise
+        except Exception as error:
+            if self.is_in_doubt and not self.is_over:
+                self.is_in_doubt = not self.calls.has_answered(error)
+                if self.is_in_doubt:
+                    self.find_out_behind()
+            self.rollback()
+            raise
+        except BaseException:  # as Ctrl-C: the store may have committed
+            if not self.is_over:
+                self.log((), self.written, "unknown", is_last=bool(self.written))
+            raise
+
+    def note_before(self, key: str, has_reads: bool = True) -> None:
+        """From here on the store may have committed what it writes."""
+        notes = self.session.notes
+        assert notes is not None
+        has_written = bool(self.written) or self.unclear is not None  # or may have
+        why = self.session.unclaimed or self.unclear if has_written else None
+        try:
+            reads = self.reads if has_reads else ()
+            logged = self.logged(reads, self.written, "committed")
+            packed, name = as_bytes(logged), self.name
+            if has_reads:
+                self.prepared = (logged, packed)
+            ticket = self.calls.ticket((key, *name)) if has_written else None
+        except Exception as error:
+            return notes.fail(error)
+        more = (False, str(why)) if why is not None else ()
+        notes.write(name[1], self.number, None, packed, ticket, has_reads, *more)
+
+    def note_answer(self, logged: Logged, is_last: bool) -> None:
+        """What is known by now, before it is handed in."""
+        notes, packed = self.session.notes, None
+        if notes is not None:
+            if (self.prepared is None and logged.outcome == "committed") or logged.is_undone:
+                try:
+                    packed = as_bytes(logged)
+                except ValueError as error:
+                    return notes.fail(error)
+            more = (packed, None, True, True) if is_last else (packed,)
+            notes.write(self.session.number or 0, self.number, logged.outcome, *more)
+
+    def note_unclear(self, outcome: str, is_last: bool, why: Exception) -> None:
+        """What is known by now, where that isn't enough: for who finds this process killed before
+        it has told so."""
+        notes = self.session.notes
+        if notes is not None:
+            more = (None, None, True, is_last, str(why))
+            notes.write(self.session.number or 0, self.number, outcome, *more)
+
+    def rollback(self) -> None:
+        if not self.is_over:
+            try:
+                self.store.rollback()
+            finally:
+                self.give_up()
+
+    def give_up(self) -> None:
+        """Nothing is called aborted whose commit was sent, before the store has said so."""
+        if self.is_in_doubt:
+            self.log((), self.written, "unknown", is_last=bool(self.written))
+        else:
+            self.log((), (), "aborted")
+
+    def find_out_behind(self) -> None:
+        """Something else was raised than stores do, as by a handler of SIGALRM: it may have come
+        behind the store's answer."""
+        with suppress(AbortedError, OutcomeUnknownError):
+            try:
+                self.store.rollback()
+            except Exception as error:  # it says nothing of the commit
+                logger.info("a rollback behind a commit failed: %r", error)
+            self.find_out()
+
+    def find_out_alone(self, error: BaseException) -> None:
+        """Where this came behind a statement of the collector's own that is a transaction by
+        itself, and it isn't known to be the store's answer: a client joins in the application's
+        thread, where an interrupt may come behind that answer, too."""
+        if self.is_over or self.holds or not self.sent or isinstance(error, AbortedError):
+            return
+        if not isinstance(error, Exception):
+            self.log((), self.written, "unknown", is_last=True)
+        elif self.session.place.must_join and not self.calls.has_answered(error):
+            self.find_out_behind()
+
+    def find_out(self) -> None:
+        """Asks the store. Where it can't say, the transaction is logged with its writes alone, as
+        the last of its session."""
+        until = time.monotonic() + (self.session.patience if self.holds else 0.0)
+        try:
+            while self.may_be_told:
+                outcome = self.calls.outcome_within(max(LEAST, until - time.monotonic()))
+                if outcome == "committed":
+                    return self.log(self.reads, self.written, "committed")
+                if outcome == "aborted":
+                    self.is_in_doubt = False
+                    self.give_up()
+                    raise AbortedError(
+                        "the commit was not answered, and the store says that it aborted"
+                    )
+                if time.monotonic() >= until:
+                    break
+                time.sleep(0.05)
+        except BaseException:
+            if not self.is_over:  # it was ended, as by Ctrl-C, before the store could say
+                self.log((), self.written, "unknown", is_last=True)
+            raise
+        self.log((), self.written, "unknown", is_last=bool(self.written))
+        raise OutcomeUnknownError(f"{self.session.number}.{self.number}")
+
+    @property
+    def may_be_told(self) -> bool:
+        """Whether the store may say what became of it. Where nothing was committed, nothing is
+        unclear."""
+        has_number = self.unclear is not None and self.calls.has_number
+        return bool(self.written or has_number)
+
+    def log(
+        self, reads: Iterable[Read], writes: Iterable[str], outcome: str, is_last: bool = False
+    ) -> None:
+        """Hands in what is known; nothing that fails here comes back to the client, but for what
+        ends it, as Ctrl-C does: then it isn't known what was handed in."""
+        session = self.session
+        try:
+            self.is_over = True
+            if session.place.must_join and outcome != "committed" and not is_last:
+                self.give_back_number()
+                return
+            session.place.is_due = True
+            if self.holds:
+                session.used_at = time.monotonic()
+            if not (is_last and any(map(is_dropped_if_unknown, writes))):
+                unclear = session.unclaimed or (self.unclear if outcome != "aborted" else None)
+                if unclear is not None:
+                    self.note_unclear(outcome, is_last, unclear)
+                    session.miss(self.number, unclear)
+                elif not session.tell(self.hand_in, reads, writes, outcome, is_last):
+                    session.miss(self.number)
+            if is_last:
+                session.place.leave_open(self.number)
+                session.end()
+            elif session.place.must_join:  # it has, by this
+                session.is_open, session.place.must_join = True, False
+        except BaseException as error:
+            told = f"transaction {session.number}.{self.number} was interrupted as it was handed in"
+            session.miss(self.number, AuditLostError(f"{told} ({type(error).__name__})"))
+            raise
+        finally:  # nothing is called before the turn is given back: no signal comes in between
+            session.running = None
+            if self.holds and session.current is self:
+                session.current = None
+                session.has_turn = []
+                session.turn.release()
+
+    def give_back_number(self) -> None:
+        """What a client joins with is a fence that is there: an attempt at one that was aborted has
+        left nothing, and the next one has its number: so nothing is said of what this one wrote."""
+        self.note_answer(Logged((), (), "aborted"), False)
+        self.session.place.begun = self.number
+
+    def hand_in(
+        self, reads: Iterable[Read], writes: Iterable[str], outcome: str, is_last: bool
+    ) -> None:
+        number, auditor = self.session.number, self.session.auditor
+        if self.prepared is not None and outcome == "committed":
+            logged, packed = self.prepared
+            self.note_answer(logged, is_last)
+            auditor.take_packed(number, self.number, logged, packed)
+        else:
+            logged = self.logged(reads, writes, outcome)
+            self.note_answer(logged, is_last)
+            auditor.take(number, self.number, logged)
+
+    def logged(self, reads: Iterable[Read], writes: Iterable[str], outcome: str) -> Logged:
+        tried_reads, tried_writes = self.undone() if outcome == "aborted" else ([], [])
+        statements = tuple(self.statements.items())
+        if outcome != "committed":
+            deeds: Set[Deed] = {*reads, *tried_reads}
+            deeds.update((key,) for key in (*writes, *tried_writes))
+            statements = tuple(it for it in statements if it[0] in deeds)
+        reads = [*reads]
+        if len(reads) > 1:
+            reads.sort(key=repr)
+        writes = sorted(writes)
+        values = tuple(self.values)
+        if self.holds:
+            its = (*writes, *(key for key in tried_writes if key in self.written))
+            values += tuple(("wrote", key, brief(self.written.get(key))) for key in its)
+        if not (reads or tried_reads):  # it isn't known, or doesn't matter, what was read
+            values = tuple(it for it in values if it[0] == "wrote")
+        more = (statements, values, self.began, self.caller)
+        return Logged(reads, writes, outcome, *more, tried_reads, tried_writes)
+
+    def undone(self) -> Tuple[List[Read], List[str]]:
+        """What this has read, and what it wrote under its name, where it was aborted. What was only
+        to be written at the commit, and never went to the store, isn't among it."""
+        writes = [*self.tried, *(self.calls.tried() if self.holds else ())]
+        return undone((self.session.number or 0, self.number), self.reads, writes, FENCE)
+
+
+def is_dropped_if_unknown(key: str) -> bool:
+    """Of which it isn't known whether it was written. Nothing is known of a fence without its read:
+    who reads from it waits for it then. And if a flag isn't there nothing says where it stands, so
+    that no fence would be settled."""
+    return key == FENCE or key.startswith(FLAG)
