@@ -138,11 +138,11 @@ def live(asked):
     with contextlib.ExitStack() as stack:
         folder, make_store = stack.enter_context(tempfile.TemporaryDirectory(prefix="zanteyard-")), None
         if asked.postgres:
-            from zanteyard.trial.postgres_server import Cluster
+            from zanteyard.trial.postgres_server import PostgresServer
             from zanteyard.stores.postgres import prepare
             from zanteyard.trial.store_kinds import MakeStore
 
-            dsn = stack.enter_context(Cluster()).dsn
+            dsn = stack.enter_context(PostgresServer()).dsn
             prepare(dsn)
             make_store = MakeStore("postgres", dsn, "serializable")
         runs = {False: [], True: []}

@@ -28,7 +28,7 @@ TOP = os.path.join(os.path.dirname(os.path.abspath(__file__)), "..")
 sys.path[:0] = [os.path.join(TOP, "examples"), os.path.join(TOP, "collectors/python")]
 from postgres_live import WORKLOADS, ClientProcesses, Clients, Nothing
 from zanteyard import AuditorApart, AuditServer, LiveAuditor, Session
-from zanteyard.trial.postgres_server import Cluster, ended_by_signals
+from zanteyard.trial.postgres_server import PostgresServer, ended_by_signals
 from zanteyard.stores.postgres import PostgresStore, prepare
 
 
@@ -137,7 +137,7 @@ def main():
         "beside, waited, longest without and with, behind at most, verdicts, cuts of rounds",
         flush=True,
     )
-    with ended_by_signals(), Cluster() as cluster:
+    with ended_by_signals(), PostgresServer() as cluster:
         prepare(cluster.dsn)
         for workload in asked.workload:
             runs = {False: [], True: []}

@@ -23,7 +23,7 @@ TOP = os.path.join(os.path.dirname(os.path.abspath(__file__)), "..")
 sys.path[:0] = [os.path.join(TOP, "examples"), os.path.join(TOP, "collectors/python")]
 from postgres_live import WORKLOADS, Clients, Nothing
 from zanteyard import AbortedError, AuditorApart, LiveAuditor, Session
-from zanteyard.trial.postgres_server import Cluster
+from zanteyard.trial.postgres_server import PostgresServer
 from zanteyard.stores.postgres import PostgresStore, prepare
 
 READ = "SELECT value FROM plain WHERE key = %s"
@@ -87,7 +87,7 @@ def main():
     asked.add_argument("--workload", nargs="+", choices=WORKLOADS, default=[*WORKLOADS])
     asked = asked.parse_args()
     print("workload, plain a second, named and how much less, audited and how much less")
-    with Cluster() as cluster:
+    with PostgresServer() as cluster:
         prepare(cluster.dsn)
         with psycopg2.connect(cluster.dsn) as connection:
             connection.cursor().execute("CREATE TABLE plain (key text PRIMARY KEY, value text)")

@@ -30,7 +30,7 @@ except ImportError:
     psycopg = None
 
 from zanteyard import RATHER_WAIT, AuditorApart, LiveAuditor
-from zanteyard.trial.postgres_server import Cluster
+from zanteyard.trial.postgres_server import PostgresServer
 from zanteyard.sql.psycopg2 import audited, prepare
 
 
@@ -136,7 +136,7 @@ def main():
     asked.add_argument("--psycopg3", action="store_true", help="by psycopg 3")
     asked.add_argument("--profile", action="store_true", help="of one of the audited threads")
     asked = asked.parse_args()
-    with Cluster() as cluster, AuditorApart(asked.threads) as auditor:
+    with PostgresServer() as cluster, AuditorApart(asked.threads) as auditor:
         admin = psycopg2.connect(cluster.dsn)
         with admin, admin.cursor() as cursor:
             cursor.execute("CREATE TABLE t (id int PRIMARY KEY, v int)")

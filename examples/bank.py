@@ -26,7 +26,7 @@ sys.path.insert(0, os.path.join(os.path.dirname(HERE), "collectors", "python"))
 import psycopg2
 
 from zanteyard import RATHER_WAIT, AuditorApart, LiveAuditor, from_start, tell_violation
-from zanteyard.trial.postgres_server import Cluster
+from zanteyard.trial.postgres_server import PostgresServer
 from zanteyard.sql.psycopg2 import prepare
 
 CUSTOMERS, WORKERS = 20, 4
@@ -136,7 +136,7 @@ def open_bank(dsn):
 def server(dsn):
     """In a schema of its own, where the server is there already."""
     if dsn is None:
-        with Cluster() as cluster:
+        with PostgresServer() as cluster:
             yield cluster.dsn
         return
     schema = f"bank_{os.getpid()}"

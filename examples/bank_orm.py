@@ -29,7 +29,7 @@ from sqlalchemy.exc import DBAPIError
 from sqlalchemy.orm import declarative_base, relationship, sessionmaker
 
 from zanteyard import RATHER_WAIT, AuditorApart, LiveAuditor, from_start, tell_violation
-from zanteyard.trial.postgres_server import Cluster
+from zanteyard.trial.postgres_server import PostgresServer
 from zanteyard.sql.sqlalchemy import audit, prepare
 
 CUSTOMERS, WORKERS, START = 8, 4, 30
@@ -136,7 +136,7 @@ def open_bank(engine):
 def server(dsn):
     """In a schema of its own, where the server is there already."""
     if dsn is None:
-        with Cluster() as cluster:
+        with PostgresServer() as cluster:
             yield cluster.dsn
         return
     schema = f"bank_{os.getpid()}"

@@ -19,7 +19,7 @@ TOP = os.path.join(os.path.dirname(os.path.abspath(__file__)), "..")
 sys.path.insert(0, os.path.join(TOP, "collectors/python"))
 from zanteyard import AbortedError, Auditor, ProgramEndedError, Session, tell_violation
 from zanteyard.stores.levels import LEVELS
-from zanteyard.trial.postgres_server import Cluster, ended_by_signals, program
+from zanteyard.trial.postgres_server import PostgresServer, ended_by_signals, program
 
 
 def number_at(transaction, key):
@@ -131,7 +131,7 @@ def main():
         )
     if not program("initdb"):
         sys.exit("PostgreSQL is wanted: apt-get install postgresql")
-    with ended_by_signals(), Cluster() as cluster:
+    with ended_by_signals(), PostgresServer() as cluster:
         stores = [PostgresStore(cluster.dsn, level) for _ in range(asked.clients)]
         prepare(cluster.dsn)
         began, kinds, aborted = time.monotonic(), Counter(), 0

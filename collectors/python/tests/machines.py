@@ -13,7 +13,7 @@ import unittest
 
 from zanteyard.core._own_keys import FLAG
 from zanteyard.program._auditor import PROGRAM
-from zanteyard.trial.postgres_server import Cluster, program
+from zanteyard.trial.postgres_server import PostgresServer, program
 from zanteyard.trial.redis_server import redis_server
 
 from .owed import are_right
@@ -60,7 +60,7 @@ class Machines(unittest.TestCase):
 
     @classmethod
     def setUpClass(cls):
-        cls.cluster = Cluster()
+        cls.cluster = PostgresServer()
         cls.cluster.__enter__()
         cls.addClassCleanup(cls.cluster.__exit__)
 

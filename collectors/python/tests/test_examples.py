@@ -11,7 +11,7 @@ import unittest
 
 from zanteyard import Session
 from zanteyard.program._auditor import PROGRAM
-from zanteyard.trial.postgres_server import Cluster, program
+from zanteyard.trial.postgres_server import PostgresServer, program
 from zanteyard.stores.memory import MemoryStore
 
 TOP = os.path.normpath(os.path.join(os.path.dirname(os.path.abspath(__file__)), "../../.."))
@@ -158,7 +158,7 @@ class Examples(unittest.TestCase):
         self.postgres_is_there()
         import psycopg2
 
-        with Cluster() as cluster:
+        with PostgresServer() as cluster:
             admin = psycopg2.connect(cluster.dsn)
             self.addCleanup(admin.close)
             admin.autocommit = True

@@ -13,7 +13,7 @@ import unittest
 
 from zanteyard import FENCE, AbortedError, AuditorApart, AuditServer, LiveAuditor, OutcomeUnknownError
 from zanteyard.program._auditor import PROGRAM
-from zanteyard.trial.postgres_server import Cluster, program
+from zanteyard.trial.postgres_server import PostgresServer, program
 
 from .lateness import BOUND, Lateness
 
@@ -112,7 +112,7 @@ class Application:
 class Faults(unittest.TestCase):
     @classmethod
     def setUpClass(cls):
-        cls.cluster = Cluster()
+        cls.cluster = PostgresServer()
         cls.cluster.__enter__()
         cls.addClassCleanup(cls.cluster.__exit__)
 

@@ -11,7 +11,7 @@ from zanteyard import AuditLostError, Auditor, AuditorApart, LiveAuditor, Policy
 from zanteyard.program._auditor import PROGRAM
 from zanteyard.core.errors import ProgramEndedError, ProgramUnreachableError
 from zanteyard.stores.memory import MemoryStore
-from zanteyard.remote._session_requests import PlaceRequests
+from zanteyard.remote._session_requests import SessionRequests
 
 from .test_live import add_one, set_to
 
@@ -93,7 +93,7 @@ class Interrupts(unittest.TestCase):
         process = auditor.process if isinstance(auditor, AuditorApart) else auditor.program.process
         late, process.kill = [], lambda: late.append(True)
 
-        class Killed:
+        class CrashedProcess:
             def __enter__(self):
                 pass
 
@@ -102,7 +102,7 @@ class Interrupts(unittest.TestCase):
                 if late:
                     process.kill()
 
-        return Killed()
+        return CrashedProcess()
 
     def see(self, auditor, is_interrupted):
         outcome = auditor.outcome()
@@ -196,7 +196,7 @@ class Interrupts(unittest.TestCase):
             self.assertEqual(live._group.numbers(), [0])  # meetings have it still
             session.run(add_one("x"))
             session.close()
-            self.assertEqual((live._places.taken, live._group.numbers()), (0, []))
+            self.assertEqual((live._pool.taken, live._group.numbers()), (0, []))
             self.assertEqual(live.stop().kind, "serial")
 
     def test_who_is_interrupted_as_it_is_to_join(self):
@@ -205,13 +205,13 @@ class Interrupts(unittest.TestCase):
             live, store = LiveAuditor(auditor, policy=Policy(2.0, False)), MemoryStore()
             stays = live.session(store.connect())
             stays.run(add_one("x"))
-            self.assertIsNone(live._convener.meet(60.0, 60.0).failure)
+            self.assertIsNone(live._coordinator.meet(60.0, 60.0).failure)
             self.interrupted_as_a_lock_is_taken(lambda: live.session(store.connect()))
-            self.assertEqual((live._places.taken, live._group.numbers()), (1, [0]))
+            self.assertEqual((live._pool.taken, live._group.numbers()), (1, [0]))
             with mock.patch("zanteyard.session._session.give_back", side_effect=KeyboardInterrupt):
                 with self.assertRaises(KeyboardInterrupt):  # just before it is given back
                     live.session(store.connect())
-            self.assertEqual((live._places.taken, live._group.numbers()), (1, [0]))
+            self.assertEqual((live._pool.taken, live._group.numbers()), (1, [0]))
             other = live.session(store.connect())
             other.run(add_one("x"))
             self.assertEqual(other.number, 2)  # the fence of the second is there
@@ -233,25 +233,25 @@ class Interrupts(unittest.TestCase):
         stays = live.session(store.connect())
         stays.run(add_one("x"))
         if joins:
-            self.assertIsNone(live._convener.meet(60.0, 60.0).failure)
+            self.assertIsNone(live._coordinator.meet(60.0, 60.0).failure)
         made = []
         is_interrupted = interrupt.run(lambda: made.append(live.session(store.connect())))
         for session in made:
             session.close()
-        self.assertEqual((live._places.taken, live._group.numbers()), (1, [0]))
+        self.assertEqual((live._pool.taken, live._group.numbers()), (1, [0]))
         other = live.session(store.connect())
         other.run(add_one("x"))
         # Of a fence that was interrupted as it was handed in nothing more is known: then the audit
         # has ended, and there are no meetings any more.
         may_end = joins and is_interrupted
         if not may_end:
-            self.assertIsNone(live._convener.meet(60.0, 60.0).failure)
+            self.assertIsNone(live._coordinator.meet(60.0, 60.0).failure)
         self.assertIn(live.stop().kind, ("serial", "incomplete") if may_end else ("serial",))
         return is_interrupted
 
     def test_who_is_interrupted_as_it_asks_for_a_session(self):
         """Nobody else of its process waits for it."""
-        requests = PlaceRequests(None)
+        requests = SessionRequests(None)
         self.interrupted_as_a_lock_is_taken(lambda: requests.ask("join", True, seconds=60.0))
         self.assertFalse(requests._asking.locked())
 

@@ -20,14 +20,14 @@ from zanteyard.live._backlog import Backlog
 from zanteyard.core._window import Coverage
 from zanteyard.live._audit_start import coverage_from_now
 from zanteyard.core.errors import AuditLostError, NotAnchoredError
-from zanteyard.remote._crash_recovery import NOTHING, Killed
+from zanteyard.remote._crash_recovery import NOTHING, CrashedProcess
 from zanteyard.stores.memory import MemoryStore
 from zanteyard.core._crash_notes import CrashNote
-from zanteyard.live._session_pool import Places
+from zanteyard.live._session_pool import SessionPool
 from zanteyard.core._records import as_bytes
 from zanteyard.session._place import Place
 from zanteyard.session._session import Session
-from zanteyard.core._tenancy import Stints
+from zanteyard.core._tenancy import Tenancy
 
 from zanteyard.trial.redis_server import redis_server
 
@@ -179,7 +179,7 @@ class TakenIn(WithProgram):
         self.auditor, self.backlog = Auditor(2, 64), Backlog(8)
         self.addCleanup(self.auditor.end)
         its = (self.backlog, Figures(), self.told.append, "run", Coverage.of_all(2))
-        self.stints = Stints()
+        self.stints = Tenancy()
         self.audit = Audit(self.auditor, *its, stints=self.stints)
 
     def hand_in(self, *entries):
@@ -259,7 +259,7 @@ class GivenOut(unittest.TestCase):
     """Places."""
 
     def test_a_new_one_is_the_next_number_and_the_only_one_until_it_has_joined(self):
-        places = Places(1)
+        places = SessionPool(1)
         first = places.take(0.0)
         self.assertEqual((first.number, first.must_join, places.take(0.0)), (0, False, None))
         places.let_join()
@@ -273,7 +273,7 @@ class GivenOut(unittest.TestCase):
         self.assertEqual((places.take(0.0).number, places.sessions), (2, 3))
 
     def test_sixty_four_at_a_time(self):
-        places = Places(60)
+        places = SessionPool(60)
         places.let_join()
         for _ in range(64):
             place = places.take(0.0)
@@ -282,7 +282,7 @@ class GivenOut(unittest.TestCase):
         self.assertEqual((places.taken, places.take_unaudited().number), (64, 64))
 
     def test_one_comes_back_when_nothing_of_it_is_left(self):
-        places = Places(2)
+        places = SessionPool(2)
         place = places.take(0.0)
         place.begun = 5
         places.give_back([place])
@@ -299,7 +299,7 @@ class GivenOut(unittest.TestCase):
 
     def test_where_more_may_have_been_done_it_stays_ended(self):
         for is_open in (False, True):
-            places = Places(1)
+            places = SessionPool(1)
             place = places.take(0.0)
             place.begun, place.is_ended = 3, True
             place.leave_open(3 if is_open else 2)
@@ -309,13 +309,13 @@ class GivenOut(unittest.TestCase):
             self.assertEqual(places.numbers(), [] if is_open else [0])
 
     def test_what_is_due_or_lent_is_not_closed(self):
-        places = Places(3)
+        places = SessionPool(3)
         lent = places.lend()
         lent[0].is_due, lent[1].is_lent = True, True
         self.assertEqual(places.close(lent), [2])
 
     def test_what_is_left_while_a_meeting_goes_on_is_left_for_it(self):
-        places = Places(2)
+        places = SessionPool(2)
         place = places.take(0.0)
         lent = places.lend()
         places.give_back([place])
@@ -325,7 +325,7 @@ class GivenOut(unittest.TestCase):
         self.assertEqual([places.take(0.0).number for _ in range(2)], [1, 0])
 
     def test_half_of_what_clients_do_not_have_can_be_had_at_any_time(self):
-        places = Places(64)
+        places = SessionPool(64)
         for _ in range(5):
             places.take(0.0)
         places.let_join()
@@ -340,14 +340,14 @@ class GivenOut(unittest.TestCase):
         self.assertFalse(places.are_all_taken)
 
     def test_a_few_can_be_had_where_few_are_left(self):
-        places = Places(64)
+        places = SessionPool(64)
         for _ in range(52):
             places.take(0.0)
         places.let_join()
         self.assertEqual(len(places.spare(places.lend())), 8)
 
     def test_another_audit_has_sessions_for_who_went_without_one(self):
-        places = Places(62)
+        places = SessionPool(62)
         for _ in range(62):
             places.take(0.0)
         for _ in range(4):
@@ -359,12 +359,12 @@ class GivenOut(unittest.TestCase):
         self.assertEqual([places.take(0.0).number for _ in range(2)], [62, 63])
 
     def test_who_has_one_and_is_not_there_yet(self):
-        places = Places(3)
+        places = SessionPool(3)
         taken = [places.take(0.0).number for _ in range(2)]
         self.assertEqual((places.coming(()), places.coming([1]), places.coming(taken)), ({0, 1}, {0}, set()))
 
     def test_another_audit_has_all_of_them_open(self):
-        places = Places(3)
+        places = SessionPool(3)
         ended, kept = places.take(0.0), places.take(0.0)
         ended.is_ended, ended.begun = True, 4
         places.give_back([ended])
@@ -382,7 +382,7 @@ class GivenOut(unittest.TestCase):
         self.assertIsNone(places.take(0.0))  # none joins before it has a fence
 
     def test_who_waits_wants_a_meeting(self):
-        places = Places(1)
+        places = SessionPool(1)
         self.assertFalse(places.wants_meeting)
         places.take(0.0)
         waits = threading.Thread(target=places.take, args=(60.0,))
@@ -395,7 +395,7 @@ class GivenOut(unittest.TestCase):
         self.assertEqual((places.sessions, places.wants_meeting), (2, False))
 
     def test_clients_by_what_they_did(self):
-        stints = Stints()
+        stints = Tenancy()
         self.assertEqual([stints.begin(0, 0), stints.begin(1, 0), stints.begin(0, 0), stints.begin(0, 4)], [1, 2, 3, 4])
         self.assertEqual([stints.client(0, number) for number in (0, 3, 4, 9)], [3, 3, 4, 4])
         self.assertEqual([stints.first_of(0, 3), stints.first_of(0, 4), stints.first_of(0, 4)], [None, 4, None])
@@ -447,7 +447,7 @@ class Joins(WithProgram):
             if len(seen) % 8 == 0:
                 cuts = live.cuts
                 self.until(lambda: live.cuts > cuts, stays)
-                self.wait_for(lambda: live._places._back)
+                self.wait_for(lambda: live._pool._back)
         self.assertGreater(len(seen), len({number for number, _ in seen}))
         self.assertGreater(live.cuts, 2)
         self.assertEqual(self.ended(live).kind, "serial")
@@ -463,7 +463,7 @@ class Joins(WithProgram):
             return gather(*arguments)
 
         with mock.patch.object(live._group, "begin_gather", left_before):
-            self.assertIsNone(live._convener.meet(60.0, 60.0).failure)
+            self.assertIsNone(live._coordinator.meet(60.0, 60.0).failure)
         self.assertEqual((self.ended(live).kind, live.cuts), ("serial", 1))
         self.assertEqual((self.auditor.closed, self.auditor.vacant), ([False, True], [1]))
 
@@ -482,7 +482,7 @@ class Joins(WithProgram):
             thread = threading.Thread(target=leaves.close)
             thread.start()
             leaving.wait(60)
-            self.assertIsNone(live._convener.meet(60.0, 60.0).failure)
+            self.assertIsNone(live._coordinator.meet(60.0, 60.0).failure)
             thread.join(60)
         self.assertEqual((self.ended(live).kind, live.cuts), ("serial", 1))
         self.assertEqual((self.auditor.closed, self.auditor.vacant), ([False, True], [1]))
@@ -497,7 +497,7 @@ class Joins(WithProgram):
             thread = threading.Thread(target=live.session, args=(store.connect(),))
             thread.start()
             self.assertTrue(coming.wait(60))
-            self.assertIsNone(live._convener.meet(60.0, 60.0).failure)
+            self.assertIsNone(live._coordinator.meet(60.0, 60.0).failure)
             thread.join(60)
         self.assertEqual((self.ended(live).kind, live.cuts), ("serial", 1))
 
@@ -513,7 +513,7 @@ class Joins(WithProgram):
             return hold(session, *more)
 
         with mock.patch.object(live._group, "hold", left_before):
-            self.assertIsNone(live._convener.meet(60.0, 60.0).failure)
+            self.assertIsNone(live._coordinator.meet(60.0, 60.0).failure)
         self.assertEqual((self.ended(live).kind, live.cuts), ("serial", 1))
 
     def test_a_violation_names_the_client(self):
@@ -521,7 +521,7 @@ class Joins(WithProgram):
         stays, leaves = (live.session(store.connect()) for _ in range(2))
         leaves.run(add_one("x"))
         leaves.close()
-        self.until(lambda: live._places._back, stays)
+        self.until(lambda: live._pool._back, stays)
         session = live.session(store.connect())
         session.run(add_one("x"))
         self.assertEqual((session.number, session.place.client), (1, 3))
@@ -558,7 +558,7 @@ class Joins(WithProgram):
 def comes_later(live, group, *waiting):
     """Whose session is added once a meeting waits for that; gives what says that it is about to be."""
     add, coming, is_waited_for = group.add, threading.Event(), threading.Event()
-    all_there = live._places.coming
+    all_there = live._pool.coming
 
     def later(session):
         coming.set()
@@ -573,7 +573,7 @@ def comes_later(live, group, *waiting):
         for module in waiting:
             patched.enter_context(mock.patch(f"{module}.COMING", 60.0))
         patched.enter_context(mock.patch.object(group, "add", later))
-        patched.enter_context(mock.patch.object(live._places, "coming", looked))
+        patched.enter_context(mock.patch.object(live._pool, "coming", looked))
         yield coming
 
 
@@ -614,7 +614,7 @@ class Fences(WithProgram):
         self.one, self.store = self.live(1, every=1000, **more), MemoryStore()
         self.stays = self.one.session(self.store.connect())
         self.stays.run(add_one("x"))
-        self.assertIsNone(self.one._convener.meet(60.0, 60.0).failure)
+        self.assertIsNone(self.one._coordinator.meet(60.0, 60.0).failure)
         return self.one.session(Behaves(self.store.connect(), *outcomes))
 
     def done(self, session):
@@ -634,7 +634,7 @@ class Fences(WithProgram):
         outcome = self.one.stop()
         self.assertEqual(outcome.kind, "incomplete")
         self.assertRegex(str(outcome.failure), "a client can't join: again")
-        self.assertIsNone(self.one._places.new)
+        self.assertIsNone(self.one._pool.new)
 
     def test_where_the_store_can_not_be_reached_the_client_is_told_so(self):
         self.joining().close()
@@ -654,12 +654,12 @@ class Fences(WithProgram):
             with self.subTest(is_there):
                 leaves, session = self.joining(), None
                 session = self.one.session(Behaves(self.store.connect(), (None, is_there)))
-                self.assertEqual((session.number, self.one._places.new), (None, 2))
+                self.assertEqual((session.number, self.one._pool.new), (None, 2))
                 leaves.close()
                 session.run(add_one("x"))
                 self.assertEqual((session.number, session.begun), (1, 2))
-                self.assertIn(2, self.one._places._ended)
-                self.assertIsNone(self.one._convener.meet(60.0, 60.0).failure)
+                self.assertIn(2, self.one._pool._ended)
+                self.assertIsNone(self.one._coordinator.meet(60.0, 60.0).failure)
                 outcome = self.one.stop()
                 # Who has read from a fence that nobody told of waits for it.
                 self.assertEqual(outcome.kind, "serial" if is_there == "aborted" else "pending")
@@ -673,8 +673,8 @@ class Fences(WithProgram):
                 leads, other = live.session(store.connect()), live.session(flags)
                 for session in (other, leads):
                     session.run(add_one("x"))
-                self.assertIsNotNone(live._convener.meet(60.0, 60.0).failure)
-                self.assertIsNone(live._convener.meet(60.0, 60.0).failure)
+                self.assertIsNotNone(live._coordinator.meet(60.0, 60.0).failure)
+                self.assertIsNone(live._coordinator.meet(60.0, 60.0).failure)
                 self.assertEqual((self.ended(live).kind, live.cuts), ("serial", 1))
 
     def test_what_an_ended_session_did_last_keeps_no_cut_away(self):
@@ -685,12 +685,12 @@ class Fences(WithProgram):
                 flags = Behaves(store.connect(), (None, is_there), key=FLAG)
                 leads, other = live.session(store.connect()), live.session(flags)
                 other.run(add_one("y")), leads.run(add_one("x"))
-                self.assertIsNotNone(live._convener.meet(60.0, 60.0).failure)
+                self.assertIsNotNone(live._coordinator.meet(60.0, 60.0).failure)
                 self.assertTrue(other.place.is_ended)
                 self.wait_until_closed(other.number)
                 with mock.patch.object(Session, "read_all", side_effect=ZeroDivisionError):
-                    self.assertIsNotNone(live._convener.meet(60.0, 60.0).failure)
-                self.assertIsNone(live._convener.meet(60.0, 60.0).failure)
+                    self.assertIsNotNone(live._coordinator.meet(60.0, 60.0).failure)
+                self.assertIsNone(live._coordinator.meet(60.0, 60.0).failure)
                 self.assertEqual((self.ended(live).kind, live.cuts), ("serial", 1))
 
     def test_a_flag_of_a_meeting_that_failed_keeps_no_cut_away(self):
@@ -699,11 +699,11 @@ class Fences(WithProgram):
         leads, other = (live.session(store.connect()) for _ in range(2))
         other.run(add_one("y")), leads.run(add_one("x"))
         with mock.patch.object(Session, "read_all", side_effect=ZeroDivisionError):
-            self.assertIsNotNone(live._convener.meet(60.0, 60.0).failure)
+            self.assertIsNotNone(live._coordinator.meet(60.0, 60.0).failure)
         self.assertTrue(other.place.has_flag)
         other.end()  # as of a process that isn't heard of any more
         self.wait_until_closed(other.number)
-        self.assertIsNone(live._convener.meet(60.0, 60.0).failure)
+        self.assertIsNone(live._coordinator.meet(60.0, 60.0).failure)
         self.assertEqual((self.ended(live).kind, live.cuts), ("serial", 1))
 
     def wait_until_closed(self, session):
@@ -714,7 +714,7 @@ class Fences(WithProgram):
 
     def test_it_is_a_killed_process_s(self):
         logged = as_bytes(fence((0, 3)))
-        told = lambda *notes: Killed({4: [(CrashNote(4, *it), None) for it in notes]}, "run", Backlog(8))
+        told = lambda *notes: CrashedProcess({4: [(CrashNote(4, *it), None) for it in notes]}, "run", Backlog(8))
         for notes, found, begun, must_join in (
             ((), (), 7, True),
             (((7, None, logged), (7, "aborted")), (), 7, True),
@@ -760,7 +760,7 @@ class Elsewhere(WithProgram):
         self.server.close()
         outcome = self.ended(live)
         self.assertEqual((outcome.kind, outcome.audited), ("serial", live.handed_in))
-        self.assertEqual(live._places.taken, 0)
+        self.assertEqual(live._pool.taken, 0)
         self.assertGreater(self.auditor.sessions, 3)
 
     def test_who_comes_as_a_meeting_begins_is_waited_for(self):
@@ -772,13 +772,13 @@ class Elsewhere(WithProgram):
         left = [leaves.number]
         leaves.close()
         until = time.monotonic() + 60
-        while live._places.numbers() != left and time.monotonic() < until:
+        while live._pool.numbers() != left and time.monotonic() < until:
             time.sleep(0.005)
         with comes_later(live, comes._group, "zanteyard.live._quiesce_coordinator", "zanteyard.remote._quiesce_calls") as coming:
             thread = threading.Thread(target=comes.session, args=(store.connect(),))
             thread.start()
             self.assertTrue(coming.wait(60))
-            self.assertIsNone(live._convener.meet(60.0, 60.0).failure)
+            self.assertIsNone(live._coordinator.meet(60.0, 60.0).failure)
             thread.join(60)
         stays.leave(), comes.leave()
         self.server.close()

@@ -11,10 +11,10 @@ from zanteyard import FENCE, AuditClient, AuditServer, Logged, OutcomeUnknownErr
 from zanteyard.core._own_keys import FLAG
 from zanteyard.live._backlog import Backlog
 from zanteyard.core.errors import AuditLostError
-from zanteyard.remote._crash_recovery import Killed
+from zanteyard.remote._crash_recovery import CrashedProcess
 from zanteyard.stores.memory import MemoryStore
 from zanteyard.core._crash_notes import CrashNote
-from zanteyard.live._session_pool import Places
+from zanteyard.live._session_pool import SessionPool
 from zanteyard.core._records import as_bytes
 from zanteyard.session._place import Place
 from zanteyard.session._session import Session
@@ -68,7 +68,7 @@ class Interrupted(WithProgram):
         live, store = self.live(2, every=1000), MemoryStore()
         self.stays = live.session(Alone(store.connect()))
         self.stays.run(add_one("x"))
-        self.assertIsNone(live._convener.meet(60.0, 60.0).failure)
+        self.assertIsNone(live._coordinator.meet(60.0, 60.0).failure)
         return live, store
 
     def one_name_each(self, store):
@@ -96,7 +96,7 @@ class Interrupted(WithProgram):
                     # Nobody says what the fence has read. Where it may be none at all, who reads from it waits.
                     is_known = knows and isinstance(error, Exception)
                     if not is_known:  # else the audit ends
-                        self.assertIsNone(live._convener.meet(60.0, 60.0).failure)
+                        self.assertIsNone(live._coordinator.meet(60.0, 60.0).failure)
                     session.run(add_one("x"))
                     self.stays.run(add_one("x"))
                     self.one_name_each(store)
@@ -112,7 +112,7 @@ class Interrupted(WithProgram):
                         comes.begin_alone = mock.Mock(side_effect=error)
                     with self.assertRaises(type(error)):
                         live.session(comes)
-                    self.assertEqual((live._group.numbers(), live._places.taken), ([0], 1))
+                    self.assertEqual((live._group.numbers(), live._pool.taken), ([0], 1))
                     other = live.session(Alone(store.connect()))
                     other.run(add_one("x"))
                     self.stays.run(add_one("x"))
@@ -144,7 +144,7 @@ class Interrupted(WithProgram):
 class Stuck(unittest.TestCase):
     def test_where_a_new_session_never_joins_others_are_to_come_back(self):
         """Nobody knows whether its fence is there, so that there is no newer one."""
-        places = Places(2)
+        places = SessionPool(2)
         places.let_join()
         new, left = places.take(0.0), places.lend()
         places.close(left), places.take_back(left)
@@ -169,7 +169,7 @@ class Harmless(WithProgram):
     def test_meetings_that_are_wanted_and_fail_hold_clients_up_ever_more_seldom(self):
         """One client's transaction goes on for long, and few sessions are left."""
         live, store = self.live(58, every=1000, policy=Policy(0.05, False)), MemoryStore()
-        meet, began, ended_at = live._convener.meet, [], []
+        meet, began, ended_at = live._coordinator.meet, [], []
 
         def timed(*arguments):
             began.append(time.monotonic())
@@ -178,12 +178,12 @@ class Harmless(WithProgram):
             finally:
                 ended_at.append(time.monotonic())
 
-        live._convener.meet = timed
+        live._coordinator.meet = timed
         sessions = [live.session(store.connect()) for _ in range(57)]
         sessions[0].run(add_one("x"))
-        live._places.let_join()  # as if they had met before
-        ended = live._places.lend()
-        live._places.close(ended), live._places.take_back(ended)
+        live._pool.let_join()  # as if they had met before
+        ended = live._pool.lend()
+        live._pool.close(ended), live._pool.take_back(ended)
         running = sessions[1].begin()
         until = time.monotonic() + 60
         while len(began) < 6 and time.monotonic() < until:
@@ -198,7 +198,7 @@ class Harmless(WithProgram):
         live, store = self.live(1, policy=Policy(60.0, False)), MemoryStore()
         stays = live.session(store.connect())
         stays.run(add_one("x"))
-        self.assertIsNone(live._convener.meet(60.0, 60.0).failure)
+        self.assertIsNone(live._coordinator.meet(60.0, 60.0).failure)
         live.lose(AuditLostError("for a test"))
         live._thread.join(60)
         fences, began = len(store.versions[FENCE]), time.monotonic()
@@ -235,7 +235,7 @@ class Harmless(WithProgram):
             client._deeds["left"] = lambda *_: None  # it comes too late
             client._messages.tell("join", 99, True)
             until = time.monotonic() + 60
-            while live._places.taken < 2 and time.monotonic() < until:
+            while live._pool.taken < 2 and time.monotonic() < until:
                 time.sleep(0.005)
             client.leave()
             server.close()
@@ -301,7 +301,7 @@ class Harmless(WithProgram):
                 with self.assertRaises(OutcomeUnknownError):
                     session.run(add_one("x"))
                 connection.lost, connection.known = None, True
-                with mock.patch.object(live._places, "take", lambda *_: time.sleep(1.0)):
+                with mock.patch.object(live._pool, "take", lambda *_: time.sleep(1.0)):
                     session.run(add_one("y"))
             server.close()
         self.assertRegex(str(live.stop().failure), "no session is left for a client")
@@ -313,7 +313,7 @@ class Harmless(WithProgram):
             with AuditClient(server.path) as client:
                 stays = client.session(store.connect())
                 stays.run(add_one("x"))
-                with mock.patch.object(live._places, "take", lambda *_: None):
+                with mock.patch.object(live._pool, "take", lambda *_: None):
                     comes = client.session(store.connect())
                 self.assertFalse(comes.place.is_audited)
                 running, until = stays.begin(), time.monotonic() + 60  # no meeting can be had
@@ -332,12 +332,12 @@ class Harmless(WithProgram):
         live, store = self.live(64, every=1000), MemoryStore()
         stays = live.session(store.connect())
         stays.run(add_one("x"))
-        self.assertIsNone(live._convener.meet(60.0, 60.0).failure)
+        self.assertIsNone(live._coordinator.meet(60.0, 60.0).failure)
         others = [live.session(store.connect()) for _ in range(40)]  # more than were kept
         for session in (stays, *others):
             session.run(add_one("x"))
         self.assertGreater(live.cuts, 0)
-        self.assertEqual(live._places.taken, 41)
+        self.assertEqual(live._pool.taken, 41)
         self.assertEqual(self.ended(live).kind, "serial")
 
     def test_more_who_come_before_a_cut_than_there_is_room_for_go_on_unaudited(self):
@@ -346,7 +346,7 @@ class Harmless(WithProgram):
         stays = live.session(store.connect())
         stays.run(add_one("x"))
         live._killed.__enter__()  # no other meeting comes
-        self.assertIsNone(live._convener.meet(60.0, 60.0).failure)
+        self.assertIsNone(live._coordinator.meet(60.0, 60.0).failure)
         others = [live.session(store.connect()) for _ in range(40)]
         without = [session for session in others if not session.place.is_audited]
         self.assertEqual(len(without), 8)
@@ -394,7 +394,7 @@ class UsedAgain(WithProgram):
         ):
             with mock.patch("zanteyard.remote._crash_recovery.find_out", lambda *_: ("aborted", None)):
                 place = Place(4, 7, must_join=True)
-                killed = Killed({4: [(note, None) for note in notes]}, "run", Backlog(8))
+                killed = CrashedProcess({4: [(note, None) for note in notes]}, "run", Backlog(8))
                 self.assertEqual(killed.told(place), ())
             self.assertEqual((place.begun, place.must_join, place.is_ended), (begun, True, is_ended))
 
@@ -406,7 +406,7 @@ class UsedAgain(WithProgram):
             notes = [CrashNote(4, 7, None, as_bytes(done), "its"), CrashNote(4, 8, None, as_bytes(flag._replace(reads=[])), "flag", False)]
             with mock.patch("zanteyard.remote._crash_recovery.find_out", told):
                 place = Place(4, 7)
-                killed = Killed({4: [(note, None) for note in notes]}, "run", Backlog(8), is_dead=False)
+                killed = CrashedProcess({4: [(note, None) for note in notes]}, "run", Backlog(8), is_dead=False)
                 self.assertEqual([number for number, _ in killed.told(place)], [7])
             self.assertTrue(place.is_ended)
 
@@ -414,7 +414,7 @@ class UsedAgain(WithProgram):
         live, store = self.live(1, every=1000), MemoryStore()
         stays = live.session(store.connect())
         stays.run(add_one("x"))
-        self.assertIsNone(live._convener.meet(60.0, 60.0).failure)
+        self.assertIsNone(live._coordinator.meet(60.0, 60.0).failure)
         with tempfile.TemporaryDirectory() as folder:
             server = AuditServer(live, os.path.join(folder, "audit"))
             for when in ("add", "take_turn"):
@@ -438,7 +438,7 @@ class UsedAgain(WithProgram):
                 client.leave()
             other = live.session(store.connect())
             other.run(add_one("x"))
-            self.assertIsNone(live._convener.meet(60.0, 60.0).failure)
+            self.assertIsNone(live._coordinator.meet(60.0, 60.0).failure)
             names = [name for _, name, _ in store.versions[FENCE]]
             self.assertEqual((other.number, len(names)), (1, len({*names})))
             server.close()

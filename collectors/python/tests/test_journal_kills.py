@@ -16,7 +16,7 @@ from contextlib import suppress
 
 from zanteyard import RATHER_WAIT, AbortedError, AuditorApart, AuditServer, LiveAuditor, Logged
 from zanteyard.program._auditor import PROGRAM as BUILT
-from zanteyard.trial.postgres_server import Cluster, program
+from zanteyard.trial.postgres_server import PostgresServer, program
 from zanteyard.stores.memory import FAULTS, MemoryStore
 from zanteyard.trial.store_kinds import MakeStore
 from zanteyard.trial.workloads import ClientProcesses
@@ -274,7 +274,7 @@ class Fed(WithJournal):
 class Postgres(Fed):
     @classmethod
     def setUpClass(cls):
-        cluster = Cluster()
+        cluster = PostgresServer()
         cls.dsn = cluster.__enter__().dsn
         cls.addClassCleanup(cluster.__exit__)
 

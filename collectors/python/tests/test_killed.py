@@ -19,7 +19,7 @@ from zanteyard import Auditor, AuditServer, LiveAuditor, Policy, Session
 from zanteyard.core._commit_status import find_out
 from zanteyard.core._own_keys import FENCE, MARK, is_own
 from zanteyard.program._auditor import PROGRAM
-from zanteyard.trial.postgres_server import Cluster, program
+from zanteyard.trial.postgres_server import PostgresServer, program
 from zanteyard.trial.workloads import Nothing
 
 from .plain_sql import run_sql
@@ -234,7 +234,7 @@ class KilledOverPostgres(Killed):
 
     @classmethod
     def setUpClass(cls):
-        cls.cluster = Cluster()
+        cls.cluster = PostgresServer()
         cls.cluster.__enter__()
         cls.addClassCleanup(cls.cluster.__exit__)
 
@@ -302,7 +302,7 @@ class AskedOfPostgres(unittest.TestCase):
 
     @classmethod
     def setUpClass(cls):
-        cls.cluster = Cluster()
+        cls.cluster = PostgresServer()
         cls.cluster.__enter__()
         cls.addClassCleanup(cls.cluster.__exit__)
         prepare(cls.cluster.dsn)

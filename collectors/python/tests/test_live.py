@@ -180,9 +180,9 @@ class Meetings(WithProgram):
         b.used_at -= 700
         a.run(add_one("x"))
         self.wait_for(lambda: not b.is_open)
-        self.wait_for(lambda: sorted(live._places.numbers()) == [1, 2])
+        self.wait_for(lambda: sorted(live._pool.numbers()) == [1, 2])
         b.run(add_one("x"))
-        self.assertEqual((b.number in (1, 2), b.is_open, len(live._places.numbers())), (True, True, 1))
+        self.assertEqual((b.number in (1, 2), b.is_open, len(live._pool.numbers())), (True, True, 1))
         self.assertEqual(self.ended(live).kind, "serial")
 
     def with_write(self, live, store, write):
@@ -262,7 +262,7 @@ class Meetings(WithProgram):
             return live.cuts > cuts
 
         self.wait_for(is_cut)
-        self.wait_for(lambda: len(live._places.numbers()) == 2)
+        self.wait_for(lambda: len(live._pool.numbers()) == 2)
         self.assertEqual(sorted(live.session(store.connect()).number for _ in range(2)), [1, 2])
         self.assertEqual(self.ended(live).kind, "serial")
 

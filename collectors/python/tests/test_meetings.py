@@ -8,7 +8,7 @@ import unittest
 from zanteyard import AbortedError, Auditor, OutcomeUnknownError, Session, StoreLateError
 from zanteyard.core._own_keys import FLAG
 from zanteyard.program._auditor import PROGRAM
-from zanteyard.session._quiesce import Group, Missed
+from zanteyard.session._quiesce import SessionGroup, QuiesceMissed
 from zanteyard.stores.memory import MemoryStore
 from zanteyard.session._place import Place
 
@@ -21,7 +21,7 @@ class Meetings(unittest.TestCase):
     def setUp(self):
         self.auditor = Auditor(3)
         self.addCleanup(self.auditor.end)
-        self.group, self.store = Group(), MemoryStore()
+        self.group, self.store = SessionGroup(), MemoryStore()
         self.addCleanup(self.group.end)
 
     def session(self, number, store=None):
@@ -40,7 +40,7 @@ class Meetings(unittest.TestCase):
             begun.append(session.begin())
 
         self.group.share = shared_late
-        with self.assertRaisesRegex(Missed, "took too long"):
+        with self.assertRaisesRegex(QuiesceMissed, "took too long"):
             self.group.gather(1, SECONDS, False, (), -1.0)  # all are idle for so long
         begun[0].put("x", 1)
         begun[0].commit()
@@ -65,7 +65,7 @@ class Meetings(unittest.TestCase):
         vars(store).update(more)
         session = self.session(0, store)
         session.run(lambda t: t.put("x", 1))
-        with self.assertRaises(Missed):
+        with self.assertRaises(QuiesceMissed):
             self.group.gather(1, 0.1, False, (), SECONDS)
         self.group.release()
         return session

@@ -18,7 +18,7 @@ from zanteyard.program._auditor import PROGRAM
 from zanteyard.live._backlog import Backlog
 from zanteyard.live._audit_start import coverage_from_now
 from zanteyard.stores.memory import MemoryStore
-from zanteyard.live._session_pool import Places
+from zanteyard.live._session_pool import SessionPool
 from zanteyard.session._attempts import whole
 from zanteyard.session._place import Place
 
@@ -644,7 +644,7 @@ class Late(NoHarm):
 
     def test_what_a_process_did_that_is_lost(self):
         """Nothing is known of its last ones."""
-        places, backlog = Places(2), Backlog(8)
+        places, backlog = SessionPool(2), Backlog(8)
         left, lost = places.take(0.0), places.take(0.0)
         places.give_back([left])
         places.drop([lost.number])

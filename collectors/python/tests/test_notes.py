@@ -16,8 +16,8 @@ from zanteyard.core._own_keys import FENCE
 from zanteyard.program._auditor import PROGRAM
 from zanteyard.live._backlog import Backlog
 from zanteyard.core.errors import AuditLostError
-from zanteyard.remote._outbox import Handover
-from zanteyard.remote._crash_recovery import NOTHING, Killed, LostError, in_files
+from zanteyard.remote._outbox import Outbox
+from zanteyard.remote._crash_recovery import NOTHING, CrashedProcess, LostError, in_files
 from zanteyard.stores.memory import MemoryStore
 from zanteyard.core._crash_notes import FORKED, HEAD, ROOM, CrashNotes, notes_of
 from zanteyard.core._records import as_bytes, unpacked
@@ -105,7 +105,7 @@ class Noted(unittest.TestCase):
         if come:
             backlog.count(0, come - 1)
         place = place or Place(0)
-        return [*Killed(in_files({self.path: None}), "run", backlog).told(place)], place
+        return [*CrashedProcess(in_files({self.path: None}), "run", backlog).told(place)], place
 
     def before(self, number, logged=DID, **more):
         self.notes.write(0, number, None, as_bytes(logged), None, True)
@@ -276,7 +276,7 @@ class Lost(unittest.TestCase):
         """Else who is killed in between is taken for one that has told all."""
         messages, sent = mock.Mock(), []
         messages.send = lambda kind, *_: sent.append(kind)
-        handover = Handover(messages, 8)
+        handover = Outbox(messages, 8)
         handover.put_behind("missed", 0, 1)
         handover.lose("why")
         handover.send_all()
@@ -327,7 +327,7 @@ os.kill(os.getpid(), signal.SIGKILL)
                 while not live.is_over or os.listdir(server.notes):
                     self.assertLess(time.monotonic(), until)
                     time.sleep(0.01)
-                self.assertEqual(live._places.numbers(), [1])
+                self.assertEqual(live._pool.numbers(), [1])
                 self.assertEqual(os.listdir(server.notes), [])
             outcome = live.stop()
             self.assertEqual(outcome.kind, "incomplete", outcome)
@@ -388,7 +388,7 @@ os.kill(os.getpid(), signal.SIGKILL)
                 open_files = len(os.listdir("/proc/self/fd"))
             session.close()
             self.assertIsNone(session.notes)
-            self.wait_for(lambda: len(live._places.numbers()) == 2)
+            self.wait_for(lambda: len(live._pool.numbers()) == 2)
             self.wait_for(lambda: not os.listdir(server.notes))
         self.assertLess(len(os.listdir("/proc/self/fd")), open_files)
         self.assertEqual(server._processes[0]._asks, {})

@@ -10,7 +10,7 @@ from zanteyard.program._auditor import PROGRAM
 from zanteyard.live._backlog import Backlog
 from zanteyard.live._audit_start import coverage_from_now
 from zanteyard.stores.memory import MemoryStore
-from zanteyard.live._session_pool import Places
+from zanteyard.live._session_pool import SessionPool
 from zanteyard.remote._remote_sessions import RemoteGroup
 from zanteyard.session._place import Place
 from zanteyard.core._version import FORM
@@ -38,7 +38,7 @@ class LentPlaces(unittest.TestCase):
     """A place that was lent to a process for a meeting, which answers when that is over."""
 
     def setUp(self):
-        self.places = Places(2)
+        self.places = SessionPool(2)
         self.lent = self.places.lend()
         self.group = RemoteGroup(Nowhere(), 0.0, lambda lent: self.places.take_back(lent, is_over=False))
         self.group.patience = 0.0
@@ -113,7 +113,7 @@ class LentPlaces(unittest.TestCase):
     def test_who_was_idle_is_left_whether_or_not_the_answer_is_looked_at(self):
         for is_first in (True, False):
             with self.subTest(is_first=is_first):
-                places = Places(1)
+                places = SessionPool(1)
                 place = places.take(0.0)
                 group = RemoteGroup(Nowhere(), 0.0, lambda lent: None, places.give_back)
                 group.add(place)
@@ -130,7 +130,7 @@ class LentPlaces(unittest.TestCase):
 class Leaving(unittest.TestCase):
     def test_a_client_leaves_while_it_is_asked_who_has_what(self):
         """Behind the places that are left, and before the sessions of its process."""
-        places = Places(2)
+        places = SessionPool(2)
         place = places.take(0.0)
 
         class Leaves:
@@ -154,21 +154,21 @@ class Leaving(unittest.TestCase):
 
     def test_who_is_just_being_given_one_has_it_alone(self):
         """Taken, and in no process's list yet."""
-        places = Places(2)
+        places = SessionPool(2)
         taken = places.take(0.0)
         coverage_from_now(2, [], places, Backlog(8))
         found = [places.take(0.0) for _ in range(4)]
         self.assertNotIn(taken.number, [one.number for one in found if one])
 
     def test_who_gives_a_place_back_twice_gives_it_once(self):
-        places = Places(1)
+        places = SessionPool(1)
         place = places.take(0.0)
         places.give_back([place])
         places.give_back([Place(place.number)])
         self.assertEqual([places.take(0.0) is None for _ in range(2)], [False, True])
 
     def test_what_is_lost_is_left_in_another_audit_alone(self):
-        places = Places(1)
+        places = SessionPool(1)
         places.drop([places.take(0.0).number])
         self.assertIsNone(places.take(0.0))
         coverage_from_now(1, [], places, Backlog(8))

@@ -9,7 +9,7 @@ from unittest import mock
 
 from zanteyard import FENCE, AbortedError, Auditor, NameTakenError, OutcomeUnknownError, Session, smaller, words
 from zanteyard.program._auditor import PROGRAM
-from zanteyard.trial.postgres_server import Cluster, program
+from zanteyard.trial.postgres_server import PostgresServer, program
 
 from .waiting import wait_until
 
@@ -38,7 +38,7 @@ class Lossy(PostgresStore if psycopg2 else object):
 class Postgres(unittest.TestCase):
     @classmethod
     def setUpClass(cls):
-        cluster = Cluster()
+        cluster = PostgresServer()
         cls.dsn = cluster.__enter__().dsn
         cls.addClassCleanup(cluster.__exit__)
 
@@ -441,7 +441,7 @@ class Postgres(unittest.TestCase):
 
     def test_a_server_that_stands_still_is_waited_for_no_longer_than_was_said(self):
         """It takes connections, and answers nothing to them; those of before go on."""
-        with Cluster() as cluster:
+        with PostgresServer() as cluster:
             prepare(cluster.dsn)
             auditor = Auditor(8)
             self.addCleanup(auditor.end)
@@ -459,15 +459,15 @@ class Postgres(unittest.TestCase):
                 os.kill(cluster.runs(), signal.SIGCONT)
 
     def test_a_server_that_is_killed_in_the_commit(self):
-        with Cluster() as cluster:
+        with PostgresServer() as cluster:
             prepare(cluster.dsn)
 
-            class Killing(PostgresStore):
+            class CrashSearches(PostgresStore):
                 def send_commit(self):
                     cluster.stop()
                     super().send_commit()
 
-            session = Session(self.auditor, 0, Killing(cluster.dsn), "run", patience=0.2)
+            session = Session(self.auditor, 0, CrashSearches(cluster.dsn), "run", patience=0.2)
             with self.assertRaises(OutcomeUnknownError):
                 session.run(lambda t: (t.get("x"), t.put("x", "1")))
             self.assertFalse(session.is_open)

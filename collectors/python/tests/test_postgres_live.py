@@ -7,7 +7,7 @@ import tempfile
 import unittest
 
 from zanteyard.program._auditor import PROGRAM
-from zanteyard.trial.postgres_server import Cluster, program
+from zanteyard.trial.postgres_server import PostgresServer, program
 
 try:
     import psycopg2
@@ -25,7 +25,7 @@ LATE = 200.0  # seconds for a program, where others have the processors
 class PostgresLive(unittest.TestCase):
     @classmethod
     def setUpClass(cls):
-        cls.cluster = Cluster()
+        cls.cluster = PostgresServer()
         cls.cluster.__enter__()
         cls.addClassCleanup(cls.cluster.__exit__)
 

@@ -37,7 +37,7 @@ class TwoProcesses:
         for session in (a, b):
             session.run(add_one("x"))
         other.leave()
-        self.wait_for(live._places.numbers)
+        self.wait_for(live._pool.numbers)
         again = self.client.session(store.connect())
         self.assertEqual((again.number, again.begun), (b.number, b.begun))
         for session in (a, again, a, again):
@@ -152,9 +152,9 @@ class Elsewhere(TwoProcesses, test_live.Meetings):
 
         self.wait_for(is_late)
         RemoteGroup.patience = live._pace.patience = 60.0
-        self.wait_for(live._places.numbers)
+        self.wait_for(live._pool.numbers)
         self.wait_for(lambda: self.is_cut(live, a))
-        self.wait_for(live._places.numbers)
+        self.wait_for(live._pool.numbers)
         self.assertEqual(self.client.session(store.connect()).number, 1)
         self.assertEqual(self.ended(live).kind, "serial")
 
@@ -220,14 +220,14 @@ class Elsewhere(TwoProcesses, test_live.Meetings):
         a, b = (self.client.session(store.connect()) for _ in range(2))
         b.run(add_one("x"))
         b.close()
-        self.wait_for(live._places.numbers)
+        self.wait_for(live._pool.numbers)
         (stuck,) = [it.messages for it in self.server._processes if a.number in it.group.numbers()]
         plain, stuck.tell = stuck.tell, lambda *_, **__: False  # nothing can be sent
         live._pace.every = 1
         self.wait_for(lambda: any("a process has left" in line for line in self.told))
         stuck.tell = plain
         self.wait_for(lambda: self.is_cut(live, a))
-        self.wait_for(live._places.numbers)
+        self.wait_for(live._pool.numbers)
         self.assertEqual(self.ended(live).kind, "serial")
 
     def is_cut(self, live, session):

@@ -10,7 +10,7 @@ from typing import Any, List
 
 from zanteyard import RATHER_WAIT, Auditor
 from zanteyard.program._auditor import PROGRAM
-from zanteyard.trial.postgres_server import Cluster, program
+from zanteyard.trial.postgres_server import PostgresServer, program
 from zanteyard.core.errors import StoreUnfitError
 
 try:
@@ -48,10 +48,10 @@ NAMES = ("accounts", "hall.seats", '"Odd % one"')
 
 def leave_one(live: Any) -> None:
     """Of the 64 sessions of the live audit; who finds none waits for none, as if it had in vain."""
-    take = live._places.take
+    take = live._pool.take
     for _ in range(63):
         take(0.0)
-    live._places.take = lambda seconds, *more: take(0.0, *more)
+    live._pool.take = lambda seconds, *more: take(0.0, *more)
 
 
 @unittest.skipIf(LACKING, f"not installed or not built: {', '.join(LACKING)}")
@@ -63,7 +63,7 @@ class OverAServer(unittest.TestCase):
     @classmethod
     def setUpClass(cls) -> None:
         if OverAServer.cluster is None:
-            OverAServer.cluster = Cluster()
+            OverAServer.cluster = PostgresServer()
             OverAServer.cluster.__enter__()
             atexit.register(OverAServer.cluster.__exit__)
         cls.dsn = OverAServer.cluster.dsn

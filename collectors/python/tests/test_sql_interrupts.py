@@ -43,7 +43,7 @@ class Connecting(OverAServer):
                 del made
                 gc.collect()
                 other = connect()  # which gives back what was dropped
-                self.assertEqual(live._places.taken, 1)
+                self.assertEqual(live._pool.taken, 1)
                 self.assertEqual(len(live._group.sessions), 1)
                 other.cursor().execute("UPDATE t SET v = v + 1 WHERE id = 1")
                 other.commit()

@@ -14,7 +14,7 @@ import unittest
 from typing import Any, Dict, Iterable, List, Sequence, Set, Tuple
 
 from zanteyard import AuditorApart, AuditServer, LiveAuditor, Policy
-from zanteyard.trial._throwaway_folder import OwnFolder
+from zanteyard.trial._throwaway_folder import ThrowawayFolder
 
 try:
     import psycopg2
@@ -85,7 +85,7 @@ class KilledSql(OverAServer):
         stays: the outcome, and those of which the last transaction, which comes behind four, is in
         the store."""
         place = self.database(SCHEMA, ["t", "rows"])
-        with AuditorApart(len(places) + 3) as auditor, OwnFolder() as folder:
+        with AuditorApart(len(places) + 3) as auditor, ThrowawayFolder() as folder:
             policy = Policy(30.0, begins_anew=False)
             live = LiveAuditor(auditor, every=every, seconds=0.3, policy=policy)
             with AuditServer(live, f"{folder}/audit") as server:
@@ -213,7 +213,7 @@ class Unclear(KilledSql):
 class AtAnyTime(KilledSql):
     def test_by_tens(self) -> None:
         place, chance = self.database(SCHEMA, ["t", "rows"]), random.Random(1)
-        with AuditorApart(16) as auditor, OwnFolder() as folder:
+        with AuditorApart(16) as auditor, ThrowawayFolder() as folder:
             policy = Policy(30.0, begins_anew=False)
             live = LiveAuditor(auditor, every=150, seconds=0.3, policy=policy)
             with AuditServer(live, f"{folder}/audit") as server:

@@ -13,7 +13,7 @@ from typing import Any, Callable, Dict, List, Tuple
 
 from zanteyard import RATHER_WAIT, AuditClient, Auditor, AuditorApart, AuditServer, LiveAuditor
 from zanteyard import Policy
-from zanteyard.trial._throwaway_folder import OwnFolder
+from zanteyard.trial._throwaway_folder import ThrowawayFolder
 
 try:
     import psycopg2
@@ -275,7 +275,7 @@ class Workloads(OverAServer):
 
     def test_clients_of_several_processes_read_from_one_another(self) -> None:
         place = self.database(SCHEMA + "INSERT INTO t VALUES (1, 0)", ["t"])
-        with AuditorApart(4) as auditor, OwnFolder() as folder:
+        with AuditorApart(4) as auditor, ThrowawayFolder() as folder:
             live = LiveAuditor(auditor, policy=RATHER_WAIT)
             with AuditServer(live, f"{folder}/audit") as server:
                 for _ in range(2):

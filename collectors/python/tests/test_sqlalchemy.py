@@ -13,7 +13,7 @@ from typing import Any, List
 
 from zanteyard import RATHER_WAIT, AuditClient, Auditor, AuditorApart, AuditServer, LiveAuditor
 from zanteyard.core.errors import StoreUnfitError
-from zanteyard.trial._throwaway_folder import OwnFolder
+from zanteyard.trial._throwaway_folder import ThrowawayFolder
 
 try:
     import psycopg2
@@ -613,7 +613,7 @@ class Connections(OverAnEngine):
 
     def test_several_processes(self) -> None:
         prepare(self.engine(self.place), Base)
-        with AuditorApart(4) as apart, OwnFolder() as folder:
+        with AuditorApart(4) as apart, ThrowawayFolder() as folder:
             live = LiveAuditor(apart, policy=RATHER_WAIT)
             with AuditServer(live, f"{folder}/audit") as server:
                 for _ in range(2):

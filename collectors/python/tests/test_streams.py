@@ -172,8 +172,8 @@ class Behind(WithRedis, TwoProcesses, test_live.Meetings):
         asking = threading.Thread(target=lambda: found.append(self.client.session(store.connect())))
         with mock.patch.object(process.messages.appender._link, "ask", lambda *_: None):
             asking.start()
-            self.wait_for(lambda: not live._places.numbers())
-            self.assertIsNone(live._places.take(0.0))
+            self.wait_for(lambda: not live._pool.numbers())
+            self.assertIsNone(live._pool.take(0.0))
         asking.join()
         self.assertEqual(found[0].number, 0)
         found[0].run(add_one("x"))
@@ -192,7 +192,7 @@ class Behind(WithRedis, TwoProcesses, test_live.Meetings):
         with mock.patch.object(process.messages.appender._link, "ask", lambda *_: None):
             with self.nobody_answers(other):
                 other.session(store.connect())
-            self.wait_for(lambda: len(live._places.numbers()) == 1)
+            self.wait_for(lambda: len(live._pool.numbers()) == 1)
             other.leave()
         a = self.client.session(store.connect())
 
@@ -209,8 +209,8 @@ class Behind(WithRedis, TwoProcesses, test_live.Meetings):
         with mock.patch.object(process.messages.appender._link, "ask", lambda *_: None):
             with self.nobody_answers(self.client):
                 self.client.session(store.connect())
-            self.wait_for(lambda: not live._places.numbers())
-        self.wait_for(live._places.numbers)
+            self.wait_for(lambda: not live._pool.numbers())
+        self.wait_for(live._pool.numbers)
 
     def test_nobody_is_silent_while_the_redis_takes_no_writes(self):
         live, store = self.live(1), MemoryStore()

@@ -58,7 +58,7 @@ def families(live: LiveAuditor, clients: int = 0, redis_up: Any = None) -> Itera
     yield one("audits_total", "counter", "Audits that have begun.", len(live.earlier) + 1)
     yield one("meetings_total", "counter", "Meetings that were called.", live.meetings)
     about = "Clients more that may have a session by now."
-    yield one("sessions_left", "gauge", about, live._places.free)
+    yield one("sessions_left", "gauge", about, live._pool.free)
     yield one("clients", "gauge", "Processes of clients that are heard.", clients)
     yield one("violated", "gauge", "1 where the audit is violated.", live.is_violated)
     is_missing = live._audit.missing is not None

@@ -20,7 +20,7 @@ from ..live._live_auditor import LiveAuditor
 from ..program._subprocess import AuditorApart
 from ..remote._server import AuditServer
 from ..session._session import Session
-from ..trial._throwaway_folder import OwnFolder
+from ..trial._throwaway_folder import ThrowawayFolder
 from ..trial.postgres_server import ended_by_signals
 from ..trial.store_kinds import POSTGRES, MakesStore, StoreKind
 from ..trial.store_kinds import CantAuditError as CantAuditError
@@ -103,7 +103,7 @@ def _beside(asked: Any, make_store: MakesStore, live: LiveAuditor) -> Clients:
         sessions = [live.session(make_store()) for _ in range(asked.clients)]
         more = (asked.seconds, lambda: live.is_over, asked.rate)
         return Clients(sessions, EVERY_WORKLOAD[asked.workload], *more)
-    with OwnFolder() as folder:
+    with ThrowawayFolder() as folder:
         with AuditServer(live, f"{folder}/audit") as server:
             those = (asked.clients, asked.workload, asked.seconds, asked.rate)
             clients = ClientProcesses(server.path, make_store, *those)

@@ -13,7 +13,7 @@ from typing import Dict, List, Optional, Sequence, Set
 from ._records import TransactionId
 
 
-class Stints:
+class Tenancy:
     """For threads."""
 
     def __init__(self) -> None:

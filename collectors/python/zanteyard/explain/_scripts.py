@@ -13,7 +13,7 @@ from typing import Any, Callable, Dict, Iterable, Iterator, List, Mapping, Optio
 
 from ..core._own_keys import FENCE
 from ..core._records import ABORTED, Logged, Pending, TransactionId
-from ..core._tenancy import Stints
+from ..core._tenancy import Tenancy
 from ..core.errors import ProgramEndedError, ProgramTooOldError, ScriptMistakeError
 from ..program._auditor import TOO_OLD
 from ..program._intake import never_came
@@ -70,12 +70,12 @@ class ScriptHistory:
     history: List[List[Logged]] = field(default_factory=list)
     marks: List[int] = field(default_factory=list)  # of each session, how many are forgotten
     base: Dict[str, TransactionId] = field(default_factory=dict)  # of a key the last one gone
-    stints: Stints = field(default_factory=Stints)  # of sessions that several clients had
+    stints: Tenancy = field(default_factory=Tenancy)  # of sessions that several clients had
 
     def begin(self, sessions: int) -> None:
         """Nothing has come yet."""
         self.history, self.marks, self.base = [[] for _ in range(sessions)], [0] * sessions, {}
-        self.stints = Stints()
+        self.stints = Tenancy()
 
     def join(self, session: int, transactions: Iterable[Any]) -> None:
         """What an accepted `join` has said."""

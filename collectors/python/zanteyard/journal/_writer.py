@@ -24,7 +24,7 @@ TELLS_ABORTED = b'"%s"' % ABORTED.encode()
 GROWS = 1 << 20  # bytes that a file grows by, or as much as it had, before it is written anew
 
 
-class Keeping:
+class JournalWriter:
     """For one thread at a time; every call raises JournalError where the journal can't be written.
     `head` tells of the audit, and `names` are those of the keys, which grow; `kept` is what the
     journal says, where it is gone on with. `left_out` and `is_of_sessions` are the head's, by

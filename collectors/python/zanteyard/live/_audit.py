@@ -11,7 +11,7 @@ from typing import Any, Callable, Dict, Iterable, List, Optional, Sequence, Set,
 from ..core._outcome import COLLECTOR, PENDING, RUNNING, SERIAL, VIOLATED, Outcome, kind_of
 from ..core._own_keys import FENCE, LONGEST
 from ..core._records import Pending, Report, TransactionId, unpacked
-from ..core._tenancy import Stints
+from ..core._tenancy import Tenancy
 from ..core._window import SESSIONS, Coverage
 from ..core.errors import AuditLostError, FullError, MissingError, NoCutError, NotAnchoredError
 from ..explain._shrinking import is_collectors_own
@@ -56,7 +56,7 @@ class Audit:
         coverage: Coverage,
         counted: int = 0,
         earlier: Tuple[Outcome, ...] = (),
-        stints: Optional[Stints] = None,
+        stints: Optional[Tenancy] = None,
         closed: Iterable[int] = (),
     ) -> None:
         self._auditor, self._backlog, self._figures = auditor, backlog, figures
@@ -73,7 +73,7 @@ class Audit:
         self._pending: Tuple[Pending, ...] = ()
         self._is_collectors_own = False
         self.missing: Optional[MissingError] = None  # what may have been done, and never comes
-        self._stints = stints or Stints()
+        self._stints = stints or Tenancy()
         self._closed: Set[int] = {*closed}
         # What waits with its session, which is to join behind a fence that isn't taken in yet.
         self._held: Dict[int, List[HandedIn]] = {}

@@ -7,12 +7,12 @@ from typing import Any, Iterable, List, Optional, Sequence, Tuple
 from ..core._window import SKIPPED, Coverage
 from ..session._place import Place
 from ._backlog import Backlog
-from ._quiesce_coordinator import MeetingGroup
-from ._session_pool import Places
+from ._quiesce_coordinator import QuiesceGroup
+from ._session_pool import SessionPool
 
 
 def coverage_from_now(
-    sessions: int, groups: Sequence[MeetingGroup], places: Places, backlog: Backlog
+    sessions: int, groups: Sequence[QuiesceGroup], places: SessionPool, backlog: Backlog
 ) -> Coverage:
     """What is sent to the store from now on is audited. Who had ended goes on, and the places of
     processes that are lost may be used again; a process that doesn't answer has no part. So many
@@ -42,7 +42,7 @@ def coverage_from_now(
     return Coverage(early, first, unknown=unknown)
 
 
-def _asked(groups: Sequence[MeetingGroup], places: Places) -> Iterable[Tuple[Any, ...]]:
+def _asked(groups: Sequence[QuiesceGroup], places: SessionPool) -> Iterable[Tuple[Any, ...]]:
     """Of each session: how many of its transactions have been answered, from which on none has been
     sent, and of which of them it isn't known what they were answered."""
     found = places.edges()

@@ -24,15 +24,15 @@ from ..core._stores import Store
 from ..core._window import Coverage
 from ..core.errors import AuditLostError, MissingError
 from ..program._subprocess import AuditorApart
-from ..session._local_sessions import PATIENCE, SessionsHere
+from ..session._local_sessions import PATIENCE, LocalSessions
 from ..session._place import Place
 from ..session._session import Session
 from ._audit import AnyAuditor, Audit, Figures
 from ._audit_start import coverage_from_now
 from ._backlog import Backlog, keys_written_unseen
 from ._pace import Pace
-from ._quiesce_coordinator import Convener
-from ._session_pool import Places
+from ._quiesce_coordinator import QuiesceCoordinator
+from ._session_pool import SessionPool
 
 logger = logging.getLogger("zanteyard")
 PAUSE = 0.04  # seconds, in which more transactions come: a line each would cost the clients more
@@ -46,7 +46,7 @@ GIVING_UP = 1.0  # the same, where an exception ends it
 EARLIER = "an audit of this run had ended before, in a process that is gone"
 
 
-class Killing:
+class CrashSearches:
     """While it is found out what killed processes did; for threads."""
 
     def __init__(self) -> None:
@@ -70,7 +70,7 @@ class Killing:
             self._changed.notify_all()
 
 
-class LiveAuditor(SessionsHere):
+class LiveAuditor(LocalSessions):
     """Audits clients while they run: as many as come, and 64 at a time. For threads.
 
     The auditor is an Auditor, or, so that clients are held up less, an AuditorApart. The name of
@@ -121,9 +121,9 @@ class LiveAuditor(SessionsHere):
         self._packed = auditor.packed if isinstance(auditor, AuditorApart) else None
         self._told_to, self._has_failed_to_tell = tell, False
         self._pace = Pace(every, seconds, idle, patience)
-        self._backlog, self._places = Backlog(most), Places(auditor.sessions)
+        self._backlog, self._pool = Backlog(most), SessionPool(auditor.sessions)
         # This process's clients, and each other process's.
-        self._convener = Convener([self._group], self._places, self._backlog)
+        self._coordinator = QuiesceCoordinator([self._group], self._pool, self._backlog)
         now = time.monotonic()
         self._figures = Figures(told_at=now, cut_at=now)
         self._audit = self._resumed_audit() if auditor.is_resumed else self._first_audit()
@@ -133,7 +133,7 @@ class LiveAuditor(SessionsHere):
         self._lost: Optional[Exception] = None  # why no more is audited, until another audit begins
         self._failure: Optional[Exception] = None  # the same, once nothing more is audited for good
         self._is_stopping = self._has_ended = False
-        self._killed = Killing()
+        self._killed = CrashSearches()
         self._at_end: List[Callable[[], object]] = []
         self._thread = threading.Thread(target=self._serve, name="zanteyard", daemon=True)
         self._thread.start()
@@ -150,26 +150,26 @@ class LiveAuditor(SessionsHere):
             self.auditor.note_sessions()
         owed: List[Place] = []  # of which no session is made yet
         try:
-            place = self._places.take(self.policy.wait, owed) or self._without_place()
+            place = self._pool.take(self.policy.wait, owed) or self._without_place()
             if place is None:
                 raise ValueError(f"no session is left: {self._no_place()}")
             return self._add_session(place, store, patience, owed)
         except BaseException:
-            self._places.put_back(owed)
+            self._pool.put_back(owed)
             raise
 
     def _without_place(self) -> Optional[Place]:
         """For a new client for whom none is left: one that no audit is about; None where all have
         clients."""
-        if self._places.are_all_taken:
+        if self._pool.are_all_taken:
             return None
         self._lose_for_a_client()
-        return self._places.take_unaudited()
+        return self._pool.take_unaudited()
 
     def _no_place(self) -> str:
         """Why no client more can have one."""
-        count, why = self._places.taken, self._audit.why_no_cut
-        if self._places.are_all_taken:
+        count, why = self._pool.taken, self._audit.why_no_cut
+        if self._pool.are_all_taken:
             return f"{count} clients have one each, and no more can at a time"
         told = f"{count} clients have one each, and a meeting has to make room for another"
         return f"{told}; the last made none, since {why}" if why else told
@@ -265,7 +265,7 @@ class LiveAuditor(SessionsHere):
     @property
     def meetings(self) -> int:
         """How many there were, in all audits, those that failed too."""
-        return self._convener.meetings
+        return self._coordinator.meetings
 
     @property
     def lag(self) -> float:
@@ -305,8 +305,8 @@ class LiveAuditor(SessionsHere):
             self._backlog.put((came, session, number, what))
         elif not self._is_stopping:
             self._backlog.note_taken(session, number)
-        if session == self._places.new:  # the next one that is new may be handed in behind it
-            self._places.note_joined(session)
+        if session == self._pool.new:  # the next one that is new may be handed in behind it
+            self._pool.note_joined(session)
 
     def _drops(self) -> bool:
         """Whether no audit takes in what is handed in."""
@@ -321,7 +321,7 @@ class LiveAuditor(SessionsHere):
 
     def _goes_on(self) -> bool:
         """Whether nobody waits for room; as in a meeting, which wants the session's turn."""
-        return self._convener.is_meeting or self.is_over or self._lost is not None
+        return self._coordinator.is_meeting or self.is_over or self._lost is not None
 
     def _no_room(self) -> str:
         """Why clients would have to wait."""
@@ -332,12 +332,12 @@ class LiveAuditor(SessionsHere):
 
     def _renew(self, session: Session) -> Optional[Place]:
         # Where nothing is audited nobody waits for it.
-        place = self._places.take(0.0 if self._drops() else self.policy.wait)
+        place = self._pool.take(0.0 if self._drops() else self.policy.wait)
         if place is None:
             self._lose_for_a_client()
         elif session.place is not None:  # which has ended for this audit
             self._give_back(session.place)
-        return place or session.place or self._places.take_unaudited()
+        return place or session.place or self._pool.take_unaudited()
 
     def _lose_for_a_client(self) -> None:
         """One goes on unaudited, since there are more than sessions."""
@@ -347,10 +347,10 @@ class LiveAuditor(SessionsHere):
     def _cant_join(self, session: Session, why: Exception) -> Optional[Place]:
         self.lose(AuditLostError(f"a client can't join: {str(why).strip() or type(why).__name__}"))
         self._give_back(session.place)
-        return self._places.take_unaudited()
+        return self._pool.take_unaudited()
 
     def _give_back(self, place: Place) -> None:
-        self._places.give_back([place])
+        self._pool.give_back([place])
 
     # the thread
 
@@ -367,7 +367,7 @@ class LiveAuditor(SessionsHere):
         finally:
             self._failure, self._has_ended = (None if self.is_violated else self._lost), True
             if not self._is_stopping:  # else another process may go on with them
-                self._places.end()
+                self._pool.end()
             self._group.end()
             for told in self._at_end:
                 told()
@@ -395,20 +395,23 @@ class LiveAuditor(SessionsHere):
             audit.run_round("no meeting yet", goes_on=True)
         if self.cuts > self._cuts_seen:
             self._cuts_seen = self.cuts
-            self._places.come_back(audit.vacant())
+            self._pool.come_back(audit.vacant())
 
     def _is_meeting_due(self) -> bool:
         """Where room asks for it: at a violation nothing is lost by a later one."""
         if self._killed.is_going_on:  # what that did is to be handed in before
             return False
-        if self._convener.new >= self._pace.until_meeting(bool(self._audit.why_no_cut)):
+        if self._coordinator.new >= self._pace.until_meeting(bool(self._audit.why_no_cut)):
             return True
-        return time.monotonic() >= self._may_meet_at and self._places.wants_meeting
+        return time.monotonic() >= self._may_meet_at and self._pool.wants_meeting
 
     def _meet(self) -> None:
         """With a round behind it, over what came up to its end."""
         audit, patience = self._audit, self._pace.patience_of(is_last=not self._has_room())
-        met, cuts = self._convener.meet(min(patience, self.policy.wait), self._pace.idle), self.cuts
+        met, cuts = (
+            self._coordinator.meet(min(patience, self.policy.wait), self._pace.idle),
+            self.cuts,
+        )
         pause = (SOON if met.failure else SOON_AGAIN) * 2 ** min(self._in_vain, 10)
         self._may_meet_at = time.monotonic() + min(pause, LONGEST_PAUSE)
         self._in_vain += 1
@@ -471,13 +474,13 @@ class LiveAuditor(SessionsHere):
         )
         its = (self._backlog, self._figures, self._tell, self.run_name, coverage, 0, earlier)
         closed = [session for session, it in enumerate(auditor.closed) if it]
-        audit = Audit(auditor, *its, stints=self._places.stints, closed=closed)
+        audit = Audit(auditor, *its, stints=self._pool.stints, closed=closed)
         if FENCE in auditor.base:
-            self._places.let_join()
+            self._pool.let_join()
         audit.taken_in, audit.report = sum(auditor.received), auditor.violation
         if auditor.failure is not None:  # it had sessions in the process that is gone
             audit.missing = MissingError(str(auditor.failure))
-        self._convener.start_anew()
+        self._coordinator.start_anew()
         return audit
 
     # another audit
@@ -510,7 +513,7 @@ class LiveAuditor(SessionsHere):
     def _start_anew(self) -> None:
         """Only what is sent to the store from some moment on is audited; what was on its way then
         is left out, as if it had been read by nobody."""
-        why, convener = self._lost, self._convener
+        why, convener = self._lost, self._coordinator
         ended = self._audit.outcome(True, why)
         self._backlog.clear()
         self._audit.drop_held()
@@ -518,9 +521,9 @@ class LiveAuditor(SessionsHere):
         convener.is_meeting, self._backlog.room = True, self._backlog.most
         self._lost = None  # nothing is dropped from here on: what has ended is known by its number
         try:
-            self._places.grow()
-            self.auditor.sessions = sessions = self._places.sessions
-            coverage = coverage_from_now(sessions, convener.groups, self._places, self._backlog)
+            self._pool.grow()
+            self.auditor.sessions = sessions = self._pool.sessions
+            coverage = coverage_from_now(sessions, convener.groups, self._pool, self._backlog)
             self.auditor.start_anew(coverage)
         except Exception:
             self._lost = why
@@ -536,7 +539,7 @@ class LiveAuditor(SessionsHere):
     def _next_audit(self, coverage: Coverage, before: Optional[Outcome] = None) -> Audit:
         """Behind this outcome of the last one, if there was any."""
         more = (self._backlog, self._figures, self._tell, self.run_name, coverage)
-        stints = self._places.stints
+        stints = self._pool.stints
         if before is None:
             return Audit(self.auditor, *more, stints=stints)
         earlier = (*before.earlier, replace(before, earlier=()))

@@ -7,15 +7,15 @@ from typing import Any, List, NamedTuple, Optional, Protocol, Sequence, Set, Tup
 
 from ..core._own_keys import FLAG, is_own
 from ..session._place import Place
-from ..session._quiesce import Missed, Wait
+from ..session._quiesce import QuiesceMissed, Wait
 from ._backlog import Backlog
-from ._session_pool import Places
+from ._session_pool import SessionPool
 
 READS = 200  # of one transaction; the auditor takes 256
 COMING = 0.2  # seconds for a client that was given a session to have it
 
 
-class MeetingGroup(Protocol):
+class QuiesceGroup(Protocol):
     """The sessions of one process, here or elsewhere; `Group` says what each call does."""
 
     @property
@@ -69,11 +69,11 @@ class Met(NamedTuple):
     came: int
 
 
-class Convener:
+class QuiesceCoordinator:
     """For the auditor's thread, but for `groups`, to which any may add its own."""
 
-    def __init__(self, groups: List[MeetingGroup], places: Places, backlog: Backlog) -> None:
-        self.groups, self._places, self._backlog = groups, places, backlog
+    def __init__(self, groups: List[QuiesceGroup], places: SessionPool, backlog: Backlog) -> None:
+        self.groups, self._pool, self._backlog = groups, places, backlog
         self.meetings = 0
         self.is_meeting = False  # clients wait for it, and so for nothing else
         self._counted = 0  # transactions, as the last one ended
@@ -98,13 +98,13 @@ class Convener:
         session."""
         self._wait_for_who_comes()
         self.meetings, self.is_meeting = self.meetings + 1, True
-        groups, places = list(self.groups), self._places.lend()
+        groups, places = list(self.groups), self._pool.lend()
         failure: Optional[str] = None
         try:
             failure = self._hold(groups, places, patience, idle)
             if failure is None:
                 self._close(places)
-        except Missed as error:
+        except QuiesceMissed as error:
             failure = str(error)
         except Exception as error:  # the store's: a client will meet it too
             failure = f"the meeting failed ({str(error).strip() or type(error).__name__})"
@@ -112,29 +112,29 @@ class Convener:
             self.is_meeting, came = False, len(self._backlog)
             for group in groups:
                 group.release()
-            self._places.take_back(places)
+            self._pool.take_back(places)
         self._counted = self._backlog.counted
         return Met(failure, came)
 
     def _wait_for_who_comes(self) -> None:
         """Who goes on where another client has left is to be found by the call for its session:
         else nothing would say that what was done there is behind the fence."""
-        self._places.keep()
+        self._pool.keep()
         ends = time.monotonic() + COMING
         while time.monotonic() < ends:
             there = [number for group in list(self.groups) for number in group.there()]
-            if not self._places.coming(there):
+            if not self._pool.coming(there):
                 break
             time.sleep(COMING / 100)
 
     def _close(self, places: Sequence[Place]) -> None:
         """What nobody has: all of it is behind the fence."""
         kept = {place.number for place in self._kept}
-        for number in self._places.close(it for it in places if it.number not in kept):
+        for number in self._pool.close(it for it in places if it.number not in kept):
             self._backlog.put((time.monotonic(), number, None, None))
 
     def _hold(
-        self, groups: Sequence[MeetingGroup], places: List[Place], patience: float, idle: float
+        self, groups: Sequence[QuiesceGroup], places: List[Place], patience: float, idle: float
     ) -> Optional[str]:
         """Says why there is none. Places that clients give back are added to these."""
         number, ends = self.meetings, time.monotonic() + patience
@@ -154,16 +154,16 @@ class Convener:
         for gathered in gathering:
             flags, given_back = gathered(ends)
             unread.update(flags)
-            self._places.lend_taken(given_back)
+            self._pool.lend_taken(given_back)
             places.extend(given_back)
-        late = self._places.lend()  # whose clients left while others were called
+        late = self._pool.lend()  # whose clients left while others were called
         if late:
             places.extend(late)
             leading.begin_flag(number, [it for it in late if it.is_due])(ends)
             unread.update(place.number for place in late if place.has_flag)
         self._lead(leading, unread, ends)
-        self._places.let_join()
-        self._kept = self._places.spare(places)  # which are to be behind the fence, then
+        self._pool.let_join()
+        self._kept = self._pool.spare(places)  # which are to be behind the fence, then
         passing = [
             group.begin_pass_on(number, self._kept if group is leading else [])
             for group in meeting
@@ -172,7 +172,7 @@ class Convener:
             passed(ends)
         return None
 
-    def _lead(self, leading: MeetingGroup, unread: Set[int], ends: float) -> None:
+    def _lead(self, leading: QuiesceGroup, unread: Set[int], ends: float) -> None:
         """Has the leader read what nobody has read: flags of these sessions, and of those that have
         ended, first, with as many keys as there is room for."""
         gone = self._backlog.take_ends()

@@ -7,7 +7,7 @@ import time
 from collections import deque
 from typing import Any, Deque, Dict, Iterable, List, Mapping, Optional, Set, Tuple
 
-from ..core._tenancy import Stints
+from ..core._tenancy import Tenancy
 from ..core._window import SESSIONS
 from ..session._place import Place
 
@@ -17,7 +17,7 @@ SPARE = 8  # that are to be there for clients that come, where there are enough
 JOINING = 0.5
 
 
-class Places:
+class SessionPool:
     """For threads. Who wants a place while a meeting has them all waits for its end. A place is
     left for one client: whoever had it gives it back once, and who gives it back as well, as an
     answer that comes late, gives nothing.
@@ -29,7 +29,7 @@ class Places:
 
     def __init__(self, sessions: int) -> None:
         self.sessions = sessions  # by now, with one that hasn't joined yet
-        self.stints = Stints()  # which clients had them
+        self.stints = Tenancy()  # which clients had them
         self._left: Deque[Place] = deque(Place(number) for number in range(sessions))
         self._back: Deque[Place] = deque()  # which the next client is to join
         self._ended: Dict[int, Place] = {}  # by number, closed, and not forgotten yet

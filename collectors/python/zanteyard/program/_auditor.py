@@ -12,7 +12,7 @@ from typing import Any, Container, Dict, List, Mapping, Optional, Sequence, Tupl
 from ..core._outcome import RATHER_LOSE_THE_AUDIT, Policy
 from ..core._own_keys import FENCE, FORM
 from ..core._records import ABORTED, Cut, Logged, Report, TransactionId
-from ..core._tenancy import Stints
+from ..core._tenancy import Tenancy
 from ..core._window import Coverage
 from ..core.errors import (
     AuditLostError,
@@ -29,10 +29,10 @@ from ..core.errors import (
 )
 from ..journal._entries import Head
 from ._binaries import PROGRAM as PROGRAM
-from ._intake import EFFORTS, SECONDS, Effort, Fragment, Takes
+from ._intake import EFFORTS, SECONDS, Effort, Fragment, Intake
 from ._pipes import Pipes
 from ._resuming import Reopened, journaled, reopened
-from ._supervised import Restarting
+from ._supervised import SupervisedProgram
 
 
 BAD_LINE = "BadLine"
@@ -52,7 +52,7 @@ KINDS: Mapping[str, Type[RefusedError]] = {
 }
 
 
-class Auditor(Takes):
+class Auditor(Intake):
     """The program cobra_audit. For threads: each call is one line and its reply. What sessions hand
     in (`take`) never raises; all other calls raise ProgramEndedError where the program is gone and
     RefusedError where it refuses a line.
@@ -67,7 +67,7 @@ class Auditor(Takes):
     where it stood. Then all calls raise JournalError where the journal can't be written."""
 
     script: Any = None  # a raw file, whose `write` tells how much it took
-    program: Union[Pipes, Restarting, None] = None
+    program: Union[Pipes, SupervisedProgram, None] = None
 
     @classmethod
     def resumed(
@@ -101,7 +101,7 @@ class Auditor(Takes):
         self.closed = [False] * self.sessions  # which nothing more comes of
         # Of each key that a forgotten transaction wrote, the last that did.
         self.base: Dict[str, TransactionId] = {}
-        self._stints = Stints()  # of clients, by their first transactions
+        self._stints = Tenancy()  # of clients, by their first transactions
         self.can_cut = True  # until the program says that it doesn't know the command
         self.effort = EFFORTS[0]  # of the last round
         self.audits += 1
@@ -129,7 +129,7 @@ class Auditor(Takes):
                 raise
             raise ProgramTooOldError(f"{self.path} {TOO_OLD}") from error
 
-    def _started(self, journal: Union[str, Reopened, None]) -> Union[Pipes, Restarting]:
+    def _started(self, journal: Union[str, Reopened, None]) -> Union[Pipes, SupervisedProgram]:
         if journal is None:
             return Pipes(self.path)
         program = journaled(self.path, journal, self._head, self.names, self.round_seconds)
@@ -170,7 +170,9 @@ class Auditor(Takes):
 
     @property
     def violation(self) -> Optional[Report]:
-        told = self.program.keeping.violations if isinstance(self.program, Restarting) else ()
+        told = (
+            self.program.keeping.violations if isinstance(self.program, SupervisedProgram) else ()
+        )
         its = [Report(*one.reply[1:]) for one in told if one.audit == self.audits]
         return its[0] if its else None
 
@@ -348,13 +350,13 @@ class Auditor(Takes):
 
     def _note_left_out(self, more: int) -> None:
         """In the journal with the lines that leave out so many reads more, if these are taken."""
-        if isinstance(self.program, Restarting):
+        if isinstance(self.program, SupervisedProgram):
             self.program.keeping.left_out = self.left_out + more
 
     def note_sessions(self) -> None:
         super().note_sessions()
         with self.lock:
-            if isinstance(self.program, Restarting):
+            if isinstance(self.program, SupervisedProgram):
                 self.program.keeping.is_of_sessions = True
                 self.program.keeping.note_figures()
 

@@ -36,7 +36,7 @@ def fresh_name() -> str:
     return f"{time.strftime('%Y-%m-%d %H:%M:%S')} {secrets.token_hex(6)}"
 
 
-class Takes:
+class Intake:
     """What an auditor does wherever its program is: it takes what sessions hand in when the store
     has answered. That never raises, and waits no longer than the policy says. What can't be taken
     in ends the audit, which `failure` and the log tell."""

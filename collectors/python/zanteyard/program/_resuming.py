@@ -11,8 +11,8 @@ from ..core.errors import JournalDamagedError, JournalError
 from ..journal._entries import Head, Kept, Violation, kept_in
 from ..journal._file import Journal
 from ..journal._history import State, state_of
-from ..journal._writer import Keeping
-from ._supervised import Restarting
+from ..journal._writer import JournalWriter
+from ._supervised import SupervisedProgram
 
 logger = logging.getLogger("zanteyard")
 
@@ -63,20 +63,20 @@ def journaled(
     head: Callable[[], Head],
     names: Sequence[str],
     round_seconds: Optional[float],
-) -> Restarting:
+) -> SupervisedProgram:
     """A program whose audit goes on by this journal, or begins one. One that is there already isn't
     written over, but by a later audit of the same run."""
     if isinstance(journal, Reopened):
-        keeping = Keeping(journal.journal, head, names, journal.kept)
-        return Restarting(program, keeping, round_seconds, journal.kept)
+        keeping = JournalWriter(journal.journal, head, names, journal.kept)
+        return SupervisedProgram(program, keeping, round_seconds, journal.kept)
     begun = Journal(journal)
     try:
         its = head()
         if begun.is_there and its.audit == 1:
             raise JournalError(f"{journal} is there already: Auditor.resumed goes on with it")
-        keeping = Keeping(begun, head, names)
+        keeping = JournalWriter(begun, head, names)
         keeping.violations += _earlier(begun, its.run_name)
-        return Restarting(program, keeping, round_seconds)
+        return SupervisedProgram(program, keeping, round_seconds)
     except BaseException:
         begun.close()
         raise

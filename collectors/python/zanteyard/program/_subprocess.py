@@ -32,7 +32,7 @@ from ..core.errors import (
 )
 from ._auditor import Auditor
 from ._binaries import PROGRAM, found_live
-from ._intake import EFFORTS, LIMIT, SECONDS, Effort, Fragment, Takes
+from ._intake import EFFORTS, LIMIT, SECONDS, Effort, Fragment, Intake
 from ._pipes import ENDING
 from ._resuming import Reopened
 from ._running import RunningAuditor
@@ -48,7 +48,7 @@ MORE = 30.0  # seconds for an answer, beside what the program may take for its o
 logger = logging.getLogger("zanteyard")
 
 
-class AuditorApart(Takes):
+class AuditorApart(Intake):
     """In place of an Auditor: calls go to one in another process, and their results come from
     there. For threads. Raises ProgramEndedError where that process can't be reached. With a journal
     another one is started then, where it is a call that waits for it; what goes on there are lines'

@@ -20,7 +20,7 @@ from ..core._forks import is_forked
 from ..core.errors import JournalError, ProgramEndedError, ProgramLateError, RoundTooLongError
 from ..journal._entries import Kept
 from ..journal._history import state_of
-from ..journal._writer import Keeping
+from ..journal._writer import JournalWriter
 from ._checkpoint import (
     OK,
     REFUSED,
@@ -46,7 +46,7 @@ FINDS_CUT = (b"serial", b"pending")
 logger = logging.getLogger("zanteyard")
 
 
-class Restarting:
+class SupervisedProgram:
     """For one thread at a time. Beside what Pipes raises, `wait` and `answers` raise JournalError
     where the journal can't be written, or doesn't fit; then it is over, since nothing is told that
     isn't there, but reports. A round that takes more than `round_seconds` twice is answered by
@@ -55,7 +55,7 @@ class Restarting:
     def __init__(
         self,
         path: str,
-        keeping: Keeping,
+        keeping: JournalWriter,
         round_seconds: Optional[float] = None,
         kept: Optional[Kept] = None,
     ) -> None:

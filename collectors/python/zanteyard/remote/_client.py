@@ -15,20 +15,20 @@ from ..core._records import Logged
 from ..core._stores import Store
 from ..core.errors import ProgramEndedError
 from ..live._live_auditor import PAUSE
-from ..session._local_sessions import PATIENCE, SessionsHere
+from ..session._local_sessions import PATIENCE, LocalSessions
 from ..session._place import Place
 from ..session._session import Session
 from ..session._store_calls import StoreCalls
 from ._connecting import ANSWERING, door_to
-from ._outbox import Handover
-from ._quiesce_calls import GroupCalls
-from ._session_requests import PlaceRequests
+from ._outbox import Outbox
+from ._quiesce_calls import QuiesceCalls
+from ._session_requests import SessionRequests
 
 logger = logging.getLogger("zanteyard")
 LEAVING = 30.0  # seconds for sessions to end their transactions
 
 
-class AuditClient(SessionsHere):
+class AuditClient(LocalSessions):
     """In place of a LiveAuditor, in a process of clients: theirs is behind the AuditServer at this
     path; or, where the address is a redis:// or rediss:// URL, behind the StreamServer of the audit
     of this name in that Redis. `leave` ends it, once its sessions do nothing more. What a process
@@ -45,10 +45,10 @@ class AuditClient(SessionsHere):
         self._notes: Dict[Any, int] = {}  # by which number the auditor's process knows them
         self._count, self._noting = 0, threading.Lock()
         _forked.add(self)
-        self._handover = Handover(self._messages, most)
-        self._requests = PlaceRequests(self._messages)
+        self._handover = Outbox(self._messages, most)
+        self._requests = SessionRequests(self._messages)
         coming = self._requests.coming
-        self._calls = GroupCalls(self._group, self._messages, self._handover, coming)
+        self._calls = QuiesceCalls(self._group, self._messages, self._handover, coming)
         self._is_over = self._is_gone = False  # the audit, and the auditor's process
         self._renewed = 0.0  # when a session was asked for in vain, in place of one that had ended
         self._deeds: Dict[str, Callable[..., None]] = {

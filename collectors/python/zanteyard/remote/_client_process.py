@@ -13,7 +13,7 @@ from ..core._version import FORM, VERSION
 from ..core.errors import AuditLostError, ProgramEndedError
 from ..live._live_auditor import PAUSE, LiveAuditor
 from ..session._place import Place
-from ._crash_recovery import Killed, LostError, Noted, handed_in
+from ._crash_recovery import CrashedProcess, LostError, Noted, handed_in
 from ._remote_sessions import RemoteGroup
 
 NEW = 4.0  # seconds in which a new client waits for a meeting that has all that are left
@@ -31,7 +31,7 @@ class ClientProcess:
 
     def __init__(self, live: LiveAuditor, messages: Any) -> None:
         self._live, self.messages = live, messages
-        leave = live._places.give_back
+        leave = live._pool.give_back
         self.group = RemoteGroup(messages, live.policy.wait, self._take_back_late, leave)
         self.thread = threading.Thread(target=self._listen, daemon=True)
         self._has_all_noted = True
@@ -96,7 +96,7 @@ class ClientProcess:
             self._live.lose(ProgramEndedError(f"{told}: {why}"))
 
     def _listen(self) -> None:
-        live, groups = self._live, self._live._convener.groups
+        live, groups = self._live, self._live._coordinator.groups
         try:
             self._welcome()
             if live._has_ended:
@@ -114,7 +114,7 @@ class ClientProcess:
                 self._find_out(places, str(error) or "it ended without leaving")
         except Exception as error:  # it says that it is lost, or sent what isn't known
             self.lose(str(error) or type(error).__name__)
-            live._places.drop(self.group.numbers())
+            live._pool.drop(self.group.numbers())
             self.group.leave()
         if self.group in groups:
             groups.remove(self.group)
@@ -134,7 +134,7 @@ class ClientProcess:
             noted = self._noted()
             if not self._has_all_noted:
                 raise LostError("not all that it did could be noted")
-            killed = Killed(noted, self._live.run_name, self._live._backlog, self.is_dead)
+            killed = CrashedProcess(noted, self._live.run_name, self._live._backlog, self.is_dead)
             for place in [*places, *lent]:
                 if place.is_audited and place.number not in ended:
                     self._hand_in(place.number, killed.told(place))
@@ -145,13 +145,13 @@ class ClientProcess:
                 logger.warning("the process of the sessions %s was killed: %s", told, HANDED_IN)
         except Exception as error:
             self.lose(f"{why}: {error}" if str(error) != why else why)
-            self._live._places.drop(place.number for place in places)
+            self._live._pool.drop(place.number for place in places)
         else:
             for place in lent:
                 place.is_lent = False
-            self._live._places.take_back(lent, is_over=False)
-            self._live._places.give_back(it for it in places if it.number not in ended)
-            self._live._places.drop(it.number for it in places if it.number in ended)
+            self._live._pool.take_back(lent, is_over=False)
+            self._live._pool.give_back(it for it in places if it.number not in ended)
+            self._live._pool.drop(it.number for it in places if it.number in ended)
 
     def _hand_in(self, session: int, found: Sequence[Tuple[int, Logged]]) -> None:
         live = self._live
@@ -207,7 +207,7 @@ class ClientProcess:
     def _join(self, asked: int, is_new: bool) -> None:
         """A session that is left, for a new client, or for one whose session has ended."""
         live = self._live
-        place = live._places.take(max(NEW, live.policy.wait) if is_new else live.policy.wait)
+        place = live._pool.take(max(NEW, live.policy.wait) if is_new else live.policy.wait)
         if place is None:
             if is_new:
                 place = live._without_place()
@@ -216,24 +216,24 @@ class ClientProcess:
             self.messages.tell("left", asked, astuple(place) if place else None)
             return
         if self.group.has_left:
-            live._places.give_back([place])
+            live._pool.give_back([place])
             return
         self.group.add_untold(place)
         if not self.messages.tell("left", asked, astuple(place)):
             self.group.remove(place.number)
-            live._places.give_back([place])
+            live._pool.give_back([place])
         self.group.note_told(place.number)
 
     def _take_overflow(self, asked: int) -> None:
-        self.messages.tell("left", asked, astuple(self._live._places.take_unaudited()))
+        self.messages.tell("left", asked, astuple(self._live._pool.take_unaudited()))
 
     def _take_back_late(self, lent: Iterable[Place]) -> None:
-        self._live._places.take_back(lent, is_over=False)
+        self._live._pool.take_back(lent, is_over=False)
 
     def _take_back(self, place: Sequence[Any]) -> None:
         given_back = Place(*place)
         self.group.remove(given_back.number)
-        self._live._places.give_back([given_back])
+        self._live._pool.give_back([given_back])
 
     def _take_leave(self, places: Sequence[Sequence[Any]]) -> None:
         """Its sessions are left for others; so are those that it was to join, and didn't."""
@@ -242,8 +242,8 @@ class ClientProcess:
         unused = [it for it in self.group.places() if it.must_join and it.number not in known]
         known.update(self.group.ended, (it.number for it in [*unused, *self.group.given_back()]))
         self.group.leave()
-        self._live._places.give_back([*told, *unused])
-        self._live._places.drop(numbers)  # of those that have ended
+        self._live._pool.give_back([*told, *unused])
+        self._live._pool.drop(numbers)  # of those that have ended
         for number in numbers:
             if number not in known:  # it was told too late that it had this, and did nothing there
                 self._live.take_close(number)

@@ -12,7 +12,7 @@ from ..core._crash_notes import FORKED, CrashNotes
 from ..core._version import FORM, VERSION
 from ..core.errors import OtherVersionError, ProgramEndedError
 from ._messages import Messages
-from ._outbox import Handover
+from ._outbox import Outbox
 
 ANSWERING = 5.0  # seconds for an answer of the auditor's process
 
@@ -25,7 +25,7 @@ class Door(Protocol):
     def welcome(self) -> Any:
         """Raises ProgramEndedError where nobody answers, and OtherVersionError."""
 
-    def notes(self, which: int, handover: Handover) -> Any:
+    def notes(self, which: int, handover: Outbox) -> Any:
         """Where a session notes what it does, as Notes do. Raises OSError."""
 
     def note_fork(self) -> None:
@@ -68,7 +68,7 @@ class SocketDoor:
             raise
         return found
 
-    def notes(self, which: int, handover: Handover) -> CrashNotes:
+    def notes(self, which: int, handover: Outbox) -> CrashNotes:
         """In files. Nobody waits for it where they fail: they aren't there then, which tells the
         same."""
         tell = functools.partial(handover.put_behind, "unnoted")

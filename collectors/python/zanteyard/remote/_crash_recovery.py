@@ -31,7 +31,7 @@ class LostError(Exception):
     """Its notes don't tell what it did, and why."""
 
 
-class Killed:
+class CrashedProcess:
     """`notes` are what it noted of each session, each with how the store is asked. Where it isn't
     known that the process `is_dead`, but only that it isn't heard of, nobody ends what the store is
     still about, and what it may have begun behind its notes is left open."""

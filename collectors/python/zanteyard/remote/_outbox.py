@@ -17,7 +17,7 @@ from ._messages import Messages
 Packed = Tuple[float, int, Optional[int], Sequence[str], bytes]
 
 
-class Handover:
+class Outbox:
     """Keeps it until it is sent. While `lost` says why, nothing more is put. For threads."""
 
     def __init__(self, messages: Messages, most: int) -> None:

@@ -9,20 +9,20 @@ from typing import Any, Callable, Dict, List, Optional, Sequence, Set, Tuple
 
 from ..live._quiesce_coordinator import COMING
 from ..session._place import Place
-from ..session._quiesce import Group, Missed
+from ..session._quiesce import QuiesceMissed, SessionGroup
 from ._messages import Messages
-from ._outbox import Handover
+from ._outbox import Outbox
 
 IncomingCall = Tuple[
     int, str, Sequence[Any]
 ]  # its number, 0 where no answer is wanted; name; arguments
 
 
-class GroupCalls:
+class QuiesceCalls:
     """Runs calls one after another in a thread of their own; any may put them."""
 
     def __init__(
-        self, group: Group, messages: Messages, handover: Handover, coming: Set[int]
+        self, group: SessionGroup, messages: Messages, handover: Outbox, coming: Set[int]
     ) -> None:
         """`coming` are the numbers of sessions that were given to clients here, who may not have
         them yet."""
@@ -62,7 +62,7 @@ class GroupCalls:
         places = [Place(*place) for place in lent]
         try:
             result = self._deeds[name](*before, places)
-        except Missed as error:
+        except QuiesceMissed as error:
             failure, is_missed = str(error), True
         except Exception as error:
             failure = str(error).strip() or type(error).__name__
@@ -75,13 +75,13 @@ class GroupCalls:
         self, meeting: int, seconds: float, leads: bool, idle: float, places: Sequence[Place]
     ) -> Tuple[List[int], List[Tuple[Any, ...]]]:
         if self.is_leaving:
-            raise Missed("it leaves")
+            raise QuiesceMissed("it leaves")
         self._wait_for_who_comes()
         flags, given_back = self._group.gather(meeting, seconds, leads, places, idle)
         return flags, [astuple(place) for place in given_back]
 
     def _wait_for_who_comes(self) -> None:
-        """As a Convener does."""
+        """As a QuiesceCoordinator does."""
         ends = time.monotonic() + COMING
         there = set(self._group.numbers())
         while not self._coming <= there and time.monotonic() < ends:

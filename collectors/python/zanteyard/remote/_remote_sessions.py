@@ -9,7 +9,7 @@ from typing import Any, Callable, Dict, Iterable, List, Optional, Sequence, Set,
 
 from ..core.errors import ElsewhereError
 from ..session._place import Place
-from ..session._quiesce import Missed, Wait
+from ..session._quiesce import QuiesceMissed, Wait
 from ._messages import Messages
 
 LEFT = "a process has left"
@@ -196,7 +196,7 @@ class RemoteGroup:
             found: Sequence[Tuple[Any, ...]]
             found = self._begin("edges")(time.monotonic() + self.patience)
             return found
-        except (Missed, ElsewhereError):
+        except (QuiesceMissed, ElsewhereError):
             return None
 
     def take_answer(
@@ -237,7 +237,7 @@ class RemoteGroup:
         told = (*arguments, [astuple(place) for place in lent])
         with self._changed:
             if self._has_left:
-                raise Missed(LEFT)
+                raise QuiesceMissed(LEFT)
             self._asked += 1
             asked = self._asked
             self._calls[asked] = call
@@ -249,7 +249,7 @@ class RemoteGroup:
                     del self._calls[asked]
                     for place in lent:
                         place.is_lent = False
-            raise Missed(LEFT)
+            raise QuiesceMissed(LEFT)
         return lambda ends: self._answer_to(call, ends)
 
     def _answer_to(self, call: _OutgoingCall, ends: float) -> Any:
@@ -260,8 +260,8 @@ class RemoteGroup:
             self._unread = [it for it in self._unread if it is not call]
         if call.answer is None:
             what = "has left" if self._has_left else f"hasn't answered for {seconds:.3g} s"
-            raise Missed(f"the process of the sessions {self.told()} {what}")
+            raise QuiesceMissed(f"the process of the sessions {self.told()} {what}")
         result, failure, is_missed = call.answer
         if failure is not None:
-            raise (Missed if is_missed else ElsewhereError)(failure)
+            raise (QuiesceMissed if is_missed else ElsewhereError)(failure)
         return result

@@ -15,7 +15,7 @@ from ._messages import Messages
 PlaceAnswer = Tuple[int, Optional[Sequence[Any]]]  # the request's number, and a place or none
 
 
-class PlaceRequests:
+class SessionRequests:
     """For threads: one is asked for at a time."""
 
     def __init__(self, messages: Messages) -> None:

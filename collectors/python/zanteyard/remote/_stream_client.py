@@ -8,7 +8,7 @@ import socket
 from typing import Any, Callable, Optional
 
 from ._connecting import ANSWERING, welcomed
-from ._outbox import Handover
+from ._outbox import Outbox
 from ._stream_ends import RedisLink, asked
 from ._stream_messages import ClientsEnd
 from ._stream_names import HERE
@@ -50,7 +50,7 @@ class StreamDoor:
         self._wait = found[-1][0]  # of the policy
         return found
 
-    def notes(self, which: int, handover: Handover) -> StreamNotes:
+    def notes(self, which: int, handover: Outbox) -> StreamNotes:
         """Their order among all that the process tells says that nothing of them is missing."""
         return StreamNotes(self.messages, which, self._wait, lambda: handover.lost)
 

@@ -334,7 +334,7 @@ class StreamServer:
             return
         live, auditor = self._live, self._live.auditor
         with self._lock:
-            left, unaudited = live._places.nobodys_by_now()
+            left, unaudited = live._pool.nobodys_by_now()
             states = {client: process.state() for client, process in self._processes.items()}
             has = {*live._group.numbers()}
             for its in states.values():
@@ -347,7 +347,7 @@ class StreamServer:
                 live.is_named,
                 live.token,
                 auditor.audits,
-                live._convener.meetings,
+                live._coordinator.meetings,
                 [tuple(vars(place).values()) for place in left if place.number not in has],
                 unaudited,
                 states,
@@ -372,7 +372,7 @@ class StreamServer:
         live.token = live.auditor.token = state.token
         self._ours = state.token.encode()
         live.is_named = state.is_named
-        live._convener.meetings = state.meetings + 1
+        live._coordinator.meetings = state.meetings + 1
         if state.missing:
             live.note_missing(MissingError(state.missing))
         if state.failure:
@@ -387,7 +387,7 @@ class StreamServer:
             is_closed = place.number < len(closed) and closed[place.number]
             place.is_ended = place.is_ended or (is_closed and not place.must_join)
             place.must_join = place.must_join and is_closed
-        live._places.go_on(left, taken, lent, state.unaudited)
+        live._pool.go_on(left, taken, lent, state.unaudited)
         open_ones = [it.number for it in [*left, *lent] if not it.is_ended]
         self._close_what_nobody_has({*taken, *open_ones})
         history: Any = live.auditor.history
@@ -395,7 +395,7 @@ class StreamServer:
             live._backlog.put_unseen(keys_written_unseen(logged))
         for process in self._processes.values():
             process.thread.start()
-        live._convener.go_on(live.auditor.remaining)  # from here on a meeting may be due
+        live._coordinator.go_on(live.auditor.remaining)  # from here on a meeting may be due
 
     def _check_newest(self, token: str) -> None:
         """A folder that was brought back, or a copy, doesn't know what clients were told since: who

@@ -10,19 +10,19 @@ from ..core._locks import give_back, take
 from ..core._outcome import Policy
 from ..core._stores import Store
 from ._place import Place
-from ._quiesce import Group
+from ._quiesce import SessionGroup
 from ._session import Session
 
 PATIENCE = 5.0  # seconds in which a store is asked for an outcome that isn't known
 
 
-class SessionsHere:
+class LocalSessions:
     """For threads. `run_name` is beside each value that sessions write, and `policy` says how long
     they wait."""
 
     def __init__(self, run_name: str, policy: Policy) -> None:
         self.run_name, self.policy, self.made_in = run_name, policy, os.getpid()
-        self._group = Group()
+        self._group = SessionGroup()
 
     def leave_session(self, session: Session) -> None:
         """Its client does nothing more, and another one may have its place. Raises ValueError in

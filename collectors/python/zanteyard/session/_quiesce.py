@@ -24,7 +24,7 @@ from ._session import Session
 Wait = Callable[[float], Result]  # until then, by the monotonic clock; raises Missed
 
 
-class Missed(Exception):
+class QuiesceMissed(Exception):
     """The meeting can't be had, and why."""
 
 
@@ -34,7 +34,7 @@ def none_running() -> Future[Any]:
     return done
 
 
-class Group:
+class SessionGroup:
     """All of it but `sessions` is for one thread at a time, and is called in this order: `gather`,
     `share` and `lead` in one group alone, `pass_on`, `release`. Who isn't called on in time
     releases its sessions by itself, and raises Missed from then on."""
@@ -73,7 +73,7 @@ class Group:
         long."""
         self.ends = time.monotonic() + seconds
         if not self.gate.acquire(timeout=seconds):
-            raise Missed("the meeting before this one still goes on")
+            raise QuiesceMissed("the meeting before this one still goes on")
         with self.lock:
             self.meeting, self.held = meeting, {}
             self.timer = threading.Timer(seconds, self.release, (meeting,))
@@ -84,7 +84,7 @@ class Group:
         summoned = [session for session in there if session.is_open or session.is_changing]
         may_lead = [session for session in summoned if session.is_open]
         if leads and not may_lead:
-            raise Missed("no client has a session")
+            raise QuiesceMissed("no client has a session")
         self.leader = max(may_lead, key=lambda session: session.used_at) if leads else None
         for session in sorted(summoned, key=lambda session: session.current is not None):
             place = self.hold(session, meeting, seconds)
@@ -98,7 +98,7 @@ class Group:
         self.share(meeting, places, "flag")
         with self.lock:  # else who is released goes on meanwhile
             if self.meeting != meeting:
-                raise Missed("the meeting took too long")
+                raise QuiesceMissed("the meeting took too long")
             flags = [one.number for one in self.held if one.is_open and one.place.has_flag]
             flags += [place.number for place in places if place.has_flag]
             return flags, self.given_back(idle)
@@ -107,7 +107,7 @@ class Group:
         """Another one of those that are held."""
         self.leader = next((session for session in self.held if session.is_open), None)
         if self.leader is None:
-            raise Missed("no client has a session")
+            raise QuiesceMissed("no client has a session")
         self.begin(meeting, self.leader, "write_mark")
         self.end_all()
 
@@ -135,11 +135,11 @@ class Group:
         """Gives its place."""
         if not session.turn.acquire(timeout=self.left()):
             told = f"a transaction of session {session.number} took longer than {seconds:g} s"
-            raise Missed(told)
+            raise QuiesceMissed(told)
         with self.lock:
             if self.meeting != meeting:
                 session.turn.release()
-                raise Missed("the meeting took too long")
+                raise QuiesceMissed("the meeting took too long")
             self.held[session] = none_running()
             return session.place
 
@@ -182,7 +182,7 @@ class Group:
     def begin(self, meeting: int, session: Session, deed: str, *arguments: Any) -> None:
         with self.lock:
             if self.meeting != meeting:
-                raise Missed("the meeting took too long")
+                raise QuiesceMissed("the meeting took too long")
             run = getattr(session, deed)
             self.held[session] = self.pool.submit(run, *arguments, max(0.001, self.left()))
 
@@ -191,7 +191,7 @@ class Group:
         running = list(self.held.values())
         _, late = wait(running, self.left())
         if late:
-            raise Missed("the store took too long")
+            raise QuiesceMissed("the store took too long")
         for one in running:
             one.result()
 

@@ -13,10 +13,11 @@ from ..stores.postgres import prepare, quoted
 WAITING = 10  # seconds for what clients have left open, as it is cleaned up
 
 
-class Guest:
-    """The same as a Cluster, in a server that is there: makes a schema with one table, and drops it
-    at the end. Where the user may make no schema, it is a table beside what is there, under a name
-    that nothing else has. What `dsn` doesn't say the environment does, as PGHOST and PGDATABASE."""
+class GuestSchema:
+    """The same as a PostgresServer, in a server that is there: makes a schema with one table, and
+    drops it at the end. Where the user may make no schema, it is a table beside what is there,
+    under a name that nothing else has. What `dsn` doesn't say the environment does, as PGHOST and
+    PGDATABASE."""
 
     def __init__(self, dsn: str, tell: Callable[[str], object] = print) -> None:
         self.dsn, self.tell = dsn, tell
@@ -42,7 +43,7 @@ class Guest:
         finally:
             connection.close()
 
-    def __enter__(self) -> Guest:
+    def __enter__(self) -> GuestSchema:
         """Raises psycopg2's errors where the server can't be reached, or allows no table either."""
         makes = f"makes the schema {self.name} and a table in it, and drops both"
         self.tell(f"in the {self.where()}: {makes}")

@@ -24,7 +24,7 @@ while [ -e "$1" ] && [ $tries -lt {TRIES} ]; do
 done"""
 
 
-class OwnFolder:
+class ThrowawayFolder:
     """`path` is where it is, once it was made. A shell waits beside this program for its end."""
 
     def __init__(self) -> None:

@@ -8,7 +8,7 @@ import subprocess
 import time
 from typing import Any, Dict, List, Optional
 
-from ._throwaway_folder import PID, OwnFolder
+from ._throwaway_folder import PID, ThrowawayFolder
 
 STARTING = 60.0  # seconds for a server to take connections
 
@@ -17,7 +17,7 @@ class CantStartError(OSError):
     """The server's program has ended, or takes no connections in time."""
 
 
-class OwnServer:
+class ThrowawayServer:
     """Listens on a socket in its folder alone. Where root runs it and `user` is given, the server
     runs as that user."""
 
@@ -26,7 +26,7 @@ class OwnServer:
 
     def __init__(self) -> None:
         self.process: Optional[subprocess.Popen[bytes]] = None
-        self.own_folder = OwnFolder()
+        self.own_folder = ThrowawayFolder()
 
     def call(self) -> List[str]:
         """The program, with its arguments."""

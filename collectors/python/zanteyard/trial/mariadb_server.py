@@ -8,7 +8,7 @@ import secrets
 import shutil
 from typing import Any, Callable, Dict, List, Optional
 
-from ._throwaway_server import OwnServer
+from ._throwaway_server import ThrowawayServer
 
 DATABASE = "zanteyard"
 # No privileges are asked for, so that no table of them has to be made: whoever may open the folder
@@ -28,7 +28,7 @@ def mariadbd() -> Optional[str]:
     return shutil.which("mariadbd") or (usual if os.path.exists(usual) else None)
 
 
-class MariaDBServer(OwnServer):
+class MariaDBServer(ThrowawayServer):
     """MariaDB won't run as root, so that root runs it as the user mysql. What it makes at its first
     start is whole on the disk only once it has ended in good order: one that is to be killed, and
     started again, has to be restarted before."""

@@ -48,7 +48,7 @@ def ended_by_signals() -> Iterator[None]:
             signal.signal(each, handler)
 
 
-class Cluster:
+class PostgresServer:
     """Listens on a socket in its folder alone. PostgreSQL won't run as root, so that root runs it
     as the user postgres."""
 
@@ -63,7 +63,7 @@ class Cluster:
         quiet: Dict[str, Any] = {"stdin": subprocess.DEVNULL, "stdout": subprocess.DEVNULL}
         subprocess.run(call, check=True, cwd=self.folder, **quiet, **self.user, **more)
 
-    def __enter__(self) -> Cluster:
+    def __enter__(self) -> PostgresServer:
         self.folder = tempfile.mkdtemp(prefix="zanteyard-")
         self.data = f"{self.folder}/data"
         self.dsn = f"host={self.folder} user=postgres dbname=postgres"

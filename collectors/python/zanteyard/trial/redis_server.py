@@ -7,7 +7,7 @@ import shutil
 import socket
 from typing import Callable, List, Optional
 
-from ._throwaway_server import OwnServer
+from ._throwaway_server import ThrowawayServer
 
 
 def redis_server() -> Optional[str]:
@@ -15,7 +15,7 @@ def redis_server() -> Optional[str]:
     return shutil.which("redis-server")
 
 
-class RedisServer(OwnServer):
+class RedisServer(ThrowawayServer):
     """`options` are more of its arguments. With `keeps` it has what it was told also after it was
     killed, and started again."""
 

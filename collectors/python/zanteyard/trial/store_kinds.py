@@ -9,9 +9,9 @@ from typing import Any, Callable, Dict, List, Mapping, Sequence
 
 from ..core.errors import ZanteyardError
 from ..stores.levels import LEVELS
-from ._throwaway_folder import OwnFolder
+from ._throwaway_folder import ThrowawayFolder
 from .mariadb_server import MariaDBGuest, MariaDBServer, mariadbd
-from .postgres_server import Cluster, program
+from .postgres_server import PostgresServer, program
 from .redis_server import RedisGuest, RedisServer, redis_server
 
 MakesStore = Callable[[], Any]
@@ -133,12 +133,12 @@ class _Postgres(StoreKind):
         if not _is_there("psycopg2"):
             raise CantAuditError(_wanted("psycopg2", "python3-psycopg2"))
         if asked.dsn is not None:
-            from ._guest_schema import Guest
+            from ._guest_schema import GuestSchema
 
-            return Guest(asked.dsn)
+            return GuestSchema(asked.dsn)
         if not program("initdb"):
             raise CantAuditError("PostgreSQL is wanted: apt-get install postgresql")
-        return Cluster()
+        return PostgresServer()
 
     def maker(self, asked: Any, server: Any, **more: Any) -> MakesStore:
         if asked.dsn is None:
@@ -259,7 +259,7 @@ class SQLiteFile:
     table = "zanteyard"
 
     def __init__(self, journal: str) -> None:
-        self.journal, self.folder = journal, OwnFolder()
+        self.journal, self.folder = journal, ThrowawayFolder()
 
     def __enter__(self) -> SQLiteFile:
         self.folder.make()
