@@ -93,7 +93,7 @@ class Interrupts(unittest.TestCase):
         process = auditor.process if isinstance(auditor, AuditorApart) else auditor.program.process
         late, process.kill = [], lambda: late.append(True)
 
-        class CrashedProcess:
+        class Killed:
             def __enter__(self):
                 pass
 
@@ -102,7 +102,7 @@ class Interrupts(unittest.TestCase):
                 if late:
                     process.kill()
 
-        return CrashedProcess()
+        return Killed()
 
     def see(self, auditor, is_interrupted):
         outcome = auditor.outcome()

@@ -714,7 +714,7 @@ class Fences(WithProgram):
 
     def test_it_is_a_killed_process_s(self):
         logged = as_bytes(fence((0, 3)))
-        told = lambda *notes: CrashedProcess({4: [(CrashNote(4, *it), None) for it in notes]}, "run", Backlog(8))
+        told = lambda *notes: CrashedProcess({4: [(CrashNote(4, *it), None) for it in notes]}, "run", Backlog(8).next_number)
         for notes, found, begun, must_join in (
             ((), (), 7, True),
             (((7, None, logged), (7, "aborted")), (), 7, True),

@@ -345,14 +345,14 @@ class Harmless(WithProgram):
         live, store = self.live(64, every=1000, policy=Policy(0.05, True, 0.01)), MemoryStore()
         stays = live.session(store.connect())
         stays.run(add_one("x"))
-        live._killed.__enter__()  # no other meeting comes
+        live._crash_searches.__enter__()  # no other meeting comes
         self.assertIsNone(live._coordinator.meet(60.0, 60.0).failure)
         others = [live.session(store.connect()) for _ in range(40)]
         without = [session for session in others if not session.place.is_audited]
         self.assertEqual(len(without), 8)
         for session in others:
             session.run(add_one("x"))
-        live._killed.__exit__()
+        live._crash_searches.__exit__()
         until = time.monotonic() + 60
         while not live.earlier and time.monotonic() < until:
             time.sleep(0.005)
@@ -394,7 +394,7 @@ class UsedAgain(WithProgram):
         ):
             with mock.patch("zanteyard.remote._crash_recovery.find_out", lambda *_: ("aborted", None)):
                 place = Place(4, 7, must_join=True)
-                killed = CrashedProcess({4: [(note, None) for note in notes]}, "run", Backlog(8))
+                killed = CrashedProcess({4: [(note, None) for note in notes]}, "run", Backlog(8).next_number)
                 self.assertEqual(killed.told(place), ())
             self.assertEqual((place.begun, place.must_join, place.is_ended), (begun, True, is_ended))
 
@@ -406,7 +406,7 @@ class UsedAgain(WithProgram):
             notes = [CrashNote(4, 7, None, as_bytes(done), "its"), CrashNote(4, 8, None, as_bytes(flag._replace(reads=[])), "flag", False)]
             with mock.patch("zanteyard.remote._crash_recovery.find_out", told):
                 place = Place(4, 7)
-                killed = CrashedProcess({4: [(note, None) for note in notes]}, "run", Backlog(8), is_dead=False)
+                killed = CrashedProcess({4: [(note, None) for note in notes]}, "run", Backlog(8).next_number, is_dead=False)
                 self.assertEqual([number for number, _ in killed.told(place)], [7])
             self.assertTrue(place.is_ended)
 

@@ -105,7 +105,7 @@ class Noted(unittest.TestCase):
         if come:
             backlog.count(0, come - 1)
         place = place or Place(0)
-        return [*CrashedProcess(in_files({self.path: None}), "run", backlog).told(place)], place
+        return [*CrashedProcess(in_files({self.path: None}), "run", backlog.next_number).told(place)], place
 
     def before(self, number, logged=DID, **more):
         self.notes.write(0, number, None, as_bytes(logged), None, True)

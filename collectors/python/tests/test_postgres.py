@@ -462,12 +462,12 @@ class Postgres(unittest.TestCase):
         with PostgresServer() as cluster:
             prepare(cluster.dsn)
 
-            class CrashSearches(PostgresStore):
+            class Killing(PostgresStore):
                 def send_commit(self):
                     cluster.stop()
                     super().send_commit()
 
-            session = Session(self.auditor, 0, CrashSearches(cluster.dsn), "run", patience=0.2)
+            session = Session(self.auditor, 0, Killing(cluster.dsn), "run", patience=0.2)
             with self.assertRaises(OutcomeUnknownError):
                 session.run(lambda t: (t.get("x"), t.put("x", "1")))
             self.assertFalse(session.is_open)

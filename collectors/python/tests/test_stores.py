@@ -586,7 +586,7 @@ class MariaDB(Each, unittest.TestCase):
         self.assertEqual(auditor.round().kind, "serial")
 
     def test_a_server_that_is_killed_in_the_commit(self):
-        class CrashSearches(mariadb_store.MariaDBStore):
+        class Killing(mariadb_store.MariaDBStore):
             def send_commit(self):
                 server.stop()
                 starting.start()
@@ -596,7 +596,7 @@ class MariaDB(Each, unittest.TestCase):
             server.restart()
             mariadb_store.prepare(server.dsn)
             starting = threading.Timer(0.5, server.start)
-            stores = (CrashSearches(server.dsn), mariadb_store.MariaDBStore(server.dsn))
+            stores = (Killing(server.dsn), mariadb_store.MariaDBStore(server.dsn))
             auditor, (a, b) = self.sessions(*stores, patience=120)
             b.run(lambda t: t.put("y", "1"))
             with contextlib.suppress(AbortedError):
@@ -887,7 +887,7 @@ class Redis(Each, unittest.TestCase):
                 os.kill(server.process.pid, signal.SIGCONT)
 
     def test_a_server_that_is_killed_in_the_commit(self):
-        class CrashSearches(redis_store.RedisStore):
+        class Killing(redis_store.RedisStore):
             def send_exec(self, commands):
                 server.stop()
                 starting.start()
@@ -895,7 +895,7 @@ class Redis(Each, unittest.TestCase):
 
         with RedisServer(keeps=True) as server:
             starting = threading.Timer(0.5, server.start)
-            stores = (CrashSearches(server.dsn), redis_store.RedisStore(server.dsn))
+            stores = (Killing(server.dsn), redis_store.RedisStore(server.dsn))
             auditor, (a, b) = self.sessions(*stores, patience=120)
             b.run(lambda t: t.put("y", "1"))
             with self.assertRaises(AbortedError):

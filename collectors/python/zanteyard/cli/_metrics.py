@@ -22,7 +22,7 @@ Family = Tuple[str, str, str, Sequence[Sample]]  # name, kind, what it is, sampl
 def families(live: LiveAuditor, clients: int = 0, redis_up: Any = None) -> Iterator[Family]:
     """`clients` are the processes of clients that are heard; `redis_up` tells whether the Redis can
     be reached, None where there is none."""
-    outcome, figures, auditor = live.outcome, live._figures, live.auditor
+    outcome, figures, auditor = live.outcome, live.figures, live.auditor
     whole = sum(one.audited for one in live.earlier)
 
     def one(name: str, kind: str, about: str, value: float) -> Family:
@@ -32,9 +32,9 @@ def families(live: LiveAuditor, clients: int = 0, redis_up: Any = None) -> Itera
     yield "zanteyard_info", "gauge", "Which audit it is, and of which version.", [(its, 1)]
     taken = whole + live.taken_in
     yield one("transactions_taken_total", "counter", "Transactions taken in.", taken)
-    handed_in = live._backlog.counted
+    handed_in = live.counted
     yield one("transactions_handed_in_total", "counter", "Transactions handed in.", handed_in)
-    waiting = len(live._backlog)
+    waiting = live.waiting
     yield one("transactions_waiting", "gauge", "Transactions that wait to be taken in.", waiting)
     remaining = auditor.remaining
     yield one("transactions_remaining", "gauge", "Taken in, and not forgotten.", remaining)
@@ -58,10 +58,10 @@ def families(live: LiveAuditor, clients: int = 0, redis_up: Any = None) -> Itera
     yield one("audits_total", "counter", "Audits that have begun.", len(live.earlier) + 1)
     yield one("meetings_total", "counter", "Meetings that were called.", live.meetings)
     about = "Clients more that may have a session by now."
-    yield one("sessions_left", "gauge", about, live._pool.free)
+    yield one("sessions_left", "gauge", about, live.sessions_left)
     yield one("clients", "gauge", "Processes of clients that are heard.", clients)
     yield one("violated", "gauge", "1 where the audit is violated.", live.is_violated)
-    is_missing = live._audit.missing is not None
+    is_missing = live.missing is not None
     yield one("missing", "gauge", "1 where something may have been done unheard.", is_missing)
     is_lost = outcome.whole.kind == "incomplete" or bool(live.earlier)
     yield one("incomplete", "gauge", "1 where something wasn't audited.", is_lost)

@@ -137,7 +137,7 @@ def _audit(asked: Any, stack: contextlib.ExitStack, stopped: threading.Event) ->
     policy = RATHER_WAIT if asked.rather_wait else RATHER_LOSE_THE_AUDIT
     is_elsewhere = asked.redis is not None
     live = LiveAuditor(auditor, every=asked.every, policy=policy, elsewhere=is_elsewhere)
-    live._figures.awaited = {}
+    live.count_awaited()
     server = _server(asked, live)
     if asked.metrics is not None:
         metrics = MetricsServer(asked.metrics, lambda: _figures(live, server))

@@ -14,22 +14,24 @@ import logging
 import threading
 import time
 from dataclasses import replace
-from typing import Any, Callable, Iterable, List, Optional, Tuple
+from typing import Any, Callable, List, Optional
 
 from ..core._forks import is_forked
 from ..core._outcome import INCOMPLETE, RATHER_LOSE_THE_AUDIT, Outcome, Policy
 from ..core._own_keys import FENCE, LONGEST
-from ..core._records import Logged, Report, TransactionId
+from ..core._records import Logged, TransactionId
 from ..core._stores import Store
 from ..core._window import Coverage
 from ..core.errors import AuditLostError, MissingError
 from ..program._subprocess import AuditorApart
-from ..session._local_sessions import PATIENCE, LocalSessions
+from ..session._local_sessions import PATIENCE
 from ..session._place import Place
 from ..session._session import Session
 from ._audit import AnyAuditor, Audit, Figures
 from ._audit_start import coverage_from_now
 from ._backlog import Backlog, keys_written_unseen
+from ._crash_searches import CrashSearches
+from ._for_processes import ForProcesses
 from ._pace import Pace
 from ._quiesce_coordinator import QuiesceCoordinator
 from ._session_pool import SessionPool
@@ -46,31 +48,7 @@ GIVING_UP = 1.0  # the same, where an exception ends it
 EARLIER = "an audit of this run had ended before, in a process that is gone"
 
 
-class CrashSearches:
-    """While it is found out what killed processes did; for threads."""
-
-    def __init__(self) -> None:
-        self._count, self._changed = 0, threading.Condition()
-
-    @property
-    def is_going_on(self) -> bool:
-        return self._count > 0
-
-    def wait(self, seconds: float = 30.0) -> None:
-        with self._changed:
-            self._changed.wait_for(lambda: not self._count, seconds)
-
-    def __enter__(self) -> None:
-        with self._changed:
-            self._count += 1
-
-    def __exit__(self, *_: object) -> None:
-        with self._changed:
-            self._count -= 1
-            self._changed.notify_all()
-
-
-class LiveAuditor(LocalSessions):
+class LiveAuditor(ForProcesses):
     """Audits clients while they run: as many as come, and 64 at a time. For threads.
 
     The auditor is an Auditor, or, so that clients are held up less, an AuditorApart. The name of
@@ -130,10 +108,7 @@ class LiveAuditor(LocalSessions):
         auditor.live_called = self._called
         self._cuts_seen, self._may_meet_at = self.cuts, 0.0
         self._in_vain = 0  # meetings since the last cut
-        self._lost: Optional[Exception] = None  # why no more is audited, until another audit begins
-        self._failure: Optional[Exception] = None  # the same, once nothing more is audited for good
-        self._is_stopping = self._has_ended = False
-        self._killed = CrashSearches()
+        self._crash_searches = CrashSearches()
         self._at_end: List[Callable[[], object]] = []
         self._thread = threading.Thread(target=self._serve, name="zanteyard", daemon=True)
         self._thread.start()
@@ -158,22 +133,6 @@ class LiveAuditor(LocalSessions):
             self._pool.put_back(owed)
             raise
 
-    def _without_place(self) -> Optional[Place]:
-        """For a new client for whom none is left: one that no audit is about; None where all have
-        clients."""
-        if self._pool.are_all_taken:
-            return None
-        self._lose_for_a_client()
-        return self._pool.take_unaudited()
-
-    def _no_place(self) -> str:
-        """Why no client more can have one."""
-        count, why = self._pool.taken, self._audit.why_no_cut
-        if self._pool.are_all_taken:
-            return f"{count} clients have one each, and no more can at a time"
-        told = f"{count} clients have one each, and a meeting has to make room for another"
-        return f"{told}; the last made none, since {why}" if why else told
-
     def stop(self, seconds: float = STOPPING) -> Outcome:
         """Audits all that was handed in, and gives the outcome; after so many seconds, what is
         known. May be called again."""
@@ -184,13 +143,6 @@ class LiveAuditor(LocalSessions):
             self._failure, self._has_ended = self._lost, True
         return self.outcome
 
-    def lose(self, error: Exception) -> None:
-        """This audit ends with what was handed in by now; why, is told by its outcome and the
-        log."""
-        if self._lost is None:
-            self._lost = error
-            logger.error("the audit %s ends: %s", self.name, error)
-
     def __enter__(self) -> LiveAuditor:
         return self
 
@@ -199,83 +151,6 @@ class LiveAuditor(LocalSessions):
         if kind is not None:
             self.lose(AuditLostError(f"it was given up ({kind.__name__})"))
         self.stop(STOPPING if kind is None else GIVING_UP)
-
-    # what is known by now
-
-    @property
-    def outcome(self) -> Outcome:
-        """What came of it by now, of this audit and of those that ended before it as one."""
-        return self._audit.outcome(self._has_ended, self._failure).whole
-
-    @property
-    def name(self) -> str:
-        """Of this audit: the run's, with a number from the second on."""
-        return self._audit.name
-
-    @property
-    def earlier(self) -> Tuple[Outcome, ...]:
-        """The outcomes of the audits that ended before this one began."""
-        return self._audit.earlier
-
-    @property
-    def report(self) -> Optional[Report]:
-        """What the last round of this audit said; None before the first."""
-        return self._audit.report
-
-    @property
-    def failure(self) -> Optional[Exception]:
-        """Why nothing more is audited, once that is so; then `outcome` isn't serial."""
-        return self._failure
-
-    @property
-    def is_violated(self) -> bool:
-        """That stays so, whatever comes."""
-        return self._audit.is_violated
-
-    @property
-    def is_over(self) -> bool:
-        """Nothing more is audited: a violation was found, or the audit has ended for good."""
-        return self.is_violated or self._has_ended
-
-    @property
-    def handed_in(self) -> int:
-        """How many transactions clients and meetings have done since this audit began."""
-        return self._audit.handed_in
-
-    @property
-    def taken_in(self) -> int:
-        """How many of these the auditor has been given."""
-        return self._audit.taken_in
-
-    @property
-    def left_out(self) -> int:
-        """How many reads of this audit weren't checked, since it isn't about their source."""
-        return self._audit.left_out
-
-    @property
-    def rounds(self) -> int:
-        """How many there were, in all audits."""
-        return self._figures.rounds
-
-    @property
-    def cuts(self) -> int:
-        """How many times something was forgotten, in all audits."""
-        return self._figures.cuts
-
-    @property
-    def meetings(self) -> int:
-        """How many there were, in all audits, those that failed too."""
-        return self._coordinator.meetings
-
-    @property
-    def lag(self) -> float:
-        """For how many seconds a transaction waited to be taken in, at most."""
-        return self._figures.lag
-
-    @property
-    def told_behind(self) -> float:
-        """The same of what was taken in between the last round and the one before."""
-        return self._figures.told_behind
 
     # what sessions call
 
@@ -297,31 +172,12 @@ class LiveAuditor(LocalSessions):
         if not self._drops():
             self._backlog.put((time.monotonic(), session, None, None))
 
-    def _hand_in(
-        self, came: float, session: int, number: int, unseen: Iterable[str], what: Any
-    ) -> None:
-        self._backlog.count(session, number, unseen)
-        if not self._drops():
-            self._backlog.put((came, session, number, what))
-        elif not self._is_stopping:
-            self._backlog.note_taken(session, number)
-        if session == self._pool.new:  # the next one that is new may be handed in behind it
-            self._pool.note_joined(session)
-
-    def _drops(self) -> bool:
-        """Whether no audit takes in what is handed in."""
-        return self._has_ended or self._lost is not None
-
     def _wait_for_room(self, pause: float = 0.001) -> None:
         ends = time.monotonic() + self.policy.wait
         while self._backlog.is_over_full and not self._goes_on():
             if time.monotonic() > ends:
                 self.lose(AuditLostError(self._no_room()))
             time.sleep(pause)
-
-    def _goes_on(self) -> bool:
-        """Whether nobody waits for room; as in a meeting, which wants the session's turn."""
-        return self._coordinator.is_meeting or self.is_over or self._lost is not None
 
     def _no_room(self) -> str:
         """Why clients would have to wait."""
@@ -338,11 +194,6 @@ class LiveAuditor(LocalSessions):
         elif session.place is not None:  # which has ended for this audit
             self._give_back(session.place)
         return place or session.place or self._pool.take_unaudited()
-
-    def _lose_for_a_client(self) -> None:
-        """One goes on unaudited, since there are more than sessions."""
-        if not self.is_over:
-            self.lose(AuditLostError(f"no session is left for a client: {self._no_place()}"))
 
     def _cant_join(self, session: Session, why: Exception) -> Optional[Place]:
         self.lose(AuditLostError(f"a client can't join: {str(why).strip() or type(why).__name__}"))
@@ -399,7 +250,7 @@ class LiveAuditor(LocalSessions):
 
     def _is_meeting_due(self) -> bool:
         """Where room asks for it: at a violation nothing is lost by a later one."""
-        if self._killed.is_going_on:  # what that did is to be handed in before
+        if self._crash_searches.is_going_on:  # what that did is to be handed in before
             return False
         if self._coordinator.new >= self._pace.until_meeting(bool(self._audit.why_no_cut)):
             return True
@@ -453,11 +304,6 @@ class LiveAuditor(LocalSessions):
                 self._has_failed_to_tell = True
                 logger.error("rounds can't be told: %r", error)
 
-    def note_missing(self, error: MissingError) -> None:
-        """The audit goes on, and can't be serial any more."""
-        logger.error("%s", error)
-        self._audit.missing = self._audit.missing or error
-
     def _first_audit(self) -> Audit:
         return self._next_audit(Coverage.of_all(self.auditor.sessions))
 
@@ -492,7 +338,7 @@ class LiveAuditor(LocalSessions):
             return False
         pause = self.policy.pause
         self._wait_until(self._audit.began + pause)
-        self._killed.wait()
+        self._crash_searches.wait()
         while not self._cant_begin():
             try:
                 self._start_anew()

@@ -6,9 +6,9 @@ import logging
 import threading
 import time
 from dataclasses import astuple
-from typing import Any, Callable, Dict, Iterable, Optional, Sequence, Tuple
+from typing import Any, Callable, Dict, Optional, Sequence, Tuple
 
-from ..core._records import Logged, unpacked
+from ..core._records import Logged
 from ..core._version import FORM, VERSION
 from ..core.errors import AuditLostError, ProgramEndedError
 from ..live._live_auditor import PAUSE, LiveAuditor
@@ -31,8 +31,8 @@ class ClientProcess:
 
     def __init__(self, live: LiveAuditor, messages: Any) -> None:
         self._live, self.messages = live, messages
-        leave = live._pool.give_back
-        self.group = RemoteGroup(messages, live.policy.wait, self._take_back_late, leave)
+        waits = live.policy.wait
+        self.group = RemoteGroup(messages, waits, live.give_back_lent, live.give_back)
         self.thread = threading.Thread(target=self._listen, daemon=True)
         self._has_all_noted = True
         self._deeds: Dict[str, Callable[..., None]] = {
@@ -44,7 +44,7 @@ class ClientProcess:
             "logged": self._take_logged,
             "lose": self._take_end,
             "lost": self._take_loss,
-            "missed": live._backlog.count_missed,
+            "missed": live.count_missed,
             "noted": self._take_noted,
             "unnoted": self._take_unnoted,
             "overflow": self._take_overflow,
@@ -96,28 +96,27 @@ class ClientProcess:
             self._live.lose(ProgramEndedError(f"{told}: {why}"))
 
     def _listen(self) -> None:
-        live, groups = self._live, self._live._coordinator.groups
+        live = self._live
         try:
             self._welcome()
-            if live._has_ended:
+            if live.has_ended:
                 self.messages.send("over")
             if not self.is_given_up:  # else it answers no meeting
-                groups.append(self.group)
+                live.add_group(self.group)
             while not self.group.has_left:
                 if self.is_left_to_others:
                     return
                 self._take_next()
         except (EOFError, OSError) as error:
-            with live._killed:  # no meeting begins meanwhile, nor another audit
+            with live.finding_out:
                 places = self.group.places()
                 self.group.leave()
                 self._find_out(places, str(error) or "it ended without leaving")
         except Exception as error:  # it says that it is lost, or sent what isn't known
             self.lose(str(error) or type(error).__name__)
-            live._pool.drop(self.group.numbers())
+            live.drop_places(self.group.numbers())
             self.group.leave()
-        if self.group in groups:
-            groups.remove(self.group)
+        live.remove_group(self.group)
         self._end()
 
     def _welcome(self) -> None:
@@ -134,7 +133,9 @@ class ClientProcess:
             noted = self._noted()
             if not self._has_all_noted:
                 raise LostError("not all that it did could be noted")
-            killed = CrashedProcess(noted, self._live.run_name, self._live._backlog, self.is_dead)
+            killed = CrashedProcess(
+                noted, self._live.run_name, self._live.next_number, self.is_dead
+            )
             for place in [*places, *lent]:
                 if place.is_audited and place.number not in ended:
                     self._hand_in(place.number, killed.told(place))
@@ -145,19 +146,17 @@ class ClientProcess:
                 logger.warning("the process of the sessions %s was killed: %s", told, HANDED_IN)
         except Exception as error:
             self.lose(f"{why}: {error}" if str(error) != why else why)
-            self._live._pool.drop(place.number for place in places)
+            self._live.drop_places(place.number for place in places)
         else:
             for place in lent:
                 place.is_lent = False
-            self._live._pool.take_back(lent, is_over=False)
-            self._live._pool.give_back(it for it in places if it.number not in ended)
-            self._live._pool.drop(it.number for it in places if it.number in ended)
+            self._live.give_back_lent(lent)
+            self._live.give_back(place for place in places if place.number not in ended)
+            self._live.drop_places(place.number for place in places if place.number in ended)
 
     def _hand_in(self, session: int, found: Sequence[Tuple[int, Logged]]) -> None:
-        live = self._live
         for came, number, unseen, packed in handed_in(found):
-            what = packed if live._packed else unpacked(packed)
-            live._hand_in(came, session, number, unseen, what)
+            self._live.hand_in_packed(came, session, number, unseen, packed)
 
     def _take_unnoted(self, *why: str) -> None:
         self._has_all_noted = False
@@ -170,7 +169,7 @@ class ClientProcess:
         for came, session, number, unseen, packed in logged:
             self._take_one(came, session, number, unseen, packed)
         if dropped:
-            self._live._backlog.count_dropped(dropped)
+            self._live.count_dropped(dropped)
         self._wait_for_room()
         self.messages.tell("taken", len(logged))
 
@@ -183,12 +182,10 @@ class ClientProcess:
             live.take_close(session)
         else:
             self.group.note_joined(session, number)
-            what = packed if live._packed else unpacked(packed)
-            live._hand_in(came, session, number, unseen, what)
+            live.hand_in_packed(came, session, number, unseen, packed)
 
     def _wait_for_room(self) -> None:
-        live = self._live
-        while live._backlog.is_over_full and not live._goes_on():
+        while self._live.has_to_wait:
             time.sleep(PAUSE / 4)
 
     def _take_loss(self, why: str) -> None:
@@ -207,33 +204,27 @@ class ClientProcess:
     def _join(self, asked: int, is_new: bool) -> None:
         """A session that is left, for a new client, or for one whose session has ended."""
         live = self._live
-        place = live._pool.take(max(NEW, live.policy.wait) if is_new else live.policy.wait)
+        place = live.take_place(max(NEW, live.policy.wait) if is_new else live.policy.wait)
         if place is None:
-            if is_new:
-                place = live._without_place()
-            else:
-                live._lose_for_a_client()
+            place = live.place_for_nobody(is_new)
             self.messages.tell("left", asked, astuple(place) if place else None)
             return
         if self.group.has_left:
-            live._pool.give_back([place])
+            live.give_back([place])
             return
         self.group.add_untold(place)
         if not self.messages.tell("left", asked, astuple(place)):
             self.group.remove(place.number)
-            live._pool.give_back([place])
+            live.give_back([place])
         self.group.note_told(place.number)
 
     def _take_overflow(self, asked: int) -> None:
-        self.messages.tell("left", asked, astuple(self._live._pool.take_unaudited()))
-
-    def _take_back_late(self, lent: Iterable[Place]) -> None:
-        self._live._pool.take_back(lent, is_over=False)
+        self.messages.tell("left", asked, astuple(self._live.take_unaudited()))
 
     def _take_back(self, place: Sequence[Any]) -> None:
         given_back = Place(*place)
         self.group.remove(given_back.number)
-        self._live._pool.give_back([given_back])
+        self._live.give_back([given_back])
 
     def _take_leave(self, places: Sequence[Sequence[Any]]) -> None:
         """Its sessions are left for others; so are those that it was to join, and didn't."""
@@ -242,8 +233,8 @@ class ClientProcess:
         unused = [it for it in self.group.places() if it.must_join and it.number not in known]
         known.update(self.group.ended, (it.number for it in [*unused, *self.group.given_back()]))
         self.group.leave()
-        self._live._pool.give_back([*told, *unused])
-        self._live._pool.drop(numbers)  # of those that have ended
+        self._live.give_back([*told, *unused])
+        self._live.drop_places(numbers)  # of those that have ended
         for number in numbers:
             if number not in known:  # it was told too late that it had this, and did nothing there
                 self._live.take_close(number)

@@ -12,13 +12,13 @@ from __future__ import annotations
 
 import logging
 import time
-from typing import Any, Dict, Iterable, List, Optional, Sequence, Set, Tuple
+from typing import Any, Callable, Dict, Iterable, List, Optional, Sequence, Set, Tuple
 
 from ..core._commit_status import find_out
 from ..core._crash_notes import CrashNote, notes_of
 from ..core._own_keys import FENCE, FLAG
 from ..core._records import Logged, TransactionId, as_bytes, undone, unpacked
-from ..live._backlog import Backlog, keys_written_unseen
+from ..live._backlog import keys_written_unseen
 from ..session._place import Place
 
 SECONDS = 5.0  # in which the store is asked for one outcome
@@ -37,9 +37,14 @@ class CrashedProcess:
     still about, and what it may have begun behind its notes is left open."""
 
     def __init__(
-        self, notes: Noted, run_name: str, backlog: Backlog, is_dead: bool = True
+        self,
+        notes: Noted,
+        run_name: str,
+        next_number: Callable[[int], int],
+        is_dead: bool = True,
     ) -> None:
-        self.notes, self.run_name, self.backlog, self.is_dead = notes, run_name, backlog, is_dead
+        self.notes, self.run_name, self.is_dead = notes, run_name, is_dead
+        self.next_number = next_number  # of each session, behind what was handed in
         # Sessions and numbers of what was noted before it was sent, and wasn't answered.
         self._unanswered: Set[Tuple[int, int]] = set()
 
@@ -64,7 +69,7 @@ class CrashedProcess:
         return ()
 
     def _told(self, place: Place) -> Sequence[Tuple[int, Logged]]:
-        first = max(place.begun, self.backlog.next_number(place.number))
+        first = max(place.begun, self.next_number(place.number))
         before, answered = self.sorted_out(place.number, first)
         last = max((*before, *answered, first - 1))
         found: List[Tuple[int, Logged]] = []

@@ -51,7 +51,7 @@ class AuditServer:
             os.mkdir(self.notes, 0o700)
         except OSError as error:
             logger.error("what clients do can't be noted: %s", error)
-        live._at_end.append(self._tell_end)
+        live.call_at_end(self._tell_end)
         self._thread = threading.Thread(target=self._let_in, daemon=True)
         self._thread.start()
 

@@ -50,7 +50,7 @@ class SocketProcess(ClientProcess):
 
     def _most(self) -> int:
         """Of all, half of what may wait here."""
-        return max(1, self._live._backlog.most // (2 * self._live.auditor.sessions))
+        return max(1, self._live.most_waiting // (2 * self._live.auditor.sessions))
 
     def _take_next(self) -> None:
         self._wait()

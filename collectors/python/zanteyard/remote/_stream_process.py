@@ -126,7 +126,7 @@ class StreamProcess(ClientProcess):
         """Which had these sessions before: their streams are heard again, too."""
         firsts: Dict[int, int] = {}
         for _, session, number, _, _ in logged:
-            if number is not None and self._live._audit.covers(session, number):
+            if number is not None and self._live.covers(session, number):
                 firsts.setdefault(session, number)
         ends = time.monotonic() + WAITING
         while any(self._reached(session) < first for session, first in firsts.items()):
@@ -140,7 +140,7 @@ class StreamProcess(ClientProcess):
         """The number behind the last that is handed in, or held."""
         held = self._held.get(session)
         number = held[-1][2] if held else None
-        return self._live._backlog.next_number(session) if number is None else number + 1
+        return self._live.next_number(session) if number is None else number + 1
 
     def _cut_off(self, why: str) -> EOFError:
         """The rest of what it told, and so its notes, can't be believed: something is missing."""
@@ -150,17 +150,17 @@ class StreamProcess(ClientProcess):
 
     def _take_logged(self, logged: Sequence[Any], dropped: int) -> None:
         """What was taken in before is there again where the auditor's process is another one."""
-        backlog, now = self._live._backlog, time.monotonic()
+        live, now = self._live, time.monotonic()
         last: Dict[int, Optional[int]] = {}
         is_again = self._at <= self.handled
         for _, session, number, unseen, packed in logged:
             last[session] = number
             self.group.note_joined(session, number)  # it may be taken in already
-            is_taken = is_again and backlog.is_taken(session, number)
-            if not is_taken and (number is None or number >= backlog.next_number(session)):
+            is_taken = is_again and live.is_taken(session, number)
+            if not is_taken and (number is None or number >= live.next_number(session)):
                 self._take_one(now, session, number, unseen, packed)
         if dropped and not is_again:
-            backlog.count_dropped(dropped)
+            live.count_dropped(dropped)
         self._logged.append((self._at, last))
         for session in last:
             self._drop_notes(session)
@@ -188,7 +188,7 @@ class StreamProcess(ClientProcess):
         self._drop_notes(its.session)
 
     def _drop_notes(self, session: int) -> None:
-        notes, handed_over = self._notes.get(session), self._live._backlog.next_number(session)
+        notes, handed_over = self._notes.get(session), self._live.next_number(session)
         while notes and notes[0][2].number < handed_over:
             notes.popleft()
 
@@ -202,7 +202,7 @@ class StreamProcess(ClientProcess):
 
     def note_kept(self) -> bool:
         """Whether more is needed no more than was, or was heard; for who has the lock."""
-        is_taken = self._live._backlog.is_taken
+        is_taken = self._live.is_taken
         while self._logged and all(is_taken(*its) for its in self._logged[0][1].items()):
             self._logged.popleft()
         ends = [self._logged[0][0] - 1] if self._logged else []
@@ -229,13 +229,13 @@ class StreamProcess(ClientProcess):
     def _find_out(self, places: Sequence[Place], why: str) -> None:
         self._had = self._has()  # another process finds the same out, as long as it isn't taken in
         super()._find_out(places, why)
-        if self._has_left and self._live._lost is None:  # it was heard again, and not to its end
+        if self._has_left and self._live.lost is None:  # it was heard again, and not to its end
             told = f"what a process did that had left is lost: {why}"
             self._live.note_missing(MissingError(told))
         numbers = sorted(place.number for place in places if place.is_audited)
-        if numbers and self._live._lost is None:
+        if numbers and self._live.lost is None:
             told = ", ".join(
-                f"{number} from its transaction {self._live._backlog.next_number(number)} on"
+                f"{number} from its transaction {self._live.next_number(number)} on"
                 for number in numbers
             )
             missing = f"what was done in the sessions {told} isn't known, if anything was: {why}"
@@ -248,12 +248,12 @@ class StreamProcess(ClientProcess):
     @property
     def is_taken_in(self) -> bool:
         """All that is known of it; for who has the lock."""
-        backlog = self._live._backlog
+        live = self._live
         # Of who was given up attempts that did nothing may be held for good.
         return (self._is_buried or not self._logged) and all(
-            backlog.is_taken(place.number, backlog.next_number(place.number) - 1)
+            live.is_taken(place.number, live.next_number(place.number) - 1)
             for place in [*self.group.places(), *self.group.lent()]
-            if backlog.next_number(place.number) > 0
+            if live.next_number(place.number) > 0
         )
 
     # where another process of the auditor goes on

@@ -24,7 +24,6 @@ from typing import Any, Dict, List
 from ..core._outcome import Outcome
 from ..core._version import FORM, VERSION
 from ..core.errors import AuditLostError, AuditTakenError, JournalError, MissingError
-from ..live._backlog import keys_written_unseen
 from ..live._live_auditor import LiveAuditor
 from ..session._place import Place
 from ._live_state import LiveState, StateFile
@@ -92,7 +91,7 @@ class StreamServer:
         except BaseException:
             self._end()
             raise
-        live._at_end.append(self._tell_end)
+        live.call_at_end(self._tell_end)
         self._thread = threading.Thread(target=self._serve, daemon=True)
         self._thread.start()
 
@@ -334,25 +333,24 @@ class StreamServer:
             return
         live, auditor = self._live, self._live.auditor
         with self._lock:
-            left, unaudited = live._pool.nobodys_by_now()
+            left, unaudited = live.places_left()
             states = {client: process.state() for client, process in self._processes.items()}
-            has = {*live._group.numbers()}
+            has = live.numbers_here()
             for its in states.values():
                 lent = [place for call in its["calls"] for place in call[-1]]
                 has.update(place[0] for place in [*its["places"], *lent])
-            missing = live._audit.missing
             state = LiveState(
                 self.names.audit,
                 live.run_name,
                 live.is_named,
                 live.token,
                 auditor.audits,
-                live._coordinator.meetings,
+                live.meetings,
                 [tuple(vars(place).values()) for place in left if place.number not in has],
                 unaudited,
                 states,
-                str(missing) if missing else None,
-                str(live._lost) if live._lost else None,
+                str(live.missing) if live.missing else None,
+                str(live.lost) if live.lost else None,
                 written=self._written + 1,
             )
             self._file.write(state)
@@ -369,10 +367,8 @@ class StreamServer:
             raise JournalError(f"{self._file.path} {told}: go on with that, or in another folder")
         self._written = state.written
         self._check_newest(state.token)
-        live.token = live.auditor.token = state.token
         self._ours = state.token.encode()
-        live.is_named = state.is_named
-        live._coordinator.meetings = state.meetings + 1
+        live.go_on_behind(state.token, state.is_named, state.meetings + 1)
         if state.missing:
             live.note_missing(MissingError(state.missing))
         if state.failure:
@@ -387,15 +383,13 @@ class StreamServer:
             is_closed = place.number < len(closed) and closed[place.number]
             place.is_ended = place.is_ended or (is_closed and not place.must_join)
             place.must_join = place.must_join and is_closed
-        live._pool.go_on(left, taken, lent, state.unaudited)
+        live.go_on_with(left, taken, lent, state.unaudited)
         open_ones = [it.number for it in [*left, *lent] if not it.is_ended]
         self._close_what_nobody_has({*taken, *open_ones})
-        history: Any = live.auditor.history
-        for logged in (it for txns in history for it in txns):
-            live._backlog.put_unseen(keys_written_unseen(logged))
+        live.note_unseen()
         for process in self._processes.values():
             process.thread.start()
-        live._coordinator.go_on(live.auditor.remaining)  # from here on a meeting may be due
+        live.let_meet()
 
     def _check_newest(self, token: str) -> None:
         """A folder that was brought back, or a copy, doesn't know what clients were told since: who

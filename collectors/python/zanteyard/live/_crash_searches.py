@@ -1,0 +1,29 @@
+"""While it is found out what killed processes did, no meeting and no other audit begins."""
+
+from __future__ import annotations
+
+import threading
+
+
+class CrashSearches:
+    """While it is found out what killed processes did; for threads."""
+
+    def __init__(self) -> None:
+        self._count, self._changed = 0, threading.Condition()
+
+    @property
+    def is_going_on(self) -> bool:
+        return self._count > 0
+
+    def wait(self, seconds: float = 30.0) -> None:
+        with self._changed:
+            self._changed.wait_for(lambda: not self._count, seconds)
+
+    def __enter__(self) -> None:
+        with self._changed:
+            self._count += 1
+
+    def __exit__(self, *_: object) -> None:
+        with self._changed:
+            self._count -= 1
+            self._changed.notify_all()

@@ -1,0 +1,138 @@
+"""What is known of a live audit by now."""
+
+from __future__ import annotations
+
+from typing import Optional, Tuple
+
+from ..core._outcome import Outcome
+from ..core._records import Report
+from ..core.errors import MissingError
+from ..session._local_sessions import LocalSessions
+from ._audit import AnyAuditor, Audit, Figures
+from ._backlog import Backlog
+from ._quiesce_coordinator import QuiesceCoordinator
+from ._session_pool import SessionPool
+
+
+class LiveFigures(LocalSessions):
+    """Read from any thread."""
+
+    auditor: AnyAuditor
+    _audit: Audit  # the one that goes on, or the last
+    _backlog: Backlog
+    _pool: SessionPool
+    _coordinator: QuiesceCoordinator
+    _figures: Figures
+    _lost: Optional[Exception] = None  # why no more is audited, until another audit begins
+    _failure: Optional[Exception] = None  # the same, once nothing more is audited for good
+    _is_stopping = _has_ended = False
+
+    @property
+    def outcome(self) -> Outcome:
+        """What came of it by now, of this audit and of those that ended before it as one."""
+        return self._audit.outcome(self._has_ended, self._failure).whole
+
+    @property
+    def name(self) -> str:
+        """Of this audit: the run's, with a number from the second on."""
+        return self._audit.name
+
+    @property
+    def earlier(self) -> Tuple[Outcome, ...]:
+        """The outcomes of the audits that ended before this one began."""
+        return self._audit.earlier
+
+    @property
+    def report(self) -> Optional[Report]:
+        """What the last round of this audit said; None before the first."""
+        return self._audit.report
+
+    @property
+    def failure(self) -> Optional[Exception]:
+        """Why nothing more is audited, once that is so; then `outcome` isn't serial."""
+        return self._failure
+
+    @property
+    def is_violated(self) -> bool:
+        """That stays so, whatever comes."""
+        return self._audit.is_violated
+
+    @property
+    def is_over(self) -> bool:
+        """Nothing more is audited: a violation was found, or the audit has ended for good."""
+        return self.is_violated or self._has_ended
+
+    @property
+    def handed_in(self) -> int:
+        """How many transactions clients and meetings have done since this audit began."""
+        return self._audit.handed_in
+
+    @property
+    def taken_in(self) -> int:
+        """How many of these the auditor has been given."""
+        return self._audit.taken_in
+
+    @property
+    def left_out(self) -> int:
+        """How many reads of this audit weren't checked, since it isn't about their source."""
+        return self._audit.left_out
+
+    @property
+    def rounds(self) -> int:
+        """How many there were, in all audits."""
+        return self._figures.rounds
+
+    @property
+    def cuts(self) -> int:
+        """How many times something was forgotten, in all audits."""
+        return self._figures.cuts
+
+    @property
+    def meetings(self) -> int:
+        """How many there were, in all audits, those that failed too."""
+        return self._coordinator.meetings
+
+    @property
+    def lag(self) -> float:
+        """For how many seconds a transaction waited to be taken in, at most."""
+        return self._figures.lag
+
+    @property
+    def told_behind(self) -> float:
+        """The same of what was taken in between the last round and the one before."""
+        return self._figures.told_behind
+
+    @property
+    def figures(self) -> Figures:
+        """Over all audits."""
+        return self._figures
+
+    @property
+    def counted(self) -> int:
+        """How many transactions were handed in, by clients and by meetings, in all audits."""
+        return self._backlog.counted
+
+    @property
+    def waiting(self) -> int:
+        """How many transactions wait to be taken in."""
+        return len(self._backlog)
+
+    @property
+    def sessions_left(self) -> int:
+        """How many clients more may have a session by now."""
+        return self._pool.free
+
+    @property
+    def missing(self) -> Optional[MissingError]:
+        """What may have been done in this audit, and never comes."""
+        return self._audit.missing
+
+    @property
+    def lost(self) -> Optional[Exception]:
+        """Why no more is audited, until another audit begins."""
+        return self._lost
+
+    @property
+    def has_ended(self) -> bool:
+        """Whether nothing more is audited for good."""
+        return self._has_ended
