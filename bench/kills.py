@@ -27,7 +27,7 @@ TESTS = (
 )
 KINDS = (  # a word of its command line, and what it is
     ("cobra_audit", "the auditor"),
-    ("zanteyard.program._subprocess", "the process between a collector and its auditor"),
+    ("zanteyard.program._subprocess_server", "the process between a collector and its auditor"),
     ("journal_feeder", "a process with the journal"),
     ("journal_live", "a process with the journal, and its clients"),
     ("killed_client", "a client"),

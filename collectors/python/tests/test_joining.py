@@ -13,7 +13,8 @@ from unittest import mock
 
 from zanteyard import FENCE, AbortedError, Auditor, AuditorApart, LiveAuditor, Logged, OutcomeUnknownError
 from zanteyard import AuditClient, AuditServer, Policy, RefusedError, from_start
-from zanteyard.live._audit import Audit, Figures
+from zanteyard.live._audit import Audit
+from zanteyard.live._figures import Figures
 from zanteyard.core._own_keys import FLAG
 from zanteyard.program._auditor import PROGRAM
 from zanteyard.live._backlog import Backlog

@@ -27,6 +27,7 @@ from .plain_sql import run_sql
 try:
     import psycopg2
 
+    from zanteyard.stores import _postgres_connection as postgres_connection
     from zanteyard.stores import postgres as postgres_store
     from zanteyard.stores.postgres import PostgresStore, prepare
 except ImportError:
@@ -406,7 +407,7 @@ class AskedOfPostgres(unittest.TestCase):
     def test_what_is_around_the_client_leads_there(self):
         with mock.patch.dict(os.environ, {"PGOPTIONS": "-c search_path=bank"}):
             self.assertEqual(self.store.asks()[2]["options"], "-c search_path=bank")
-        words = postgres_store.reached({"dbname": "of the dsn"}, {"dbname": "around", "options": "-c a=b"})
+        words = postgres_connection.reached({"dbname": "of the dsn"}, {"dbname": "around", "options": "-c a=b"})
         self.assertEqual((words["dbname"], words["options"]), ("of the dsn", "-c a=b"))
 
     def test_a_commit_that_was_refused_is_not_asked_for(self):

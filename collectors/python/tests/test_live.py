@@ -11,7 +11,7 @@ from zanteyard import FENCE, AbortedError, Auditor, AuditorApart, ProgramEndedEr
 from zanteyard import NoMemoryError, Policy, RefusedError, audited, dot_text, draw, from_start, reasons, smaller, words
 from zanteyard.core._own_keys import FLAG, MARK
 from zanteyard.program._auditor import PROGRAM
-from zanteyard.live._audit import fragments
+from zanteyard.live._fragments import fragments
 from zanteyard.stores.memory import MemoryStore
 
 

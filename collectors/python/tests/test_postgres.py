@@ -16,7 +16,8 @@ from .waiting import wait_until
 try:
     import psycopg2
 
-    from zanteyard.stores.postgres import PostgresStore, asked, prepare
+    from zanteyard.stores._postgres_outcomes import asked
+    from zanteyard.stores.postgres import PostgresStore, prepare
 except ImportError:
     psycopg2 = None
 

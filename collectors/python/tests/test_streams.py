@@ -28,7 +28,8 @@ try:
     from zanteyard.core._redis_wire import answers
     from zanteyard.remote._stream_ends import Appender, Gap, Reader
     from zanteyard.remote._stream_messages import ClientsEnd
-    from zanteyard.remote.streams import StreamServer, identity
+    from zanteyard.remote._live_state import identity
+    from zanteyard.remote.streams import StreamServer
 except ImportError:
     redis = None
 

@@ -23,7 +23,8 @@ logger = logging.getLogger("zanteyard")
 
 PACKAGE = __name__.split(".")[0]
 MODULES = {  # that look an outcome up, by the word for the kind of store
-    **{kind: f"{PACKAGE}.stores.{kind}" for kind in ("postgres", "mariadb", "redis", "sqlite")},
+    "postgres": f"{PACKAGE}.stores._postgres_outcomes",
+    **{kind: f"{PACKAGE}.stores.{kind}" for kind in ("mariadb", "redis", "sqlite")},
     "sql": f"{PACKAGE}.sql._store",
 }
 

@@ -15,8 +15,8 @@ from ..core._own_keys import FENCE
 from ..core._records import ABORTED, Logged, Pending, TransactionId
 from ..core._tenancy import Tenancy
 from ..core.errors import ProgramEndedError, ProgramTooOldError, ScriptMistakeError
-from ..program._auditor import TOO_OLD
 from ..program._intake import never_came
+from ..program._lines import TOO_OLD
 from ._script_names import NamedTransaction, ScriptNames
 
 # What a spent round is given again with: nodes of the search, depth, workers.

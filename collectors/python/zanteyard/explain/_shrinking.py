@@ -13,8 +13,9 @@ from typing import Optional, Set, Tuple
 from ..core._outcome import VIOLATED
 from ..core._own_keys import FENCE, FORM, LONGEST, PLAIN_FENCE, is_own
 from ..core._records import History, Logged, Naming, Report, Source, TransactionId
-from ..program._auditor import Auditor, written
+from ..program._auditor import Auditor
 from ..program._binaries import PROGRAM
+from ..program._lines import written
 
 TOLD, FROM = 300, 150  # characters of a statement, at most, and of its end, where its place stands
 SECONDS = 5.0  # to make a history smaller

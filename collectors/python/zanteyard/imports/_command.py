@@ -11,7 +11,8 @@ from ..core.errors import ImportRefusedError
 from ..explain._script_names import write_names
 from ._jepsen import read_jepsen
 from ._recording import Recording
-from ._script import Imported, script_of
+from ._script import script_of
+from ._script_parts import Imported
 from ._sessions import read_csv, read_dbcop, read_polysi
 from ._times import EVERY
 

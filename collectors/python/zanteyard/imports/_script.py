@@ -4,66 +4,34 @@ sessions, under which numbers, and the names that they are told by."""
 from __future__ import annotations
 
 import json
-from dataclasses import dataclass, field, replace
-from typing import Any, Dict, Iterator, List, Optional, Sequence, Set, Tuple, Union
+from dataclasses import replace
+from typing import Any, Dict, Iterator, List, Optional, Set, Tuple
 
 from ..core._own_keys import FORM
 from ..core._records import TransactionId
 from ..core.errors import ImportRefusedError
 from ..explain._script_names import NamedTransaction, ScriptNames
-from ._recording import ABORTED, APPEND, COMMITTED, UNKNOWN, WRITE, Attempt, Recording, counted
-from ._sources import DRAFT, Absent, Origin, Sources, Stub
+from ._recording import ABORTED, COMMITTED, UNKNOWN, Recording, counted
+from ._script_parts import (
+    LONGEST,
+    Fence,
+    Imported,
+    Item,
+    Plan,
+    all_before,
+    ascending,
+    named_stub,
+    offers,
+    written_by,
+)
+from ._sources import Absent, Origin, Sources, Stub
 from ._times import EVERY, Times, check_times, part_of
 
 SESSIONS = 64
 LIMIT = 4096  # transactions that remain at a time
-LONGEST = 256  # transactions of a line, and reads or writes of a transaction
 NEVER_OFFERED = 1_000_000_000  # numbers from here on are those of transactions that don't come
 ROUND = ["round", 4096, 0, 1]
 REST = "the rest of the file"  # a key that stands for what wasn't imported
-
-
-@dataclass(frozen=True)
-class Fence:
-    """One that a session makes at a pause: as its first there, or its second."""
-
-    pause: int  # from 1
-    session: int
-    is_first: bool
-
-    def name(self) -> str:
-        """How it is told."""
-        return f"{'before' if self.is_first else 'after'} pause {self.pause} in {self.session}"
-
-
-Item = Union[int, Stub, Fence]  # an attempt's place, or what wrote nothing, or a fence
-
-
-@dataclass(frozen=True)
-class Imported:
-    """A script, the names of what it is about, and what was done with the file in words."""
-
-    lines: Tuple[str, ...]
-    names: ScriptNames
-    about: Tuple[str, ...]
-
-
-@dataclass
-class _Plan:
-    """What is offered: of each session its items in order, and whose they are."""
-
-    sessions: List[List[Item]] = field(default_factory=list)
-    shared: int = 0  # clients that go on in the session of another one
-    by_time: Set[int] = field(default_factory=set)  # sessions in which one does by the file's time
-    fences: List[List[Fence]] = field(default_factory=list)  # of each pause, in their order
-
-    def places(self) -> Dict[Item, TransactionId]:
-        """Of each item its session and number."""
-        return {
-            item: (session, number)
-            for session, items in enumerate(self.sessions)
-            for number, item in enumerate(items)
-        }
 
 
 def script_of(
@@ -91,7 +59,7 @@ class _ScriptMaker:
         self._keys: Dict[str, int] = {}
         self._absent: Dict[object, TransactionId] = {}
         self._absent_names: Dict[TransactionId, str] = {}
-        self._plan = _Plan()
+        self._plan = Plan()
         self._places: Dict[Item, TransactionId] = {}
 
     def _front(self, first: int) -> Set[int]:
@@ -138,7 +106,7 @@ class _ScriptMaker:
             if count > LIMIT:
                 self._check_room(sum(ends[it] - given[it] for it in ends), pause)
             for session, end in ends.items():
-                yield from _offers(session, given[session], offered[session][:end])
+                yield from offers(session, given[session], offered[session][:end])
                 given[session] = end
             for session in {fence.session for fence in fences if fence.is_first}:
                 if given[session] == len(offered[session]):
@@ -149,7 +117,7 @@ class _ScriptMaker:
         if count > LIMIT:
             self._check_room(count - sum(given), len(self._pauses))
         for session, transactions in enumerate(offered):
-            yield from _offers(session, given[session], transactions)
+            yield from offers(session, given[session], transactions)
         yield ROUND
 
     def _check_room(self, count: int, pause: int) -> None:
@@ -198,19 +166,19 @@ class _ScriptMaker:
             found[part_of(self._attempts[at].began, self._pauses)].append(item)
         return found
 
-    def _planned(self) -> _Plan:
+    def _planned(self) -> Plan:
         """Each client in a session of its own; where they are too many, one that certainly comes
         behind all of another one goes on in its session."""
         clients = [items for items in self._items_of_clients().values() if items]
         if not clients:
             raise ImportRefusedError(0, "nothing was committed, so that nothing can be judged")
         if len(clients) <= SESSIONS:
-            return _Plan(clients)
+            return Plan(clients)
         before = self._known_before()
-        plan = _Plan()
+        plan = Plan()
         for items in clients:
             is_needed = plan.shared < len(clients) - SESSIONS
-            self._place(items, plan, _all_before(before, items[0]) if is_needed else set())
+            self._place(items, plan, all_before(before, items[0]) if is_needed else set())
         if len(plan.sessions) > SESSIONS:
             raise ImportRefusedError(
                 0,
@@ -221,7 +189,7 @@ class _ScriptMaker:
             )
         return plan
 
-    def _place(self, items: List[Item], plan: _Plan, before: Set[Item]) -> None:
+    def _place(self, items: List[Item], plan: Plan, before: Set[Item]) -> None:
         """In the session of one that comes before; `before` is all that does in every order."""
         for number, session in enumerate(plan.sessions):
             is_known = session[-1] in before
@@ -310,7 +278,7 @@ class _ScriptMaker:
             for (key, origin), text in its.reads.items()
         }
         writes = {self._key(key): text for key, text in its.writes.items()}
-        texts = [([*read], text) for read, text in sorted(reads.items(), key=_ascending)]
+        texts = [([*read], text) for read, text in sorted(reads.items(), key=ascending)]
         texts += [([key], text) for key, text in sorted(writes.items())]
         offered = [[read for read, _ in texts[: len(reads)]], sorted(writes)]
         return offered, NamedTransaction(
@@ -319,8 +287,8 @@ class _ScriptMaker:
 
     def _stub(self, stub: Stub) -> Tuple[List[Any], NamedTransaction]:
         """With the keys that an attempt wrote, where it was aborted."""
-        named = _named_stub(stub, self._attempts)
-        written = _written(self._attempts[stub.owner]) if stub.kind == ABORTED else {}
+        named = named_stub(stub, self._attempts)
+        written = written_by(self._attempts[stub.owner]) if stub.kind == ABORTED else {}
         if not written or len(written) > LONGEST:
             return [[], []], named
         texts = sorted((self._key(key), text) for key, text in written.items())
@@ -399,47 +367,6 @@ class _ScriptMaker:
                 f"{counted(sum(map(bool, self._plan.fences)), 'pause')}, which is more than "
                 "serializability"
             )
-
-
-def _ascending(one: Tuple[Sequence[Any], str]) -> Tuple[int, ...]:
-    key, *source = one[0]
-    return (key, -1, -1) if source[0] == "init" else (key, *source)
-
-
-def _all_before(before: Dict[Item, List[Item]], end: Item) -> Set[Item]:
-    """Whatever leads there."""
-    seen: Set[Item] = {end}
-    waiting = [end]
-    while waiting:
-        for item in before.get(waiting.pop(), ()):
-            if item not in seen:
-                seen.add(item)
-                waiting.append(item)
-    return seen
-
-
-def _offers(session: int, first: int, transactions: List[Any]) -> Iterator[List[Any]]:
-    """The lines that offer a session's transactions, but for so many that were offered before."""
-    for start in range(first, len(transactions), LONGEST):
-        yield ["offer", session, start, transactions[start : start + LONGEST]]
-
-
-def _written(attempt: Attempt) -> Dict[str, str]:
-    """Of each key that it wrote, what the file has for that."""
-    found: Dict[str, List[str]] = {}
-    for access in attempt.accesses:
-        if access.kind in (WRITE, APPEND):
-            found.setdefault(access.key, []).append(access.text)
-    return {key: " ".join(texts) for key, texts in found.items()}
-
-
-def _named_stub(stub: Stub, attempts: Tuple[Attempt, ...]) -> NamedTransaction:
-    owner = attempts[stub.owner]
-    if stub.kind == ABORTED:
-        return NamedTransaction(owner.name, ABORTED, (), owner.where)
-    if stub.kind == DRAFT:
-        return NamedTransaction(f"a part of {owner.name}", "unfinished", (), owner.where)
-    return NamedTransaction("a state that can't be", "impossible")
 
 
 def too_many(count: int) -> str:

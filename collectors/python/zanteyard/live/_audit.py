@@ -5,7 +5,6 @@ from __future__ import annotations
 import logging
 import time
 from collections import Counter
-from dataclasses import dataclass, field
 from typing import Any, Callable, Dict, Iterable, List, Optional, Sequence, Set, Tuple, Union
 
 from ..core._outcome import COLLECTOR, PENDING, RUNNING, SERIAL, VIOLATED, Outcome, kind_of
@@ -19,26 +18,12 @@ from ..program._auditor import Auditor
 from ..program._intake import Fragment, never_came
 from ..program._subprocess import AuditorApart
 from ._backlog import Backlog, HandedIn
+from ._figures import Figures
+from ._fragments import fragments
 
 logger = logging.getLogger("zanteyard")
 MEANWHILE = 0.04  # seconds, in which more transactions come while a round is made
 AnyAuditor = Union[Auditor, AuditorApart]
-
-
-@dataclass
-class Figures:
-    """Over all audits of a run."""
-
-    rounds: int = 0
-    cuts: int = 0
-    lag: float = 0.0  # for how many seconds a transaction waited to be taken in, at most
-    told_behind: float = 0.0  # the same since the round before the last
-    told_at: float = 0.0  # when the last round was, by the monotonic clock
-    cut_at: float = 0.0  # the same of the last cut, or of the beginning
-    kinds: Dict[str, int] = field(default_factory=dict)  # how many rounds told each
-    # Of each session, for how many reads of its transactions the last round waited; kept where
-    # somebody asks for it.
-    awaited: Optional[Dict[int, int]] = None
 
 
 class Audit:
@@ -386,20 +371,3 @@ class Audit:
             self._is_collectors_own = is_collectors_own(self._auditor)
         if self._is_collectors_own:
             logger.error("fences and marks alone are violated, and no client's transaction is")
-
-
-def fragments(offers: Iterable[Tuple[int, Optional[int], Any]]) -> List[Fragment]:
-    """Of each session that is among them, (session, number of the first, transactions); without
-    those that have no number. Behind one that is missing another fragment begins, which the auditor
-    refuses: were what follows it told by its number, that might look like a violation."""
-    found: List[Fragment] = []
-    last: Dict[int, Tuple[int, int, List[Any]]] = {}
-    for session, number, logged in offers:
-        if number is None:
-            continue
-        one = last.get(session)
-        if one is None or number != one[1] + len(one[2]):
-            one = last[session] = (session, number, [])
-            found.append(one)
-        one[2].append(logged)
-    return found

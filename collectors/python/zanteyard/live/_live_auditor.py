@@ -27,10 +27,11 @@ from ..program._subprocess import AuditorApart
 from ..session._local_sessions import PATIENCE
 from ..session._place import Place
 from ..session._session import Session
-from ._audit import AnyAuditor, Audit, Figures
+from ._audit import AnyAuditor, Audit
 from ._audit_start import coverage_from_now
 from ._backlog import Backlog, keys_written_unseen
 from ._crash_searches import CrashSearches
+from ._figures import Figures
 from ._for_processes import ForProcesses
 from ._pace import Pace
 from ._quiesce_coordinator import QuiesceCoordinator

@@ -8,8 +8,9 @@ from ..core._outcome import Outcome
 from ..core._records import Report
 from ..core.errors import MissingError
 from ..session._local_sessions import LocalSessions
-from ._audit import AnyAuditor, Audit, Figures
+from ._audit import AnyAuditor, Audit
 from ._backlog import Backlog
+from ._figures import Figures
 from ._quiesce_coordinator import QuiesceCoordinator
 from ._session_pool import SessionPool
 

@@ -4,10 +4,9 @@ from __future__ import annotations
 
 import json
 import logging
-import time
 from collections import Counter
 from dataclasses import asdict
-from typing import Any, Container, Dict, List, Mapping, Optional, Sequence, Tuple, Type, Union
+from typing import Any, Container, Dict, List, Optional, Sequence, Tuple, Union
 
 from ..core._outcome import RATHER_LOSE_THE_AUDIT, Policy
 from ..core._own_keys import FENCE, FORM
@@ -17,42 +16,25 @@ from ..core._window import Coverage
 from ..core.errors import (
     AuditLostError,
     FullError,
-    JournalError,
     NoCutError,
-    NoMemoryError,
-    NotAnchoredError,
     ProgramEndedError,
-    ProgramLateError,
     ProgramTooOldError,
     RefusedError,
-    RoundTooLongError,
 )
 from ..journal._entries import Head
 from ._binaries import PROGRAM as PROGRAM
-from ._intake import EFFORTS, SECONDS, Effort, Fragment, Intake
+from ._intake import EFFORTS, Effort, Fragment
+from ._lines import BAD_LINE, ENDED, TOO_OLD, Lines, written
 from ._pipes import Pipes
 from ._resuming import Reopened, journaled, reopened
 from ._supervised import SupervisedProgram
 
 
-BAD_LINE = "BadLine"
-TOO_OLD = (
-    f"is an auditor of an earlier version than this package: it doesn't know scripts of version "
-    f"{FORM}, which tell what was aborted. Build it anew, or name another one"
-)
-WAITS = (0.1, 0.5)  # seconds after which a line that was answered NoMemory is given again
-ENDED = "cobra_audit has been ended"
 UNKNOWN = "the process that audited has ended, and what its sessions did last isn't known"
 logger = logging.getLogger("zanteyard")
-KINDS: Mapping[str, Type[RefusedError]] = {
-    "Backlog": FullError,
-    "NoCut": NoCutError,
-    "NoMemory": NoMemoryError,
-    "NotAnchored": NotAnchoredError,
-}
 
 
-class Auditor(Intake):
+class Auditor(Lines):
     """The program cobra_audit. For threads: each call is one line and its reply. What sessions hand
     in (`take`) never raises; all other calls raise ProgramEndedError where the program is gone and
     RefusedError where it refuses a line.
@@ -65,9 +47,6 @@ class Auditor(Intake):
     sessions wait. `journal` names a file that isn't there yet (docs/JOURNAL.md): where the program
     dies, or takes more than `round_seconds` for a round, if that is given, another one is brought
     where it stood. Then all calls raise JournalError where the journal can't be written."""
-
-    script: Any = None  # a raw file, whose `write` tells how much it took
-    program: Union[Pipes, SupervisedProgram, None] = None
 
     @classmethod
     def resumed(
@@ -176,75 +155,10 @@ class Auditor(Intake):
         its = [Report(*one.reply[1:]) for one in told if one.audit == self.audits]
         return its[0] if its else None
 
-    def _open_script(self) -> None:
-        """Of a second audit the script is beside the first one's, with its number behind the
-        name."""
-        if self.script_path is not None:
-            behind = f".{self.audits}" if self.audits > 1 else ""
-            self.script = open(f"{self.script_path}{behind}", "wb", buffering=0)
-
     @property
     def remaining(self) -> int:
         """How many transactions were taken in and aren't forgotten."""
         return sum(map(len, self.history))
-
-    def ask(self, line: Sequence[Any]) -> List[Any]:
-        """The reply to a line as docs/FORMATS.md has them; one that is refused for want of memory
-        is given again."""
-        text = written(line)
-        with self.lock:
-            self._begin_to_ask()
-            (reply,) = self._replies_to([text])
-            reply, refusal = self._settled(text, reply)
-            self._be_in_step()
-        if refusal is not None:
-            raise refusal
-        return reply
-
-    def _begin_to_ask(self) -> None:
-        if self._late is not None:
-            self._end_late(SECONDS)
-        self._leave_step()
-
-    def _settled(
-        self, text: str, reply: List[Any], seconds: float = SECONDS
-    ) -> Tuple[List[Any], Optional[RefusedError]]:
-        """The reply once the line isn't refused for want of memory, and what it refuses."""
-        for wait in WAITS:
-            if reply[0] != "no" or reply[2] != "NoMemory" or wait > seconds:
-                break
-            time.sleep(wait)
-            (reply,) = self._replies_to([text])
-        refused = reply[0] == "no" and KINDS.get(reply[2], RefusedError)
-        return reply, refused(f"{text} was answered {reply[2]}") if refused else None
-
-    def _replies_to(self, texts: Sequence[str]) -> List[List[Any]]:
-        """Of lines that are given one behind the other; raises ProgramLateError where that takes
-        too long. For who has left the step."""
-        self._give(texts)
-        try:
-            assert self.program is not None
-            answers = self.program.answers(len(texts), SECONDS + 2 * (self.round_seconds or 0))
-            return [json.loads(answer) for answer in answers]
-        except RoundTooLongError:
-            self._be_in_step()  # another program goes on
-            raise
-        except (ProgramEndedError, JournalError) as error:
-            self._why_out = str(error)
-            if isinstance(error, ProgramLateError):
-                self._give_up()
-            raise
-
-    def _give_up(self) -> None:
-        if self.program is not None:
-            self.program.kill()
-
-    def _give(self, texts: Sequence[str]) -> None:
-        if self.program is None:
-            raise ProgramEndedError(ENDED)
-        lines = [text.encode() for text in texts]
-        self._keep(lines)
-        self.program.ask(lines)
 
     # a line for a session, and its answer
 
@@ -301,17 +215,6 @@ class Auditor(Intake):
         self.left_out += left_out
         if self.is_resumed:  # there are no sessions that count them
             self.taken_in += len(txns)
-
-    def _keep(self, lines: Sequence[bytes]) -> None:
-        """In the script; a file that can't be written harms nobody but who wants to read it."""
-        if self.script is not None and self.script_failure is None:
-            try:
-                text = b"".join(line + b"\n" for line in lines)
-                while text:
-                    text = text[self.script.write(text) :]
-            except OSError as error:
-                self.script_failure = error
-                logger.error("%s lacks lines: %s", self.script.name, error)
 
     @property
     def written_last(self) -> List[Sequence[str]]:
@@ -446,7 +349,3 @@ class Auditor(Intake):
 
     def __enter__(self) -> Auditor:
         return self
-
-
-def written(line: Sequence[Any]) -> str:
-    return json.dumps(line, separators=(",", ":"))

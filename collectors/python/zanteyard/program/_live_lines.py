@@ -8,7 +8,8 @@ import time
 from typing import Any, List, NamedTuple, Sequence
 
 from ..core._own_keys import FORM, LONGEST
-from ._auditor import Auditor, written
+from ._auditor import Auditor
+from ._lines import written
 from ._pipes import ENDING, Pipes
 
 MOST_LAST = 4096  # last writers of a line

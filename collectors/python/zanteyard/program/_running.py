@@ -24,9 +24,10 @@ from ..core._own_keys import FENCE, FORM
 from ..core._records import Cut, Report
 from ..core._window import SESSIONS
 from ..core.errors import NoCutError, ProgramEndedError, ProgramLateError, RefusedError
-from ._auditor import WAITS, Auditor, written
+from ._auditor import Auditor
 from ._checkpoint import NO_MEMORY, OK
 from ._intake import EFFORTS, SECONDS, Effort, Fragment
+from ._lines import WAITS, written
 from ._live_lines import Line, LivePipes, is_fence, pieces_of, standing
 from ._pipes import Pipes
 

@@ -88,3 +88,13 @@ class StateFile:
                 os.close(file)
         except OSError as error:
             raise JournalError(f"{self.journal} can't be brought to the disk: {error}") from error
+
+
+def identity(journal: str) -> str:
+    """Of its lock, which stays: a copy of the folder has another one, though it has its path on a
+    machine of the same name. Raises JournalError."""
+    try:
+        found = os.stat(f"{journal}.lock")
+    except OSError as error:
+        raise JournalError(f"{journal} isn't locked any more: {error}") from error
+    return f"{found.st_dev}:{found.st_ino}"

@@ -26,7 +26,7 @@ from ..core._version import FORM, VERSION
 from ..core.errors import AuditLostError, AuditTakenError, JournalError, MissingError
 from ..live._live_auditor import LiveAuditor
 from ..session._place import Place
-from ._live_state import LiveState, StateFile
+from ._live_state import LiveState, StateFile, identity
 from ._stream_ends import RedisLink, asked
 from ._stream_messages import AuditorsEnd
 from ._stream_names import HERE, StreamKeys
@@ -40,16 +40,6 @@ WRITES = 3.0  # seconds behind its last word in which the Redis is taken for one
 WAITS = 5.0  # seconds for an answer of the Redis
 KEPT_AT_LEAST = 30 * 24 * 3600  # seconds, of what nobody deletes where an audit isn't gone on with
 CLOSING = 30.0  # seconds for all processes to leave
-
-
-def identity(journal: str) -> str:
-    """Of its lock, which stays: a copy of the folder has another one, though it has its path on a
-    machine of the same name. Raises JournalError."""
-    try:
-        found = os.stat(f"{journal}.lock")
-    except OSError as error:
-        raise JournalError(f"{journal} isn't locked any more: {error}") from error
-    return f"{found.st_dev}:{found.st_ino}"
 
 
 class StreamServer:

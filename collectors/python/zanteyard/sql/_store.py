@@ -14,9 +14,10 @@ from ..core._commit_status import UNKNOWN, CommitStatus
 from ..core._records import Name, StoredValue
 from ..core.errors import AbortedError, OutcomeUnknownError
 from ..session._transaction import Transaction
-from ..stores._postgres_connection import outcome_told
-from ..stores.postgres import LIFE, Asks, PostgresStore, reached
-from ..stores.postgres import asked as asked_beside
+from ..stores._postgres_connection import outcome_told, reached
+from ..stores._postgres_outcomes import Asks
+from ..stores._postgres_outcomes import asked as asked_beside
+from ..stores.postgres import LIFE, PostgresStore
 from ._side_connection import Side
 from ._unlogged import INTERRUPTED, LOST, Unlogged, Writer
 
@@ -203,7 +204,8 @@ def asked(
     ticket: Any,
     seconds: float,
 ) -> CommitStatus:
-    """What became of a transaction whose process is killed, as `postgres_store.asked` does."""
+    """What became of a transaction whose process is killed, as `stores/_postgres_outcomes.py`
+    does."""
     kind, its = ticket
     if kind == BESIDE:
         return asked_beside(dsn, around, table, ticket=its, seconds=seconds)

@@ -2,6 +2,7 @@
 
 from __future__ import annotations
 
+import os
 import math
 import select
 import time
@@ -13,6 +14,14 @@ from psycopg2 import extensions
 from ..core import _timeouts as timeouts
 
 LEAST = 2  # seconds: what libpq makes of a shorter connect_timeout
+# What libpq takes from the environment where a dsn doesn't say it.
+WORDS = {
+    **{"PGHOST": "host", "PGHOSTADDR": "hostaddr", "PGPORT": "port", "PGDATABASE": "dbname"},
+    **{"PGUSER": "user", "PGPASSWORD": "password", "PGPASSFILE": "passfile"},
+    **{"PGOPTIONS": "options", "PGTARGETSESSIONATTRS": "target_session_attrs"},
+    **{"PGSERVICE": "service", "PGSERVICEFILE": "servicefile"},
+}
+PLAIN = {"target_session_attrs": "any"}  # in place of an empty one, which libpq refuses
 
 
 def connected(dsn: str, seconds: float) -> Any:
@@ -85,3 +94,18 @@ def within(seconds: float, call: Callable[[], Any], drop: Callable[[Any], object
         return timeouts.within(seconds, call, drop)
     except timeouts.LateError as error:
         raise psycopg2.OperationalError(str(error)) from None
+
+
+def environment() -> Dict[str, str]:
+    return {word: os.environ[name] for name, word in WORDS.items() if os.environ.get(name)}
+
+
+def reached(dsn: Dict[str, str], around: Dict[str, str]) -> Optional[Dict[str, str]]:
+    """What leads from here to where it led a client with these words around it, whatever is around
+    this process; None where nothing does."""
+    here = environment()
+    if any("service" in words for words in (dsn, around, here)):
+        return dsn if here == around else None  # what a service says is known to libpq alone
+    # An empty word is as good as none, and libpq then doesn't look around for it.
+    found = {**{word: PLAIN.get(word, "") for word in here}, **around, **dsn}
+    return {word: said for word, said in found.items() if word != "servicefile"}

@@ -23,6 +23,7 @@ from ..core._commit_status import CommitStatus
 from ..core._records import Name, StoredValue
 from ..core._timeouts import LateError, within
 from ..core.errors import AbortedError, NameTakenError, OutcomeUnknownError
+from ._mariadb_connection import close_connection, limit, limited
 from .levels import SNAPSHOT, checked_level
 
 # Keys are compared byte by byte: most collations take "x", "X" and "x " for one.
@@ -128,7 +129,7 @@ class MariaDBStore:
         self.is_hung_up = False
         waits = self.patience if seconds is None else seconds
         try:
-            self.connection = within(waits, lambda: self.connected(waits), _close)
+            self.connection = within(waits, lambda: self.connected(waits), close_connection)
         except LateError as error:
             raise pymysql.OperationalError(2003, str(error)) from None
         self.usual = self.connection._read_timeout
@@ -308,7 +309,7 @@ class MariaDBStore:
     def close(self) -> None:
         """Closes the connection; the next transaction opens another one. May be called twice."""
         if self.is_connected:
-            _close(self.connection)
+            close_connection(self.connection)
 
     def hang_up(self) -> None:
         """From any thread: what waits for the server raises OutcomeUnknownError at once, or
@@ -345,7 +346,7 @@ class MariaDBStore:
             found: Tuple[str, int] = cursor.fetchone()
             return found
         finally:
-            _close(connection)
+            close_connection(connection)
 
     def asks(self) -> Any:
         return ("mariadb", self.dsn, self.table, self.own)
@@ -363,27 +364,6 @@ class MariaDBStore:
         (owner,) = self.ask(CLAIM, row).fetchone()
         if owner != token:
             raise NameTakenError(f"{self.table} knows the name {run_name}: an earlier run had it")
-
-
-def limited(seconds: float) -> str:
-    """What a statement is sent behind, which the server then ends."""
-    return (
-        f"SET STATEMENT max_statement_time = {max(0.001, seconds):.3f}, "
-        f"innodb_lock_wait_timeout = {max(1, math.ceil(seconds))} FOR "
-    )
-
-
-def limit(connection: Any, ends: float) -> None:
-    """No answer is waited for longer than until then, and than the application says."""
-    usual, seconds = connection._read_timeout, max(0.001, ends - time.monotonic())
-    connection._read_timeout = seconds if usual is None else min(usual, seconds)
-
-
-def _close(connection: Any) -> None:
-    try:
-        connection.close()
-    except (AttributeError, pymysql.MySQLError):
-        pass  # it was closed, or none has come
 
 
 ITS_ROW = """SELECT before_run, before_session, before_number FROM {table} WHERE `key` = %s
@@ -408,4 +388,4 @@ def asked(
         row = cursor.fetchone()
         return outcome, None if row is None else () if row[0] is None else (row,)
     finally:
-        _close(connection)
+        close_connection(connection)

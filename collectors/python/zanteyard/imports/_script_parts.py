@@ -1,0 +1,97 @@
+"""What a script of a recording is made of: items in sessions, fences, lines, and names."""
+
+from __future__ import annotations
+
+from dataclasses import dataclass, field
+from typing import Any, Dict, Iterator, List, Sequence, Set, Tuple, Union
+
+from ..core._records import TransactionId
+from ..explain._script_names import NamedTransaction, ScriptNames
+from ._recording import ABORTED, APPEND, WRITE, Attempt
+from ._sources import DRAFT, Stub
+
+LONGEST = 256  # transactions of a line, and reads or writes of a transaction
+
+
+@dataclass(frozen=True)
+class Fence:
+    """One that a session makes at a pause: as its first there, or its second."""
+
+    pause: int  # from 1
+    session: int
+    is_first: bool
+
+    def name(self) -> str:
+        """How it is told."""
+        return f"{'before' if self.is_first else 'after'} pause {self.pause} in {self.session}"
+
+
+Item = Union[int, Stub, Fence]  # an attempt's place, or what wrote nothing, or a fence
+
+
+@dataclass(frozen=True)
+class Imported:
+    """A script, the names of what it is about, and what was done with the file in words."""
+
+    lines: Tuple[str, ...]
+    names: ScriptNames
+    about: Tuple[str, ...]
+
+
+@dataclass
+class Plan:
+    """What is offered: of each session its items in order, and whose they are."""
+
+    sessions: List[List[Item]] = field(default_factory=list)
+    shared: int = 0  # clients that go on in the session of another one
+    by_time: Set[int] = field(default_factory=set)  # sessions in which one does by the file's time
+    fences: List[List[Fence]] = field(default_factory=list)  # of each pause, in their order
+
+    def places(self) -> Dict[Item, TransactionId]:
+        """Of each item its session and number."""
+        return {
+            item: (session, number)
+            for session, items in enumerate(self.sessions)
+            for number, item in enumerate(items)
+        }
+
+
+def ascending(one: Tuple[Sequence[Any], str]) -> Tuple[int, ...]:
+    key, *source = one[0]
+    return (key, -1, -1) if source[0] == "init" else (key, *source)
+
+
+def all_before(before: Dict[Item, List[Item]], end: Item) -> Set[Item]:
+    """Whatever leads there."""
+    seen: Set[Item] = {end}
+    waiting = [end]
+    while waiting:
+        for item in before.get(waiting.pop(), ()):
+            if item not in seen:
+                seen.add(item)
+                waiting.append(item)
+    return seen
+
+
+def offers(session: int, first: int, transactions: List[Any]) -> Iterator[List[Any]]:
+    """The lines that offer a session's transactions, but for so many that were offered before."""
+    for start in range(first, len(transactions), LONGEST):
+        yield ["offer", session, start, transactions[start : start + LONGEST]]
+
+
+def written_by(attempt: Attempt) -> Dict[str, str]:
+    """Of each key that it wrote, what the file has for that."""
+    found: Dict[str, List[str]] = {}
+    for access in attempt.accesses:
+        if access.kind in (WRITE, APPEND):
+            found.setdefault(access.key, []).append(access.text)
+    return {key: " ".join(texts) for key, texts in found.items()}
+
+
+def named_stub(stub: Stub, attempts: Tuple[Attempt, ...]) -> NamedTransaction:
+    owner = attempts[stub.owner]
+    if stub.kind == ABORTED:
+        return NamedTransaction(owner.name, ABORTED, (), owner.where)
+    if stub.kind == DRAFT:
+        return NamedTransaction(f"a part of {owner.name}", "unfinished", (), owner.where)
+    return NamedTransaction("a state that can't be", "impossible")

@@ -1,0 +1,128 @@
+"""Lines to cobra_audit, its replies, and the script in which the lines are kept."""
+
+from __future__ import annotations
+
+import json
+import logging
+import time
+from typing import Any, List, Mapping, Optional, Sequence, Tuple, Type, Union
+
+from ..core._own_keys import FORM
+from ..core.errors import (
+    FullError,
+    JournalError,
+    NoCutError,
+    NoMemoryError,
+    NotAnchoredError,
+    ProgramEndedError,
+    ProgramLateError,
+    RefusedError,
+    RoundTooLongError,
+)
+from ._intake import SECONDS, Intake
+from ._pipes import Pipes
+from ._supervised import SupervisedProgram
+
+BAD_LINE = "BadLine"
+TOO_OLD = (
+    f"is an auditor of an earlier version than this package: it doesn't know scripts of version "
+    f"{FORM}, which tell what was aborted. Build it anew, or name another one"
+)
+WAITS = (0.1, 0.5)  # seconds after which a line that was answered NoMemory is given again
+ENDED = "cobra_audit has been ended"
+logger = logging.getLogger("zanteyard")
+KINDS: Mapping[str, Type[RefusedError]] = {
+    "Backlog": FullError,
+    "NoCut": NoCutError,
+    "NoMemory": NoMemoryError,
+    "NotAnchored": NotAnchoredError,
+}
+
+
+def written(line: Sequence[Any]) -> str:
+    return json.dumps(line, separators=(",", ":"))
+
+
+class Lines(Intake):
+    """For threads: each call is one line and its reply."""
+
+    script_path: Optional[str]
+    script_failure: Optional[OSError]  # why the script lacks lines
+    script: Any = None  # a raw file, whose `write` tells how much it took
+    program: Union[Pipes, SupervisedProgram, None] = None
+
+    def _open_script(self) -> None:
+        """Of a second audit the script is beside the first one's, with its number behind the
+        name."""
+        if self.script_path is not None:
+            behind = f".{self.audits}" if self.audits > 1 else ""
+            self.script = open(f"{self.script_path}{behind}", "wb", buffering=0)
+
+    def ask(self, line: Sequence[Any]) -> List[Any]:
+        """The reply to a line as docs/FORMATS.md has them; one that is refused for want of memory
+        is given again."""
+        text = written(line)
+        with self.lock:
+            self._begin_to_ask()
+            (reply,) = self._replies_to([text])
+            reply, refusal = self._settled(text, reply)
+            self._be_in_step()
+        if refusal is not None:
+            raise refusal
+        return reply
+
+    def _begin_to_ask(self) -> None:
+        if self._late is not None:
+            self._end_late(SECONDS)
+        self._leave_step()
+
+    def _settled(
+        self, text: str, reply: List[Any], seconds: float = SECONDS
+    ) -> Tuple[List[Any], Optional[RefusedError]]:
+        """The reply once the line isn't refused for want of memory, and what it refuses."""
+        for wait in WAITS:
+            if reply[0] != "no" or reply[2] != "NoMemory" or wait > seconds:
+                break
+            time.sleep(wait)
+            (reply,) = self._replies_to([text])
+        refused = reply[0] == "no" and KINDS.get(reply[2], RefusedError)
+        return reply, refused(f"{text} was answered {reply[2]}") if refused else None
+
+    def _replies_to(self, texts: Sequence[str]) -> List[List[Any]]:
+        """Of lines that are given one behind the other; raises ProgramLateError where that takes
+        too long. For who has left the step."""
+        self._give(texts)
+        try:
+            assert self.program is not None
+            answers = self.program.answers(len(texts), SECONDS + 2 * (self.round_seconds or 0))
+            return [json.loads(answer) for answer in answers]
+        except RoundTooLongError:
+            self._be_in_step()  # another program goes on
+            raise
+        except (ProgramEndedError, JournalError) as error:
+            self._why_out = str(error)
+            if isinstance(error, ProgramLateError):
+                self._give_up()
+            raise
+
+    def _give_up(self) -> None:
+        if self.program is not None:
+            self.program.kill()
+
+    def _give(self, texts: Sequence[str]) -> None:
+        if self.program is None:
+            raise ProgramEndedError(ENDED)
+        lines = [text.encode() for text in texts]
+        self._keep(lines)
+        self.program.ask(lines)
+
+    def _keep(self, lines: Sequence[bytes]) -> None:
+        """In the script; a file that can't be written harms nobody but who wants to read it."""
+        if self.script is not None and self.script_failure is None:
+            try:
+                text = b"".join(line + b"\n" for line in lines)
+                while text:
+                    text = text[self.script.write(text) :]
+            except OSError as error:
+                self.script_failure = error
+                logger.error("%s lacks lines: %s", self.script.name, error)

@@ -1,0 +1,169 @@
+"""The process between the clients' and cobra_audit: it answers the calls of an AuditorApart."""
+
+from __future__ import annotations
+
+import gc
+import logging
+import signal
+from multiprocessing.connection import Connection
+from typing import Any, List, Optional, Sequence, Tuple
+
+from ..core._outcome import RATHER_LOSE_THE_AUDIT
+from ..core._records import as_bytes, unpacked
+from ..core._window import Coverage
+from ._auditor import Auditor
+from ._intake import Effort, Fragment
+from ._resuming import Reopened
+from ._running import RunningAuditor
+
+logger = logging.getLogger("zanteyard")
+
+
+class OfPacked(Auditor):
+    """An Auditor of transactions that are packed, and that stay so in its history: of which audit
+    of its run, and where that began."""
+
+    def __init__(
+        self,
+        *arguments: Any,
+        audits: int = 1,
+        coverage: Optional[Coverage] = None,
+    ) -> None:
+        self._earlier, self._began = audits - 1, coverage
+        super().__init__(*arguments)
+
+    def _start(self, _: Optional[Coverage]) -> None:
+        self.audits = self._earlier
+        super()._start(self._began)
+
+    def _go_on_by(self, found: Reopened) -> None:
+        super()._go_on_by(found)
+        packed: Any = [[*map(as_bytes, txns)] for txns in self.history]
+        self.history = packed
+
+    def txn(self, packed: bytes) -> List[Any]:
+        return super().txn(unpacked(packed))
+
+    def _writes(self, packed: bytes) -> Sequence[str]:  # type: ignore[override]
+        return unpacked(packed).writes
+
+    def _moved(self, packed: bytes) -> Tuple[bytes, int]:
+        logged, left_out = super()._moved(unpacked(packed))
+        return as_bytes(logged), left_out
+
+
+class OfPackedRunning(OfPacked, RunningAuditor):
+    """The same over this cobra_live."""
+
+    def __init__(self, *arguments: Any, running: str, **more: Any) -> None:
+        self.running = running
+        super().__init__(*arguments, **more)
+
+
+class Telling(logging.Handler):
+    """Keeps the log's lines, with their levels."""
+
+    def __init__(self, told: List[Tuple[int, str]]) -> None:
+        super().__init__()
+        self.told = told
+
+    def emit(self, record: logging.LogRecord) -> None:
+        self.told.append((record.levelno, record.getMessage()))
+
+
+class Served:
+    """The other process's end of the calls."""
+
+    def __init__(self) -> None:
+        self.auditor: Any = None  # an OfPacked, once it is opened
+        self.told: List[Tuple[int, str]] = []  # lines of the log that are told with an answer
+
+    def _tell_log(self) -> None:
+        """Where there is a journal: the clients' process tells what becomes of programs."""
+        logger.addHandler(Telling(self.told))
+        logger.setLevel(logging.INFO)
+        logger.propagate = False
+
+    def open(
+        self,
+        sessions: int,
+        limit: int,
+        program: str,
+        run_name: str,
+        script: Optional[str],
+        journal: Optional[str],
+        round_seconds: Optional[float],
+        audits: int,
+        coverage: Optional[Coverage],
+        has_sessions: bool,
+        running: str,
+    ) -> None:
+        if journal is not None:
+            self._tell_log()
+        its: Any = (sessions, limit, program, run_name, script, RATHER_LOSE_THE_AUDIT)
+        its += (journal, round_seconds)
+        more: Any = {"audits": audits, "coverage": coverage}
+        if running:
+            self.auditor = OfPackedRunning(*its, **more, running=running)
+        else:
+            self.auditor = OfPacked(*its, **more)
+        if has_sessions:
+            self.auditor.note_sessions()
+
+    def resume(
+        self, program: str, script: Optional[str], journal: str, round_seconds: Optional[float]
+    ) -> None:
+        """In place of a process that is gone. Its script stays as it is, beside the new one."""
+        self._tell_log()
+        script = script and f"{script}.resumed"
+        more = (program, script, RATHER_LOSE_THE_AUDIT, round_seconds)
+        self.auditor = OfPacked.resumed(journal, *more)
+
+    def offer_all(self, fragments: Sequence[Fragment], joining: Sequence[int]) -> Any:
+        """The sessions whose transactions there was no room for, how many reads were left out, and
+        how many transactions remain."""
+        refused = {session for session, _, _ in self.auditor.offer_all(fragments, joining)}
+        return refused, self.auditor.left_out, self.auditor.remaining
+
+    def last_round(self, efforts: Sequence[Effort]) -> Any:
+        """The report, how many reads were left out, and how many transactions remain."""
+        report = self.auditor.last_round(efforts)
+        return report, self.auditor.left_out, self.auditor.remaining
+
+    def truncate(self) -> Any:
+        """The cut, and how many transactions remain."""
+        return self.auditor.truncate(), self.auditor.remaining
+
+    def get(self, name: str) -> Any:
+        return getattr(self.auditor, name)
+
+    def end(self) -> Optional[int]:
+        return self.auditor.end() if self.auditor else None
+
+    def answer(self, name: str, arguments: Sequence[Any]) -> Tuple[bool, Any, Any]:
+        try:
+            deed = getattr(self if hasattr(self, name) else self.auditor, name)
+            is_failed, result = False, deed(*arguments)
+        except Exception as error:
+            is_failed, result = True, error
+        told = [*self.told]
+        self.told.clear()
+        return is_failed, result, told
+
+
+def serve(descriptor: int) -> None:
+    """Answers calls until there are no more."""
+    signal.signal(signal.SIGINT, signal.SIG_IGN)  # it ends when the clients' process does
+    gc.freeze()  # what is there by now stays
+    calls, served = Connection(descriptor), Served()
+    while True:
+        try:
+            name, arguments = calls.recv()
+        except EOFError:
+            break
+        answer = served.answer(name, arguments)
+        try:
+            calls.send(answer)
+        except OSError:
+            break  # nobody waits for it any more
+    served.end()

@@ -1,0 +1,156 @@
+"""What became of a PostgreSQL transaction whose client was killed, as another process finds it
+out."""
+
+from __future__ import annotations
+
+import time
+from typing import Any, Dict, List, Optional, Sequence, Tuple
+
+from psycopg2 import extensions
+
+from ..core._commit_status import UNKNOWN, CommitStatus
+from ..core._own_keys import FLAG
+from ..core._records import Name
+from ._postgres_connection import answer, reached
+from .postgres import AGE, FIRST, LIVES, OVERWRITE, TRANSACTION
+
+# A pooled connection may be another client's by now: the transaction, or the statement of the
+# collector's own, has to be the killed process's. Where that very statement is what it ran last,
+# and it is idle, it is done with it; what it ran before may have the same key.
+CHANGES = OVERWRITE[OVERWRITE.index("run = ") : OVERWRITE.index(" AS before")]
+MAKES = FIRST[: FIRST.index(TRANSACTION)].rstrip()
+RUNS_STILL = f"""SELECT state = 'idle', position(%s IN query) > 0, position(%s IN query) > 0
+    FROM pg_stat_activity WHERE pid = %s AND {AGE} = %s"""
+WHOSE = f"SELECT {LIVES}"
+WHAT_BECAME = f"""SELECT pg_xact_status(%s::text::xid8), {LIVES}"""
+ITS_ROW = """SELECT value FROM {table} WHERE key = %s AND run = %s AND session = %s
+    AND number = %s"""
+THE_ROW = """SELECT (run, session, number) = (%s::text, %s::int, %s::bigint), value FROM {table}
+    WHERE key = %s"""
+END_IT = f"""SELECT pg_terminate_backend(pid) FROM pg_stat_activity WHERE pid = %s AND {AGE} = %s
+    AND CASE WHEN %s THEN position(%s IN query) > 0 OR position(%s IN query) > 0
+    ELSE backend_xid::text = (%s::text::numeric %% 4294967296)::text END"""
+
+
+def literal(text: str) -> str:
+    """As the server got it. One with a backslash isn't found, so that nothing is taken for it."""
+    return "'" + text.replace("'", "''") + "'"
+
+
+def statements_of(table: str, key: str, run: str, session: int, number: int) -> Tuple[str, str]:
+    """Of an `exchange` of the collector's own, what tells each of its two from all others."""
+    key, run = literal(key), literal(run)
+    changes, makes = CHANGES.format(table=table), MAKES.format(table=table)
+    return changes % (run, session, number, key), makes % (key, "''", run, session, number)
+
+
+def asked(
+    dsn: Dict[str, str],
+    around: Dict[str, str],
+    table: str,
+    *,
+    ticket: Any,
+    seconds: float,
+    ends_it: bool = True,
+) -> CommitStatus:
+    """What became of the transaction of a store whose process is killed. What its server's process
+    is still about is waited for, for half of the time; then, where it `ends_it`, that process is
+    ended. Else it may be asked from another machine, where its words may lead to another server:
+    that one knows nothing of it."""
+    transaction_id, pid, since, life, key, run, session, number = ticket
+    words = reached(dsn, around)
+    if words is None:
+        return UNKNOWN
+    asks = Asks(extensions.make_dsn(**words), table, time.monotonic() + seconds)
+    asks.ends_it = ends_it
+    if not ends_it and (life is None or asks.row(WHOSE, ()) != (life,)):
+        return UNKNOWN
+    its = (key, run, session, number)
+    if transaction_id is None:
+        statements = statements_of(table, *its)
+        seen = asks.seen_last(pid, since, statements, seconds) if since is not None else None
+        if seen is None:
+            return UNKNOWN
+        if "\n" in run:  # a name of more lines than one isn't found among them
+            return UNKNOWN
+        row = asks.row(THE_ROW, (*its[1:], key))
+        if row is not None and row[0]:
+            return "committed", overwritten(row[1])[:1]
+        if row is not None and not key.startswith(FLAG):  # others write it, too, as who joins does
+            behind = from_name(overwritten(row[1]), (run, session, number))
+            return ("committed", behind[1:2] or None) if behind else UNKNOWN
+        # Where there was no row an `exchange` goes on with another statement.
+        is_done = seen == "gone" or (seen == "changes" and row is not None)
+        return ("aborted", None) if is_done else UNKNOWN
+    status, now = asks.status(transaction_id, pid, since, seconds)
+    if status == "aborted":
+        return "aborted", None
+    if status == "committed" and (now == life or asks.row(ITS_ROW, its) is not None):
+        return "committed", None
+    return UNKNOWN
+
+
+def overwritten(value: Optional[str]) -> Sequence[Name]:
+    """The names that a row of the collector's own keeps, the last first, as far as they are any."""
+    found: List[Name] = []
+    for line in (value or "").split("\n"):
+        parts = line.split(" ", 2)
+        if len(parts) < 3 or not (parts[0].isdecimal() and parts[1].isdecimal()):
+            break
+        found.append((parts[2], int(parts[0]), int(parts[1])))
+    return tuple(found)
+
+
+def from_name(names: Sequence[Name], name: Name) -> Sequence[Name]:
+    """This name, and those that are behind it; none where it isn't among them."""
+    return names[names.index(name) :] if name in names else ()
+
+
+class Asks:
+    """Until then, by the monotonic clock; raises psycopg2's errors."""
+
+    ends_it = True  # what isn't over by half of the time
+
+    def __init__(self, dsn: str, table: str, ends: float) -> None:
+        self.dsn, self.table, self.ends = dsn, table, ends
+
+    def left(self) -> float:
+        return max(0.05, self.ends - time.monotonic())
+
+    def row(self, text: str, values: Sequence[Any]) -> Any:
+        return answer(self.dsn, text.format(table=self.table), values, self.left())
+
+    def again(
+        self, seconds: float, pid: Any, since: Any, transaction_id: Any, statements: Sequence[str]
+    ) -> bool:
+        """Whether there is time to ask again, in a while."""
+        left = self.ends - time.monotonic()
+        if left < seconds / 2 and since is not None and self.ends_it:
+            is_alone = transaction_id is None
+            self.row(END_IT, (pid, since, is_alone, *statements, transaction_id or "0"))
+        time.sleep(min(0.02, max(0.0, left)))
+        return left > 0
+
+    def status(self, transaction_id: Any, pid: Any, since: Any, seconds: float) -> Any:
+        """Of the transaction, and the server's life as it was asked."""
+        while True:
+            status, life = self.row(WHAT_BECAME, (transaction_id,))
+            if status != "in progress":
+                return status, life
+            if not self.again(seconds, pid, since, transaction_id, ("", "")):
+                return None, life
+
+    def seen_last(
+        self, pid: Any, since: Any, statements: Sequence[str], seconds: float
+    ) -> Optional[str]:
+        """Which of the killed process's two statements its server's process has done and does no
+        more: "changes" or "makes"; "gone" where there is no such process any more; or None."""
+        while True:
+            found = self.row(RUNS_STILL, (*statements, pid, since))
+            if found is None:
+                return "gone"
+            is_idle, changes, makes = found
+            if is_idle and (changes or makes):
+                return "changes" if changes else "makes"
+            if not self.again(seconds, pid, since, None, statements):
+                return None
