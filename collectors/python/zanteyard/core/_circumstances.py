@@ -10,7 +10,7 @@ import threading
 import time
 from typing import Any, Dict, Iterator, List, Sequence, Tuple
 
-from ._records import History, Logged, Naming
+from ._records import History, Logged, Naming, ShownId
 
 PACKAGE = os.path.dirname(os.path.dirname(os.path.abspath(__file__))) + os.sep
 # Files, and folders, that call nothing by themselves.
@@ -109,4 +109,4 @@ def circumstances(history: History, names: Naming) -> Iterator[str]:
             ]
             told = [" ".join(began + came)] * bool(began or came) + did
             if told:
-                yield f"{names((session, number))} " + "; ".join(told)
+                yield f"{names(ShownId((session, number)))} " + "; ".join(told)

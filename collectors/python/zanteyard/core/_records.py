@@ -3,18 +3,25 @@
 from __future__ import annotations
 
 import marshal
-from typing import Any, Callable, Iterable, List, Mapping, NamedTuple, Sequence
+from typing import Any, Callable, Iterable, List, Mapping, NamedTuple, NewType, Sequence
 from typing import Tuple, Union
 
-TransactionId = Tuple[int, int]  # session and number
-Source = (
-    Any  # who wrote what was read: a TransactionId, or "init" for what was there before the run
-)
+# A transaction, by its session and its number there. Three numberings aren't to be taken for each
+# other:
+StoreId = NewType("StoreId", Tuple[int, int])  # as names in the store have it: all that began count
+AuditId = NewType(
+    "AuditId", Tuple[int, int]
+)  # as lines and reports have it: from the audit's begin
+ShownId = NewType("ShownId", Tuple[int, int])  # in a history that is explained: from its own begin
+# Who wrote what was read, by the numbering of the history that it is in; "init" for what was there
+# before the run.
+Source = Any
 Read = Tuple[str, Source]  # a key's name, and who wrote what was read
 Deed = Union[Read, Tuple[str]]  # a read, or (key,) for a write
 Name = Tuple[str, int, int]  # beside a value: the run, the session, the number
 StoredValue = Tuple[Any, Name]  # a value, and the name beside it
-Naming = Callable[[TransactionId], str]  # how a transaction is told
+Naming = Callable[[ShownId], str]  # how a transaction is shown
+AuditNaming = Callable[[AuditId], str]
 ABORTED = "aborted"  # an outcome, and what lines have behind what such an attempt did
 MOST = 256  # reads, or writes, that a line may have of a transaction
 SESSIONS, NUMBERS = 64, 1 << 48  # what names a transaction in a line is below these
@@ -56,7 +63,7 @@ class Logged(NamedTuple):
 
 
 def undone(
-    id: TransactionId, reads: Iterable[Read], writes: Iterable[str], fence: str
+    id: StoreId, reads: Iterable[Read], writes: Iterable[str], fence: str
 ) -> Tuple[List[Read], List[str]]:
     """Of what an attempt with this name did, which was aborted, what a line may have: since it
     counts for nothing, the rest is left out. What only looks like a fence, the key of which this
@@ -71,7 +78,7 @@ def undone(
     return told, keys
 
 
-def _may_be_told(id: TransactionId, source: Source) -> bool:
+def _may_be_told(id: StoreId, source: Source) -> bool:
     if source == "init":
         return True
     is_named = 0 <= source[0] < SESSIONS and 0 <= source[1] < NUMBERS
@@ -101,17 +108,17 @@ class Report(NamedTuple):
 class Pending(NamedTuple):
     """A read that names a transaction which never came."""
 
-    reader: TransactionId
+    reader: AuditId
     key: str
-    source: TransactionId
+    source: AuditId
 
 
 class Cut(NamedTuple):
     """The fence up to which the auditor has forgotten, and how many transactions that were."""
 
-    fence: TransactionId
+    fence: AuditId
     gone: int
 
 
 History = List[List[Logged]]  # of each session what it did, in order
-Transactions = Mapping[TransactionId, Logged]
+Transactions = Mapping[ShownId, Logged]

@@ -10,7 +10,7 @@ import threading
 from bisect import bisect_right
 from typing import Dict, List, Optional, Sequence, Set
 
-from ._records import TransactionId
+from ._records import AuditId
 
 
 class Tenancy:
@@ -54,7 +54,7 @@ class Tenancy:
         del self._untold[session]
         return self.client(session, number)
 
-    def called(self, id: TransactionId, number: int) -> str:
+    def called(self, id: AuditId, number: int) -> str:
         """How the transaction is told whose number in the store is this."""
         told = f"{id[0]}.{id[1]}"
         client = self.client(id[0], number) if id[0] in self._shared else None
@@ -68,7 +68,7 @@ class Tenancy:
             self.begin(session, 0)
         self.begin(session, number)
 
-    def called_by_first(self, id: TransactionId) -> str:
+    def called_by_first(self, id: AuditId) -> str:
         """How the transaction is told: by what its client began with, where its session had
         others."""
         told, first = f"{id[0]}.{id[1]}", self._first_before(*id)

@@ -12,11 +12,11 @@ from dataclasses import dataclass
 from typing import Dict, Iterator, List, Mapping, Optional, Sequence, Set, Tuple
 
 from ..core._own_keys import FENCE, PLAIN_FENCE
-from ..core._records import Logged, Naming, Source, TransactionId, Transactions
+from ..core._records import Logged, Naming, ShownId, Source, Transactions
 from ._shrinking import told_undone, version
 from ._shrinking import name as plain_name
 
-Edge = Tuple[TransactionId, TransactionId]
+Edge = Tuple[ShownId, ShownId]
 
 
 @dataclass(frozen=True)
@@ -25,7 +25,7 @@ class Anomaly:
 
     name: str
     sentence: str
-    transactions: Tuple[TransactionId, ...]
+    transactions: Tuple[ShownId, ...]
 
 
 MEANINGS: Mapping[str, str] = {
@@ -45,7 +45,7 @@ def find_anomaly(
 ) -> Optional[Anomaly]:
     """The first of the patterns that the history has, or None. The history should be small."""
     table = {
-        (session, number): logged
+        ShownId((session, number)): logged
         for session, transactions in enumerate(history)
         for number, logged in enumerate(transactions)
     }
@@ -63,21 +63,22 @@ def _told(key: str) -> str:
 def _plain_arcs(table: Transactions) -> Iterator[Edge]:
     """What comes before what by sessions and by who read from whom."""
     for one, logged in table.items():
-        if (one[0], one[1] + 1) in table:
-            yield one, (one[0], one[1] + 1)
+        following = ShownId((one[0], one[1] + 1))
+        if following in table:
+            yield one, following
         for _, source in logged.reads:
             if source in table:
                 yield source, one
 
 
-def _behind(table: Transactions) -> Dict[TransactionId, Set[TransactionId]]:
+def _behind(table: Transactions) -> Dict[ShownId, Set[ShownId]]:
     """Of each transaction, those that stand behind it by these arcs."""
-    after: Dict[TransactionId, List[TransactionId]] = {one: [] for one in table}
+    after: Dict[ShownId, List[ShownId]] = {one: [] for one in table}
     for start, end in _plain_arcs(table):
         after[start].append(end)
-    found: Dict[TransactionId, Set[TransactionId]] = {}
+    found: Dict[ShownId, Set[ShownId]] = {}
     for one in table:
-        reached: Set[TransactionId] = set()
+        reached: Set[ShownId] = set()
         waiting = list(after[one])
         while waiting:
             at = waiting.pop()
@@ -89,8 +90,8 @@ def _behind(table: Transactions) -> Dict[TransactionId, Set[TransactionId]]:
 
 
 def _overwritten(
-    table: Transactions, behind: Mapping[TransactionId, Set[TransactionId]]
-) -> List[Tuple[TransactionId, str, Source, TransactionId]]:
+    table: Transactions, behind: Mapping[ShownId, Set[ShownId]]
+) -> List[Tuple[ShownId, str, Source, ShownId]]:
     """Each (reader, key, source, other) where the other wrote a later version than was read."""
     found = []
     for reader, logged in table.items():
@@ -128,7 +129,7 @@ def _wrong_read(source: Logged) -> Tuple[str, str]:
 
 
 def _lost_updates(table: Transactions, _: object, name: Naming) -> Iterator[Anomaly]:
-    first: Dict[Tuple[str, Source], TransactionId] = {}
+    first: Dict[Tuple[str, Source], ShownId] = {}
     for one, logged in table.items():
         for key, source in logged.reads:
             if key not in logged.writes:
@@ -145,7 +146,7 @@ def _lost_updates(table: Transactions, _: object, name: Naming) -> Iterator[Anom
 
 
 def _fractured_reads(
-    table: Transactions, behind: Mapping[TransactionId, Set[TransactionId]], name: Naming
+    table: Transactions, behind: Mapping[ShownId, Set[ShownId]], name: Naming
 ) -> Iterator[Anomaly]:
     for reader, key, source, other in _overwritten(table, behind):
         for seen, where in table[reader].reads:
@@ -159,7 +160,7 @@ def _fractured_reads(
 
 
 def _stale_reads(
-    table: Transactions, behind: Mapping[TransactionId, Set[TransactionId]], name: Naming
+    table: Transactions, behind: Mapping[ShownId, Set[ShownId]], name: Naming
 ) -> Iterator[Anomaly]:
     for reader, key, source, other in _overwritten(table, behind):
         if reader in behind[other]:
@@ -173,10 +174,10 @@ def _stale_reads(
 
 
 def _write_skews(
-    table: Transactions, behind: Mapping[TransactionId, Set[TransactionId]], name: Naming
+    table: Transactions, behind: Mapping[ShownId, Set[ShownId]], name: Naming
 ) -> Iterator[Anomaly]:
     """Circles in which each transaction read what the next one overwrote."""
-    after: Dict[TransactionId, Dict[TransactionId, str]] = {}
+    after: Dict[ShownId, Dict[ShownId, str]] = {}
     for reader, key, _, other in _overwritten(table, behind):
         after.setdefault(reader, {}).setdefault(other, key)
     for start in after:

@@ -6,7 +6,7 @@ import shutil
 import subprocess
 from typing import Iterator, List, Optional, Sequence, Tuple
 
-from ..core._records import ABORTED, History, Naming, TransactionId
+from ..core._records import ABORTED, History, Naming, ShownId
 from ._reasons import Arc, below, explain_history, table
 from ._shrinking import deeds, name, statements_of
 
@@ -33,7 +33,7 @@ def dot_text(
     for session, txns in enumerate(history):
         for number, logged in enumerate(txns):
             if deeds(logged, name):
-                its = name((session, number))
+                its = name(ShownId((session, number)))
                 label = quoted(its, *deeds(logged, name))
                 run = [*statements_of(logged)]  # seen in the SVG where the pointer rests on it
                 more = f", tooltip={quoted(*run)}" if run else ""
@@ -51,7 +51,7 @@ def dot_text(
 
 def _reads_of_aborted(
     history: History,
-) -> Iterator[Tuple[TransactionId, str, TransactionId]]:
+) -> Iterator[Tuple[ShownId, str, ShownId]]:
     """Who read which key from whom."""
     txns = table(history)
     for reader, logged in txns.items():

@@ -12,20 +12,20 @@ import time
 from dataclasses import dataclass
 from typing import Any, Dict, Iterable, Iterator, List, NamedTuple, Optional, Tuple
 
-from ..core._records import History, Naming, TransactionId, Transactions
+from ..core._records import History, Naming, ShownId, Transactions
 from ._shrinking import SECONDS, name, told_undone, version
 
 
 class Arc(NamedTuple):
     """That one transaction comes before another; `needs` are the arcs from which this follows."""
 
-    start: TransactionId
-    end: TransactionId
+    start: ShownId
+    end: ShownId
     why: str
     needs: Tuple[Any, ...]  # of Arc, which this Python's types can't name here
 
 
-ArcsFrom = Dict[TransactionId, List[Arc]]
+ArcsFrom = Dict[ShownId, List[Arc]]
 SESSION = "they are in one session"
 # Why a transaction of such an outcome can't be read from.
 NO_WRITE = {
@@ -46,7 +46,7 @@ class Explanation:
 
 def table(history: History) -> Transactions:
     return {
-        (session, number): logged
+        ShownId((session, number)): logged
         for session, txns in enumerate(history)
         for number, logged in enumerate(txns)
     }
@@ -67,7 +67,7 @@ def wrong_reads(history: History, name: Naming = name) -> Iterator[str]:
 
 def session_arcs(txns: Transactions) -> Iterator[Arc]:
     """From each transaction that did something to the next one of its session that did."""
-    last: Dict[int, TransactionId] = {}
+    last: Dict[int, ShownId] = {}
     for id in sorted(id for id, logged in txns.items() if logged.reads or logged.writes):
         if id[0] in last:
             yield Arc(last[id[0]], id, SESSION, ())
@@ -75,7 +75,7 @@ def session_arcs(txns: Transactions) -> Iterator[Arc]:
 
 
 def read_arcs(txns: Transactions, name: Naming = name) -> Iterator[Arc]:
-    writers: Dict[str, List[TransactionId]] = {}
+    writers: Dict[str, List[ShownId]] = {}
     for id, logged in txns.items():
         for key in logged.writes:
             writers.setdefault(key, []).append(id)
@@ -101,10 +101,10 @@ def merged(way: Iterable[Arc]) -> List[Arc]:
 
 
 def path(
-    arcs_from: ArcsFrom, start: TransactionId, end: TransactionId
+    arcs_from: ArcsFrom, start: ShownId, end: ShownId
 ) -> Optional[List[Arc]]:
     """The fewest arcs that lead from the one to the other, at least one; or None."""
-    found: Dict[TransactionId, Arc] = {}
+    found: Dict[ShownId, Arc] = {}
     queue = [start]
     for at in queue:
         for arc in arcs_from.get(at, ()):

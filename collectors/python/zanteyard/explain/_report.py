@@ -10,7 +10,7 @@ from typing import Any, Dict, Iterable, Iterator, List, Mapping, Optional
 from typing import Sequence, Tuple
 
 from ..core._circumstances import caller_of, clock_of, values_of
-from ..core._records import History, Logged, Naming, TransactionId
+from ..core._records import AuditId, History, Logged, Naming, ShownId
 from ._anomalies import MEANINGS, Anomaly, find_anomaly
 from ._reasons import SESSION, Explanation, below, explain_history
 from ._scripts import ScriptHistory, Verdict
@@ -44,11 +44,11 @@ class Step:
     """A transaction as it is shown. `clock` is the time of day, and `caller` the file and line,
     where the collector has logged them; else they are empty."""
 
-    id: TransactionId
+    id: ShownId
     name: str
     outcome: str
     deeds: Tuple[ShownAccess, ...]
-    sources: Tuple[TransactionId, ...] = ()  # from whom it read
+    sources: Tuple[ShownId, ...] = ()  # from whom it read
     clock: str = ""
     caller: str = ""
 
@@ -57,8 +57,8 @@ class Step:
 class Link:
     """That one transaction has to come before another, and why."""
 
-    start: TransactionId
-    end: TransactionId
+    start: ShownId
+    end: ShownId
     why: str
     is_of_circle: bool
     is_of_aborted: bool = False  # the first was aborted, and has been read all the same
@@ -78,7 +78,7 @@ class Story:
     script: str = ""  # what shows the same again by the auditor alone
     order: Tuple[str, ...] = ()  # of a serial or pending verdict
     waiting: Tuple[str, ...] = ()  # the reads that wait for a transaction
-    names: Tuple[Tuple[TransactionId, str], ...] = ()  # of each transaction that a link names
+    names: Tuple[Tuple[ShownId, str], ...] = ()  # of each transaction that a link names
 
     @property
     def sentence(self) -> str:
@@ -97,7 +97,9 @@ def verdict_story(verdict: Verdict, history: ScriptHistory) -> Story:
     """Of a verdict that isn't violated."""
     order: Tuple[str, ...] = ()
     if verdict.kind in ("serial", "pending"):
-        order = tuple(history.called((session, number)) for session, number in verdict.certificate)
+        order = tuple(
+            history.called(AuditId((session, number))) for session, number in verdict.certificate
+        )
     waiting = tuple(
         f"{history.called(one.reader)} read {one.key} from {history.called(one.source)}, "
         "which hasn't come"
@@ -144,12 +146,12 @@ def story_of(
     )
 
 
-def _steps(history: History, names: Naming, told: Iterable[TransactionId]) -> Iterator[Step]:
+def _steps(history: History, names: Naming, told: Iterable[ShownId]) -> Iterator[Step]:
     """The transactions that did something, and those that a link names."""
     told = set(told)
     for session, transactions in enumerate(history):
         for number, logged in enumerate(transactions):
-            one = (session, number)
+            one = ShownId((session, number))
             if logged.reads or logged.writes or logged.outcome == "aborted" or one in told:
                 sources = tuple(source for _, source in logged.reads if source != "init")
                 yield Step(
@@ -179,7 +181,7 @@ def _deeds(logged: Logged, names: Naming) -> Iterator[ShownAccess]:
 def _links(explanation: Explanation) -> Iterator[Link]:
     """The arcs of its circle, each behind those from which it follows."""
     around = [(arc.start, arc.end) for arc in explanation.arcs]
-    told: List[Tuple[TransactionId, TransactionId]] = []
+    told: List[Tuple[ShownId, ShownId]] = []
     for arc in below(explanation.arcs):
         ends = (arc.start, arc.end)
         if ends not in told:

@@ -10,7 +10,7 @@ import os
 from dataclasses import dataclass, field
 from typing import Any, Dict, List, Mapping, Optional, Sequence, Tuple
 
-from ..core._records import TransactionId
+from ..core._records import AuditId
 
 NAMES = ".names"
 VERSION = 1
@@ -35,11 +35,11 @@ class ScriptNames:
     form: str
     keys: Mapping[int, str] = field(default_factory=dict)
     transactions: Sequence[Sequence[NamedTransaction]] = ()
-    absent: Mapping[TransactionId, str] = field(default_factory=dict)
+    absent: Mapping[AuditId, str] = field(default_factory=dict)
     asks_time: bool = False  # whether fences ask for an order of time
     timed: Sequence[int] = ()  # sessions that several clients share by the order of time
 
-    def name(self, id: TransactionId) -> str:
+    def name(self, id: AuditId) -> str:
         """How the transaction is told."""
         session, number = id
         if session < len(self.transactions) and number < len(self.transactions[session]):
@@ -109,7 +109,10 @@ def _names_of(whole: Any) -> ScriptNames:
         str(whole["form"]),
         {int(number): str(key) for number, key in whole["keys"]},
         transactions,
-        {(int(session), int(number)): str(name) for session, number, name in whole["absent"]},
+        {
+            AuditId((int(session), int(number))): str(name)
+            for session, number, name in whole["absent"]
+        },
         bool(whole["asks_time"]),
         [int(session) for session in whole["timed"]],
     )

@@ -12,7 +12,7 @@ from dataclasses import dataclass, field
 from typing import Any, Callable, Dict, Iterable, Iterator, List, Mapping, Optional, Sequence
 
 from ..core._own_keys import FENCE
-from ..core._records import ABORTED, Logged, Pending, TransactionId
+from ..core._records import ABORTED, AuditId, Logged, Pending
 from ..core._tenancy import Tenancy
 from ..core.errors import ProgramEndedError, ProgramTooOldError, ScriptMistakeError
 from ..program._intake import never_came
@@ -69,7 +69,7 @@ class ScriptHistory:
     names: ScriptNames = field(default_factory=lambda: ScriptNames(""))
     history: List[List[Logged]] = field(default_factory=list)
     marks: List[int] = field(default_factory=list)  # of each session, how many are forgotten
-    base: Dict[str, TransactionId] = field(default_factory=dict)  # of a key the last one gone
+    base: Dict[str, AuditId] = field(default_factory=dict)  # of a key the last one gone
     stints: Tenancy = field(default_factory=Tenancy)  # of sessions that several clients had
 
     def begin(self, sessions: int) -> None:
@@ -94,7 +94,7 @@ class ScriptHistory:
             logged = logged_of(reads, keys, self.key_name, named, is_undone)
             self.history[session].append(logged)
 
-    def called(self, id: TransactionId) -> str:
+    def called(self, id: AuditId) -> str:
         """How the transaction is told: with its client's first, where its session had others."""
         told, by_number = self.names.name(id), f"{id[0]}.{id[1]}"
         return self.stints.called_by_first(id) if told == by_number else told
@@ -105,7 +105,9 @@ class ScriptHistory:
 
     def forget(self, gone: Sequence[Sequence[int]], last: Sequence[Sequence[int]]) -> None:
         """What a `cut` has told, or of the last writers a `last` that is handed over."""
-        self.base.update((self.key_name(key), (session, number)) for key, session, number in last)
+        self.base.update(
+            (self.key_name(key), AuditId((session, number))) for key, session, number in last
+        )
         for session, count in Counter(session for session, _ in gone).items():
             del self.history[session][:count]
             self.marks[session] += count

@@ -7,12 +7,12 @@ import os
 import time
 from concurrent.futures import ThreadPoolExecutor
 from itertools import islice
-from typing import Any, Callable, Container, Dict, Iterable, Iterator, List, Mapping
+from typing import Any, Callable, Container, Dict, Iterable, Iterator, List, Mapping, cast
 from typing import Optional, Set, Tuple
 
 from ..core._outcome import VIOLATED
 from ..core._own_keys import FENCE, FORM, LONGEST, PLAIN_FENCE, is_own
-from ..core._records import History, Logged, Naming, Report, Source, TransactionId
+from ..core._records import AuditId, AuditNaming, History, Logged, Naming, Report, ShownId, Source
 from ..program._auditor import Auditor
 from ..program._binaries import PROGRAM
 from ..program._lines import written
@@ -52,8 +52,9 @@ def from_start(auditor: Any) -> Tuple[History, Naming]:
     transactions. Where something is forgotten, a first transaction stands for it: it writes the
     last version of each key, and every session begins with one that reads from it."""
     marks, base, history = auditor.marks, auditor.base, auditor.history
-    called: Naming = getattr(auditor, "called", name)  # it may have names, or tell whose it was
-    gone, some_gone = (0, 0), any(marks)
+    # It may have names, or tell whose it was.
+    called: AuditNaming = getattr(auditor, "called", name)
+    gone, some_gone = ShownId((0, 0)), any(marks)
 
     def moved(key: str, source: Source) -> Source:
         if source == "init" or not some_gone:
@@ -81,13 +82,13 @@ def from_start(auditor: Any) -> Tuple[History, Naming]:
 
     history = [[without_cut(one) for one in txns] for txns in history]
     if not some_gone:
-        return history, called
+        return history, cast(Naming, called)  # both numberings are one
     first = Logged((), (START, *sorted(map(plain, base))), "forgotten")
     after = Logged(((START, gone),), (), "forgotten")
 
-    def renamed(id: TransactionId) -> str:
+    def renamed(id: ShownId) -> str:
         if id[1]:
-            return called((id[0], id[1] - 1 + marks[id[0]]))
+            return called(AuditId((id[0], id[1] - 1 + marks[id[0]])))
         return "the cut" if id == gone else f"the cut in {id[0]}"
 
     older = {plain(key): "in a version older than that at the cut" for key in base}
@@ -95,15 +96,16 @@ def from_start(auditor: Any) -> Tuple[History, Naming]:
     return [[after if session else first, *txns] for session, txns in enumerate(history)], renamed
 
 
-def refuted(auditor: Any, certificate: Iterable[Any]) -> Set[TransactionId]:
+def refuted(auditor: Any, certificate: Iterable[Any]) -> Set[ShownId]:
     """The transactions that a violated round's refutation names, as the history of `from_start` has
     them."""
     marks = auditor.marks
 
-    def moved(id: TransactionId) -> TransactionId:
-        if not any(marks):
-            return id
-        return (id[0], id[1] - marks[id[0]] + 1) if id[1] >= marks[id[0]] else (0, 0)
+    def moved(id: AuditId) -> ShownId:
+        session, number = id
+        if any(marks):
+            number = number - marks[session] + 1
+        return ShownId((session, number) if number > 0 or not any(marks) else (0, 0))
 
     return {moved(id) for id in named(certificate)}
 
@@ -129,13 +131,14 @@ def only_keys(history: History, is_kept: Callable[[str], bool]) -> History:
     return [[*map(part, txns)] for txns in history]
 
 
-def name(id: TransactionId) -> str:
+def name(id: Tuple[int, int]) -> str:
+    """How a transaction is shown that has no other name, in whichever numbering."""
     return f"{id[0]}.{id[1]}"
 
 
-def named(items: Iterable[Any]) -> Set[TransactionId]:
+def named(items: Iterable[Any]) -> Set[AuditId]:
     """The transactions that the items of a refutation name."""
-    found: Set[TransactionId] = set()
+    found: Set[Tuple[int, int]] = set()
     for kind, first, *rest in items:
         if kind in ("nowrite", "gone"):
             found.add((first, rest[0]))
@@ -143,21 +146,21 @@ def named(items: Iterable[Any]) -> Set[TransactionId]:
             found.update([(first[0], first[1]), (first[3], first[4]), (first[5], first[6])])
         for arc in {"force": rest[-1:], "cycle": [first]}.get(kind, [[]])[0]:
             found.update([(arc[-4], arc[-3]), (arc[-2], arc[-1])])
-    return found
+    return {AuditId(id) for id in found}
 
 
 class Part:
     """Some transactions of a history, by (session, number). It is true of the store too: a read is
     left out where its source is, and a write only where no read of it is left."""
 
-    def __init__(self, txns: Dict[TransactionId, Logged]) -> None:
+    def __init__(self, txns: Dict[ShownId, Logged]) -> None:
         self.txns = txns
 
     @classmethod
     def of(cls, history: History) -> Part:
         return cls(
             {
-                (session, number): logged
+                ShownId((session, number)): logged
                 for session, txns in enumerate(history)
                 for number, logged in enumerate(txns)
                 if logged.reads or logged.writes
@@ -165,7 +168,7 @@ class Part:
             | wrong_sources(history)
         )
 
-    def only(self, ids: Iterable[TransactionId]) -> Part:
+    def only(self, ids: Iterable[ShownId]) -> Part:
         """The part that these are, with those from which one has read what they didn't write: that
         is what is wrong."""
         kept = {id for id in ids if id in self.txns}
@@ -174,7 +177,7 @@ class Part:
         txns = {id: logged for id, logged in self.txns.items() if id in kept}
         return Part({id: self.less_reads(logged, kept) for id, logged in txns.items()})
 
-    def wrong_reads(self, logged: Logged) -> Iterator[Tuple[str, TransactionId]]:
+    def wrong_reads(self, logged: Logged) -> Iterator[Tuple[str, ShownId]]:
         for key, source in logged.reads:
             if source in self.txns and key not in self.txns[source].writes:
                 yield key, source
@@ -184,16 +187,18 @@ class Part:
         reads = [read for read in logged.reads if read[1] == "init" or read[1] in kept]
         return logged if len(reads) == len(logged.reads) else logged._replace(reads=reads)
 
-    def report(self, program: str) -> Optional[Set[TransactionId]]:
+    def report(self, program: str) -> Optional[Set[ShownId]]:
         """Of these alone, under numbers without holes: what its refutation names, or None."""
-        old: List[List[TransactionId]] = []
+        old: List[List[ShownId]] = []
         sessions: Dict[int, int] = {}
         for session, number in sorted(self.txns):
             its = sessions.setdefault(session, len(sessions))
             if its == len(old):
                 old.append([])
-            old[its].append((session, number))
-        new = {id: (at, number) for at, ids in enumerate(old) for number, id in enumerate(ids)}
+            old[its].append(ShownId((session, number)))
+        new: Dict[Source, ShownId] = {
+            id: ShownId((at, number)) for at, ids in enumerate(old) for number, id in enumerate(ids)
+        }
         history = [[self.moved(self.txns[id], new) for id in ids] for ids in old]
         report = audited(history, program)[0] if history else None
         if report is None or report.kind != VIOLATED:
@@ -201,7 +206,7 @@ class Part:
         return {old[session][number] for session, number in named(report.certificate)}
 
     @staticmethod
-    def moved(logged: Logged, new: Mapping[Source, TransactionId]) -> Logged:
+    def moved(logged: Logged, new: Mapping[Source, ShownId]) -> Logged:
         reads = [
             (key, "init" if source == "init" else new[source])
             for key, source in logged.reads
@@ -244,7 +249,7 @@ class Part:
         return found
 
 
-def wrong_sources(history: History) -> Dict[TransactionId, Logged]:
+def wrong_sources(history: History) -> Dict[ShownId, Logged]:
     """Transactions that did nothing, and from which one is said to have read."""
     return {
         source: history[source[0]][source[1]]
@@ -262,7 +267,7 @@ def smaller(
     history: History,
     program: str = PROGRAM,
     seconds: float = SECONDS,
-    known: Iterable[TransactionId] = (),
+    known: Iterable[ShownId] = (),
 ) -> History:
     """A part of a violated history that is violated too, while nothing that has one thing less is;
     or as small as it got in so many seconds. What a refutation names is kept, as long as that
@@ -287,7 +292,7 @@ def smaller(
     return part.history(len(history))
 
 
-def by_names(part: Part, ids: Set[TransactionId], program: str) -> Part:
+def by_names(part: Part, ids: Set[ShownId], program: str) -> Part:
     """What refutations name, again and again until nothing changes."""
     while True:
         fewer = part.only(ids)
@@ -301,12 +306,12 @@ def by_names(part: Part, ids: Set[TransactionId], program: str) -> Part:
 
 def next_smaller(
     part: Part, needed: Set[Any], program: str, ends: float
-) -> Optional[Tuple[Part, Set[TransactionId]]]:
+) -> Optional[Tuple[Part, Set[ShownId]]]:
     """One that has one thing less, and what its refutation names; None where each thing is needed,
     or the time is up. An auditor takes as long to start as for so few, so that some are asked side
     by side."""
 
-    def report(candidate: Part) -> Optional[Set[TransactionId]]:
+    def report(candidate: Part) -> Optional[Set[ShownId]]:
         return candidate.report(program)
 
     left = ((what, it) for what, it in part.lesser() if what not in needed)
@@ -329,7 +334,7 @@ def version(key: str, source: Source, name: Naming) -> str:
     return getattr(name, "older", {}).get(key, "as it was at first")
 
 
-def told_undone(reader: TransactionId, key: str, source: TransactionId, name: Naming) -> str:
+def told_undone(reader: ShownId, key: str, source: ShownId, name: Naming) -> str:
     """Of a read of what an attempt wrote that was aborted."""
     return f"of {key}, {name(reader)} read what {name(source)} wrote, which had aborted"
 
@@ -362,5 +367,6 @@ def words(history: History, name: Naming = name) -> Iterator[str]:
     for session, txns in enumerate(history):
         for number, logged in enumerate(txns):
             if deeds(logged, name):  # else it is there for its number alone
-                yield f"{name((session, number))} {', '.join(deeds(logged, name))}"
+                called = name(ShownId((session, number)))
+                yield f"{called} {', '.join(deeds(logged, name))}"
                 yield from (f"    {line}" for line in statements_of(logged))

@@ -8,7 +8,7 @@ from dataclasses import dataclass
 from html import escape
 from typing import Dict, List, Mapping, Sequence, Tuple
 
-from ..core._records import ABORTED, TransactionId
+from ..core._records import ABORTED, ShownId
 from ._report import IN_ONE_SESSION, Link, Step, Story
 
 WIDTH, GAP, LANE_GAP = 210.0, 130.0, 76.0  # of a box, and between boxes, in the picture's units
@@ -42,17 +42,17 @@ class Box:
         return x + across * share, y + down * share
 
 
-def columns_of(steps: Sequence[Step]) -> Dict[TransactionId, int]:
+def columns_of(steps: Sequence[Step]) -> Dict[ShownId, int]:
     """How far right each transaction stands: behind what it comes after by its session and by its
     reads, as far as these go round in no circle."""
     shown = [step.id for step in steps]
-    before: Dict[TransactionId, List[TransactionId]] = {one: [] for one in shown}
+    before: Dict[ShownId, List[ShownId]] = {one: [] for one in shown}
     for one, following in zip(shown, shown[1:]):
         if one[0] == following[0]:
             before[following].append(one)
     for step in steps:
         before[step.id] += [source for source in step.sources if source in before]
-    found: Dict[TransactionId, int] = {}
+    found: Dict[ShownId, int] = {}
     left = list(shown)
     while left:
         ready = [one for one in left if all(other in found for other in before[one])]
@@ -63,7 +63,7 @@ def columns_of(steps: Sequence[Step]) -> Dict[TransactionId, int]:
     return found
 
 
-def boxes_of(story: Story) -> Dict[TransactionId, Box]:
+def boxes_of(story: Story) -> Dict[ShownId, Box]:
     """Where each transaction stands."""
     columns = columns_of(story.steps)
     lanes = sorted({step.id[0] for step in story.steps})
@@ -129,7 +129,7 @@ def _reads(steps: Sequence[Step]) -> List[Link]:
     names = {step.id: step.name for step in steps}
     aborted = {step.id for step in steps if step.outcome == ABORTED}
 
-    def told(one: TransactionId) -> str:
+    def told(one: ShownId) -> str:
         return f"{names[one]}, which had aborted" if one in aborted else names[one]
 
     return [
@@ -154,7 +154,7 @@ def _ends_of_arcs() -> str:
     )
 
 
-def _lanes(story: Story, boxes: Mapping[TransactionId, Box], right: float) -> List[str]:
+def _lanes(story: Story, boxes: Mapping[ShownId, Box], right: float) -> List[str]:
     found = []
     for lane in sorted({step.id[0] for step in story.steps}):
         its = [boxes[step.id] for step in story.steps if step.id[0] == lane]
@@ -187,7 +187,7 @@ def _short(text: str) -> str:
     return text if len(text) <= MOST_LETTERS else text[: MOST_LETTERS - 1] + "…"
 
 
-def _arc(link: Link, boxes: Mapping[TransactionId, Box], number: int) -> Tuple[str, List[Point]]:
+def _arc(link: Link, boxes: Mapping[ShownId, Box], number: int) -> Tuple[str, List[Point]]:
     """The arc, with a number unless that is 0, and what it reaches. One that leads to the right in
     another lane swings over; any other bends to its right, so that opposite ones stand apart."""
     start, end = boxes[link.start], boxes[link.end]

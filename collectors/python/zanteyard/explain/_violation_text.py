@@ -6,7 +6,7 @@ import time
 from typing import Callable, Iterable
 
 from ..core._circumstances import circumstances
-from ..core._records import History, Naming, TransactionId
+from ..core._records import History, Naming, ShownId
 from ..program._binaries import PROGRAM
 from ._graphviz import draw
 from ._reasons import Explanation, explain_history
@@ -20,7 +20,7 @@ def tell_violation(
     tell: Callable[[str], object] = print,
     seconds: float = SECONDS,
     program: str = PROGRAM,
-    known: Iterable[TransactionId] = (),
+    known: Iterable[ShownId] = (),
 ) -> History:
     """Tells what is left of a violated history without what it is violated without, and why no
     order explains it; then writes that as path.jsonl for cobra_audit, and draws it. What can't be

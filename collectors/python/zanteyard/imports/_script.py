@@ -8,7 +8,7 @@ from dataclasses import replace
 from typing import Any, Dict, Iterator, List, Optional, Set, Tuple
 
 from ..core._own_keys import FORM
-from ..core._records import TransactionId
+from ..core._records import AuditId
 from ..core.errors import ImportRefusedError
 from ..explain._script_names import NamedTransaction, ScriptNames
 from ._recording import ABORTED, COMMITTED, UNKNOWN, Recording, counted
@@ -57,10 +57,10 @@ class _ScriptMaker:
         self._times = Times(self._attempts, self._of) if asks_time else None  # of the whole file
         self._pauses = self._times.pauses(every) if self._times else []
         self._keys: Dict[str, int] = {}
-        self._absent: Dict[object, TransactionId] = {}
-        self._absent_names: Dict[TransactionId, str] = {}
+        self._absent: Dict[object, AuditId] = {}
+        self._absent_names: Dict[AuditId, str] = {}
         self._plan = Plan()
-        self._places: Dict[Item, TransactionId] = {}
+        self._places: Dict[Item, AuditId] = {}
 
     def _front(self, first: int) -> Set[int]:
         """The first so many, by the line on which they began or stand."""
@@ -318,11 +318,13 @@ class _ScriptMaker:
             name = f"{self._attempts[owner].name}, which isn't in this part of the file"
         return self._never_offered(origin, name)
 
-    def _never_offered(self, what: object, name: str) -> TransactionId:
+    def _never_offered(self, what: object, name: str) -> AuditId:
         """The name of a transaction that doesn't come, in a session that isn't open where one is
         left."""
         session = min(len(self._plan.sessions), SESSIONS - 1)
-        id = self._absent.setdefault(what, (session, NEVER_OFFERED + len(self._absent)))
+        id = self._absent.setdefault(
+            what, AuditId((session, NEVER_OFFERED + len(self._absent)))
+        )
         self._absent_names[id] = name
         return id
 

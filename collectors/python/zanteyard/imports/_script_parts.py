@@ -5,7 +5,7 @@ from __future__ import annotations
 from dataclasses import dataclass, field
 from typing import Any, Dict, Iterator, List, Sequence, Set, Tuple, Union
 
-from ..core._records import TransactionId
+from ..core._records import AuditId
 from ..explain._script_names import NamedTransaction, ScriptNames
 from ._recording import ABORTED, APPEND, WRITE, Attempt
 from ._sources import DRAFT, Stub
@@ -47,10 +47,10 @@ class Plan:
     by_time: Set[int] = field(default_factory=set)  # sessions in which one does by the file's time
     fences: List[List[Fence]] = field(default_factory=list)  # of each pause, in their order
 
-    def places(self) -> Dict[Item, TransactionId]:
+    def places(self) -> Dict[Item, AuditId]:
         """Of each item its session and number."""
         return {
-            item: (session, number)
+            item: AuditId((session, number))
             for session, items in enumerate(self.sessions)
             for number, item in enumerate(items)
         }

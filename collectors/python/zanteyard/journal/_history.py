@@ -6,7 +6,7 @@ import json
 from dataclasses import dataclass, field
 from typing import Any, Dict, Iterable, List, Sequence
 
-from ..core._records import ABORTED, History, Logged, TransactionId
+from ..core._records import ABORTED, AuditId, History, Logged
 from ..core.errors import JournalDamagedError
 
 ScriptLine = List[Any]
@@ -22,8 +22,8 @@ class State:
     gone: List[int] = field(default_factory=list)
     remaining: List[List[Any]] = field(default_factory=list)
     closed: List[bool] = field(default_factory=list)
-    last: Dict[int, TransactionId] = field(default_factory=dict)
-    joined: List[TransactionId] = field(default_factory=list)  # what sessions came back with
+    last: Dict[int, AuditId] = field(default_factory=dict)
+    joined: List[AuditId] = field(default_factory=list)  # what sessions came back with
 
     def take(self, word: str, *parts: Any) -> None:
         if word == "resume":
@@ -31,7 +31,7 @@ class State:
         elif word == "marks":
             self.gone, self.closed = parts
         elif word == "last":
-            self.last.update((key, (session, number)) for key, session, number in parts[0])
+            self.last.update((key, AuditId((session, number))) for key, session, number in parts[0])
         elif word == "offer":
             self.remaining[parts[0]] += parts[2]
         elif word == "join":
@@ -48,7 +48,7 @@ class State:
             self.closed.append(False)
             self.remaining.append([])
         if self.gone[session]:
-            self.joined.append((session, self.gone[session]))
+            self.joined.append(AuditId((session, self.gone[session])))
         self.closed[session] = False
         self.remaining[session] += txns
 
@@ -67,7 +67,7 @@ class State:
         statements."""
         return [[_logged(txn, names) for txn in txns] for txns in self.remaining]
 
-    def base(self, names: Sequence[str]) -> Dict[str, TransactionId]:
+    def base(self, names: Sequence[str]) -> Dict[str, AuditId]:
         return {_name(key, names): source for key, source in self.last.items()}
 
 

@@ -5,7 +5,7 @@ from __future__ import annotations
 import json
 from typing import Any, Callable, Dict, Iterable, List, Optional, Sequence, Tuple
 
-from ..core._records import ABORTED, TransactionId
+from ..core._records import ABORTED, AuditId
 from ._entries import (
     Head,
     Kept,
@@ -48,9 +48,11 @@ class JournalWriter:
         self.changes = len(kept.lines) - kept.saved if kept else 0  # lines behind the checkpoint
         # What attempts did that were aborted, as lines have it: a program gives out that they are
         # there, and no more.
-        self._undone: Dict[TransactionId, Any] = {}
+        self._undone: Dict[AuditId, Any] = {}
         if kept is not None:
-            self._undone.update(((its[0], its[1]), its[2]) for its in kept.undone)
+            self._undone.update(
+                (AuditId((session, number)), txn) for session, number, txn in kept.undone
+            )
             self._note_undone(kept.lines[kept.saved :])
         self._has_begun = kept is not None  # it tells of this audit
         self._due = 0  # the file's size at which it is written anew; at first so, where it is old
@@ -80,7 +82,7 @@ class JournalWriter:
                 _, session, *more = json.loads(each)
                 first, txns = more if len(more) == 2 else (0, more[0])
                 its = ((number, txn) for number, txn in enumerate(txns, first) if txn[2:])
-                self._undone.update(((session, number), txn) for number, txn in its)
+                self._undone.update((AuditId((session, number)), txn) for number, txn in its)
 
     def _undone_of(self, saved: Sequence[bytes]) -> List[Any]:
         """Of what remains by these."""

@@ -9,7 +9,7 @@ from typing import Any, Callable, Dict, Iterable, List, Optional, Sequence, Set,
 
 from ..core._outcome import COLLECTOR, PENDING, RUNNING, SERIAL, VIOLATED, Outcome, kind_of
 from ..core._own_keys import FENCE, LONGEST
-from ..core._records import Pending, Report, TransactionId, unpacked
+from ..core._records import AuditId, Pending, Report, StoreId, unpacked
 from ..core._tenancy import Tenancy
 from ..core._window import SESSIONS, Coverage
 from ..core.errors import AuditLostError, FullError, MissingError, NoCutError, NotAnchoredError
@@ -193,12 +193,12 @@ class Audit:
         is_next = session <= self._auditor.sessions
         return is_next and (source is None or self._backlog.is_taken(*source))
 
-    def _fence_of(self, session: int) -> Optional[TransactionId]:
+    def _fence_of(self, session: int) -> Optional[StoreId]:
         """What the first of a session that is to join has read; None where it is no fence's."""
         logged = self._held[session][0][3]
         logged = unpacked(logged) if type(logged) is bytes else logged
         sources = [source for key, source in logged.reads if key == FENCE and source != "init"]
-        return (sources[0][0], sources[0][1]) if sources else None
+        return StoreId((sources[0][0], sources[0][1])) if sources else None
 
     def _join(self, session: int, found: Sequence[HandedIn]) -> None:
         source = self._fence_of(session)
@@ -244,7 +244,7 @@ class Audit:
             return None
         return self._coverage.number(session, number)
 
-    def called(self, id: TransactionId) -> str:
+    def called(self, id: AuditId) -> str:
         """How a transaction of the audit is told: with its client, where its session had others."""
         number = self._coverage.number_there(*id)
         return self._stints.called(id, id[1] if number is None else number)

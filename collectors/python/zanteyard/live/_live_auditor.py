@@ -19,7 +19,7 @@ from typing import Any, Callable, List, Optional
 from ..core._forks import is_forked
 from ..core._outcome import INCOMPLETE, RATHER_LOSE_THE_AUDIT, Outcome, Policy
 from ..core._own_keys import FENCE, LONGEST
-from ..core._records import Logged, TransactionId
+from ..core._records import AuditId, Logged
 from ..core._stores import Store
 from ..core._window import Coverage
 from ..core.errors import AuditLostError, MissingError
@@ -393,6 +393,6 @@ class LiveAuditor(ForProcesses):
         counted = sum(one.handed_in for one in earlier)
         return Audit(self.auditor, *more, counted, earlier, stints)
 
-    def _called(self, id: TransactionId) -> str:
+    def _called(self, id: AuditId) -> str:
         """How a transaction of the audit is told: whose it was, where its session had others."""
         return self._audit.called(id)

@@ -10,7 +10,7 @@ from typing import Any, Container, Dict, List, Optional, Sequence, Tuple, Union
 
 from ..core._outcome import RATHER_LOSE_THE_AUDIT, Policy
 from ..core._own_keys import FENCE, FORM
-from ..core._records import ABORTED, Cut, Logged, Report, TransactionId
+from ..core._records import ABORTED, AuditId, Cut, Logged, Report
 from ..core._tenancy import Tenancy
 from ..core._window import Coverage
 from ..core.errors import (
@@ -79,7 +79,7 @@ class Auditor(Lines):
         self.marks = [0] * self.sessions  # how many of each session are forgotten
         self.closed = [False] * self.sessions  # which nothing more comes of
         # Of each key that a forgotten transaction wrote, the last that did.
-        self.base: Dict[str, TransactionId] = {}
+        self.base: Dict[str, AuditId] = {}
         self._stints = Tenancy()  # of clients, by their first transactions
         self.can_cut = True  # until the program says that it doesn't know the command
         self.effort = EFFORTS[0]  # of the last round
@@ -329,14 +329,16 @@ class Auditor(Lines):
         raise NoCutError(str(refusal)) from refusal
 
     def _forget(self, fence: Sequence[int], gone: Sequence[Any], last: Sequence[Any]) -> Cut:
-        self.base.update((self.names[key], (session, number)) for key, session, number in last)
+        self.base.update(
+            (self.names[key], AuditId((session, number))) for key, session, number in last
+        )
         for session, count in Counter(session for session, _ in gone).items():
             del self.history[session][:count]
             self.marks[session] += count
         self._stints.forget(self.marks)
-        return Cut((fence[0], fence[1]), len(gone))
+        return Cut(AuditId((fence[0], fence[1])), len(gone))
 
-    def called(self, id: TransactionId) -> str:
+    def called(self, id: AuditId) -> str:
         """How a transaction is told: by what its client began with, where its session had others;
         a live audit tells it by that client's number."""
         return self.live_called(id) if self.live_called else self._stints.called_by_first(id)

@@ -13,7 +13,7 @@ from typing import Any, Container, Deque, Dict, Iterator, List, Optional, Sequen
 
 from ..core._locks import give_back, take
 from ..core._outcome import RATHER_LOSE_THE_AUDIT, VIOLATED, Outcome, Policy, kind_of
-from ..core._records import History, Logged, Naming, Pending, Report, TransactionId
+from ..core._records import AuditId, AuditNaming, History, Logged, Pending, Report
 from ..core._window import Coverage
 from ..core.errors import FullError, ProgramEndedError, ProgramLateError, RefusedError
 from ._binaries import PROGRAM
@@ -44,7 +44,7 @@ class Intake:
     history: History  # of each session what was taken in and isn't forgotten
     has_sessions = False  # which hand in to it
     cuts_by_itself = False  # behind any round; `truncate` then tells of it
-    live_called: Optional[Naming] = None  # how a live audit tells transactions
+    live_called: Optional[AuditNaming] = None  # how a live audit tells transactions
 
     def __init__(
         self,
@@ -170,7 +170,7 @@ class Intake:
         """Whether anything was handed in or offered."""
         return self.audits > 1 or self.handed_in > 0 or any(self.received)
 
-    def called(self, id: TransactionId) -> str:
+    def called(self, id: AuditId) -> str:
         """How a transaction is told."""
         return self.live_called(id) if self.live_called else f"{id[0]}.{id[1]}"
 
@@ -374,4 +374,4 @@ def never_came(
                     is_there = source[0] < len(marks)
                     ended = marks[source[0]] + len(history[source[0]]) if is_there else 0
                     if source[1] >= ended:
-                        yield Pending((session, number), key, source)
+                        yield Pending(AuditId((session, number)), key, source)

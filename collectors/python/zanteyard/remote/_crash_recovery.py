@@ -17,7 +17,7 @@ from typing import Any, Callable, Dict, Iterable, List, Optional, Sequence, Set,
 from ..core._commit_status import find_out
 from ..core._crash_notes import CrashNote, notes_of
 from ..core._own_keys import FENCE, FLAG
-from ..core._records import Logged, TransactionId, as_bytes, undone, unpacked
+from ..core._records import Logged, StoreId, as_bytes, undone, unpacked
 from ..live._backlog import keys_written_unseen
 from ..session._place import Place
 
@@ -46,7 +46,7 @@ class CrashedProcess:
         self.notes, self.run_name, self.is_dead = notes, run_name, is_dead
         self.next_number = next_number  # of each session, behind what was handed in
         # Sessions and numbers of what was noted before it was sent, and wasn't answered.
-        self._unanswered: Set[Tuple[int, int]] = set()
+        self._unanswered: Set[StoreId] = set()
 
     def told(self, place: Place) -> Sequence[Tuple[int, Logged]]:
         """What the session did, which nobody has handed in: numbers, and what is to be logged. The
@@ -109,14 +109,14 @@ class CrashedProcess:
         for note, how in self.notes.get(session, ()):
             if note.number < first:
                 continue
-            its = (session, note.number)
+            id = StoreId((session, note.number))
             if note.outcome is None:
                 before[note.number] = (note, how)
                 answered.pop(note.number, None)  # of an attempt to join before
-                self._unanswered.add(its)
+                self._unanswered.add(id)
             else:
                 answered[note.number] = note
-                self._unanswered.discard(its)
+                self._unanswered.discard(id)
         return before, answered
 
     def logged(
@@ -150,7 +150,7 @@ class CrashedProcess:
         told = f"{note.session}.{note.number} of a killed process"
         logger.info("%s is %s by the store's word", told, outcome)
         if outcome == "aborted":
-            return undone_alone((note.session, note.number), logged)
+            return undone_alone(StoreId((note.session, note.number)), logged)
         if note.unclear is not None:
             raise LostError(note.unclear)
         if outcome == "committed" and note.has_reads:
@@ -198,7 +198,7 @@ def is_without_use(logged: Logged) -> bool:
     return all(key.startswith(FLAG) for key in its)
 
 
-def undone_alone(id: TransactionId, logged: Logged) -> Logged:
+def undone_alone(id: StoreId, logged: Logged) -> Logged:
     """What was noted, where nothing of it was committed."""
     reads, writes = undone(id, logged.reads, logged.writes, FENCE)
     if not (reads or writes):

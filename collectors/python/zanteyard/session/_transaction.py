@@ -10,7 +10,7 @@ from typing import TYPE_CHECKING, Any, Dict, Iterable, List, Optional, Sequence,
 from ..core._circumstances import brief, caller
 from ..core._forks import UNAUDITED
 from ..core._own_keys import FENCE, FLAG
-from ..core._records import Deed, Logged, Name, Read, Source, StoredValue, as_bytes, undone
+from ..core._records import Deed, Logged, Name, Read, Source, StoreId, StoredValue, as_bytes, undone
 from ..core.errors import AbortedError, AuditLostError, OutcomeUnknownError
 
 if TYPE_CHECKING:
@@ -337,7 +337,8 @@ class Transaction:
         """What this has read, and what it wrote under its name, where it was aborted. What was only
         to be written at the commit, and never went to the store, isn't among it."""
         writes = [*self.tried, *(self.calls.tried() if self.holds else ())]
-        return undone((self.session.number or 0, self.number), self.reads, writes, FENCE)
+        id = StoreId((self.session.number or 0, self.number))
+        return undone(id, self.reads, writes, FENCE)
 
 
 def is_dropped_if_unknown(key: str) -> bool:
