@@ -94,9 +94,9 @@ def parser() -> argparse.ArgumentParser:
     commands = whole.add_subparsers(metavar="COMMAND", required=True)
 
     def command(name: str, run: Callable[[Any], int], about: str) -> argparse.ArgumentParser:
-        one = commands.add_parser(name, help=about, description=about, epilog=STATUS_WORDS)
-        one.set_defaults(run=run)
-        return one
+        command = commands.add_parser(name, help=about, description=about, epilog=STATUS_WORDS)
+        command.set_defaults(run=run)
+        return command
 
     check = command("check", _check, "tells each verdict of a script in words")
     _add_script(check)
@@ -131,8 +131,8 @@ def parser() -> argparse.ArgumentParser:
     stores = audit.add_subparsers(metavar="STORE", required=True)
     for kind in KINDS:
         about = f"audits clients of {kind.name} while they run"
-        one = stores.add_parser(kind.command, help=about, description=about, epilog=STATUS_WORDS)
-        audit_command.add_arguments(one, kind)
+        store = stores.add_parser(kind.command, help=about, description=about, epilog=STATUS_WORDS)
+        audit_command.add_arguments(store, kind)
     return whole
 
 
@@ -158,10 +158,10 @@ def _add_script(command: argparse.ArgumentParser) -> None:
 
 
 def _nodes(text: str) -> int:
-    found = int(text)
-    if not 1 <= found <= MORE[-1][0]:
+    nodes = int(text)
+    if not 1 <= nodes <= MORE[-1][0]:
         raise argparse.ArgumentTypeError(f"1 to {MORE[-1][0]}")
-    return found
+    return nodes
 
 
 def _lines(path: str) -> Iterator[bytes]:
@@ -253,8 +253,8 @@ def _journal(asked: Any) -> int:
         print(f"{auditor.run_name}: {count} transactions of {sessions} sessions were taken in")
         report = auditor.last_round()
         if report.kind == "violated":
-            its = (report.counts, EXPLAINED, report.certificate)
-            _tell(violation_story(auditor, program, *its))
+            round_told = (report.counts, EXPLAINED, report.certificate)
+            _tell(violation_story(auditor, program, *round_told))
             return STATUSES["violated"]
         outcome = auditor.outcome()
         print(f"over these the last round is {report.kind}; {outcome}")
@@ -263,8 +263,8 @@ def _journal(asked: Any) -> int:
 
 def _story(verdict: Verdict, run: ScriptRun, seconds: float) -> Story:
     if verdict.kind == "violated":
-        its = (verdict.counts, seconds, verdict.certificate)
-        return violation_story(run.history, find_program(), *its)
+        round_told = (verdict.counts, seconds, verdict.certificate)
+        return violation_story(run.history, find_program(), *round_told)
     return verdict_story(verdict, run.history)
 
 

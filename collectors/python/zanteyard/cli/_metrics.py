@@ -23,13 +23,13 @@ def families(live: LiveAuditor, clients: int = 0, redis_up: Any = None) -> Itera
     """`clients` are the processes of clients that are heard; `redis_up` tells whether the Redis can
     be reached, None where there is none."""
     outcome, figures, auditor = live.outcome, live.figures, live.auditor
-    whole = sum(one.audited for one in live.earlier)
+    whole = sum(outcome_before.audited for outcome_before in live.earlier)
 
     def one(name: str, kind: str, about: str, value: float) -> Family:
         return f"zanteyard_{name}", kind, about, [((), value)]
 
-    its = (("version", VERSION), ("audit", live.name))
-    yield "zanteyard_info", "gauge", "Which audit it is, and of which version.", [(its, 1)]
+    labelled = (("version", VERSION), ("audit", live.name))
+    yield "zanteyard_info", "gauge", "Which audit it is, and of which version.", [(labelled, 1)]
     taken = whole + live.taken_in
     yield one("transactions_taken_total", "counter", "Transactions taken in.", taken)
     handed_in = live.counted
@@ -40,7 +40,10 @@ def families(live: LiveAuditor, clients: int = 0, redis_up: Any = None) -> Itera
     yield one("transactions_remaining", "gauge", "Taken in, and not forgotten.", remaining)
     limit = auditor.limit
     yield one("transactions_remaining_limit", "gauge", "As many may remain.", limit)
-    awaited = [((("session", it),), count) for it, count in sorted((figures.awaited or {}).items())]
+    awaited = [
+        ((("session", session),), count)
+        for session, count in sorted((figures.awaited or {}).items())
+    ]
     about = "Reads that waited, at the last round, for a transaction of this session."
     yield "zanteyard_pending_reads", "gauge", about, awaited
     rounds = [((("kind", kind),), figures.kinds.get(kind, 0)) for kind in KINDS]
@@ -71,18 +74,18 @@ def families(live: LiveAuditor, clients: int = 0, redis_up: Any = None) -> Itera
         yield one("redis_up", "gauge", "1 where the Redis can be reached.", bool(redis_up))
 
 
-def text_of(found: Iterator[Family]) -> str:
+def text_of(every: Iterator[Family]) -> str:
     lines: List[str] = []
-    for name, kind, about, samples in found:
+    for name, kind, about, samples in every:
         lines += [f"# HELP {name} {about}", f"# TYPE {name} {kind}"]
-        lines += [f"{name}{labels(its)} {float(value):g}" for its, value in samples]
+        lines += [f"{name}{labels(labelled)} {float(value):g}" for labelled, value in samples]
     return "\n".join(lines) + "\n"
 
 
-def labels(its: Labels) -> str:
-    if not its:
+def labels(pairs: Labels) -> str:
+    if not pairs:
         return ""
-    return "{" + ",".join(f'{label}="{escaped(str(value))}"' for label, value in its) + "}"
+    return "{" + ",".join(f'{label}="{escaped(str(value))}"' for label, value in pairs) + "}"
 
 
 def escaped(text: str) -> str:

@@ -112,10 +112,10 @@ def _address(text: str) -> str:
 
 
 def _level(text: str) -> int:
-    found = logging.getLevelName(text.upper())
-    if not isinstance(found, int):
+    level = logging.getLevelName(text.upper())
+    if not isinstance(level, int):
         raise argparse.ArgumentTypeError("DEBUG, INFO, WARNING or ERROR")
-    return found
+    return level
 
 
 def run(asked: Any) -> int:
@@ -159,24 +159,24 @@ def _audit(asked: Any, stack: contextlib.ExitStack, stopped: threading.Event) ->
 def _auditor(asked: Any) -> Auditor:
     """Goes on with what is there, where clients' streams have the rest."""
     path = os.path.join(asked.journal, JOURNAL)
-    its: Any = {"program": find_program(), "script": _unused(asked.script)}
-    its["round_seconds"] = asked.round_seconds
+    settings: Any = {"program": find_program(), "script": _unused(asked.script)}
+    settings["round_seconds"] = asked.round_seconds
     if os.path.lexists(path):
         if asked.redis is not None and os.path.lexists(f"{path}.live"):
-            return Auditor.resumed(path, **its)
+            return Auditor.resumed(path, **settings)
         # Nobody had a session; or nobody knows what was on its way as its process ended.
         journal = Journal(path)  # which another daemon may have
         try:
             os.replace(path, f"{path}.old")
         finally:
             journal.close()
-    return Auditor(asked.sessions, journal=path, **its)
+    return Auditor(asked.sessions, journal=path, **settings)
 
 
 def _unused(script: Optional[str]) -> Optional[str]:
     """What a daemon before this one was given stays."""
     names = itertools.chain([""], (f".resumed{at or ''}" for at in itertools.count()))
-    return script and next(script + it for it in names if not os.path.isfile(script + it))
+    return script and next(script + name for name in names if not os.path.isfile(script + name))
 
 
 def _server(asked: Any, live: LiveAuditor) -> Any:
@@ -203,8 +203,8 @@ def _end(server: Any, live: LiveAuditor) -> Outcome:
     if isinstance(server, AuditServer) or live.is_over:
         server.close(5.0)
         return live.stop()
-    found: Outcome = server.leave()
-    return found
+    outcome: Outcome = server.leave()
+    return outcome
 
 
 def _tell(asked: Any, auditor: Auditor, outcome: Outcome) -> None:

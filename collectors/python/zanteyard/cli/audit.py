@@ -73,9 +73,9 @@ class LiveRun:
         whole = self.outcome.whole
         kind = whole.kind if whole.kind in ("serial", "pending") else "spent"
         waiting = tuple(
-            f"{one.reader[0]}.{one.reader[1]} read {one.key} from "
-            f"{one.source[0]}.{one.source[1]}, which never came"
-            for one in whole.pending
+            f"{read.reader[0]}.{read.reader[1]} read {read.key} from "
+            f"{read.source[0]}.{read.source[1]}, which never came"
+            for read in whole.pending
         )
         return Story(kind, tuple(whole.counts or ()), waiting=waiting)
 
@@ -186,22 +186,24 @@ def add_arguments(asked: argparse.ArgumentParser, kind: StoreKind = POSTGRES) ->
     asked.add_argument("--level", choices=kind.levels, default=kind.default_level)
     asked.add_argument("--workload", choices=EVERY_WORKLOAD, default="mixed")
     asked.add_argument("--seconds", type=float, default=10.0)
-    told = "seconds without the auditor, to compare with; 0 for none"
-    asked.add_argument("--unaudited", type=float, default=3.0, help=told)
+    about = "seconds without the auditor, to compare with; 0 for none"
+    asked.add_argument("--unaudited", type=float, default=3.0, help=about)
     asked.add_argument("--clients", type=count_of_clients, help="2 to 64 at a time (8, or 16)")
-    told = "clients live for two seconds, and others come; tells what each did first"
-    asked.add_argument("--churn", action="store_true", help=told)
-    told = "transactions a second that all clients together begin at most; else as many as they can"
-    asked.add_argument("--rate", type=float, help=told)
-    told = "transactions from one meeting to the next"
-    asked.add_argument("--every", type=int, default=LiveAuditor.EVERY, help=told)
-    told = "each client in a process of its own, in place of a thread"
-    asked.add_argument("--processes", action="store_true", help=told)
-    told = "clients wait where the auditor can't keep up; else that audit ends, and another begins"
-    asked.add_argument("--rather-wait", action="store_true", help=told)
+    about = "clients live for two seconds, and others come; tells what each did first"
+    asked.add_argument("--churn", action="store_true", help=about)
+    about = (
+        "transactions a second that all clients together begin at most; else as many as they can"
+    )
+    asked.add_argument("--rate", type=float, help=about)
+    about = "transactions from one meeting to the next"
+    asked.add_argument("--every", type=int, default=LiveAuditor.EVERY, help=about)
+    about = "each client in a process of its own, in place of a thread"
+    asked.add_argument("--processes", action="store_true", help=about)
+    about = "clients wait where the auditor can't keep up; else that audit ends, and another begins"
+    asked.add_argument("--rather-wait", action="store_true", help=about)
     kind.add_arguments(asked)
-    told = "goes on by this file where the auditor is killed; one that isn't there yet"
-    asked.add_argument("--audit-journal", metavar="FILE", help=told)
+    about = "goes on by this file where the auditor is killed; one that isn't there yet"
+    asked.add_argument("--audit-journal", metavar="FILE", help=about)
     asked.add_argument("--html", metavar="FILE", help="writes a page to look at")
 
 

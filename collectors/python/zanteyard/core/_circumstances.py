@@ -85,13 +85,13 @@ def caller_of(logged: Logged) -> str:
 def values_of(logged: Logged) -> Dict[Tuple[str, str], str]:
     """What was read from and written to each key that it still is about."""
     did_read, did_write = logged.did
-    found: Dict[Tuple[str, str], List[str]] = {("read", key): [] for key, _ in did_read}
-    found.update({("wrote", key): [] for key in did_write})
+    texts_of: Dict[Tuple[str, str], List[str]] = {("read", key): [] for key, _ in did_read}
+    texts_of.update({("wrote", key): [] for key in did_write})
     for kind, key, text in logged.values:
-        its = found.get((kind, key))
-        if its is not None and text not in its:
-            its.append(text)
-    return {deed: " and ".join(texts) for deed, texts in found.items() if texts}
+        noted = texts_of.get((kind, key))
+        if noted is not None and text not in noted:
+            noted.append(text)
+    return {deed: " and ".join(texts) for deed, texts in texts_of.items() if texts}
 
 
 def circumstances(history: History, names: Naming) -> Iterator[str]:
@@ -107,6 +107,6 @@ def circumstances(history: History, names: Naming) -> Iterator[str]:
                 f"{'read' if kind == 'read' else 'wrote'} {key}: {text}"
                 for (kind, key), text in values.items()
             ]
-            told = [" ".join(began + came)] * bool(began or came) + did
-            if told:
-                yield f"{names(ShownId((session, number)))} " + "; ".join(told)
+            parts = [" ".join(began + came)] * bool(began or came) + did
+            if parts:
+                yield f"{names(ShownId((session, number)))} " + "; ".join(parts)

@@ -40,8 +40,8 @@ def find_out(asks: Any, ticket: Any, seconds: float, is_dead: bool = True) -> Co
     kind, *how = asks
     try:
         module = importlib.import_module(MODULES[kind])
-        found: CommitStatus = module.asked(*how, ticket=ticket, seconds=seconds, **more)
-        return found
+        status: CommitStatus = module.asked(*how, ticket=ticket, seconds=seconds, **more)
+        return status
     except Exception as error:
         logger.warning("what became of a commit can't be found out: %s", error)
         return UNKNOWN

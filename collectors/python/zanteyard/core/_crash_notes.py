@@ -153,7 +153,7 @@ class CrashNotes:
 def notes_of(path: str) -> Optional[List[CrashNote]]:
     """Of a session that had this path, in the order in which they were written; None where they
     aren't there, or of another version."""
-    found = {}
+    notes = {}
     for which in range(2):
         try:
             with open(f"{path}.{which}", "rb") as file:
@@ -163,8 +163,8 @@ def notes_of(path: str) -> Optional[List[CrashNote]]:
         for version, count, *fields in records(text):
             if version != VERSION:
                 return None
-            found[count] = CrashNote(*fields)
-    return [found[count] for count in sorted(found)]
+            notes[count] = CrashNote(*fields)
+    return [notes[count] for count in sorted(notes)]
 
 
 def records(text: bytes) -> Iterator[Any]:

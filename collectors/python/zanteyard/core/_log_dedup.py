@@ -44,10 +44,10 @@ class Repeats:
         self._counted: Dict[str, _Counted] = {}
 
     def tell(
-        self, known: Set[str], who: str, its: Unaudited, level: int = logging.ERROR
+        self, known: Set[str], who: str, unaudited: Unaudited, level: int = logging.ERROR
     ) -> None:
         """To the log. `known` are the reasons that were told of this connection."""
-        reason = f"{its.done}, since {its.why}"
+        reason = f"{unaudited.done}, since {unaudited.why}"
         if reason not in self._counted and len(self._counted) >= MOST:
             reason = OTHERS
         counted = self._counted.setdefault(reason, _Counted())
@@ -55,15 +55,17 @@ class Repeats:
         is_new = reason not in known
         known.add(reason)
         if is_new and next(counted.connections) <= FEW:
-            told = f"{its.done}, since {its.why}: {its.statement} ({FROM_HERE_ON})"
+            text = (
+                f"{unaudited.done}, since {unaudited.why}: {unaudited.statement} ({FROM_HERE_ON})"
+            )
         elif counted.is_due(count):
             of = f" for {OTHERS}" if reason == OTHERS else ""
-            last = f"{its.why}: {its.brief or its.statement}"
-            told = f"{its.done} {count:,} times by now{of}, the last since {last}"
+            last = f"{unaudited.why}: {unaudited.brief or unaudited.statement}"
+            text = f"{unaudited.done} {count:,} times by now{of}, the last since {last}"
         else:
             return
         counted.told_at = time.monotonic()
-        logger.log(level, "%s: %s", who, told)
+        logger.log(level, "%s: %s", who, text)
 
 
 def is_round(count: int) -> bool:

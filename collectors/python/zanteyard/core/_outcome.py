@@ -74,17 +74,17 @@ class Outcome:
         if not self.earlier:
             return self
         every = (*self.earlier, self)
-        violated = next((one for one in every if one.is_violated), None)
+        violated = next((outcome for outcome in every if outcome.is_violated), None)
         kind = violated.kind if violated else RUNNING if self.kind == RUNNING else INCOMPLETE
         return Outcome(
             kind,
-            sum(one.audited for one in every),
-            sum(one.handed_in for one in every),
-            next((one.failure for one in reversed(every) if one.failure), None),
-            tuple(it for one in every for it in one.pending),
+            sum(outcome.audited for outcome in every),
+            sum(outcome.handed_in for outcome in every),
+            next((outcome.failure for outcome in reversed(every) if outcome.failure), None),
+            tuple(read for outcome in every for read in outcome.pending),
             self.report,
             self.name,
-            sum(one.left_out for one in every),
+            sum(outcome.left_out for outcome in every),
             self.earlier,
         )
 
@@ -92,19 +92,19 @@ class Outcome:
         return replace(self, earlier=())
 
     def __str__(self) -> str:
-        told = [f"{self.kind}: {self.audited} of {self.handed_in} transactions were audited"]
+        parts = [f"{self.kind}: {self.audited} of {self.handed_in} transactions were audited"]
         if self.earlier:
-            told.append(f"in {len(self.earlier) + 1} audits")
+            parts.append(f"in {len(self.earlier) + 1} audits")
         if self.left_out:
-            told.append(f"{self.left_out} reads weren't checked")
-        for one in self.pending[:3]:
-            reader, source = (".".join(map(str, it)) for it in (one.reader, one.source))
-            told.append(f"{reader} read {one.key} from {source}, which never came")
+            parts.append(f"{self.left_out} reads weren't checked")
+        for read in self.pending[:3]:
+            reader, source = (".".join(map(str, id)) for id in (read.reader, read.source))
+            parts.append(f"{reader} read {read.key} from {source}, which never came")
         if len(self.pending) > 3:
-            told.append(f"and {len(self.pending) - 3} more such reads")
+            parts.append(f"and {len(self.pending) - 3} more such reads")
         if self.failure:
-            told.append(str(self.failure).strip() or type(self.failure).__name__)
-        return "; ".join(told)
+            parts.append(str(self.failure).strip() or type(self.failure).__name__)
+        return "; ".join(parts)
 
 
 KINDS = {"spent": UNDECIDED}

@@ -68,14 +68,14 @@ def undone(
     """Of what an attempt with this name did, which was aborted, what a line may have: since it
     counts for nothing, the rest is left out. What only looks like a fence, the key of which this
     is, can't be told."""
-    told = sorted({read for read in reads if _may_be_told(id, read[1])}, key=repr)[:MOST]
+    did_read = sorted({read for read in reads if _may_be_told(id, read[1])}, key=repr)[:MOST]
     keys = sorted({*writes})
     keys = keys if len(keys) <= MOST else []
-    is_fence = keys == [fence] and [key for key, _ in told] == [fence]
+    is_fence = keys == [fence] and [key for key, _ in did_read] == [fence]
     if not is_fence:
-        told = [read for read in told if read[0] != fence]
+        did_read = [read for read in did_read if read[0] != fence]
         keys = [key for key in keys if key != fence]
-    return told, keys
+    return did_read, keys
 
 
 def _may_be_told(id: StoreId, source: Source) -> bool:

@@ -21,14 +21,14 @@ class _OverAPath(redis.UnixDomainSocketConnection):
     """redis-py leaves its socket open where nobody listens there."""
 
     def _connect(self) -> socket.socket:
-        one = socket.socket(socket.AF_UNIX)
+        sock = socket.socket(socket.AF_UNIX)
         try:
-            one.settimeout(self.socket_timeout)
-            one.connect(self.path)
+            sock.settimeout(self.socket_timeout)
+            sock.connect(self.path)
         except BaseException:
-            one.close()
+            sock.close()
             raise
-        return one
+        return sock
 
 
 def connected(url: str, seconds: float, **more: Any) -> Any:
@@ -69,19 +69,19 @@ def interrupt(connection: Any) -> None:
 def answers(connection: Any, commands: Sequence[Command]) -> List[Any]:
     """Of all, one behind the other; where one is refused, the error stands in its place."""
     connection.send_packed_command(connection.pack_commands(commands), check_health=False)
-    found: List[Any] = []
+    received: List[Any] = []
     for _ in commands:
         try:
-            found.append(connection.read_response())
+            received.append(connection.read_response())
         except redis.ResponseError as error:
-            found.append(error)
-    return found
+            received.append(error)
+    return received
 
 
 def replies(connection: Any, commands: Sequence[Command]) -> List[Any]:
     """The same; raises the first error, once all have been answered."""
-    found = answers(connection, commands)
-    for each in found:
+    received = answers(connection, commands)
+    for each in received:
         if isinstance(each, redis.ResponseError):
             raise each
-    return found
+    return received

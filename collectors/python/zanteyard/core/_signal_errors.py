@@ -15,7 +15,7 @@ DRIVERS = tuple(f"{os.sep}{name}{os.sep}" for name in ("psycopg2", "psycopg", "p
 
 def is_foreign(error: BaseException) -> bool:
     """Whether it was raised by what is neither here nor called by what is here."""
-    return not all(is_called(it.f_code.co_filename) for it, _ in walk_tb(error.__traceback__))
+    return not all(is_called(frame.f_code.co_filename) for frame, _ in walk_tb(error.__traceback__))
 
 
 def is_called(path: str) -> bool:

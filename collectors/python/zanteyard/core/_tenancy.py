@@ -56,9 +56,9 @@ class Tenancy:
 
     def called(self, id: AuditId, number: int) -> str:
         """How the transaction is told whose number in the store is this."""
-        told = f"{id[0]}.{id[1]}"
+        called = f"{id[0]}.{id[1]}"
         client = self.client(id[0], number) if id[0] in self._shared else None
-        return told if client is None else f"{told} (client {client})"
+        return called if client is None else f"{called} (client {client})"
 
     # where only their first transactions are known
 
@@ -71,17 +71,17 @@ class Tenancy:
     def called_by_first(self, id: AuditId) -> str:
         """How the transaction is told: by what its client began with, where its session had
         others."""
-        told, first = f"{id[0]}.{id[1]}", self._first_before(*id)
+        called, first = f"{id[0]}.{id[1]}", self._first_before(*id)
         if first is None or id[0] not in self._shared:
-            return told
-        return f"{told} (client from {id[0]}.{first})"
+            return called
+        return f"{called} (client from {id[0]}.{first})"
 
     def joined(self) -> List[List[int]]:
         """Each session that several had with what each of these began with, as `begin_behind` takes
         them."""
         with self._lock:
-            its = {session: self._firsts[session] for session in sorted(self._shared)}
-            return [[session, first] for session, firsts in its.items() for first in firsts]
+            firsts_of = {session: self._firsts[session] for session in sorted(self._shared)}
+            return [[session, first] for session, firsts in firsts_of.items() for first in firsts]
 
     def _first_before(self, session: int, number: int) -> Optional[int]:
         with self._lock:
@@ -93,6 +93,6 @@ class Tenancy:
         """Who had a session only before these, of each session, is told of no more."""
         with self._lock:
             for session, number in enumerate(numbers):
-                its = max(0, bisect_right(self._firsts.get(session, ()), number) - 1)
-                if its:
-                    del self._firsts[session][:its], self._clients[session][:its]
+                gone = max(0, bisect_right(self._firsts.get(session, ()), number) - 1)
+                if gone:
+                    del self._firsts[session][:gone], self._clients[session][:gone]

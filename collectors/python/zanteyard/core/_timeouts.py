@@ -16,7 +16,7 @@ def within(seconds: float, call: Callable[[], Any], drop: Callable[[Any], object
     """What the call gives, in a thread that nobody waits for any longer: not even names of hosts
     are looked up in a time that could be bounded otherwise. Raises LateError then. What comes
     later, or None where the call has failed then, is dropped."""
-    found: Future[Any] = Future()
+    future: Future[Any] = Future()
 
     def run() -> None:
         result, failure = None, None
@@ -25,17 +25,17 @@ def within(seconds: float, call: Callable[[], Any], drop: Callable[[Any], object
         except Exception as error:
             failure = error
         try:
-            found.set_exception(failure) if failure else found.set_result(result)
+            future.set_exception(failure) if failure else future.set_result(result)
         except InvalidStateError:  # nobody waits for it
             drop(result)
 
     threading.Thread(target=run, daemon=True).start()
     try:
-        return found.result(seconds)
+        return future.result(seconds)
     except FutureTimeoutError:
-        if found.cancel():
+        if future.cancel():
             raise LateError(f"the server hasn't answered for {seconds:.3g} s") from None
-        return found.result()
+        return future.result()
     except BaseException:
-        found.cancel()
+        future.cancel()
         raise

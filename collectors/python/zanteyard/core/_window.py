@@ -59,9 +59,9 @@ class Coverage:
         number) or "init"; None where it can't be said, so that the read is to be left out."""
         if session >= max(SESSIONS, len(self.early)):
             return None  # it is one that isn't audited, since there were more clients than sessions
-        found = self.number(session, number)
-        if found is not None:
-            return (session, found)
+        audited = self.number(session, number)
+        if audited is not None:
+            return (session, audited)
         is_unknown = any(start <= number < end for start, end in self.unknown[session])
         return "init" if number < self.early[session] and not is_unknown else None
 
@@ -69,7 +69,8 @@ class Coverage:
         if not logged.tried_reads:
             return logged
         moved = {
-            (key, it if isinstance(it, str) else self.source(*it)) for key, it in logged.tried_reads
+            (key, source if isinstance(source, str) else self.source(*source))
+            for key, source in logged.tried_reads
         }
         return logged._replace(
             tried_reads=sorted((read for read in moved if read[1] is not None), key=repr)
@@ -79,7 +80,10 @@ class Coverage:
         """What was logged, and how many of its reads were left out. Those of an attempt that was
         aborted count for nothing, and so aren't counted."""
         logged = self._with_tried(logged)
-        reads = [(key, it if isinstance(it, str) else self.source(*it)) for key, it in logged.reads]
+        reads = [
+            (key, source if isinstance(source, str) else self.source(*source))
+            for key, source in logged.reads
+        ]
         kept = [(key, source) for key, source in reads if source is not None]
         if kept == list(logged.reads):
             return logged, 0

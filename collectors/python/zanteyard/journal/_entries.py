@@ -107,8 +107,8 @@ def kept_in(journal: Journal, has_names: bool = True) -> Kept:
         if not kept.is_whole:
             raise ValueError("the checkpoint has no end")
     except (ValueError, TypeError) as error:
-        told = f"{journal.path}: its records don't fit, and none is believed: {error}"
-        raise JournalDamagedError(told) from error
+        message = f"{journal.path}: its records don't fit, and none is believed: {error}"
+        raise JournalDamagedError(message) from error
     return kept
 
 
@@ -170,5 +170,5 @@ def violated(violation: Violation) -> bytes:
     return VIOLATED + _text(violation)
 
 
-def _text(told: Any) -> bytes:
-    return json.dumps(told, separators=(",", ":")).encode()
+def _text(value: Any) -> bytes:
+    return json.dumps(value, separators=(",", ":")).encode()

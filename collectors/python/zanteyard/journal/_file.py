@@ -57,20 +57,20 @@ class Journal:
         try:
             self._file = os.open(self.path, FLAGS)
             with open(self._file, "rb", closefd=False) as file:
-                found = file.read()
+                content = file.read()
         except OSError as error:
             self._fail("can't be read", error)
-        if not found.startswith((FIRST_LINE, EARLIER)):
-            raise JournalVersionError(f"{self.path} {_other_version(found)}")
+        if not content.startswith((FIRST_LINE, EARLIER)):
+            raise JournalVersionError(f"{self.path} {_other_version(content)}")
         texts, self.size = [], len(FIRST_LINE)
         try:
-            for text, self.size in records(found, self.size):
+            for text, self.size in records(content, self.size):
                 texts.append(text)
         except JournalDamagedError as error:
             raise JournalDamagedError(f"{self.path}: {error}; nothing in it is believed") from error
-        self._is_torn = self.size < len(found)
+        self._is_torn = self.size < len(content)
         if self._is_torn:
-            lost = len(found) - self.size
+            lost = len(content) - self.size
             logger.warning("%s: a half-written record, %d bytes, is dropped", self.path, lost)
         return texts
 
@@ -165,9 +165,9 @@ def _remove(path: str) -> None:
         pass  # it harms nobody: the next beginning anew empties it
 
 
-def _other_version(found: bytes) -> str:
-    version = found[len(NAME) :].partition(b"\n")[0]
-    if found.startswith(NAME) and version.isdigit():
+def _other_version(text: bytes) -> str:
+    version = text[len(NAME) :].partition(b"\n")[0]
+    if text.startswith(NAME) and version.isdigit():
         return f"is a journal of version {version.decode()}, and here is version {VERSION}"
     return "is no journal"
 

@@ -85,7 +85,10 @@ def state_of(lines: Sequence[bytes], has_last: bool = True) -> State:
 
 
 def _logged(txn: Sequence[Any], names: Sequence[str]) -> Logged:
-    reads = [(_name(key, names), it[0] if len(it) == 1 else (it[0], it[1])) for key, *it in txn[0]]
+    reads = [
+        (_name(key, names), source[0] if len(source) == 1 else (source[0], source[1]))
+        for key, *source in txn[0]
+    ]
     writes = [_name(key, names) for key in txn[1]]
     if txn[2:] == [ABORTED]:
         return Logged((), (), ABORTED, tried_reads=reads, tried_writes=writes)

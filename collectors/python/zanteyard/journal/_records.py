@@ -27,18 +27,18 @@ def record(text: bytes) -> bytes:
     return head + CHECK.pack(zlib.crc32(head)) + text
 
 
-def records(found: bytes, at: int) -> Iterator[Tuple[bytes, int]]:
+def records(content: bytes, at: int) -> Iterator[Tuple[bytes, int]]:
     """The texts from this place on, each with the place behind it, up to one that was cut off.
     Raises JournalDamagedError where one is damaged."""
-    while at + BEFORE <= len(found):
-        length, sum_of_text = HEAD.unpack_from(found, at)
-        (sum_of_head,) = CHECK.unpack_from(found, at + HEAD.size)
-        if zlib.crc32(found[at : at + HEAD.size]) != sum_of_head:
+    while at + BEFORE <= len(content):
+        length, sum_of_text = HEAD.unpack_from(content, at)
+        (sum_of_head,) = CHECK.unpack_from(content, at + HEAD.size)
+        if zlib.crc32(content[at : at + HEAD.size]) != sum_of_head:
             raise JournalDamagedError(f"the record at byte {at} is damaged")
         end = at + BEFORE + length
-        if end > len(found):
+        if end > len(content):
             return
-        text = found[at + BEFORE : end]
+        text = content[at + BEFORE : end]
         if zlib.crc32(text) != sum_of_text:
             raise JournalDamagedError(f"the text of the record at byte {at} is damaged")
         yield text, end

@@ -81,15 +81,15 @@ class JournalWriter:
             if TELLS_ABORTED in each:
                 _, session, *more = json.loads(each)
                 first, txns = more if len(more) == 2 else (0, more[0])
-                its = ((number, txn) for number, txn in enumerate(txns, first) if txn[2:])
-                self._undone.update((AuditId((session, number)), txn) for number, txn in its)
+                undone = ((number, txn) for number, txn in enumerate(txns, first) if txn[2:])
+                self._undone.update((AuditId((session, number)), txn) for number, txn in undone)
 
     def _undone_of(self, saved: Sequence[bytes]) -> List[Any]:
         """Of what remains by these."""
         if self._undone:
             _, gone, _ = json.loads(saved[1])
-            self._undone = {it: txn for it, txn in self._undone.items() if it[1] >= gone[it[0]]}
-        return [[*it, txn] for it, txn in self._undone.items()]
+            self._undone = {id: txn for id, txn in self._undone.items() if id[1] >= gone[id[0]]}
+        return [[*id, txn] for id, txn in self._undone.items()]
 
     def note_report(self, violation: Optional[List[Any]]) -> None:
         """One more round, which was answered so if it was violated."""
@@ -106,21 +106,21 @@ class JournalWriter:
     def note_violation(self, reply: List[Any]) -> None:
         """The first of the audit, which stays true."""
         audit = self._head().audit
-        if all(one.audit != audit for one in self.violations):
+        if all(violation.audit != audit for violation in self.violations):
             self.violations.append(Violation(audit, reply))
             self._note([violated(self.violations[-1])])
 
     def note_checkpoint(self, saved: Sequence[bytes]) -> None:
         """By what a program gives out: behind all that is there, until that is longer than what is
         of use. What is flushed to the disk is dear."""
-        head, count, its = self._head(), len(self._names), self._figures_by_now()
-        head.rounds, head.left_out, head.is_of_sessions = its
+        head, count, now = self._head(), len(self._names), self._figures_by_now()
+        head.rounds, head.left_out, head.is_of_sessions = now
         its_undone = self._undone_of(saved)
         if not self._append_checkpoint(head, count, saved, its_undone):
             names = keys(0, self._names[:count])
             self.journal.begin_anew(checkpoint(head, names, self.violations, saved, its_undone))
             self._due = self.journal.size + max(GROWS, self.journal.size)
-        self._noted, self._has_begun, self._figures, self.changes = count, True, its, 0
+        self._noted, self._has_begun, self._figures, self.changes = count, True, now, 0
 
     def _append_checkpoint(
         self, head: Head, count: int, saved: Sequence[bytes], its_undone: Sequence[Any]
@@ -137,14 +137,14 @@ class JournalWriter:
 
     def _note(self, entries: List[bytes]) -> None:
         """By one write, with what else has changed; in front, since a write may be cut off."""
-        count, its = len(self._names), self._figures_by_now()
-        if its != self._figures:
-            entries.insert(0, figures(*its))
+        count, now = len(self._names), self._figures_by_now()
+        if now != self._figures:
+            entries.insert(0, figures(*now))
         if count > self._noted:
             entries.insert(0, keys(self._noted, self._names[self._noted : count]))
         if entries:
             self.journal.append(entries)
-        self._noted, self._figures = count, its
+        self._noted, self._figures = count, now
 
     def _figures_by_now(self) -> Tuple[int, int, bool]:
         return self.rounds, self.left_out, self.is_of_sessions

@@ -114,12 +114,12 @@ class Audit:
         held = sum(map(len, self._held.values()))
         free = self._auditor.limit - self._auditor.remaining - self.reserve
         self._backlog.leave_room(free - held)
-        found = self._backlog.take(min(most, LONGEST))
-        if found:
-            self._take(self._without_held(found))
+        waiting = self._backlog.take(min(most, LONGEST))
+        if waiting:
+            self._take(self._without_held(waiting))
             self._let_join()
-            self._behind = max(self._behind, time.monotonic() - found[0][0])
-        return len(found)
+            self._behind = max(self._behind, time.monotonic() - waiting[0][0])
+        return len(waiting)
 
     def _take_in_what_fits(self) -> None:
         """What waits, if there is room without a cut."""
@@ -128,14 +128,14 @@ class Audit:
         if free > 0:
             self.take_in(free)
 
-    def _take(self, found: Sequence[HandedIn], joining: Sequence[int] = ()) -> None:
+    def _take(self, taken: Sequence[HandedIn], joining: Sequence[int] = ()) -> None:
         offers = [
             (session, self._covered(session, number), logged)
-            for _, session, number, logged in found
+            for _, session, number, logged in taken
             if number is not None
         ]
         self._offer_all(fragments(offers), joining)
-        for came, session, number, _ in found:
+        for came, session, number, _ in taken:
             if number is None:
                 if came >= self._backlog.reopened.get(session, 0.0):
                     self._close(session)
@@ -159,15 +159,15 @@ class Audit:
 
     # sessions that join
 
-    def _without_held(self, found: Sequence[HandedIn]) -> List[HandedIn]:
+    def _without_held(self, taken: Sequence[HandedIn]) -> List[HandedIn]:
         """What waits until its session has joined is held."""
         ready: List[HandedIn] = []
-        for one in found:
-            _, session, number, _ = one
+        for handed_in in taken:
+            _, session, number, _ = handed_in
             if session in self._held or self._joins(session, number):
-                self._held.setdefault(session, []).append(one)
+                self._held.setdefault(session, []).append(handed_in)
             else:
-                ready.append(one)
+                ready.append(handed_in)
         return ready
 
     def _joins(self, session: int, number: Optional[int]) -> bool:
@@ -182,8 +182,8 @@ class Audit:
             ready = [session for session in sorted(self._held) if self._may_join(session)]
             if not ready:
                 break
-            its = self._held[ready[0]]
-            self._join(ready[0], its)
+            held = self._held[ready[0]]
+            self._join(ready[0], held)
             del self._held[ready[0]]
         if sum(map(len, self._held.values())) > self._backlog.most:
             raise AuditLostError(self._why_held() or "")
@@ -200,20 +200,22 @@ class Audit:
         sources = [source for key, source in logged.reads if key == FENCE and source != "init"]
         return StoreId((sources[0][0], sources[0][1])) if sources else None
 
-    def _join(self, session: int, found: Sequence[HandedIn]) -> None:
+    def _join(self, session: int, held: Sequence[HandedIn]) -> None:
         source = self._fence_of(session)
         try:
-            self._take(found[:LONGEST], (session,))
+            self._take(held[:LONGEST], (session,))
         except NotAnchoredError as error:
-            told = f"session {session} can't join: the fence of its client has read "
-            told += f"from {source[0]}.{source[1]}" if source else "from no fence of this audit"
-            raise AuditLostError(f"{told}, and not the last one") from error
-        for start in range(LONGEST, len(found), LONGEST):
-            self._take(found[start : start + LONGEST])
+            message = f"session {session} can't join: the fence of its client has read "
+            message += f"from {source[0]}.{source[1]}" if source else "from no fence of this audit"
+            raise AuditLostError(f"{message}, and not the last one") from error
+        for start in range(LONGEST, len(held), LONGEST):
+            self._take(held[start : start + LONGEST])
 
     def drop_held(self) -> None:
         """What still waits to join: no audit wants it any more, so that nobody keeps it."""
-        for _, session, number, _ in (one for its in self._held.values() for one in its):
+        for _, session, number, _ in (
+            handed_in for held in self._held.values() for handed_in in held
+        ):
             self._backlog.note_taken(session, number)
         self._held.clear()
 
@@ -222,8 +224,8 @@ class Audit:
         for session in sorted(self._held):
             source = self._fence_of(session)
             if source is not None and not self._backlog.is_taken(*source):
-                its = f"{source[0]}.{source[1]}"
-                return f"session {session} is to join behind the fence {its}, which never came"
+                fence = f"{source[0]}.{source[1]}"
+                return f"session {session} is to join behind the fence {fence}, which never came"
         return f"session {min(self._held)} never joined" if self._held else None
 
     def vacant(self) -> Dict[int, int]:
@@ -231,8 +233,11 @@ class Audit:
         if not self._closed:
             return {}
         received = self._auditor.received
-        found = {it: self._coverage.number_there(it, received[it]) for it in self._auditor.vacant}
-        return {session: number for session, number in found.items() if number is not None}
+        following = {
+            session: self._coverage.number_there(session, received[session])
+            for session in self._auditor.vacant
+        }
+        return {session: number for session, number in following.items() if number is not None}
 
     def covers(self, session: int, number: int) -> bool:
         """Whether this audit is about the transaction."""
@@ -249,10 +254,10 @@ class Audit:
         number = self._coverage.number_there(*id)
         return self._stints.called(id, id[1] if number is None else number)
 
-    def _offer_all(self, found: Sequence[Fragment], joining: Sequence[int] = ()) -> None:
-        refused = self._auditor.offer_all(found, joining)
+    def _offer_all(self, offered: Sequence[Fragment], joining: Sequence[int] = ()) -> None:
+        refused = self._auditor.offer_all(offered, joining)
         self._closed.difference_update(joining)
-        self.taken_in += sum(len(txns) for _, _, txns in found)
+        self.taken_in += sum(len(txns) for _, _, txns in offered)
         self.taken_in -= sum(len(txns) for _, _, txns in refused)
         if not refused:
             return
@@ -318,15 +323,15 @@ class Audit:
         if self.report is None or self.report.kind != PENDING:
             return {}
         reads = never_came(self._auditor.history, self._auditor.marks)
-        return dict(Counter(one.source[0] for one in reads))
+        return dict(Counter(read.source[0] for read in reads))
 
     def _cut_or_none(self, report: Report, no_cut: Optional[str]) -> str:
         """In words: what was forgotten, or else this, if there is such a reason for none."""
         if no_cut and not self._auditor.cuts_by_itself:
             return f"no cut: {no_cut}"
         cuts = self._figures.cuts
-        told = self._cut(report)
-        return f"no cut: {no_cut}" if no_cut and self._figures.cuts == cuts else told
+        cut = self._cut(report)
+        return f"no cut: {no_cut}" if no_cut and self._figures.cuts == cuts else cut
 
     def _cut(self, report: Report) -> str:
         """In words."""
@@ -349,7 +354,7 @@ class Audit:
 
     def _forget_stints(self) -> None:
         marks = self._auditor.marks
-        there = (self._coverage.number_there(it, mark) for it, mark in enumerate(marks))
+        there = (self._coverage.number_there(session, mark) for session, mark in enumerate(marks))
         self._stints.forget([number or 0 for number in there])
 
     # its end

@@ -25,9 +25,9 @@ def coverage_from_now(
     for session, answered, _, _ in _asked(groups, places):
         if session < sessions:
             early[session] = answered
-    for session, _, unsent, its in _asked(groups, places):
+    for session, _, unsent, unsure in _asked(groups, places):
         if session < sessions:
-            first[session], unknown[session] = unsent, its
+            first[session], unknown[session] = unsent, unsure
     for group in groups:
         backlog.reopened.update(dict.fromkeys(group.numbers(), group.asked_at))
         group.reopen()
@@ -45,7 +45,7 @@ def coverage_from_now(
 def _asked(groups: Sequence[QuiesceGroup], places: SessionPool) -> Iterable[Tuple[Any, ...]]:
     """Of each session: how many of its transactions have been answered, from which on none has been
     sent, and of which of them it isn't known what they were answered."""
-    found = places.edges()
+    edges = places.edges()
     for group in groups:
-        found += group.edges() or ()
-    return found
+        edges += group.edges() or ()
+    return edges

@@ -115,8 +115,8 @@ class Backlog:
 
     def take_unseen(self) -> Set[str]:
         """The keys that were written unseen; from here on they count as read."""
-        found, self._unseen = self._unseen, set()
-        return found
+        keys, self._unseen = self._unseen, set()
+        return keys
 
     def put_unseen(self, keys: Iterable[str]) -> None:
         """Those that weren't read after all."""
@@ -124,8 +124,8 @@ class Backlog:
 
     def take_ends(self) -> Set[str]:
         """The keys that sessions wrote last which have ended; from here on they count as read."""
-        found, self._ends = self._ends, set()
-        return found
+        keys, self._ends = self._ends, set()
+        return keys
 
     def put_ends(self, keys: Iterable[str]) -> None:
         """As of a session that ends, or that weren't read after all. If nobody read nor overwrote

@@ -169,8 +169,8 @@ class ForProcesses(LiveFigures):
         count, why = self._pool.taken, self._audit.why_no_cut
         if self._pool.are_all_taken:
             return f"{count} clients have one each, and no more can at a time"
-        told = f"{count} clients have one each, and a meeting has to make room for another"
-        return f"{told}; the last made none, since {why}" if why else told
+        message = f"{count} clients have one each, and a meeting has to make room for another"
+        return f"{message}; the last made none, since {why}" if why else message
 
     # where another process of the auditor goes on
 

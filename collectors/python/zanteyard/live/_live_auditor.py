@@ -221,8 +221,8 @@ class LiveAuditor(ForProcesses):
             if not self._is_stopping:  # else another process may go on with them
                 self._pool.end()
             self._group.end()
-            for told in self._at_end:
-                told()
+            for call in self._at_end:
+                call()
 
     def _pause(self) -> None:
         """Nobody is woken for what waits: that would cost a client more than its whole log."""
@@ -319,9 +319,9 @@ class LiveAuditor(ForProcesses):
         earlier = (
             (Outcome(INCOMPLETE, failure=AuditLostError(EARLIER)),) if auditor.audits > 1 else ()
         )
-        its = (self._backlog, self._figures, self._tell, self.run_name, coverage, 0, earlier)
-        closed = [session for session, it in enumerate(auditor.closed) if it]
-        audit = Audit(auditor, *its, stints=self._pool.stints, closed=closed)
+        shared = (self._backlog, self._figures, self._tell, self.run_name, coverage, 0, earlier)
+        closed = [session for session, is_closed in enumerate(auditor.closed) if is_closed]
+        audit = Audit(auditor, *shared, stints=self._pool.stints, closed=closed)
         if FENCE in auditor.base:
             self._pool.let_join()
         audit.taken_in, audit.report = sum(auditor.received), auditor.violation
@@ -390,7 +390,7 @@ class LiveAuditor(ForProcesses):
         if before is None:
             return Audit(self.auditor, *more, stints=stints)
         earlier = (*before.earlier, replace(before, earlier=()))
-        counted = sum(one.handed_in for one in earlier)
+        counted = sum(outcome.handed_in for outcome in earlier)
         return Audit(self.auditor, *more, counted, earlier, stints)
 
     def _called(self, id: AuditId) -> str:

@@ -130,7 +130,7 @@ class QuiesceCoordinator:
     def _close(self, places: Sequence[Place]) -> None:
         """What nobody has: all of it is behind the fence."""
         kept = {place.number for place in self._kept}
-        for number in self._pool.close(it for it in places if it.number not in kept):
+        for number in self._pool.close(place for place in places if place.number not in kept):
             self._backlog.put((time.monotonic(), number, None, None))
 
     def _hold(
@@ -139,7 +139,9 @@ class QuiesceCoordinator:
         """Says why there is none. Places that clients give back are added to these."""
         number, ends = self.meetings, time.monotonic() + patience
         # What is here is done while others work.
-        meeting = sorted((it for it in groups if it.has_sessions), key=lambda it: it.is_here)
+        meeting = sorted(
+            (group for group in groups if group.has_sessions), key=lambda group: group.is_here
+        )
         if not meeting:
             return "no client has a session"
         leading = meeting[number % len(meeting)]
@@ -147,7 +149,7 @@ class QuiesceCoordinator:
         unread = {place.number for place in places if place.has_flag}
         gathering = [
             group.begin_gather(
-                number, patience, group is leading, [it for it in share if it.is_due], idle
+                number, patience, group is leading, [place for place in share if place.is_due], idle
             )
             for group, share in zip(meeting, shares)
         ]
@@ -159,7 +161,7 @@ class QuiesceCoordinator:
         late = self._pool.lend()  # whose clients left while others were called
         if late:
             places.extend(late)
-            leading.begin_flag(number, [it for it in late if it.is_due])(ends)
+            leading.begin_flag(number, [place for place in late if place.is_due])(ends)
             unread.update(place.number for place in late if place.has_flag)
         self._lead(leading, unread, ends)
         self._pool.let_join()
@@ -177,13 +179,13 @@ class QuiesceCoordinator:
         ended, first, with as many keys as there is room for."""
         gone = self._backlog.take_ends()
         flags = sorted({f"{FLAG}{session}" for session in unread}.union(filter(is_own, gone)))
-        found = self._backlog.take_unseen().union(gone)
-        keys = sorted((key for key in found if not is_own(key)), key=repr)
+        unread_keys = self._backlog.take_unseen().union(gone)
+        keys = sorted((key for key in unread_keys if not is_own(key)), key=repr)
         lists = [[*flags, *keys[: READS - len(flags)]]]
         rest = keys[READS - len(flags) :]
         lists += [rest[start : start + READS] for start in range(0, len(rest), READS)]
         try:
-            leading.begin_lead(self.meetings, [it for it in lists if it])(ends)
+            leading.begin_lead(self.meetings, [batch for batch in lists if batch])(ends)
         except BaseException:  # they are to be read at the next meeting
             self._backlog.put_unseen(keys)
             self._backlog.put_ends(gone)

@@ -131,19 +131,27 @@ class SessionPool:
         back behind a cut alone, and nobody knows when there is one. So half of what clients don't
         have can be had at any time, and a few where there are few."""
         with self._changed:
-            its = [it for it in places if self._lent.get(it.number) is it and _is_behind(it)]
+            lent = [
+                place
+                for place in places
+                if self._lent.get(place.number) is place and _is_behind(place)
+            ]
             joining = self._may_join()
-            half = (len(its) + len(self._ended) - joining + 1) // 2
-            return its[: max(0, SPARE - joining, half)]
+            half = (len(lent) + len(self._ended) - joining + 1) // 2
+            return lent[: max(0, SPARE - joining, half)]
 
     def close(self, places: Iterable[Place]) -> List[int]:
         """Of those that are lent, those of which all is behind a meeting's fence: nothing more of
         them comes, until they come back. Gives their numbers."""
         with self._changed:
-            its = [it for it in places if self._lent.get(it.number) is it and _is_behind(it)]
-            for place in its:
+            lent = [
+                place
+                for place in places
+                if self._lent.get(place.number) is place and _is_behind(place)
+            ]
+            for place in lent:
                 place.has_flag, place.is_ended = False, True
-            return [place.number for place in its]
+            return [place.number for place in lent]
 
     def take_back(self, places: Iterable[Place], is_over: bool = True) -> None:
         """What was lent to a meeting that is over; or what was lent by it to a process which has
@@ -261,8 +269,8 @@ class SessionPool:
     def edges(self) -> List[Tuple[Any, ...]]:
         """As a Group's: nothing runs in these."""
         with self._changed:
-            its = [*self._left, *self._back, *filter(_is_over, self._ended.values())]
-            return [(it.number, it.begun, it.begun, it.unknown) for it in its]
+            places = [*self._left, *self._back, *filter(_is_over, self._ended.values())]
+            return [(place.number, place.begun, place.begun, place.unknown) for place in places]
 
     # where another process of the auditor goes on
 
@@ -271,22 +279,22 @@ class SessionPool:
         for; and the number of the next one that no audit is about."""
         with self._changed:
             lent = [place for place in self._lent.values() if not place.is_lent]
-            its = [*self._left, *self._back, *self._ended.values(), *lent]
-            return its, self._next_unaudited
+            places = [*self._left, *self._back, *self._ended.values(), *lent]
+            return places, self._next_unaudited
 
     def go_on(
         self, left: Iterable[Place], taken: Iterable[int], lent: Iterable[Place], unaudited: int
     ) -> None:
         """With these alone; before any client comes."""
         with self._changed:
-            its = [*left]
-            self._left = deque(it for it in its if not (it.is_ended or it.must_join))
-            self._back = deque(it for it in its if it.must_join and not it.is_ended)
-            self._ended = {it.number: it for it in its if it.is_ended}
+            places = [*left]
+            self._left = deque(place for place in places if not (place.is_ended or place.must_join))
+            self._back = deque(place for place in places if place.must_join and not place.is_ended)
+            self._ended = {place.number: place for place in places if place.is_ended}
             self._taken, self._lent = {*taken}, {place.number: place for place in lent}
             self._next_unaudited = unaudited
             joined = self.sessions
-            numbers = [*self._taken, *self._lent, *(it.number for it in its)]
+            numbers = [*self._taken, *self._lent, *(place.number for place in places)]
             self.sessions = max([joined, *(number + 1 for number in numbers if number < SESSIONS)])
             if self.sessions > joined:
                 self._new = self.sessions - 1

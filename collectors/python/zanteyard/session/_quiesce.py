@@ -99,7 +99,11 @@ class SessionGroup:
         with self.lock:  # else who is released goes on meanwhile
             if self.meeting != meeting:
                 raise QuiesceMissed("the meeting took too long")
-            flags = [one.number for one in self.held if one.is_open and one.place.has_flag]
+            flags = [
+                session.number
+                for session in self.held
+                if session.is_open and session.place.has_flag
+            ]
             flags += [place.number for place in places if place.has_flag]
             return flags, self.given_back(idle)
 
@@ -116,8 +120,8 @@ class SessionGroup:
     ) -> Wait[Tuple[List[Any], List[Place]]]:
         """What is begun gives what waits for its end, which other processes work towards
         meanwhile."""
-        found = self.gather(meeting, seconds, leads, places, idle)
-        return lambda ends: found
+        gathered = self.gather(meeting, seconds, leads, places, idle)
+        return lambda ends: gathered
 
     def begin_flag(self, meeting: int, places: Sequence[Place]) -> Wait[None]:
         self.share(meeting, places, "flag")
@@ -134,8 +138,8 @@ class SessionGroup:
     def hold(self, session: Session, meeting: int, seconds: float) -> Any:
         """Gives its place."""
         if not session.turn.acquire(timeout=self.left()):
-            told = f"a transaction of session {session.number} took longer than {seconds:g} s"
-            raise QuiesceMissed(told)
+            message = f"a transaction of session {session.number} took longer than {seconds:g} s"
+            raise QuiesceMissed(message)
         with self.lock:
             if self.meeting != meeting:
                 session.turn.release()
@@ -192,8 +196,8 @@ class SessionGroup:
         _, late = wait(running, self.left())
         if late:
             raise QuiesceMissed("the store took too long")
-        for one in running:
-            one.result()
+        for call in running:
+            call.result()
 
     def left(self) -> float:
         return max(0.0, self.ends - time.monotonic())
@@ -215,7 +219,7 @@ class SessionGroup:
         none has been sent, and of which of them it isn't known what they were answered. To be
         called twice: all that was answered as the first call ended had been answered when whatever
         hadn't been sent in the second call was sent."""
-        found: List[Tuple[Any, ...]] = []
+        edges: List[Tuple[Any, ...]] = []
         self.asked_at, self._had_ended = time.monotonic(), []
         for session in list(self.sessions):
             place = session.place  # which its client may leave meanwhile
@@ -226,11 +230,11 @@ class SessionGroup:
             begun = place.begun  # before it is seen what runs: if nothing does, all have ended
             running = session.running
             if running is None:
-                found.append((place.number, begun, begun, place.unknown))
+                edges.append((place.number, begun, begun, place.unknown))
             else:
                 first = running.number + 1 if running.is_committing else running.number
-                found.append((place.number, running.number, first, place.unknown))
-        return found
+                edges.append((place.number, running.number, first, place.unknown))
+        return edges
 
     def reopen(self) -> None:
         """Another audit begins, in which every place may be used again: all are open in it. What
@@ -238,7 +242,11 @@ class SessionGroup:
         ended in this one."""
         for session in list(self.sessions):
             place = session.place
-            if place is None or place.is_ended and not any(it is place for it in self._had_ended):
+            if (
+                place is None
+                or place.is_ended
+                and not any(ended is place for ended in self._had_ended)
+            ):
                 continue
             session.is_open, place.is_due = place.is_audited, True
             place.is_ended = place.must_join = False

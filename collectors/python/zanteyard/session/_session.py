@@ -279,8 +279,8 @@ class Session(OwnTransactions):
                 raise
             self.unclaimed, self.claim_at = error, math.inf
         except (AbortedError, OutcomeUnknownError) as error:
-            told = f"whether the name {self.run_name} is this run's can't be found out in time"
-            self.unclaimed = AuditLostError(f"{told}: {error}")
+            message = f"whether the name {self.run_name} is this run's can't be found out in time"
+            self.unclaimed = AuditLostError(f"{message}: {error}")
             self.claim_at = time.monotonic() + AGAIN
 
     def start(self, begin: Callable[..., Any], holds: bool, *arguments: Any) -> Transaction:
@@ -369,9 +369,9 @@ class Session(OwnTransactions):
 
     def lend(self, place: Place, deed: str, seconds: float = 60.0) -> None:
         """Runs "flag" or "read_mark" of a session that no client has over this one's connection."""
-        one = Session(self.auditor, place.number, self.store, self.run_name)
-        one.place, place.is_lent, one.notes = place, True, self.notes
+        session = Session(self.auditor, place.number, self.store, self.run_name)
+        session.place, place.is_lent, session.notes = place, True, self.notes
         try:
-            getattr(one, deed)(seconds)
+            getattr(session, deed)(seconds)
         finally:
-            place.is_lent, place.is_ended = False, not one.is_open
+            place.is_lent, place.is_ended = False, not session.is_open

@@ -58,14 +58,14 @@ class Transaction:
         return {key: self.was_read(key, values.get(key)) for key in keys}
 
     def was_read(
-        self, key: str, found: Optional[StoredValue], statement: Optional[str] = None
+        self, key: str, stored: Optional[StoredValue], statement: Optional[str] = None
     ) -> Any:
-        read = (key, "init" if found is None else self.source(found[1]))
+        read = (key, "init" if stored is None else self.source(stored[1]))
         self.reads.add(read)
         self.was_run(read, statement)
         if self.holds:
-            self.values.append(("read", key, brief(None if found is None else found[0])))
-        return None if found is None else found[0]
+            self.values.append(("read", key, brief(None if stored is None else stored[0])))
+        return None if stored is None else stored[0]
 
     def was_run(self, deed: Deed, statement: Optional[str] = None) -> None:
         statement = statement or self.calls.statement
@@ -284,8 +284,10 @@ class Transaction:
             elif session.place.must_join:  # it has, by this
                 session.is_open, session.place.must_join = True, False
         except BaseException as error:
-            told = f"transaction {session.number}.{self.number} was interrupted as it was handed in"
-            session.miss(self.number, AuditLostError(f"{told} ({type(error).__name__})"))
+            message = (
+                f"transaction {session.number}.{self.number} was interrupted as it was handed in"
+            )
+            session.miss(self.number, AuditLostError(f"{message} ({type(error).__name__})"))
             raise
         finally:  # nothing is called before the turn is given back: no signal comes in between
             session.running = None
@@ -319,17 +321,17 @@ class Transaction:
         if outcome != "committed":
             deeds: Set[Deed] = {*reads, *tried_reads}
             deeds.update((key,) for key in (*writes, *tried_writes))
-            statements = tuple(it for it in statements if it[0] in deeds)
+            statements = tuple(statement for statement in statements if statement[0] in deeds)
         reads = [*reads]
         if len(reads) > 1:
             reads.sort(key=repr)
         writes = sorted(writes)
         values = tuple(self.values)
         if self.holds:
-            its = (*writes, *(key for key in tried_writes if key in self.written))
-            values += tuple(("wrote", key, brief(self.written.get(key))) for key in its)
+            keys = (*writes, *(key for key in tried_writes if key in self.written))
+            values += tuple(("wrote", key, brief(self.written.get(key))) for key in keys)
         if not (reads or tried_reads):  # it isn't known, or doesn't matter, what was read
-            values = tuple(it for it in values if it[0] == "wrote")
+            values = tuple(value for value in values if value[0] == "wrote")
         more = (statements, values, self.began, self.caller)
         return Logged(reads, writes, outcome, *more, tried_reads, tried_writes)
 

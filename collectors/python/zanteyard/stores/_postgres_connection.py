@@ -51,10 +51,10 @@ def outcome_told(dsn: str, text: str, values: Sequence[Any], seconds: float) -> 
     crashed gives that of one that was lost to another one. It is asked over a connection of its
     own, since the one at hand may be broken."""
     try:
-        found = answer(dsn, text, values, seconds)
+        row = answer(dsn, text, values, seconds)
     except psycopg2.Error:
         return "unknown"
-    status, is_there = found or (None, False)
+    status, is_there = row or (None, False)
     if status == "aborted" or (status == "committed" and is_there):
         return str(status)
     return "unknown"
@@ -107,5 +107,5 @@ def reached(dsn: Dict[str, str], around: Dict[str, str]) -> Optional[Dict[str, s
     if any("service" in words for words in (dsn, around, here)):
         return dsn if here == around else None  # what a service says is known to libpq alone
     # An empty word is as good as none, and libpq then doesn't look around for it.
-    found = {**{word: PLAIN.get(word, "") for word in here}, **around, **dsn}
-    return {word: said for word, said in found.items() if word != "servicefile"}
+    merged = {**{word: PLAIN.get(word, "") for word in here}, **around, **dsn}
+    return {word: said for word, said in merged.items() if word != "servicefile"}

@@ -65,15 +65,15 @@ def asked(
     asks.ends_it = ends_it
     if not ends_it and (life is None or asks.row(WHOSE, ()) != (life,)):
         return UNKNOWN
-    its = (key, run, session, number)
+    row_name = (key, run, session, number)
     if transaction_id is None:
-        statements = statements_of(table, *its)
+        statements = statements_of(table, *row_name)
         seen = asks.seen_last(pid, since, statements, seconds) if since is not None else None
         if seen is None:
             return UNKNOWN
         if "\n" in run:  # a name of more lines than one isn't found among them
             return UNKNOWN
-        row = asks.row(THE_ROW, (*its[1:], key))
+        row = asks.row(THE_ROW, (*row_name[1:], key))
         if row is not None and row[0]:
             return "committed", overwritten(row[1])[:1]
         if row is not None and not key.startswith(FLAG):  # others write it, too, as who joins does
@@ -85,20 +85,20 @@ def asked(
     status, now = asks.status(transaction_id, pid, since, seconds)
     if status == "aborted":
         return "aborted", None
-    if status == "committed" and (now == life or asks.row(ITS_ROW, its) is not None):
+    if status == "committed" and (now == life or asks.row(ITS_ROW, row_name) is not None):
         return "committed", None
     return UNKNOWN
 
 
 def overwritten(value: Optional[str]) -> Sequence[Name]:
     """The names that a row of the collector's own keeps, the last first, as far as they are any."""
-    found: List[Name] = []
+    names: List[Name] = []
     for line in (value or "").split("\n"):
         parts = line.split(" ", 2)
         if len(parts) < 3 or not (parts[0].isdecimal() and parts[1].isdecimal()):
             break
-        found.append((parts[2], int(parts[0]), int(parts[1])))
-    return tuple(found)
+        names.append((parts[2], int(parts[0]), int(parts[1])))
+    return tuple(names)
 
 
 def from_name(names: Sequence[Name], name: Name) -> Sequence[Name]:
@@ -146,10 +146,10 @@ class Asks:
         """Which of the killed process's two statements its server's process has done and does no
         more: "changes" or "makes"; "gone" where there is no such process any more; or None."""
         while True:
-            found = self.row(RUNS_STILL, (*statements, pid, since))
-            if found is None:
+            row = self.row(RUNS_STILL, (*statements, pid, since))
+            if row is None:
                 return "gone"
-            is_idle, changes, makes = found
+            is_idle, changes, makes = row
             if is_idle and (changes or makes):
                 return "changes" if changes else "makes"
             if not self.again(seconds, pid, since, None, statements):

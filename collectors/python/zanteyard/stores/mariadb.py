@@ -194,11 +194,11 @@ class MariaDBStore:
             self.connection._read_timeout = self.usual
 
     def raise_what_it_means(self, error: pymysql.MySQLError) -> None:
-        told = f"{' '.join(map(str, error.args))}".strip()
+        message = f"{' '.join(map(str, error.args))}".strip()
         if self.is_alone and self.is_broken(error):
-            raise OutcomeUnknownError(told) from error
+            raise OutcomeUnknownError(message) from error
         if code_of(error) in CONFLICTS or (self.is_alone and code_of(error) == TIME_IS_UP):
-            raise AbortedError(told) from error
+            raise AbortedError(message) from error
 
     def still_open(self) -> None:
         """A statement of a transaction that the server has ended would be one by itself."""
@@ -206,11 +206,11 @@ class MariaDBStore:
             raise AbortedError("the transaction had failed before")
         if self.is_connected and not self.is_in_transaction:
             self.has_failed = True
-            told = "something else has ended the transaction, as statements that make tables do"
+            message = "something else has ended the transaction, as statements that make tables do"
             if self.has_written:
                 self.is_torn = True
-                raise OutcomeUnknownError(told)
-            raise AbortedError(told)
+                raise OutcomeUnknownError(message)
+            raise AbortedError(message)
 
     # what sessions call
 
@@ -343,8 +343,8 @@ class MariaDBStore:
             cursor = connection.cursor()
             row = (self.own, "aborted", "", OWN, count)
             cursor.execute(limited(seconds) + DECIDE.format(table=self.table), row)
-            found: Tuple[str, int] = cursor.fetchone()
-            return found
+            decision: Tuple[str, int] = cursor.fetchone()
+            return decision
         finally:
             close_connection(connection)
 
@@ -376,7 +376,7 @@ def asked(
     """What became of the transaction of a store whose process is killed."""
     store = MariaDBStore(dsn, patience=seconds)
     store.table, store.own = table, own
-    store.count, is_alone, *its = ticket
+    store.count, is_alone, *row_name = ticket
     outcome = store.outcome_within(seconds)
     if outcome != "committed" or not is_alone:
         return outcome, None
@@ -384,7 +384,7 @@ def asked(
     try:
         limit(connection, time.monotonic() + seconds)
         cursor = connection.cursor()
-        cursor.execute(ITS_ROW.format(table=table), its)
+        cursor.execute(ITS_ROW.format(table=table), row_name)
         row = cursor.fetchone()
         return outcome, None if row is None else () if row[0] is None else (row,)
     finally:

@@ -85,12 +85,12 @@ def prepare(dsn: str, table: str = "zanteyard") -> None:
     try:
         connection.set_session(isolation_level="READ COMMITTED")  # to see what was waited for
         with connection:
-            cursor, its = connection.cursor(), quoted(table)
+            cursor, name = connection.cursor(), quoted(table)
             cursor.execute(ONE_AT_A_TIME)
-            cursor.execute(TABLE.format(table=its))
-            cursor.execute(FIRST.format(table=its), (RUNS, "", "", -1, 0))
+            cursor.execute(TABLE.format(table=name))
+            cursor.execute(FIRST.format(table=name), (RUNS, "", "", -1, 0))
             if cursor.fetchone() is not None:
-                cursor.execute(CLAIM_ALL.format(table=its), (RUN,))
+                cursor.execute(CLAIM_ALL.format(table=name), (RUN,))
     finally:
         connection.close()
 

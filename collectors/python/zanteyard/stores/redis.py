@@ -108,13 +108,13 @@ class RedisStore:
 
     def see_that_nothing_is_dropped(self, connection: Any) -> None:
         try:
-            (told,) = replies(connection, [("INFO", "memory")])
+            (text,) = replies(connection, [("INFO", "memory")])
         except redis.ResponseError as error:
             logger.warning("whether this Redis drops keys can't be seen: %s", error)
             return
-        found = dict(line.split(":", 1) for line in told.splitlines() if ":" in line)
-        policy = found.get("maxmemory_policy", "noeviction")
-        if found.get("maxmemory", "0") != "0" and policy.startswith("allkeys"):
+        figures = dict(line.split(":", 1) for line in text.splitlines() if ":" in line)
+        policy = figures.get("maxmemory_policy", "noeviction")
+        if figures.get("maxmemory", "0") != "0" and policy.startswith("allkeys"):
             raise StoreUnfitError(
                 f"this Redis drops any key where memory is short ({policy}), and its writer's name "
                 "with it: what it drops would be told as a lost write"
@@ -183,25 +183,29 @@ class RedisStore:
     def read_all(self, keys: Sequence[str]) -> Dict[str, StoredValue]:
         if not keys:
             return {}
-        its = [self.its(key) for key in keys]
-        commands: List[Command] = [("MGET", *its)] if len(its) > 1 else [("GET", *its)]
+        full_keys = [self.its(key) for key in keys]
+        commands: List[Command] = (
+            [("MGET", *full_keys)] if len(full_keys) > 1 else [("GET", *full_keys)]
+        )
         if self.level == WATCHED and not self.is_alone:
-            commands.insert(0, ("WATCH", *its))  # in front: what comes between is found out
-        texts = self.texts_of(its, commands)
+            commands.insert(0, ("WATCH", *full_keys))  # in front: what comes between is found out
+        texts = self.texts_of(full_keys, commands)
         self.told(*commands)
         if not self.is_alone:
             self.seen.update(zip(keys, texts))
-        found = {key: found_in(text) for key, text in zip(keys, texts)}
-        return {key: it for key, it in found.items() if it is not None}
+        values = {key: found_in(text) for key, text in zip(keys, texts)}
+        return {key: value for key, value in values.items() if value is not None}
 
-    def texts_of(self, its: Sequence[str], commands: Sequence[Command]) -> List[Optional[str]]:
+    def texts_of(
+        self, full_keys: Sequence[str], commands: Sequence[Command]
+    ) -> List[Optional[str]]:
         """What the last command is answered. MGET tells of a list, or the like, that no key is
         there; GET raises, as it does where one key is read."""
         answer = self.asked(commands)[-1]
-        if len(its) == 1:
+        if len(full_keys) == 1:
             return [answer]
         texts: List[Optional[str]] = answer
-        absent = [("GET", each) for each, text in zip(its, texts) if text is None]
+        absent = [("GET", each) for each, text in zip(full_keys, texts) if text is None]
         if absent:
             self.asked(absent)
         return texts
@@ -243,16 +247,16 @@ class RedisStore:
     def exchange(self, key: str, value: Any, name: Name) -> Optional[StoredValue]:
         """In a transaction the key is watched, at every level but where each write is done at
         once."""
-        its = self.its(key)
-        command = ("SET", its, text_of(value, name), "GET")
+        full_key = self.its(key)
+        command = ("SET", full_key, text_of(value, name), "GET")
         if self.is_alone:
             return self.exchanged_alone(command)
         if self.level == SINGLE:
             text = self.sent_by_itself(command)
             self.told(command)
             return found_in(text)
-        text = self.send(("WATCH", its), ("GET", its))[-1]
-        self.told(("WATCH", its), ("GET", its))
+        text = self.send(("WATCH", full_key), ("GET", full_key))[-1]
+        self.told(("WATCH", full_key), ("GET", full_key))
         self.seen[key] = text
         self.queued.append(command[:-1])
         return found_in(text)
@@ -280,10 +284,14 @@ class RedisStore:
                 raise AbortedError(str(error)) from error  # nothing was done
 
     def compare(self) -> None:
-        keys = [key for key in self.seen if any(it[1] == self.prefix + key for it in self.queued)]
+        keys = [
+            key
+            for key in self.seen
+            if any(command[1] == self.prefix + key for command in self.queued)
+        ]
         if keys:
-            its = [self.prefix + key for key in keys]
-            texts = self.send(("WATCH", *its), ("MGET", *its))[-1]
+            full_keys = [self.prefix + key for key in keys]
+            texts = self.send(("WATCH", *full_keys), ("MGET", *full_keys))[-1]
             if texts != [self.seen[key] for key in keys]:
                 raise AbortedError("what was read and is to be written has changed")
 
@@ -297,7 +305,7 @@ class RedisStore:
             raise OutcomeUnknownError(str(error)) from error
         if answers is None:
             raise AbortedError("a key that was watched has changed")
-        failed = [it for it in answers if isinstance(it, Exception)]
+        failed = [answer for answer in answers if isinstance(answer, Exception)]
         if failed:  # the others were done: Redis takes nothing back
             self.is_torn = True
             raise OutcomeUnknownError(
@@ -369,8 +377,8 @@ class RedisStore:
         """Makes the name that of one run, or raises NameTakenError where it is another's;
         OutcomeUnknownError where the server hasn't answered after so many seconds."""
         self.begin_alone(seconds)
-        its = f"{self.prefix}{RUN}{run_name}"
-        *_, owner = self.asked([("SET", its, token, "NX"), ("GET", its)])
+        full_key = f"{self.prefix}{RUN}{run_name}"
+        *_, owner = self.asked([("SET", full_key, token, "NX"), ("GET", full_key)])
         if owner != token:
             raise NameTakenError(f"{self.prefix} knows the name {run_name}: an earlier run had it")
 

@@ -282,10 +282,10 @@ class SQLiteStore:
         in WAL it is, in effect, once this has committed."""
         (journal,) = connection.execute("PRAGMA journal_mode").fetchone()
         connection.execute("BEGIN IMMEDIATE")
-        found = connection.execute(READ.format(table=self.table), (self.own,)).fetchone()
-        if found is not None and found[3] == self.count:
+        stored = connection.execute(READ.format(table=self.table), (self.own,)).fetchone()
+        if stored is not None and stored[3] == self.count:
             connection.execute("ROLLBACK")
-            return ABORTED if found[0] == ABORTED else "committed"
+            return ABORTED if stored[0] == ABORTED else "committed"
         if journal == "wal":
             row = (self.own, ABORTED, "", OWN, self.count)
             connection.execute(WRITE.format(table=self.table, rows=ROW), row)
@@ -312,12 +312,12 @@ class SQLiteStore:
         row = (RUN + run_name, token, run_name, -1, 0)
         try:
             self.ask(FIRST, row)
-            found: List[Tuple[Any, ...]] = self.ask(READ, row[:1]).fetchall()
+            rows: List[Tuple[Any, ...]] = self.ask(READ, row[:1]).fetchall()
             self.end()
         except BaseException:
             self.rollback()
             raise
-        if found[0][0] != token:
+        if rows[0][0] != token:
             raise NameTakenError(f"{self.table} knows the name {run_name}: an earlier run had it")
 
 
@@ -328,13 +328,13 @@ def asked(path: str, table: str, own: str, *, ticket: Any, seconds: float) -> Co
     """What became of the transaction of a store whose process is killed."""
     store = SQLiteStore(path, patience=seconds)
     store.table, store.own = table, own
-    store.count, is_alone, *its = ticket
+    store.count, is_alone, *row_name = ticket
     outcome = store.outcome_within(seconds)
     if outcome != "committed" or not is_alone:
         return outcome, None
     try:
         store.connect()
-        row = store.connection.execute(ITS_ROW.format(table=table), its).fetchone()
+        row = store.connection.execute(ITS_ROW.format(table=table), row_name).fetchone()
         return outcome, None if row is None else overwritten(row[0])
     finally:
         store.close()

@@ -123,8 +123,8 @@ NAMES = (*STORIES, HONEST)
 
 def about(name: str) -> str:
     """What the clients do, in a sentence."""
-    told = _every_story if name == HONEST else STORIES[name]
-    return (told.__doc__ or "").strip().rstrip(".")
+    about_it = _every_story if name == HONEST else STORIES[name]
+    return (about_it.__doc__ or "").strip().rstrip(".")
 
 
 def run_demo(name: str, auditor: Auditor) -> None:

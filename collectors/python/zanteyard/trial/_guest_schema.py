@@ -64,5 +64,5 @@ class GuestSchema:
         try:
             self.run(self.drop)
         except psycopg2.Error as error:
-            told = f"what it made is left, and is to be dropped by hand ({self.drop})"
-            self.tell(f"{told}: {error}".strip())
+            message = f"what it made is left, and is to be dropped by hand ({self.drop})"
+            self.tell(f"{message}: {error}".strip())

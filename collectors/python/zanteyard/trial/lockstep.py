@@ -125,21 +125,21 @@ def _newer_write(clients: Sequence[Client]) -> None:
 
 def _lost_update(clients: Sequence[Client]) -> None:
     """Two clients count up from the same number."""
-    one, other, _ = clients
-    one.run(x="1")
-    for client in (one, other):
+    first, other, _ = clients
+    first.run(x="1")
+    for client in (first, other):
         client.begin()
         client.get("x")
-    for client in (one, other):
+    for client in (first, other):
         client.put("x", "2")
         client.commit()
 
 
 def _write_skew(clients: Sequence[Client]) -> None:
     """Two clients each see two coins, and each takes one that the other leaves."""
-    one, other, _ = clients
-    one.run(x="1", y="1")
-    _take_each_one(one, other)
+    first, other, _ = clients
+    first.run(x="1", y="1")
+    _take_each_one(first, other)
 
 
 def _absent_keys(clients: Sequence[Client]) -> None:
@@ -147,12 +147,12 @@ def _absent_keys(clients: Sequence[Client]) -> None:
     _take_each_one(*clients[:2])
 
 
-def _take_each_one(one: Client, other: Client) -> None:
-    for client in (one, other):
+def _take_each_one(first: Client, other: Client) -> None:
+    for client in (first, other):
         client.begin()
         client.get("x")
         client.get("y")
-    for client, key in ((one, "x"), (other, "y")):
+    for client, key in ((first, "x"), (other, "y")):
         client.put(key, "0")
         client.commit()
 
@@ -229,8 +229,8 @@ class _OwnKeys:
 
     @property
     def statement(self) -> Optional[str]:
-        told: Optional[str] = self.store.statement
-        return told
+        statement: Optional[str] = self.store.statement
+        return statement
 
     def read(self, key: str) -> Any:
         return self.store.read(self.prefix + key)
@@ -242,10 +242,10 @@ class _OwnKeys:
         return self.store.exchange(self.prefix + key, value, name)
 
 
-def table_lines(found: Mapping[str, Sequence[Seen]], levels: Sequence[str]) -> List[str]:
+def table_lines(seen_by_fault: Mapping[str, Sequence[Seen]], levels: Sequence[str]) -> List[str]:
     """As a table, with a column for each level."""
     rows = [["", *levels]]
-    rows += [[fault, *(str(one) for one in seen)] for fault, seen in found.items()]
+    rows += [[fault, *(str(cell) for cell in seen)] for fault, seen in seen_by_fault.items()]
     widths = [max(map(len, column)) for column in zip(*rows)]
     return [
         "  ".join(text.ljust(width) for text, width in zip(row, widths)).rstrip() for row in rows
@@ -256,13 +256,13 @@ def table_of(
     make_stores: Callable[[str], Sequence[Any]], levels: Sequence[str]
 ) -> Dict[str, List[Seen]]:
     """Of each fault what was seen at each level; `make_stores` makes SESSIONS stores of a level."""
-    found: Dict[str, List[Seen]] = {fault: [] for fault in FAULTS}
+    seen_by_fault: Dict[str, List[Seen]] = {fault: [] for fault in FAULTS}
     for level in levels:
         stores = make_stores(level)
         try:
-            for fault, seen in found.items():
+            for fault, seen in seen_by_fault.items():
                 seen.append(run_lockstep(fault, stores, f"{level}/{fault}/"))
         finally:
             for store in stores:
                 store.close()
-    return found
+    return seen_by_fault

@@ -87,5 +87,5 @@ class MariaDBGuest:
             connection.cursor().execute(drop)
             connection.close()
         except pymysql.MySQLError as error:
-            told = f"what it made is left, and is to be dropped by hand ({drop})"
-            self.tell(f"{told}: {error}".strip())
+            message = f"what it made is left, and is to be dropped by hand ({drop})"
+            self.tell(f"{message}: {error}".strip())

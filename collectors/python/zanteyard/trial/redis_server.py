@@ -35,12 +35,12 @@ class RedisServer(ThrowawayServer):
         return [redis_server() or "redis-server", *own, *self.options]
 
     def answers(self) -> bool:
-        with socket.socket(socket.AF_UNIX) as one:
-            one.settimeout(5.0)
+        with socket.socket(socket.AF_UNIX) as sock:
+            sock.settimeout(5.0)
             try:
-                one.connect(self.socket)
-                one.sendall(b"PING\r\n")
-                return one.recv(64).startswith(b"+PONG")  # not while it loads what it has kept
+                sock.connect(self.socket)
+                sock.sendall(b"PING\r\n")
+                return sock.recv(64).startswith(b"+PONG")  # not while it loads what it has kept
             except OSError:
                 return False
 
@@ -66,5 +66,5 @@ class RedisGuest:
                 client.delete(key)
             client.close()
         except redis.RedisError as error:
-            told = f"what it made is left, and is to be deleted by hand ({self.prefix}*)"
-            self.tell(f"{told}: {error}".strip())
+            message = f"what it made is left, and is to be deleted by hand ({self.prefix}*)"
+            self.tell(f"{message}: {error}".strip())

@@ -178,24 +178,24 @@ class _MariaDB(StoreKind):
         connection = pymysql.connect(**server.dsn)
         cursor = connection.cursor()
         cursor.execute("SELECT VERSION()")
-        (found,) = cursor.fetchone()
+        (version,) = cursor.fetchone()
         connection.close()
-        return f"MariaDB {found.split('-')[0]}, pymysql {pymysql.__version__}"
+        return f"MariaDB {version.split('-')[0]}, pymysql {pymysql.__version__}"
 
 
 def words_of(text: str) -> Dict[str, Any]:
     """`host=.. port=.. user=..` as what pymysql's `connect` takes. Raises CantAuditError."""
-    found: Dict[str, Any] = {}
+    words: Dict[str, Any] = {}
     for word in text.split():
         name, equals, value = word.partition("=")
         if not equals:
             raise CantAuditError(f"{word} has no = in it")
-        found[name] = int(value) if name == "port" else value
-    if "database" not in found:
+        words[name] = int(value) if name == "port" else value
+    if "database" not in words:
         raise CantAuditError("which database= is wanted")
-    if "read_default_file" in found:
-        found["read_default_file"] = os.path.expanduser(found["read_default_file"])
-    return found
+    if "read_default_file" in words:
+        words["read_default_file"] = os.path.expanduser(words["read_default_file"])
+    return words
 
 
 class _Redis(StoreKind):
@@ -222,8 +222,8 @@ class _Redis(StoreKind):
         import redis
 
         with redis.Redis.from_url(server.dsn) as client:
-            found: Dict[str, Any] = dict(client.info("server"))
-        return f"Redis {found['redis_version']}, redis-py {redis.__version__}"
+            figures: Dict[str, Any] = dict(client.info("server"))
+        return f"Redis {figures['redis_version']}, redis-py {redis.__version__}"
 
 
 class _SQLite(StoreKind):
@@ -315,8 +315,8 @@ KINDS: Sequence[StoreKind] = (POSTGRES, _MariaDB(), _Redis(), _SQLite())
 
 def kind_named(command: str) -> StoreKind:
     """Of the command's name for it."""
-    (found,) = [kind for kind in KINDS if kind.command == command]
-    return found
+    (named,) = [kind for kind in KINDS if kind.command == command]
+    return named
 
 
 def names() -> List[str]:

@@ -31,9 +31,9 @@ class Slow:
         return getattr(self._store, name)
 
     def read(self, key: str) -> Any:
-        found = self._store.read(key)
+        stored = self._store.read(key)
         time.sleep(self._seconds)
-        return found
+        return stored
 
 
 def run_at_once(
@@ -71,13 +71,13 @@ def at_once_table(
 ) -> Mapping[str, List[Seen]]:
     """Of each workload what was seen at each level. Each begins with new connections, and goes on
     in the rows of the one before it."""
-    found: Dict[str, List[Seen]] = {workload: [] for workload in workloads}
+    seen_by_workload: Dict[str, List[Seen]] = {workload: [] for workload in workloads}
     for level in levels:
-        for workload, seen in found.items():
+        for workload, seen in seen_by_workload.items():
             stores = make_stores(level)
             try:
                 seen.append(run_at_once(workload, stores, seconds))
             finally:
                 for store in stores:
                     store.close()
-    return found
+    return seen_by_workload

@@ -109,8 +109,8 @@ class Clients:
         self.began = time.monotonic()
         self.until = self.began + seconds
         threads = [
-            threading.Thread(target=self.client, args=it, daemon=True)
-            for it in enumerate(sessions, first)
+            threading.Thread(target=self.client, args=numbered, daemon=True)
+            for numbered in enumerate(sessions, first)
         ]
         for thread in threads:
             thread.start()
@@ -181,10 +181,10 @@ class ChurningClients(Clients):
         while time.monotonic() < until and not (self.is_over() or self.failures):
             store = self.make_store()
             try:
-                with self.live.session(store) as its:
-                    self.live_until(min(until, time.monotonic() + life), number, its)
+                with self.live.session(store) as own:
+                    self.live_until(min(until, time.monotonic() + life), number, own)
                     with self.lock:
-                        self.came, self.total = self.came + 1, self.total + its.waited
+                        self.came, self.total = self.came + 1, self.total + own.waited
             except Exception as error:  # told by the main thread
                 self.failures.append(error)
             finally:
@@ -215,10 +215,12 @@ class ClientProcesses(Clients):
         spawned = multiprocessing.get_context(
             "spawn"
         )  # a fork would have half of the auditor's threads
-        told, ready = spawned.SimpleQueue(), spawned.Barrier(count)
+        results, ready = spawned.SimpleQueue(), spawned.Barrier(count)
         asked = (path, make_store, workload, seconds, rate and rate / count)
         processes = [
-            spawned.Process(target=client_process, args=(told, ready, number, *asked), daemon=True)
+            spawned.Process(
+                target=client_process, args=(results, ready, number, *asked), daemon=True
+            )
             for number in range(count)
         ]
         try:
@@ -231,10 +233,10 @@ class ClientProcesses(Clients):
                 if process.is_alive():
                     process.terminate()
         for _ in processes:
-            if told.empty():
+            if results.empty():
                 self.failures.append(RuntimeError("a client's process ended without a word"))
                 break
-            failure, *counts = told.get()
+            failure, *counts = results.get()
             if failure is not None:
                 self.failures.append(RuntimeError(failure))
                 continue
@@ -249,7 +251,7 @@ class ClientProcesses(Clients):
 
 
 def client_process(
-    told: Any,
+    results: Any,
     ready: Any,
     number: int,
     path: Optional[str],
@@ -271,10 +273,10 @@ def client_process(
         clients = Clients([session], EVERY_WORKLOAD[workload], seconds, is_over, rate, number)
         if audit:
             audit.leave()
-        failure = next((str(it) or type(it).__name__ for it in clients.failures), None)
+        failure = next((str(error) or type(error).__name__ for error in clients.failures), None)
         used = time.process_time()
         counts = (clients.committed, clients.aborted, used - began, used)
-        told.put((failure, *counts, clients.took, clients.waited, clients.longest))
+        results.put((failure, *counts, clients.took, clients.waited, clients.longest))
     except Exception as error:
-        told.put((f"client {number}: {str(error) or type(error).__name__}",))
+        results.put((f"client {number}: {str(error) or type(error).__name__}",))
         ready.abort()  # nobody waits for it
