@@ -51,8 +51,8 @@ def find_anomaly(
     }
     behind = _behind(table)
     for pattern in (_dirty_reads, _lost_updates, _fractured_reads, _stale_reads, _write_skews):
-        for found in pattern(table, behind, name):
-            return found
+        for anomaly in pattern(table, behind, name):
+            return anomaly
     return None
 
 
@@ -62,46 +62,46 @@ def _told(key: str) -> str:
 
 def _plain_arcs(table: Transactions) -> Iterator[Edge]:
     """What comes before what by sessions and by who read from whom."""
-    for one, logged in table.items():
-        following = ShownId((one[0], one[1] + 1))
+    for id, logged in table.items():
+        following = ShownId((id[0], id[1] + 1))
         if following in table:
-            yield one, following
+            yield id, following
         for _, source in logged.reads:
             if source in table:
-                yield source, one
+                yield source, id
 
 
 def _behind(table: Transactions) -> Dict[ShownId, Set[ShownId]]:
     """Of each transaction, those that stand behind it by these arcs."""
-    after: Dict[ShownId, List[ShownId]] = {one: [] for one in table}
+    after: Dict[ShownId, List[ShownId]] = {id: [] for id in table}
     for start, end in _plain_arcs(table):
         after[start].append(end)
-    found: Dict[ShownId, Set[ShownId]] = {}
-    for one in table:
+    behind: Dict[ShownId, Set[ShownId]] = {}
+    for id in table:
         reached: Set[ShownId] = set()
-        waiting = list(after[one])
+        waiting = list(after[id])
         while waiting:
             at = waiting.pop()
             if at not in reached:
                 reached.add(at)
                 waiting += after[at]
-        found[one] = reached
-    return found
+        behind[id] = reached
+    return behind
 
 
 def _overwritten(
     table: Transactions, behind: Mapping[ShownId, Set[ShownId]]
 ) -> List[Tuple[ShownId, str, Source, ShownId]]:
     """Each (reader, key, source, other) where the other wrote a later version than was read."""
-    found = []
+    overwritten = []
     for reader, logged in table.items():
         for key, source in logged.reads:
-            for other, its in table.items():
-                if other in (reader, source) or key not in its.writes:
+            for other, other_logged in table.items():
+                if other in (reader, source) or key not in other_logged.writes:
                     continue
                 if source == "init" or (source in table and other in behind[source]):
-                    found.append((reader, key, source, other))
-    return found
+                    overwritten.append((reader, key, source, other))
+    return overwritten
 
 
 def _dirty_reads(table: Transactions, _: object, name: Naming) -> Iterator[Anomaly]:
@@ -109,12 +109,12 @@ def _dirty_reads(table: Transactions, _: object, name: Naming) -> Iterator[Anoma
         for key, source in logged.reads:
             if source in table and key not in table[source].writes:
                 if key in table[source].tried_writes:
-                    told = told_undone(reader, _told(key), source, name)
-                    yield Anomaly("dirty read", told, (source, reader))
+                    sentence = told_undone(reader, _told(key), source, name)
+                    yield Anomaly("dirty read", sentence, (source, reader))
                     continue
                 kind, why = _wrong_read(table[source])
-                told = f"{name(reader)} read {_told(key)} from {name(source)}, {why}"
-                yield Anomaly(kind, told, (source, reader))
+                sentence = f"{name(reader)} read {_told(key)} from {name(source)}, {why}"
+                yield Anomaly(kind, sentence, (source, reader))
 
 
 def _wrong_read(source: Logged) -> Tuple[str, str]:
@@ -130,18 +130,18 @@ def _wrong_read(source: Logged) -> Tuple[str, str]:
 
 def _lost_updates(table: Transactions, _: object, name: Naming) -> Iterator[Anomaly]:
     first: Dict[Tuple[str, Source], ShownId] = {}
-    for one, logged in table.items():
+    for id, logged in table.items():
         for key, source in logged.reads:
             if key not in logged.writes:
                 continue
-            other = first.setdefault((key, source), one)
-            if other != one:
+            other = first.setdefault((key, source), id)
+            if other != id:
                 yield Anomaly(
                     "lost update",
-                    f"{name(other)} and {name(one)} both read {_told(key)} "
+                    f"{name(other)} and {name(id)} both read {_told(key)} "
                     f"{version(key, source, name)} and both overwrote it: "
                     "one of the two updates is lost",
-                    (other, one),
+                    (other, id),
                 )
 
 
@@ -187,10 +187,10 @@ def _write_skews(
             for following in after.get(way[-1], {}):
                 if following == start:
                     circle = [*way, start]
-                    told = ", and ".join(
-                        f"{name(one)} read {_told(after[one][two])}, which {name(two)} overwrote"
-                        for one, two in zip(circle, circle[1:])
+                    sentence = ", and ".join(
+                        f"{name(first)} read {_told(after[first][two])}, which {name(two)} overwrote"
+                        for first, two in zip(circle, circle[1:])
                     )
-                    yield Anomaly("write skew", told, tuple(way))
+                    yield Anomaly("write skew", sentence, tuple(way))
                 elif following not in way and following > start and len(way) < 8:
                     ways.append([*way, following])

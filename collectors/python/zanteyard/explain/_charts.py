@@ -28,8 +28,10 @@ def draw_rounds(rounds: Sequence[RoundSeen]) -> str:
         return ""
     return "\n".join(
         [
-            _chart(rounds, "transactions that remain", lambda one: float(one.remaining), "{:,.0f}"),
-            _chart(rounds, "seconds behind the clients", lambda one: one.behind, "{:.2f}"),
+            _chart(
+                rounds, "transactions that remain", lambda seen: float(seen.remaining), "{:,.0f}"
+            ),
+            _chart(rounds, "seconds behind the clients", lambda seen: seen.behind, "{:.2f}"),
         ]
     )
 
@@ -38,19 +40,19 @@ def _chart(
     rounds: Sequence[RoundSeen], title: str, value: Callable[[RoundSeen], float], shown: str
 ) -> str:
     most = max(max(map(value, rounds)), 1e-9)
-    last = max(max(one.seconds for one in rounds), 1e-9)
+    last = max(max(seen.seconds for seen in rounds), 1e-9)
     points = [
         (
-            LEFT + one.seconds / last * (WIDTH - LEFT - 20),
-            HEIGHT - BOTTOM - value(one) / most * (HEIGHT - BOTTOM - 28),
+            LEFT + seen.seconds / last * (WIDTH - LEFT - 20),
+            HEIGHT - BOTTOM - value(seen) / most * (HEIGHT - BOTTOM - 28),
         )
-        for one in rounds
+        for seen in rounds
     ]
     dots: List[str] = []
-    for one, (x, y) in zip(rounds, points):
-        about = f"{one.seconds:.1f} s: {one.kind}, {shown.format(value(one))} {title}"
+    for seen, (x, y) in zip(rounds, points):
+        about = f"{seen.seconds:.1f} s: {seen.kind}, {shown.format(value(seen))} {title}"
         dots.append(
-            f'<circle class="{escape(one.kind)}" cx="{x:.1f}" cy="{y:.1f}" r="3.5">'
+            f'<circle class="{escape(seen.kind)}" cx="{x:.1f}" cy="{y:.1f}" r="3.5">'
             f"<title>{escape(about)}</title></circle>"
         )
     line = " ".join(f"{x:.1f},{y:.1f}" for x, y in points)

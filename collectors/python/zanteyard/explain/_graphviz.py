@@ -33,12 +33,12 @@ def dot_text(
     for session, txns in enumerate(history):
         for number, logged in enumerate(txns):
             if deeds(logged, name):
-                its = name(ShownId((session, number)))
-                label = quoted(its, *deeds(logged, name))
+                called = name(ShownId((session, number)))
+                label = quoted(called, *deeds(logged, name))
                 run = [*statements_of(logged)]  # seen in the SVG where the pointer rests on it
                 more = f", tooltip={quoted(*run)}" if run else ""
                 more += ", style=dashed" if logged.outcome == ABORTED else ""
-                lines.append(f"  {quoted(its)} [label={label}, group=session{session}{more}];")
+                lines.append(f"  {quoted(called)} [label={label}, group=session{session}{more}];")
     for reader, key, source in _reads_of_aborted(history):
         ends = f"{quoted(name(source))} -> {quoted(name(reader))}"
         lines.append(f"  {ends} [label={quoted(f'read {key}')}, style=dashed];")

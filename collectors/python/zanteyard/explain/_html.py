@@ -117,7 +117,7 @@ def page_of(story: Story, about: str, origin: str, rounds: Sequence[RoundSeen] =
 def _head(story: Story, about: str) -> str:
     count = sum(story.counts)
     of_what = f"{about}: {count:,} transactions of {len(story.counts)} sessions" if count else about
-    found = [
+    lines = [
         f'<h1>{HEADINGS[story.kind]} <span class="verdict {story.kind}">{story.kind}</span></h1>',
         f'<p class="soft">{escape(of_what)}</p>',
         f"<p>{escape(_sentence(story))}.</p>",
@@ -125,11 +125,11 @@ def _head(story: Story, about: str) -> str:
     if story.anomaly is not None:
         meaning = MEANINGS.get(story.anomaly.name)
         more = f' <span class="soft">({escape(meaning)})</span>' if meaning else ""
-        found.append(
+        lines.append(
             f'<div class="anomaly"><strong>{escape(_capital(story.anomaly.name))}</strong>{more}'
             f"<br>{escape(_capital(story.anomaly.sentence))}.</div>"
         )
-    return "\n".join(found)
+    return "\n".join(lines)
 
 
 def _sentence(story: Story) -> str:
@@ -180,7 +180,7 @@ def _reasons(story: Story) -> Iterable[str]:
             f"comes before {escape(names[link.end])}</strong>: {escape(link.why)}.</li>"
         )
     yield "</ol>"
-    around = " → ".join(escape(one) for one in story.circle)
+    around = " → ".join(escape(called) for called in story.circle)
     yield '<p>That goes round in a circle, so none of them can come first:</p><p class="around">'
     yield f"{around}</p>"
 
@@ -212,7 +212,7 @@ def _table(steps: Sequence[Step]) -> Iterable[str]:
             if has_statements:
                 yield f"<td><code>{escape(deed.statement) if deed else ''}</code></td>"
             if has_places and not at:
-                where = " ".join(it for it in (step.clock, step.caller) if it)
+                where = " ".join(part for part in (step.clock, step.caller) if part)
                 yield f'<td rowspan="{rows}">{escape(where)}</td>'
             yield "</tr>"
     yield "</tbody></table>"

@@ -92,29 +92,29 @@ def read_arcs(txns: Transactions, name: Naming = name) -> Iterator[Arc]:
 
 def merged(way: Iterable[Arc]) -> List[Arc]:
     """The same way, where a run of transactions of one session is one arc."""
-    found: List[Arc] = []
+    kept: List[Arc] = []
     for arc in way:
-        if found and found[-1].why == arc.why == SESSION:
-            arc = Arc(found.pop().start, arc.end, SESSION, ())
-        found.append(arc)
-    return found
+        if kept and kept[-1].why == arc.why == SESSION:
+            arc = Arc(kept.pop().start, arc.end, SESSION, ())
+        kept.append(arc)
+    return kept
 
 
 def path(
     arcs_from: ArcsFrom, start: ShownId, end: ShownId
 ) -> Optional[List[Arc]]:
     """The fewest arcs that lead from the one to the other, at least one; or None."""
-    found: Dict[ShownId, Arc] = {}
+    arcs_to: Dict[ShownId, Arc] = {}
     queue = [start]
     for at in queue:
         for arc in arcs_from.get(at, ()):
-            if arc.end not in found:
-                found[arc.end] = arc
+            if arc.end not in arcs_to:
+                arcs_to[arc.end] = arc
                 queue.append(arc.end)
-        if end in found:
-            way = [found[end]]
+        if end in arcs_to:
+            way = [arcs_to[end]]
             while way[0].start != start:
-                way.insert(0, found[way[0].start])
+                way.insert(0, arcs_to[way[0].start])
             return way
     return None
 
@@ -129,10 +129,10 @@ def check(ends: float) -> None:
 
 
 def by_start(arcs: Iterable[Arc]) -> ArcsFrom:
-    found: ArcsFrom = {}
+    arcs_from: ArcsFrom = {}
     for arc in arcs:
-        found.setdefault(arc.start, []).append(arc)
-    return found
+        arcs_from.setdefault(arc.start, []).append(arc)
+    return arcs_from
 
 
 def forced_arcs(
@@ -144,8 +144,8 @@ def forced_arcs(
         for key, writer in logged.reads:
             if writer not in txns or key not in txns[writer].writes:
                 continue
-            for other, its in txns.items():
-                if key not in its.writes or other in (reader, writer):
+            for other, other_logged in txns.items():
+                if key not in other_logged.writes or other in (reader, writer):
                     continue
                 check(ends)
                 read = f"{name(reader)} read {key} from {name(writer)}"
@@ -189,12 +189,12 @@ def circle(
 
 def below(arcs: Iterable[Arc]) -> List[Arc]:
     """The arcs, each behind those from which it follows."""
-    found: List[Arc] = []
+    needed: List[Arc] = []
     for arc in arcs:
-        for one in (*below(arc.needs), arc):
-            if one not in found:
-                found.append(one)
-    return found
+        for below_it in (*below(arc.needs), arc):
+            if below_it not in needed:
+                needed.append(below_it)
+    return needed
 
 
 def explain_history(
@@ -207,8 +207,8 @@ def explain_history(
     try:
         around = circle(history, name, seconds)
     except TooLong:
-        told = f"it takes more than {seconds:g} s to say why in words"
-        return Explanation((f"{told}; the auditor's refutation says it",))
+        sentence = f"it takes more than {seconds:g} s to say why in words"
+        return Explanation((f"{sentence}; the auditor's refutation says it",))
     if around is None:
         return Explanation(("each order fails in its own way",))
     lines = [f"{name(arc.start)} comes before {name(arc.end)}: {arc.why}" for arc in below(around)]

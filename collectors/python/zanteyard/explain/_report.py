@@ -101,9 +101,9 @@ def verdict_story(verdict: Verdict, history: ScriptHistory) -> Story:
             history.called(AuditId((session, number))) for session, number in verdict.certificate
         )
     waiting = tuple(
-        f"{history.called(one.reader)} read {one.key} from {history.called(one.source)}, "
+        f"{history.called(read.reader)} read {read.key} from {history.called(read.source)}, "
         "which hasn't come"
-        for one in history.pending()
+        for read in history.pending()
     )
     return Story(verdict.kind, tuple(verdict.counts), order=order, waiting=waiting)
 
@@ -132,31 +132,31 @@ def story_of(
     """Of a violated history that is small already."""
     explanation = explain_history(history, names, seconds)
     links = tuple(_links(explanation))
-    told = {end for link in links for end in (link.start, link.end)}
+    ends = {end for link in links for end in (link.start, link.end)}
     return Story(
         "violated",
         tuple(counts),
         find_anomaly(history, names),
-        tuple(_steps(history, names, told)),
+        tuple(_steps(history, names, ends)),
         links,
         tuple(words(history, names)),
         explanation.lines,
         script,
-        names=tuple((one, names(one)) for one in sorted(told)),
+        names=tuple((id, names(id)) for id in sorted(ends)),
     )
 
 
-def _steps(history: History, names: Naming, told: Iterable[ShownId]) -> Iterator[Step]:
+def _steps(history: History, names: Naming, named: Iterable[ShownId]) -> Iterator[Step]:
     """The transactions that did something, and those that a link names."""
-    told = set(told)
+    named = set(named)
     for session, transactions in enumerate(history):
         for number, logged in enumerate(transactions):
-            one = ShownId((session, number))
-            if logged.reads or logged.writes or logged.outcome == "aborted" or one in told:
+            id = ShownId((session, number))
+            if logged.reads or logged.writes or logged.outcome == "aborted" or id in named:
                 sources = tuple(source for _, source in logged.reads if source != "init")
                 yield Step(
-                    one,
-                    names(one),
+                    id,
+                    names(id),
                     logged.outcome,
                     tuple(_deeds(logged, names)),
                     sources,
@@ -181,11 +181,11 @@ def _deeds(logged: Logged, names: Naming) -> Iterator[ShownAccess]:
 def _links(explanation: Explanation) -> Iterator[Link]:
     """The arcs of its circle, each behind those from which it follows."""
     around = [(arc.start, arc.end) for arc in explanation.arcs]
-    told: List[Tuple[ShownId, ShownId]] = []
+    shown: List[Tuple[ShownId, ShownId]] = []
     for arc in below(explanation.arcs):
         ends = (arc.start, arc.end)
-        if ends not in told:
-            told.append(ends)
+        if ends not in shown:
+            shown.append(ends)
             yield Link(arc.start, arc.end, arc.why, ends in around)
 
 

@@ -69,8 +69,8 @@ def write_names(names: ScriptNames, script: str) -> str:
         "keys": [[number, key] for number, key in sorted(names.keys.items())],
         "absent": [[*id, name] for id, name in sorted(names.absent.items())],
         "transactions": [
-            [[one.name, one.outcome, one.texts, one.where] for one in its]
-            for its in names.transactions
+            [[named.name, named.outcome, named.texts, named.where] for named in session]
+            for session in names.transactions
         ],
     }
     with open(script + NAMES, "w", encoding="utf-8") as file:
@@ -99,11 +99,14 @@ def _names_of(whole: Any) -> ScriptNames:
     transactions: List[List[NamedTransaction]] = [
         [
             NamedTransaction(
-                str(name), str(outcome), tuple((deed, str(it)) for deed, it in texts), str(where)
+                str(name),
+                str(outcome),
+                tuple((deed, str(deed_text)) for deed, deed_text in texts),
+                str(where),
             )
-            for name, outcome, texts, where in its
+            for name, outcome, texts, where in session
         ]
-        for its in whole["transactions"]
+        for session in whole["transactions"]
     ]
     return ScriptNames(
         str(whole["form"]),
@@ -119,8 +122,8 @@ def _names_of(whole: Any) -> ScriptNames:
 
 
 def _sum_of(path: str) -> str:
-    found = hashlib.sha256()
+    digest = hashlib.sha256()
     with open(path, "rb") as file:
         for block in iter(lambda: file.read(1 << 16), b""):
-            found.update(block)
-    return found.hexdigest()
+            digest.update(block)
+    return digest.hexdigest()

@@ -96,8 +96,8 @@ class ScriptHistory:
 
     def called(self, id: AuditId) -> str:
         """How the transaction is told: with its client's first, where its session had others."""
-        told, by_number = self.names.name(id), f"{id[0]}.{id[1]}"
-        return self.stints.called_by_first(id) if told == by_number else told
+        called, by_number = self.names.name(id), f"{id[0]}.{id[1]}"
+        return self.stints.called_by_first(id) if called == by_number else called
 
     def key_name(self, number: int) -> str:
         """How the key is told."""

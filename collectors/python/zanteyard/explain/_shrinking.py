@@ -35,8 +35,8 @@ def audited(history: History, program: str = PROGRAM) -> Tuple[Report, str]:
                 fragment = txns[first : first + LONGEST]
                 fragments.append((session, first, fragment))
                 script.append(["offer", session, first, [*map(auditor.txn, fragment)]])
-        for at, number, its in fragments:
-            auditor.offer(at, number, *its)
+        for at, number, offered in fragments:
+            auditor.offer(at, number, *offered)
         report = auditor.last_round()
         script.append(["round", *auditor.effort])
         return report, "".join(written(line) + "\n" for line in script)
@@ -69,18 +69,18 @@ def from_start(auditor: Any) -> Tuple[History, Naming]:
         return PLAIN_FENCE if key == FENCE else key
 
     def plain_deed(key: str, *source: Source) -> Any:
-        return (plain(key), *(moved(key, it) for it in source))
+        return (plain(key), *(moved(key, id) for id in source))
 
-    def without_cut(one: Logged) -> Logged:
-        return one._replace(
-            reads=[plain_deed(*read) for read in one.reads],
-            writes=[*map(plain, one.writes)],
-            statements=[(plain_deed(*deed), statement) for deed, statement in one.statements],
-            tried_reads=sorted({plain_deed(*read) for read in one.tried_reads}, key=repr),
-            tried_writes=[*map(plain, one.tried_writes)],
+    def without_cut(logged: Logged) -> Logged:
+        return logged._replace(
+            reads=[plain_deed(*read) for read in logged.reads],
+            writes=[*map(plain, logged.writes)],
+            statements=[(plain_deed(*deed), statement) for deed, statement in logged.statements],
+            tried_reads=sorted({plain_deed(*read) for read in logged.tried_reads}, key=repr),
+            tried_writes=[*map(plain, logged.tried_writes)],
         )
 
-    history = [[without_cut(one) for one in txns] for txns in history]
+    history = [[without_cut(logged) for logged in txns] for txns in history]
     if not some_gone:
         return history, cast(Naming, called)  # both numberings are one
     first = Logged((), (START, *sorted(map(plain, base))), "forgotten")
@@ -138,15 +138,15 @@ def name(id: Tuple[int, int]) -> str:
 
 def named(items: Iterable[Any]) -> Set[AuditId]:
     """The transactions that the items of a refutation name."""
-    found: Set[Tuple[int, int]] = set()
+    ids: Set[Tuple[int, int]] = set()
     for kind, first, *rest in items:
         if kind in ("nowrite", "gone"):
-            found.add((first, rest[0]))
+            ids.add((first, rest[0]))
         if kind in ("force", "split"):
-            found.update([(first[0], first[1]), (first[3], first[4]), (first[5], first[6])])
+            ids.update([(first[0], first[1]), (first[3], first[4]), (first[5], first[6])])
         for arc in {"force": rest[-1:], "cycle": [first]}.get(kind, [[]])[0]:
-            found.update([(arc[-4], arc[-3]), (arc[-2], arc[-1])])
-    return {AuditId(id) for id in found}
+            ids.update([(arc[-4], arc[-3]), (arc[-2], arc[-1])])
+    return {AuditId(id) for id in ids}
 
 
 class Part:
@@ -192,10 +192,10 @@ class Part:
         old: List[List[ShownId]] = []
         sessions: Dict[int, int] = {}
         for session, number in sorted(self.txns):
-            its = sessions.setdefault(session, len(sessions))
-            if its == len(old):
+            place = sessions.setdefault(session, len(sessions))
+            if place == len(old):
                 old.append([])
-            old[its].append(ShownId((session, number)))
+            old[place].append(ShownId((session, number)))
         new: Dict[Source, ShownId] = {
             id: ShownId((at, number)) for at, ids in enumerate(old) for number, id in enumerate(ids)
         }
@@ -238,15 +238,15 @@ class Part:
 
     def history(self, sessions: int) -> History:
         """With all in their places, and nothing done in between."""
-        found: History = [[] for _ in range(sessions)]
+        whole: History = [[] for _ in range(sessions)]
         read = {(source, key) for logged in self.txns.values() for key, source in logged.reads}
-        for id, logged in sorted(self.txns.items(), key=lambda it: it[0]):
+        for id, logged in sorted(self.txns.items(), key=lambda item: item[0]):
             session, number = id
             if logged.is_undone:  # of what it did there is left what somebody has read
-                its = [key for key in logged.tried_writes if (id, key) in read]
-                logged = logged._replace(tried_reads=(), tried_writes=its)
-            found[session] += [Logged((), ())] * (number - len(found[session])) + [logged]
-        return found
+                keys = [key for key in logged.tried_writes if (id, key) in read]
+                logged = logged._replace(tried_reads=(), tried_writes=keys)
+            whole[session] += [Logged((), ())] * (number - len(whole[session])) + [logged]
+        return whole
 
 
 def wrong_sources(history: History) -> Dict[ShownId, Logged]:
@@ -285,10 +285,10 @@ def smaller(
     part = by_names(part, ids, program)
     needed: Set[Any] = set()  # what can't be left out of a part can't be left out of a smaller one
     while time.monotonic() < ends:
-        found = next_smaller(part, needed, program, ends)
-        if found is None:
+        lesser = next_smaller(part, needed, program, ends)
+        if lesser is None:
             break
-        part = by_names(*found, program)
+        part = by_names(*lesser, program)
     return part.history(len(history))
 
 
@@ -314,13 +314,15 @@ def next_smaller(
     def report(candidate: Part) -> Optional[Set[ShownId]]:
         return candidate.report(program)
 
-    left = ((what, it) for what, it in part.lesser() if what not in needed)
+    left = ((what, candidate) for what, candidate in part.lesser() if what not in needed)
     with ThreadPoolExecutor(SIDE_BY_SIDE) as pool:
         while time.monotonic() < ends:
             some = [*islice(left, SIDE_BY_SIDE)]
             if not some:
                 break
-            for (what, candidate), ids in zip(some, pool.map(report, (it for _, it in some))):
+            for (what, candidate), ids in zip(
+                some, pool.map(report, (candidate for _, candidate in some))
+            ):
                 if ids is not None:
                     return candidate, ids
                 needed.add(what)
@@ -342,24 +344,24 @@ def told_undone(reader: ShownId, key: str, source: ShownId, name: Naming) -> str
 def deeds(logged: Logged, name: Naming) -> List[str]:
     """What a transaction did."""
     did_read, did_write = logged.did
-    told = [f"read {key} {version(key, source, name)}" for key, source in did_read]
-    told += [f"wrote {key}" for key in did_write]
-    return [*told, "aborted"] if logged.outcome == "aborted" else told
+    parts = [f"read {key} {version(key, source, name)}" for key, source in did_read]
+    parts += [f"wrote {key}" for key in did_write]
+    return [*parts, "aborted"] if logged.outcome == "aborted" else parts
 
 
 def statements_of(logged: Logged) -> Iterator[str]:
     """Lines that tell what was run for what the transaction did, where that is known."""
     left: Dict[Any, str] = dict(logged.statements)
-    told: Dict[str, List[str]] = {}
+    deeds_by_statement: Dict[str, List[str]] = {}
     did_read, did_write = logged.did
     for deed in (*did_read, *((key,) for key in did_write)):
         if deed in left:
             did = ("wrote" if len(deed) == 1 else "read") + f" {deed[0]}"
-            told.setdefault(" ".join(left[deed].split()), []).append(did)
-    for statement, its in told.items():
+            deeds_by_statement.setdefault(" ".join(left[deed].split()), []).append(did)
+    for statement, deeds in deeds_by_statement.items():
         is_long = len(statement) > TOLD
         short = f"{statement[: TOLD - FROM]} .. {statement[-FROM:]}" if is_long else statement
-        yield f"{', '.join(its)}: {short}"
+        yield f"{', '.join(deeds)}: {short}"
 
 
 def words(history: History, name: Naming = name) -> Iterator[str]:

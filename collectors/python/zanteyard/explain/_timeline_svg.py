@@ -46,21 +46,21 @@ def columns_of(steps: Sequence[Step]) -> Dict[ShownId, int]:
     """How far right each transaction stands: behind what it comes after by its session and by its
     reads, as far as these go round in no circle."""
     shown = [step.id for step in steps]
-    before: Dict[ShownId, List[ShownId]] = {one: [] for one in shown}
-    for one, following in zip(shown, shown[1:]):
-        if one[0] == following[0]:
-            before[following].append(one)
+    before: Dict[ShownId, List[ShownId]] = {id: [] for id in shown}
+    for id, following in zip(shown, shown[1:]):
+        if id[0] == following[0]:
+            before[following].append(id)
     for step in steps:
         before[step.id] += [source for source in step.sources if source in before]
-    found: Dict[ShownId, int] = {}
+    columns: Dict[ShownId, int] = {}
     left = list(shown)
     while left:
-        ready = [one for one in left if all(other in found for other in before[one])]
-        for one in ready or [min(left, key=lambda it: (it[1], it[0]))]:
-            own = [found[other] for other in before[one] if other in found]
-            found[one] = max(own, default=-1) + 1
-            left.remove(one)
-    return found
+        ready = [id for id in left if all(other in columns for other in before[id])]
+        for id in ready or [min(left, key=lambda other: (other[1], other[0]))]:
+            own = [columns[other] for other in before[id] if other in columns]
+            columns[id] = max(own, default=-1) + 1
+            left.remove(id)
+    return columns
 
 
 def boxes_of(story: Story) -> Dict[ShownId, Box]:
@@ -84,10 +84,10 @@ def _height(step: Step) -> float:
 
 def _told(step: Step) -> List[str]:
     """The lines of its box."""
-    told = [deed.text for deed in step.deeds]
+    lines = [deed.text for deed in step.deeds]
     if step.outcome == ABORTED:
-        return [*told, ABORTED]
-    return told or ["did nothing that matters here"]
+        return [*lines, ABORTED]
+    return lines or ["did nothing that matters here"]
 
 
 def draw_story(story: Story) -> str:
@@ -99,9 +99,9 @@ def draw_story(story: Story) -> str:
     points: List[Point] = []
     for number, link in enumerate(story.links or _reads(story.steps), 1):
         if link.start in boxes and link.end in boxes:
-            text, its = _arc(link, boxes, number if story.links else 0)
+            text, around = _arc(link, boxes, number if story.links else 0)
             arcs.append((link.is_of_circle, text))
-            points += its
+            points += around
     for box in boxes.values():
         points += [(box.left, box.top), (box.left + WIDTH, box.top + box.height)]
     left, right = min(x for x, _ in points + [(4.0, 0.0)]) - 8, max(x for x, _ in points) + 24
@@ -129,8 +129,8 @@ def _reads(steps: Sequence[Step]) -> List[Link]:
     names = {step.id: step.name for step in steps}
     aborted = {step.id for step in steps if step.outcome == ABORTED}
 
-    def told(one: ShownId) -> str:
-        return f"{names[one]}, which had aborted" if one in aborted else names[one]
+    def told(id: ShownId) -> str:
+        return f"{names[id]}, which had aborted" if id in aborted else names[id]
 
     return [
         Link(source, step.id, f"{step.name} read from {told(source)}", False, source in aborted)
@@ -155,13 +155,13 @@ def _ends_of_arcs() -> str:
 
 
 def _lanes(story: Story, boxes: Mapping[ShownId, Box], right: float) -> List[str]:
-    found = []
+    lanes = []
     for lane in sorted({step.id[0] for step in story.steps}):
-        its = [boxes[step.id] for step in story.steps if step.id[0] == lane]
-        y = its[0].top + PADDING + LINE / 2
-        found.append(f'<line class="lane" x1="4" x2="{right - 8:.0f}" y1="{y:.1f}" y2="{y:.1f}"/>')
-        found.append(f'<text class="session" x="4" y="{y - 7:.1f}">session {lane}</text>')
-    return found
+        in_lane = [boxes[step.id] for step in story.steps if step.id[0] == lane]
+        y = in_lane[0].top + PADDING + LINE / 2
+        lanes.append(f'<line class="lane" x1="4" x2="{right - 8:.0f}" y1="{y:.1f}" y2="{y:.1f}"/>')
+        lanes.append(f'<text class="session" x="4" y="{y - 7:.1f}">session {lane}</text>')
+    return lanes
 
 
 def _box(step: Step, box: Box) -> str:

@@ -74,10 +74,10 @@ def _add_realtime(command: argparse.ArgumentParser) -> None:
 
 
 def _count(text: str) -> int:
-    found = int(text)
-    if found < 1:
+    count = int(text)
+    if count < 1:
         raise argparse.ArgumentTypeError("1 or more")
-    return found
+    return count
 
 
 def run(asked: Any) -> int:
@@ -102,10 +102,10 @@ def import_text(
     asks_time: bool = False,
 ) -> Imported:
     """The script of a file's text. Raises ImportRefusedError."""
-    its = FORMS[form]
-    if initial is not None and not its.has_initial:
+    chosen = FORMS[form]
+    if initial is not None and not chosen.has_initial:
         raise ImportRefusedError(0, f"in {form} the initial state is nil, and nothing else")
-    recording = its.read(text) if initial is None else its.read(text, initial)
+    recording = chosen.read(text) if initial is None else chosen.read(text, initial)
     return script_of(recording, first, asks_time, EVERY)
 
 

@@ -63,17 +63,17 @@ class EdnReader:
         """Each form at the top, behind the line on which it begins."""
         while not self._is_over():
             line = self._line_here()
-            found = self._form(0)
-            if found:
-                yield line, found[0]
+            forms = self._form(0)
+            if forms:
+                yield line, forms[0]
 
     def _is_over(self) -> bool:
         self._at = self._end_of(SPACE)
         return self._at >= len(self._text)
 
     def _end_of(self, pattern: "re.Pattern[str]") -> int:
-        found = pattern.match(self._text, self._at)
-        return found.end() if found else self._at
+        match = pattern.match(self._text, self._at)
+        return match.end() if match else self._at
 
     def _line_here(self) -> int:
         self._line += self._text.count("\n", self._counted, self._at)
@@ -110,15 +110,15 @@ class EdnReader:
         return self._text[start:end]
 
     def _string(self) -> str:
-        found = TEXT.match(self._text, self._at)
-        if not found:
+        match = TEXT.match(self._text, self._at)
+        if not match:
             raise self._refused("a string has no end")
-        for escape in ESCAPE.finditer(found[1]):
+        for escape in ESCAPE.finditer(match[1]):
             if escape[2] and escape[2] not in ESCAPED:
                 raise self._refused(f"\\{escape[2]} stands for nothing in a string")
-        self._at = found.end()
+        self._at = match.end()
         return ESCAPE.sub(
-            lambda it: chr(int(it[1], 16)) if it[1] else ESCAPED[it[2]], found[1]
+            lambda escape: chr(int(escape[1], 16)) if escape[1] else ESCAPED[escape[2]], match[1]
         )
 
     def _dispatched(self, depth: int) -> List[Any]:
@@ -137,32 +137,32 @@ class EdnReader:
         tag = self._taken(TOKEN, "a tag")
         if not tag[0].isalpha():
             raise self._refused(f"#{tag} is no tag")
-        found: List[Any] = []
-        while not found:
-            found = self._form(depth + 1)
-        return found if isinstance(found[0], EdnMap) else [Opaque(self._text[start : self._at])]
+        forms: List[Any] = []
+        while not forms:
+            forms = self._form(depth + 1)
+        return forms if isinstance(forms[0], EdnMap) else [Opaque(self._text[start : self._at])]
 
     def _many(self, opening: str, depth: int) -> List[Any]:
         line = self._line_here()
         self._at += 1
-        found: List[Any] = []
+        forms: List[Any] = []
         while True:
             if self._is_over():
                 raise ImportRefusedError(line, f"what {opening} opens here has no end")
             if self._text[self._at] == CLOSING[opening]:
                 self._at += 1
-                return found
-            found += self._form(depth + 1)
+                return forms
+            forms += self._form(depth + 1)
 
     def _collection(self, opening: str, depth: int) -> Any:
         line = self._line_here()
-        found = self._many(opening, depth)
+        forms = self._many(opening, depth)
         if opening != "{":
-            return tuple(found)
-        if len(found) % 2:
+            return tuple(forms)
+        if len(forms) % 2:
             raise ImportRefusedError(line, "a map has a key without a value")
         items: Dict[Any, Any] = {}
-        for key, value in zip(found[::2], found[1::2]):
+        for key, value in zip(forms[::2], forms[1::2]):
             if key in items:
                 raise ImportRefusedError(line, "a map has a key twice")
             items[key] = value

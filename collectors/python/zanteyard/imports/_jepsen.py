@@ -67,28 +67,28 @@ def _maps(text: str) -> Iterator[Tuple[int, Any]]:
             yield line, value
         return
     for line, form in EdnReader(text).forms():
-        for one in form if isinstance(form, tuple) else (form,):
-            if not isinstance(one, EdnMap):
+        for part in form if isinstance(form, tuple) else (form,):
+            if not isinstance(part, EdnMap):
                 raise ImportRefusedError(line, "an operation is a map")
-            yield one.line, one
+            yield part.line, part
 
 
 def _operations(text: str, is_of_lists: bool) -> Iterator[Operation]:
     """Those of clients; what the nemesis did is left out."""
-    for line, one in _maps(text):
-        process = one.get("process")
+    for line, operation_map in _maps(text):
+        process = operation_map.get("process")
         if _word(process) == "nemesis":
             continue
         if not isinstance(process, int) or isinstance(process, bool):
             raise ImportRefusedError(line, "a process is a whole number, or the nemesis")
-        type = _word(one.get("type"))
+        type = _word(operation_map.get("type"))
         if type not in ("invoke", *OUTCOMES):
             raise ImportRefusedError(line, "a type is invoke, ok, fail or info")
-        if _word(one.get("f")) != "txn":
+        if _word(operation_map.get("f")) != "txn":
             raise ImportRefusedError(line, "a client's operation has another function than txn, "
                                      "and what it did isn't known")
-        index, time = (_whole(one.get(name), name, line) for name in ("index", "time"))
-        value = one.get("value")
+        index, time = (_whole(operation_map.get(name), name, line) for name in ("index", "time"))
+        value = operation_map.get("value")
         has_none = value is None and type in ("fail", "info")
         micros = () if has_none else tuple(_micros(value, line, is_of_lists))
         yield Operation(line, type, str(process), index, time, micros)
@@ -124,7 +124,7 @@ def _elements(value: Any, line: int) -> Optional[Tuple[str, ...]]:
         return None
     if not isinstance(value, (tuple, list)):
         raise ImportRefusedError(line, "a read of a list gives a list, or nil")
-    return tuple(token(one, line, "an element") for one in value)
+    return tuple(token(element, line, "an element") for element in value)
 
 
 class _Pairs:
@@ -140,16 +140,16 @@ class _Pairs:
     def recording(self, operations: Iterator[Operation], form: str) -> Recording:
         last_line, goes_back = 0, 0
         latest: Optional[int] = None
-        for place, one in enumerate(operations, 1):
-            last_line = max(last_line, one.line)
-            if one.time is not None:
-                if latest is not None and one.time < latest:
-                    goes_back = goes_back or one.line
-                latest = one.time
-            if one.type == "invoke":
-                self._invoke(one, place)
+        for place, operation in enumerate(operations, 1):
+            last_line = max(last_line, operation.line)
+            if operation.time is not None:
+                if latest is not None and operation.time < latest:
+                    goes_back = goes_back or operation.line
+                latest = operation.time
+            if operation.type == "invoke":
+                self._invoke(operation, place)
             else:
-                self._complete(one, place)
+                self._complete(operation, place)
         for process in [*self._open]:
             _, invoked, _ = self._open[process]
             self._complete(replace(invoked, type="info"), NEVER)
@@ -159,58 +159,73 @@ class _Pairs:
 
     def _named(self) -> Iterator[Attempt]:
         """By their lines; by their indexes or places where several stand on one line."""
-        lines = {one.line for one in self._attempts}
-        for one in self._attempts:
+        lines = {attempt.line for attempt in self._attempts}
+        for attempt in self._attempts:
             if len(lines) == len(self._attempts):
-                yield replace(one, name=f"line {one.line}")
+                yield replace(attempt, name=f"line {attempt.line}")
             else:
-                yield replace(one, where=f"line {one.line}, {one.where}")
+                yield replace(attempt, where=f"line {attempt.line}, {attempt.where}")
 
-    def _invoke(self, one: Operation, place: int) -> None:
-        if one.process in self._open:
-            line = self._open[one.process][1].line
-            raise ImportRefusedError(one.line, f"process {one.process} has an operation in flight, "
-                                     f"that of line {line}: a process has one at a time")
-        self._open[one.process] = (len(self._attempts), one, place)
-        self._attempts.append(Attempt("", one.process, UNKNOWN, (), one.line))  # until it ends
+    def _invoke(self, operation: Operation, place: int) -> None:
+        if operation.process in self._open:
+            line = self._open[operation.process][1].line
+            raise ImportRefusedError(
+                operation.line,
+                f"process {operation.process} has an operation in flight, "
+                f"that of line {line}: a process has one at a time",
+            )
+        self._open[operation.process] = (len(self._attempts), operation, place)
+        self._attempts.append(
+            Attempt("", operation.process, UNKNOWN, (), operation.line)
+        )  # until it ends
 
-    def _complete(self, one: Operation, place: int) -> None:
-        if one.process not in self._open:
-            raise ImportRefusedError(one.line, f"process {one.process} completes what it hasn't "
-                                     "invoked")
-        at, invoked, began = self._open.pop(one.process)
-        outcome = OUTCOMES[one.type]
-        if outcome == COMMITTED or one.micros:
-            self._check_same(invoked, one)
-        micros = one.micros if outcome == COMMITTED else invoked.micros
+    def _complete(self, operation: Operation, place: int) -> None:
+        if operation.process not in self._open:
+            raise ImportRefusedError(
+                operation.line, f"process {operation.process} completes what it hasn't " "invoked"
+            )
+        at, invoked, began = self._open.pop(operation.process)
+        outcome = OUTCOMES[operation.type]
+        if outcome == COMMITTED or operation.micros:
+            self._check_same(invoked, operation)
+        micros = operation.micros if outcome == COMMITTED else invoked.micros
         reads = sum(outcome != COMMITTED and micro[0] == "r" and micro[2] is not None
-                    for micro in one.micros)
+                    for micro in operation.micros)
         self._unused += reads
         accesses = tuple(self._access(micro) for micro in micros
                          if outcome == COMMITTED or micro[0] != "r")
         ended = NEVER if outcome == UNKNOWN else place
-        told = one if outcome == COMMITTED else invoked
+        done = operation if outcome == COMMITTED else invoked
         self._attempts[at] = Attempt(
             f"operation {place if outcome == COMMITTED else began}"
-            if told.index is None
-            else f"op {told.index}",
-            one.process,
+            if done.index is None
+            else f"op {done.index}",
+            operation.process,
             outcome,
             accesses,
-            told.line,
-            f"process {one.process}" + ("" if told.index is None else f", index {told.index}"),
+            done.line,
+            f"process {operation.process}"
+            + ("" if done.index is None else f", index {done.index}"),
             began,
             ended,
         )
 
     @staticmethod
-    def _check_same(invoked: Operation, one: Operation) -> None:
+    def _check_same(invoked: Operation, completed: Operation) -> None:
         """A completion has the invocation's micro-operations, but for what was read."""
-        asked = [(it[0], it[1], it[2] if it[0] != "r" else None) for it in invoked.micros]
-        done = [(it[0], it[1], it[2] if it[0] != "r" else None) for it in one.micros]
+        asked = [
+            (micro[0], micro[1], micro[2] if micro[0] != "r" else None) for micro in invoked.micros
+        ]
+        done = [
+            (micro[0], micro[1], micro[2] if micro[0] != "r" else None)
+            for micro in completed.micros
+        ]
         if asked != done:
-            raise ImportRefusedError(one.line, "this completes another operation than process "
-                                     f"{one.process} has invoked on line {invoked.line}")
+            raise ImportRefusedError(
+                completed.line,
+                "this completes another operation than process "
+                f"{completed.process} has invoked on line {invoked.line}",
+            )
 
     def _access(self, micro: Micro) -> Access:
         function, key, value = micro
@@ -224,8 +239,8 @@ class _Pairs:
         function, key, value = micro
         between = ", " if self._is_json else " "
         empty = "null" if self._is_json else "nil"
-        told = empty if value is None else value
+        shown = empty if value is None else value
         if isinstance(value, tuple):
-            told = f"[{between.join(value)}]"
+            shown = f"[{between.join(value)}]"
         first = f'"{function}"' if self._is_json else f":{function}"
-        return f"[{between.join((first, key, told))}]"
+        return f"[{between.join((first, key, shown))}]"

@@ -12,10 +12,10 @@ SPACE = re.compile(r"[ \t\r\n]*")
 
 
 def _object(pairs: List[Tuple[str, Any]]) -> Dict[str, Any]:
-    found = dict(pairs)
-    if len(found) != len(pairs):
+    whole = dict(pairs)
+    if len(whole) != len(pairs):
         raise ValueError("an object has a name twice")
-    return found
+    return whole
 
 
 def _refuse(text: str) -> NoReturn:
@@ -63,7 +63,7 @@ class JsonReader:
         self._skip()
         line = self._line_here()
         try:
-            found, self._at = DECODER.raw_decode(self._text, self._at)
+            parsed, self._at = DECODER.raw_decode(self._text, self._at)
         except (ValueError, RecursionError) as error:
             at = getattr(error, "pos", self._at)
             why = getattr(error, "msg", str(error))
@@ -71,7 +71,7 @@ class JsonReader:
                 self._text.count("\n", 0, at) + 1, f"this is no JSON: {why}"
             ) from error
         self._skip()
-        return line, found
+        return line, parsed
 
     def _take(self, sign: str) -> None:
         if not self._text.startswith(sign, self._at):
@@ -80,9 +80,9 @@ class JsonReader:
         self._skip()
 
     def _skip(self) -> None:
-        found = SPACE.match(self._text, self._at)
-        assert found is not None
-        self._at = found.end()
+        match = SPACE.match(self._text, self._at)
+        assert match is not None
+        self._at = match.end()
 
     def _line_here(self) -> int:
         self._line += self._text.count("\n", self._counted, self._at)

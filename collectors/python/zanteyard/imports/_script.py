@@ -80,7 +80,9 @@ class _ScriptMaker:
         ]
         if self._is_part:
             offered[0].append(self._rest())
-        lines = self._lines([[it for it, _ in transactions] for transactions in offered])
+        lines = self._lines(
+            [[transaction for transaction, _ in transactions] for transactions in offered]
+        )
         names = ScriptNames(
             self._recording.form,
             {number: key for key, number in self._keys.items()},
@@ -104,7 +106,7 @@ class _ScriptMaker:
         for pause, fences in enumerate(self._plan.fences):
             ends = {fence.session: self._places[fence][1] + 1 for fence in fences}
             if count > LIMIT:
-                self._check_room(sum(ends[it] - given[it] for it in ends), pause)
+                self._check_room(sum(ends[session] - given[session] for session in ends), pause)
             for session, end in ends.items():
                 yield from offers(session, given[session], offered[session][:end])
                 given[session] = end
@@ -131,7 +133,7 @@ class _ScriptMaker:
             )
 
     def _line_at(self, place: int) -> int:
-        return next(it.line for it in self._attempts if it.began == place)
+        return next(attempt.line for attempt in self._attempts if attempt.began == place)
 
     def _put_fences(self) -> None:
         """At each pause every session that has done something makes a fence, one behind another,
@@ -139,32 +141,33 @@ class _ScriptMaker:
         if not self._pauses:
             return
         parts = [self._parts_of(items) for items in self._plan.sessions]
-        self._plan.sessions = [its[0] for its in parts]
+        self._plan.sessions = [session_parts[0] for session_parts in parts]
         for pause in range(1, len(self._pauses) + 1):
             first = [
                 Fence(pause, session, True)
-                for session, its in enumerate(parts)
-                if any(its[:pause]) and (any(its[pause:]) or its[pause - 1])
+                for session, session_parts in enumerate(parts)
+                if any(session_parts[:pause])
+                and (any(session_parts[pause:]) or session_parts[pause - 1])
             ]
             second = [
                 Fence(pause, session, False)
-                for session, its in enumerate(parts)
-                if any(its[pause:])
+                for session, session_parts in enumerate(parts)
+                if any(session_parts[pause:])
             ]
             self._plan.fences.append([*first, *second])
             for fence in self._plan.fences[-1]:
                 self._plan.sessions[fence.session].append(fence)
-            for session, its in enumerate(parts):
-                self._plan.sessions[session] += its[pause]
+            for session, session_parts in enumerate(parts):
+                self._plan.sessions[session] += session_parts[pause]
 
     def _parts_of(self, items: List[Item]) -> List[List[Item]]:
         """A session's items between the pauses."""
-        found: List[List[Item]] = [[] for _ in range(len(self._pauses) + 1)]
+        parts: List[List[Item]] = [[] for _ in range(len(self._pauses) + 1)]
         for item in items:
             at = item.owner if isinstance(item, Stub) else item
             assert isinstance(at, int)
-            found[part_of(self._attempts[at].began, self._pauses)].append(item)
-        return found
+            parts[part_of(self._attempts[at].began, self._pauses)].append(item)
+        return parts
 
     def _planned(self) -> Plan:
         """Each client in a session of its own; where they are too many, one that certainly comes
@@ -205,8 +208,8 @@ class _ScriptMaker:
         """Whether a pause that is used lies between."""
         if self._times is None:
             return False
-        last = [self._times.ended[it] for it in session if isinstance(it, int)]
-        first = [self._times.began[it] for it in items if isinstance(it, int)]
+        last = [self._times.ended[item] for item in session if isinstance(item, int)]
+        first = [self._times.began[item] for item in items if isinstance(item, int)]
         if not last or not first:  # what wrote nothing may stand anywhere
             return True
         return part_of(max(last), self._pauses) < part_of(min(first), self._pauses)
@@ -215,13 +218,13 @@ class _ScriptMaker:
         """Of each client what is offered, in order. Raises ImportRefusedError where a client goes
         on behind an attempt whose outcome isn't known, and which took effect."""
         stubs = self._stubs()
-        found: Dict[str, List[Item]] = {}
+        items_of: Dict[str, List[Item]] = {}
         unknown: Dict[str, int] = {}
         for at, attempt in enumerate(self._attempts):
             if at not in self._kept:
                 continue
-            its = found.setdefault(attempt.client, [])
-            its += stubs.get(at, ())
+            items = items_of.setdefault(attempt.client, [])
+            items += stubs.get(at, ())
             if at not in self._of:
                 continue
             if attempt.client in unknown:
@@ -233,34 +236,34 @@ class _ScriptMaker:
                 )
             if attempt.outcome == UNKNOWN:
                 unknown[attempt.client] = at
-            its.append(at)
-        return found
+            items.append(at)
+        return items_of
 
     def _stubs(self) -> Dict[int, List[Stub]]:
         """What was read and wasn't there to be read, by its owner."""
-        found: Dict[int, List[Stub]] = {}
+        stubs_of: Dict[int, List[Stub]] = {}
         for at in self._of:
             if at in self._kept:
                 for _, origin in self._of[at].reads:
                     if isinstance(origin, Stub) and origin.owner in self._kept:
-                        its = found.setdefault(origin.owner, [])
-                        if origin not in its:
-                            its.append(origin)
-        return found
+                        stubs = stubs_of.setdefault(origin.owner, [])
+                        if origin not in stubs:
+                            stubs.append(origin)
+        return stubs_of
 
     def _known_before(self) -> Dict[Item, List[Item]]:
         """What comes before each transaction in every order: the one before of its client, and
         those from which it has read."""
-        found: Dict[Item, List[Item]] = {}
+        before: Dict[Item, List[Item]] = {}
         for items in self._items_of_clients().values():
-            for one, following in zip(items, items[1:]):
-                found.setdefault(following, []).append(one)
+            for first, following in zip(items, items[1:]):
+                before.setdefault(following, []).append(first)
         for at in self._of:
             if at in self._kept:
                 for _, origin in self._of[at].reads:
                     if isinstance(origin, int):
-                        found.setdefault(at, []).append(origin)
-        return found
+                        before.setdefault(at, []).append(origin)
+        return before
 
     def _offered(self, item: Item) -> Tuple[List[Any], NamedTransaction]:
         """A transaction as a line has it, and as it is told."""
@@ -268,16 +271,16 @@ class _ScriptMaker:
             return self._stub(item)
         if isinstance(item, Fence):
             return self._fence(item), NamedTransaction(item.name(), COMMITTED)
-        attempt, its = self._attempts[item], self._of[item]
-        if len(its.reads) > LONGEST or len(its.writes) > LONGEST:
+        attempt, sourced = self._attempts[item], self._of[item]
+        if len(sourced.reads) > LONGEST or len(sourced.writes) > LONGEST:
             raise ImportRefusedError(
                 attempt.line, f"a transaction has at most {LONGEST} reads and {LONGEST} writes"
             )
         reads = {
             (self._key(key), *self._source(origin, item)): text
-            for (key, origin), text in its.reads.items()
+            for (key, origin), text in sourced.reads.items()
         }
-        writes = {self._key(key): text for key, text in its.writes.items()}
+        writes = {self._key(key): text for key, text in sourced.writes.items()}
         texts = [([*read], text) for read, text in sorted(reads.items(), key=ascending)]
         texts += [([key], text) for key, text in sorted(writes.items())]
         offered = [[read for read, _ in texts[: len(reads)]], sorted(writes)]
@@ -297,7 +300,7 @@ class _ScriptMaker:
 
     def _fence(self, fence: Fence) -> List[Any]:
         """It reads from the one before it, whoever made that."""
-        row = [it for fences in self._plan.fences for it in fences]
+        row = [fence for fences in self._plan.fences for fence in fences]
         at = row.index(fence)
         source = self._places[row[at - 1]] if at else ("init",)
         return [[[0, *source]], [0]]
@@ -337,20 +340,20 @@ class _ScriptMaker:
     def _about(self) -> Iterator[str]:
         """What was done with the file, in words."""
         kept = [self._attempts[at] for at in self._kept]
-        count = sum(isinstance(it, int) for it in self._places)
+        count = sum(isinstance(item, int) for item in self._places)
         yield f"{counted(count, 'transaction')} in {counted(len(self._plan.sessions), 'session')}"
         if self._is_part:
             yield (
                 f"of {len(self._attempts)} attempts the first {len(kept)} alone: what is violated "
                 "stays so, and all else is pending"
             )
-        for outcome, told in ((ABORTED, "failed"), (UNKNOWN, "of unknown outcome")):
-            its = [at for at in self._kept if self._attempts[at].outcome == outcome]
-            taken = {at for at in its if at in self._of or Stub(at, ABORTED) in self._places}
-            if its:
-                left = len(its) - len(taken)
+        for outcome, about in ((ABORTED, "failed"), (UNKNOWN, "of unknown outcome")):
+            places = [at for at in self._kept if self._attempts[at].outcome == outcome]
+            taken = {at for at in places if at in self._of or Stub(at, ABORTED) in self._places}
+            if places:
+                left = len(places) - len(taken)
                 yield (
-                    f"{counted(len(its), 'attempt')} {told}: {left} left out, from which "
+                    f"{counted(len(places), 'attempt')} {about}: {left} left out, from which "
                     "nobody has read"
                 )
         if self._recording.unused:

@@ -56,8 +56,8 @@ class Plan:
         }
 
 
-def ascending(one: Tuple[Sequence[Any], str]) -> Tuple[int, ...]:
-    key, *source = one[0]
+def ascending(named_read: Tuple[Sequence[Any], str]) -> Tuple[int, ...]:
+    key, *source = named_read[0]
     return (key, -1, -1) if source[0] == "init" else (key, *source)
 
 
@@ -81,11 +81,11 @@ def offers(session: int, first: int, transactions: List[Any]) -> Iterator[List[A
 
 def written_by(attempt: Attempt) -> Dict[str, str]:
     """Of each key that it wrote, what the file has for that."""
-    found: Dict[str, List[str]] = {}
+    texts_of: Dict[str, List[str]] = {}
     for access in attempt.accesses:
         if access.kind in (WRITE, APPEND):
-            found.setdefault(access.key, []).append(access.text)
-    return {key: " ".join(texts) for key, texts in found.items()}
+            texts_of.setdefault(access.key, []).append(access.text)
+    return {key: " ".join(texts) for key, texts in texts_of.items()}
 
 
 def named_stub(stub: Stub, attempts: Tuple[Attempt, ...]) -> NamedTransaction:

@@ -81,15 +81,17 @@ class _RecordedTransactions:
             raise ImportRefusedError(max(1, last_line), "the file has no transaction")
         unused = 0
         attempts: List[Attempt] = []
-        for one in self._all:
-            accesses = one.accesses
-            if one.outcome != COMMITTED:
-                accesses = [it for it in accesses if it.kind == WRITE]
-            unused += len(one.accesses) - len(accesses)
-            name = f"{one.session}/{one.number}"
-            where = f"line {one.line}" if one.line else ""
+        for recorded in self._all:
+            accesses = recorded.accesses
+            if recorded.outcome != COMMITTED:
+                accesses = [access for access in accesses if access.kind == WRITE]
+            unused += len(recorded.accesses) - len(accesses)
+            name = f"{recorded.session}/{recorded.number}"
+            where = f"line {recorded.line}" if recorded.line else ""
             attempts.append(
-                Attempt(name, one.session, one.outcome, tuple(accesses), one.line, where)
+                Attempt(
+                    name, recorded.session, recorded.outcome, tuple(accesses), recorded.line, where
+                )
             )
         return Recording(form, tuple(attempts), unused=unused)
 
@@ -98,7 +100,7 @@ def read_csv(text: str, initial: str = "") -> Recording:
     """Rows of a session, a number in it, an operation, a key and a value; `initial` is the value
     that a key is read as before it is written. Raises ImportRefusedError."""
     rows = csv.reader(io.StringIO(text, newline=""), strict=True)
-    found = _RecordedTransactions()
+    transactions = _RecordedTransactions()
     line = 0
     try:
         for row in rows:
@@ -106,26 +108,28 @@ def read_csv(text: str, initial: str = "") -> Recording:
             if first == 0 and row != HEADER:
                 raise ImportRefusedError(line, f"the first line is {','.join(HEADER)}")
             if first and row:
-                _csv_row(row, first + 1, found, initial)
+                _csv_row(row, first + 1, transactions, initial)
     except csv.Error as error:
         raise ImportRefusedError(rows.line_num, f"this is no CSV: {error}") from error
-    return found.recording("csv", line)
+    return transactions.recording("csv", line)
 
 
-def _csv_row(row: Sequence[str], line: int, found: _RecordedTransactions, initial: str) -> None:
+def _csv_row(
+    row: Sequence[str], line: int, transactions: _RecordedTransactions, initial: str
+) -> None:
     if len(row) != len(HEADER):
         raise ImportRefusedError(line, f"a line has {len(HEADER)} fields, and this has {len(row)}")
     session, number, operation, key, value = row
     if not session or not WHOLE.fullmatch(number):
         raise ImportRefusedError(line, "a session has a name, and its transactions whole numbers")
-    before = found.last_number(session)
+    before = transactions.last_number(session)
     if before is not None and int(number) < int(before):
         raise ImportRefusedError(line, f"a session's numbers ascend, and {before} came before")
-    one = found.at(session, number, line)
+    recorded = transactions.at(session, number, line)
     if operation in OUTCOMES:
         if key or value:
             raise ImportRefusedError(line, f"{operation} has neither key nor value")
-        one.outcome, one.has_ended = OUTCOMES[operation], True
+        recorded.outcome, recorded.has_ended = OUTCOMES[operation], True
     elif operation not in (READ, WRITE):
         known = ", ".join((READ, WRITE, *OUTCOMES))
         raise ImportRefusedError(line, f"an operation is one of {known}")
@@ -135,13 +139,13 @@ def _csv_row(row: Sequence[str], line: int, found: _RecordedTransactions, initia
         raise ImportRefusedError(line, f"this {operation} has no value")
     else:
         text = f"line {line}: {operation} {key} {value}".rstrip()
-        one.accesses.append(access_of(operation, key, value, text, initial, line))
+        recorded.accesses.append(access_of(operation, key, value, text, initial, line))
 
 
 def read_polysi(text: str, initial: str = "0") -> Recording:
     """Lines `r(key,value,session,transaction)` and `w(..)`, whole numbers all; a session's lines
     stand in its order. Raises ImportRefusedError."""
-    found = _RecordedTransactions()
+    transactions = _RecordedTransactions()
     sessions: Dict[str, str] = {}  # of each transaction
     number = 0
     for number, line in enumerate(text.split("\n"), 1):
@@ -152,9 +156,9 @@ def read_polysi(text: str, initial: str = "0") -> Recording:
             raise ImportRefusedError(number, "a line is r(key,value,session,transaction) or w(..)")
         letter, key, value, session, transaction = fields.groups()
         key, value, session, transaction = (
-            str(int(it)) for it in (key, value, session, transaction)
+            str(int(word)) for word in (key, value, session, transaction)
         )
-        if transaction != found.last_number(session) and transaction in sessions:
+        if transaction != transactions.last_number(session) and transaction in sessions:
             raise ImportRefusedError(
                 number, f"transaction {transaction} is in session {sessions[transaction]}, and has "
                 "ended there"
@@ -162,26 +166,28 @@ def read_polysi(text: str, initial: str = "0") -> Recording:
         sessions.setdefault(transaction, session)
         if sessions[transaction] != session:
             raise ImportRefusedError(number, f"transaction {transaction} is in two sessions")
-        one = found.at(session, transaction, number)
+        recorded = transactions.at(session, transaction, number)
         kind = READ if letter == "r" else WRITE
-        told = f"line {number}: {line.strip()}"
-        one.accesses.append(access_of(kind, key, value, told, initial, number))
-    return found.recording("polysi", number)
+        shown = f"line {number}: {line.strip()}"
+        recorded.accesses.append(access_of(kind, key, value, shown, initial, number))
+    return transactions.recording("polysi", number)
 
 
 def read_dbcop(text: str, initial: str = "0") -> Recording:
     """An object whose `data` is a list of sessions, or that list: each a list of transactions with
     `events` and `success`. Raises ImportRefusedError."""
-    found = _RecordedTransactions()
+    recorded = _RecordedTransactions()
     last_line = 0
     for session, (line, transactions) in enumerate(_dbcop_sessions(text)):
         last_line = line
         if not isinstance(transactions, list):
             raise ImportRefusedError(line, "a session is a list of transactions")
-        for number, one in enumerate(transactions):
+        for number, transaction in enumerate(transactions):
             where = f"session {session}, transaction {number}"
-            _dbcop_transaction(one, found.at(str(session), str(number), line), where, initial)
-    return found.recording("dbcop", last_line)
+            _dbcop_transaction(
+                transaction, recorded.at(str(session), str(number), line), where, initial
+            )
+    return recorded.recording("dbcop", last_line)
 
 
 def _dbcop_sessions(text: str) -> Iterator[Tuple[int, Any]]:
@@ -195,31 +201,35 @@ def _dbcop_sessions(text: str) -> Iterator[Tuple[int, Any]]:
         raise ImportRefusedError(line, "a history is an object whose data is a list of sessions")
     if not reader.is_over():
         raise ImportRefusedError(line, "something stands behind the history")
-    yield from ((line, one) for one in whole["data"])
+    yield from ((line, session) for session in whole["data"])
 
 
-def _dbcop_transaction(one: Any, found: _RecordedTransaction, where: str, initial: str) -> None:
-    if not isinstance(one, dict) or set(one) != {"events", "success"}:
-        raise ImportRefusedError(found.line, f"{where}: it has events and success")
-    if not isinstance(one["events"], list) or not isinstance(one["success"], bool):
-        raise ImportRefusedError(found.line, f"{where}: events are a list, success true or false")
-    found.outcome = COMMITTED if one["success"] else ABORTED
-    for event in one["events"]:
+def _dbcop_transaction(
+    transaction: Any, recorded: _RecordedTransaction, where: str, initial: str
+) -> None:
+    if not isinstance(transaction, dict) or set(transaction) != {"events", "success"}:
+        raise ImportRefusedError(recorded.line, f"{where}: it has events and success")
+    if not isinstance(transaction["events"], list) or not isinstance(transaction["success"], bool):
+        raise ImportRefusedError(
+            recorded.line, f"{where}: events are a list, success true or false"
+        )
+    recorded.outcome = COMMITTED if transaction["success"] else ABORTED
+    for event in transaction["events"]:
         if not isinstance(event, dict) or set(event) != {"write", "variable", "value", "success"}:
             raise ImportRefusedError(
-                found.line, f"{where}: an event has write, variable, value and success"
+                recorded.line, f"{where}: an event has write, variable, value and success"
             )
         if not isinstance(event["write"], bool) or not isinstance(event["success"], bool):
-            raise ImportRefusedError(found.line, f"{where}: write and success are true or false")
+            raise ImportRefusedError(recorded.line, f"{where}: write and success are true or false")
         if not event["success"]:
-            if one["success"]:
+            if transaction["success"]:
                 raise ImportRefusedError(
-                    found.line, f"{where}: it succeeded, and one of its events did not"
+                    recorded.line, f"{where}: it succeeded, and one of its events did not"
                 )
             if not event["write"]:
                 continue
         kind = WRITE if event["write"] else READ
-        key = token(event["variable"], found.line, f"{where}: a variable")
-        value = optional_token(event["value"], found.line, f"{where}: a value")
+        key = token(event["variable"], recorded.line, f"{where}: a variable")
+        value = optional_token(event["value"], recorded.line, f"{where}: a value")
         text = f"{kind} {key} {'null' if value is None else value}"
-        found.accesses.append(access_of(kind, key, value, text, initial, found.line))
+        recorded.accesses.append(access_of(kind, key, value, text, initial, recorded.line))

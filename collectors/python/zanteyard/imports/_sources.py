@@ -70,21 +70,21 @@ class Sources:
         if access.kind not in (WRITE, APPEND):
             return
         assert isinstance(access.value, str)
-        its = self._writers.setdefault((access.key, access.value), [])
+        writers = self._writers.setdefault((access.key, access.value), [])
         if access.kind == APPEND:
             self._appended.setdefault((at, access.key), []).append(access.value)
-            its.append(at)  # an element that one attempt appends twice is as ambiguous
-        elif at not in its:
-            its.append(at)
+            writers.append(at)  # an element that one attempt appends twice is as ambiguous
+        elif at not in writers:
+            writers.append(at)
         self._last[at, access.key] = access.value
 
     def _writes_of(self, at: int) -> Dict[str, str]:
-        found: Dict[str, str] = {}
+        written: Dict[str, str] = {}
         for access in self._attempts[at].accesses:
             if access.kind in (WRITE, APPEND):
-                before = found.get(access.key)
-                found[access.key] = f"{before} {access.text}" if before else access.text
-        return found
+                before = written.get(access.key)
+                written[access.key] = f"{before} {access.text}" if before else access.text
+        return written
 
     def _took_effect(self, at: int) -> Sourced:
         """Somebody has read what it wrote."""
@@ -121,16 +121,18 @@ class Sources:
     def _writer(self, at: int, access: Access, value: str) -> Origin:
         """Who wrote the value that this attempt has read. Raises ImportRefusedError where several
         may have."""
-        its = self._writers.get((access.key, value), [])
-        others = [one for one in its if one != at]
-        if len(others) > 1 or (access.kind == READ_LIST and len(its) > 1):
-            lines = ", ".join(sorted({f"{self._attempts[one].line}" for one in its}, key=int))
+        writers = self._writers.get((access.key, value), [])
+        others = [writer for writer in writers if writer != at]
+        if len(others) > 1 or (access.kind == READ_LIST and len(writers) > 1):
+            lines = ", ".join(
+                sorted({f"{self._attempts[writer].line}" for writer in writers}, key=int)
+            )
             raise ImportRefusedError(
                 self._attempts[at].line,
                 f"{value} of {access.key} was written more than once (lines {lines}), and is read "
                 "here: nothing tells which of them was read",
             )
-        if not its:
+        if not writers:
             return Absent(access.key, value)
         if not others:
             return Stub(at, ELSEWHERE)
@@ -155,8 +157,8 @@ class Sources:
                 self._read(at, access, origin)
                 return
             if isinstance(origin, int):
-                told = f"appended {elements} behind that, as {self._attempts[at].name} has read"
-                self._took_effect(origin).reads.setdefault((access.key, before), told)
+                sentence = f"appended {elements} behind that, as {self._attempts[at].name} has read"
+                self._took_effect(origin).reads.setdefault((access.key, before), sentence)
                 if isinstance(before, int):
                     self._took_effect(before)
             before = origin

@@ -39,14 +39,16 @@ class Times:
         """Whoever was read from had taken effect before the reader did; so an attempt of unknown
         outcome had by the end of each that has read from it."""
         readers: Dict[int, List[int]] = {}
-        for at, its in of.items():
-            for _, origin in its.reads:
+        for at, sourced in of.items():
+            for _, origin in sourced.reads:
                 if isinstance(origin, int) and origin in of:
                     readers.setdefault(origin, []).append(at)
         waiting = [*of]
         while waiting:
             at = waiting.pop()
-            soonest = min((self.ended[it] for it in readers.get(at, ())), default=self.ended[at])
+            soonest = min(
+                (self.ended[reader] for reader in readers.get(at, ())), default=self.ended[at]
+            )
             if soonest < self.ended[at]:
                 self.ended[at] = soonest
                 waiting += [origin for _, origin in of[at].reads
@@ -55,26 +57,26 @@ class Times:
     def pauses(self, every: int = EVERY) -> List[int]:
         """Places such that each transaction had ended before, or began there or later; at least so
         many transactions lie between two of them."""
-        found: List[int] = []
+        places: List[int] = []
         latest, count = 0, 0
         for began, at in sorted((began, at) for at, began in self.began.items()):
             if began > latest and count >= every:
-                found.append(began)
+                places.append(began)
                 count = 0
             latest = max(latest, self.ended[at])
             count += 1
-        return found
+        return places
 
 
 def time_line(story: Story, names: ScriptNames) -> str:
     """Whether the order of time has part in what is told of a script that asks for it."""
     if story.kind != "violated":
         return "(asked for was the order of time, too, which is more than serializability)"
-    its = [step.id[0] for step in story.steps]
+    sessions = [step.id[0] for step in story.steps]
     has_part = (
         any(PLAIN_FENCE in deed.text for step in story.steps for deed in step.deeds)
         or any(step.outcome == "forgotten" for step in story.steps)
-        or any(its.count(session) > 1 for session in names.timed)
+        or any(sessions.count(session) > 1 for session in names.timed)
     )
     if has_part:
         return (

@@ -62,13 +62,13 @@ class Auditor(Lines):
         be offered again, from there on. Of an audit whose sessions were in that process it isn't
         known what they did last: then `outcome` is violated or incomplete, and `last_round` tells
         of what is received. Raises JournalError."""
-        found = reopened(journal)
-        its = found.kept.head
+        reopened_audit = reopened(journal)
+        head = reopened_audit.kept.head
         try:
-            more = (program, its.run_name, script, policy, found, round_seconds)
-            return cls(len(found.state.gone), its.limit, *more)
+            more = (program, head.run_name, script, policy, reopened_audit, round_seconds)
+            return cls(len(reopened_audit.state.gone), head.limit, *more)
         except BaseException:
-            found.journal.close()
+            reopened_audit.journal.close()
             raise
 
     def _start(self, coverage: Optional[Coverage]) -> None:
@@ -118,27 +118,27 @@ class Auditor(Lines):
     def _head(self) -> Head:
         """For the journal."""
         coverage = asdict(self.coverage) if self.coverage is not None else None
-        its = (self.sessions, self.limit, self.run_name, self.audits, coverage)
-        return Head(*its, joined=self._stints.joined())
+        plain = (self.sessions, self.limit, self.run_name, self.audits, coverage)
+        return Head(*plain, joined=self._stints.joined())
 
-    def _go_on_by(self, found: Reopened) -> None:
+    def _go_on_by(self, reopened_audit: Reopened) -> None:
         """Where the program of this journal stood."""
-        self.journal = found.journal.path  # from the next audit on
-        kept, state = found.kept, found.state
+        self.journal = reopened_audit.journal.path  # from the next audit on
+        kept, state = reopened_audit.kept, reopened_audit.state
         self.audits, self.left_out = kept.head.audit, kept.head.left_out
-        self.coverage = found.coverage
+        self.coverage = reopened_audit.coverage
         self.names[:] = kept.names
         self.numbers.update((name, number) for number, name in enumerate(kept.names))
         self.history, self.base = state.history(self.names), state.base(self.names)
         self.marks, self.closed = list(state.gone), list(state.closed)
-        for one in [*kept.head.joined, *state.joined]:
-            self._stints.begin_behind(*one)
+        for joined in [*kept.head.joined, *state.joined]:
+            self._stints.begin_behind(*joined)
         for session, count in enumerate(self.received):
             self._seen[session] = (count, count)
         self.taken_in = sum(self.received)
         if kept.head.is_of_sessions:
             self.failure = AuditLostError(UNKNOWN)
-        self.program = self._started(found)
+        self.program = self._started(reopened_audit)
         self._keep(kept.lines)
         self.ask(["save", "marks"])  # when that is answered it is there
 
@@ -149,11 +149,15 @@ class Auditor(Lines):
 
     @property
     def violation(self) -> Optional[Report]:
-        told = (
+        violations = (
             self.program.keeping.violations if isinstance(self.program, SupervisedProgram) else ()
         )
-        its = [Report(*one.reply[1:]) for one in told if one.audit == self.audits]
-        return its[0] if its else None
+        reports = [
+            Report(*violation.reply[1:])
+            for violation in violations
+            if violation.audit == self.audits
+        ]
+        return reports[0] if reports else None
 
     @property
     def remaining(self) -> int:
@@ -186,8 +190,8 @@ class Auditor(Lines):
         (answer,) = self.program.answers(1, seconds)
         _, refusal = self._settled(text, json.loads(answer), seconds)
         if isinstance(refusal, FullError):
-            told = f"there is no room for transaction {fragment[1]} of session {fragment[0]}"
-            return FullError(told)
+            message = f"there is no room for transaction {fragment[1]} of session {fragment[0]}"
+            return FullError(message)
         if kind == "offer" and refusal is None:
             self._keep_history(fragment)
         if kind == "close" and refusal is None:
@@ -236,12 +240,12 @@ class Auditor(Lines):
             moved = [self._covered(fragment) for fragment in fragments]
             texts = [self._offer_of(fragment, fragment[0] in joining) for fragment in moved]
             self._begin_to_ask()
-            self._note_left_out(sum(it[3] for it in moved))
+            self._note_left_out(sum(covered[3] for covered in moved))
             replies = self._replies_to(texts)
-            for fragment, its, text, reply in zip(fragments, moved, texts, replies):
+            for fragment, covered, text, reply in zip(fragments, moved, texts, replies):
                 _, refusal = self._settled(text, reply)
                 if refusal is None:
-                    self._keep_history(its, fragment[0] in joining)
+                    self._keep_history(covered, fragment[0] in joining)
                 elif isinstance(refusal, FullError):
                     refused.append(fragment)
                 else:
@@ -285,14 +289,14 @@ class Auditor(Lines):
         )
         # "init" comes before every transaction
         texts = [read if len(read) > 1 else (*read, "init") for read in reads]
-        its = [texts, sorted(map(self.key_number, did_write))]
-        return [*its, ABORTED] if logged.is_undone else its
+        plain = [texts, sorted(map(self.key_number, did_write))]
+        return [*plain, ABORTED] if logged.is_undone else plain
 
     def key_number(self, key: str) -> int:
         """Which stands for the key in lines; a new one, where it has none yet."""
-        found = self.numbers.get(key)
-        if found is not None:
-            return found
+        known = self.numbers.get(key)
+        if known is not None:
+            return known
         with self.lock:
             if key not in self.numbers:  # another thread may have come first
                 self.names.append(key)  # first: after an interrupt no two keys have one number

@@ -133,11 +133,11 @@ def origin_of(path: str) -> ProgramOrigin:
 
 def sha256_of(path: str) -> str:
     """The file's SHA-256 in hexadecimal."""
-    found = hashlib.sha256()
+    digest = hashlib.sha256()
     with open(path, "rb") as file:
         for block in iter(lambda: file.read(1 << 16), b""):
-            found.update(block)
-    return found.hexdigest()
+            digest.update(block)
+    return digest.hexdigest()
 
 
 PROGRAM = program_path()  # where nothing else is asked for

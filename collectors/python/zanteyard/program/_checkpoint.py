@@ -77,15 +77,15 @@ def _answers(lines: List[bytes]) -> Answers:
             return answers
         if not refused[0].startswith(NO_MEMORY):
             break
-    told = refused[0].decode(errors="replace")
-    raise JournalError(f"this cobra_audit can't give out what it keeps: it answers {told}")
+    words = refused[0].decode(errors="replace")
+    raise JournalError(f"this cobra_audit can't give out what it keeps: it answers {words}")
 
 
 def why_not_resumed(answer: bytes, path: str) -> ZanteyardError:
     """By what a line was answered in place of ok."""
     if answer.startswith(NO_MEMORY):
         return ProgramEndedError("cobra_audit has no memory for what it is to begin with")
-    told = answer.decode(errors="replace")
+    message = answer.decode(errors="replace")
     if answer == BAD_LINE:
-        told += ", as one of an earlier version than this package does"
-    return JournalError(f"{path}: cobra_audit doesn't begin with what it has: it answers {told}")
+        message += ", as one of an earlier version than this package does"
+    return JournalError(f"{path}: cobra_audit doesn't begin with what it has: it answers {message}")

@@ -26,8 +26,8 @@ class Pipes:
         try:
             self.process = subprocess.Popen([path], stdin=pipe, stdout=pipe, stderr=pipe, bufsize=0)
         except OSError as error:
-            told = f"{path} can't be started ({error}); README.md says how it is built"
-            raise ProgramEndedError(told) from error
+            message = f"{path} can't be started ({error}); README.md says how it is built"
+            raise ProgramEndedError(message) from error
         assert self.process.stdin and self.process.stdout and self.process.stderr
         self.input, self.output = self.process.stdin, self.process.stdout
         self.errors = self.process.stderr

@@ -27,11 +27,11 @@ class Reopened:
 
     @property
     def coverage(self) -> Optional[Coverage]:
-        its = self.kept.head.coverage
-        if its is None:
+        plain = self.kept.head.coverage
+        if plain is None:
             return None
-        unknown = [tuple((start, end) for start, end in ranges) for ranges in its["unknown"]]
-        return Coverage(its["early"], its["first"], its["last"], unknown)
+        unknown = [tuple((start, end) for start, end in ranges) for ranges in plain["unknown"]]
+        return Coverage(plain["early"], plain["first"], plain["last"], unknown)
 
 
 def reopened(path: str) -> Reopened:
@@ -52,8 +52,8 @@ def _state_of(kept: Kept, path: str) -> State:
     try:
         state.put_undone(kept.undone)
     except (ValueError, TypeError, IndexError) as error:
-        told = f"{path}: what was aborted in it isn't what remains: {error!r}"
-        raise JournalDamagedError(told) from error
+        message = f"{path}: what was aborted in it isn't what remains: {error!r}"
+        raise JournalDamagedError(message) from error
     return state
 
 
@@ -71,11 +71,11 @@ def journaled(
         return SupervisedProgram(program, keeping, round_seconds, journal.kept)
     begun = Journal(journal)
     try:
-        its = head()
-        if begun.is_there and its.audit == 1:
+        first_head = head()
+        if begun.is_there and first_head.audit == 1:
             raise JournalError(f"{journal} is there already: Auditor.resumed goes on with it")
         keeping = JournalWriter(begun, head, names)
-        keeping.violations += _earlier(begun, its.run_name)
+        keeping.violations += _earlier(begun, first_head.run_name)
         return SupervisedProgram(program, keeping, round_seconds)
     except BaseException:
         begun.close()

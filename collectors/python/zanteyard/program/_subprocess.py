@@ -70,18 +70,18 @@ class AuditorApart(Intake):
         running: Optional[str] = None,
     ) -> None:
         self._asked_for = running
-        its = (sessions, limit, program, run_name, script, policy, journal, round_seconds)
-        super().__init__(*its)
+        settings = (sessions, limit, program, run_name, script, policy, journal, round_seconds)
+        super().__init__(*settings)
 
     def _start(self, coverage: Optional[Coverage]) -> None:
         self.remaining, self.can_cut, self.left_out = 0, True, 0
         self.running = self._found_running()
         self.cuts_by_itself = bool(self.running)
         self.audits += 1
-        its = (self.sessions, self.limit, self.path, self.run_name)
+        settings = (self.sessions, self.limit, self.path, self.run_name)
         files = (self.script_path, self.journal, self.round_seconds)
         more = (self.audits, coverage, self.has_sessions, self.running)
-        self._begin_process("open", *its, *files, *more)
+        self._begin_process("open", *settings, *files, *more)
 
     def _found_running(self) -> str:
         """The cobra_live that makes the rounds; an empty string where it is cobra_audit."""
@@ -139,7 +139,11 @@ class AuditorApart(Intake):
         if name == "offer_all":
             received = self._ask("get", "received")
             fragments, joining = arguments
-            left = [it for it in fragments if it[0] >= len(received) or _end(it) > received[it[0]]]
+            left = [
+                fragment
+                for fragment in fragments
+                if fragment[0] >= len(received) or _end(fragment) > received[fragment[0]]
+            ]
             arguments = (left, joining)
         if name == "close" and self._ask("get", "closed")[arguments[0]]:
             return None
@@ -208,11 +212,11 @@ class AuditorApart(Intake):
     def _receive(self) -> Tuple[bool, Any]:
         """Whether it failed, and the result, or why."""
         try:
-            is_failed, result, told = self._connection.recv()
+            is_failed, result, log_lines = self._connection.recv()
         except (OSError, EOFError, pickle.UnpicklingError) as error:
             self._why_out = f"{UNREACHABLE}: {error}"
             raise ProgramUnreachableError(self._why_out) from error
-        for level, line in told:
+        for level, line in log_lines:
             logger.log(level, "%s", line)
         return is_failed, result
 
@@ -245,27 +249,27 @@ class AuditorApart(Intake):
     @staticmethod
     def _plain(fragment: Fragment) -> Fragment:
         session, first, txns = fragment
-        return session, first, [one if type(one) is bytes else as_bytes(one) for one in txns]
+        return session, first, [txn if type(txn) is bytes else as_bytes(txn) for txn in txns]
 
     def offer_all(
         self, fragments: Sequence[Fragment], joining: Container[int] = ()
     ) -> List[Fragment]:
         """Their transactions may be packed."""
         joins = [session for session, _, _ in fragments if session in joining]
-        told = self._call("offer_all", [*map(self._plain, fragments)], joins)
-        refused, self.left_out, self.remaining = told
+        answer = self._call("offer_all", [*map(self._plain, fragments)], joins)
+        refused, self.left_out, self.remaining = answer
         self.sessions = max([self.sessions, *(session + 1 for session in joins)])
         return [fragment for fragment in fragments if fragment[0] in refused]
 
     @property
     def vacant(self) -> List[int]:
-        found: List[int] = self._call("get", "vacant")
-        return found
+        vacant: List[int] = self._call("get", "vacant")
+        return vacant
 
     @property
     def written_last(self) -> List[Sequence[str]]:
-        found: List[Sequence[str]] = self._call("get", "written_last")
-        return found
+        keys: List[Sequence[str]] = self._call("get", "written_last")
+        return keys
 
     @staticmethod
     def packed(logged: Logged) -> Any:
@@ -330,10 +334,10 @@ class AuditorApart(Intake):
         if self.journal is None:
             return None
         try:
-            told: Optional[Report] = self._call("get", "violation")
+            report: Optional[Report] = self._call("get", "violation")
         except ZanteyardError:
             return None  # it can't be reached, and the journal still has it
-        return told
+        return report
 
     @property
     def script_failure(self) -> Any:

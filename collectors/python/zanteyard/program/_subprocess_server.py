@@ -36,8 +36,8 @@ class OfPacked(Auditor):
         self.audits = self._earlier
         super()._start(self._began)
 
-    def _go_on_by(self, found: Reopened) -> None:
-        super()._go_on_by(found)
+    def _go_on_by(self, reopened_audit: Reopened) -> None:
+        super()._go_on_by(reopened_audit)
         packed: Any = [[*map(as_bytes, txns)] for txns in self.history]
         self.history = packed
 
@@ -63,9 +63,9 @@ class OfPackedRunning(OfPacked, RunningAuditor):
 class Telling(logging.Handler):
     """Keeps the log's lines, with their levels."""
 
-    def __init__(self, told: List[Tuple[int, str]]) -> None:
+    def __init__(self, lines: List[Tuple[int, str]]) -> None:
         super().__init__()
-        self.told = told
+        self.told = lines
 
     def emit(self, record: logging.LogRecord) -> None:
         self.told.append((record.levelno, record.getMessage()))
@@ -100,13 +100,13 @@ class Served:
     ) -> None:
         if journal is not None:
             self._tell_log()
-        its: Any = (sessions, limit, program, run_name, script, RATHER_LOSE_THE_AUDIT)
-        its += (journal, round_seconds)
+        settings: Any = (sessions, limit, program, run_name, script, RATHER_LOSE_THE_AUDIT)
+        settings += (journal, round_seconds)
         more: Any = {"audits": audits, "coverage": coverage}
         if running:
-            self.auditor = OfPackedRunning(*its, **more, running=running)
+            self.auditor = OfPackedRunning(*settings, **more, running=running)
         else:
-            self.auditor = OfPacked(*its, **more)
+            self.auditor = OfPacked(*settings, **more)
         if has_sessions:
             self.auditor.note_sessions()
 
@@ -146,9 +146,9 @@ class Served:
             is_failed, result = False, deed(*arguments)
         except Exception as error:
             is_failed, result = True, error
-        told = [*self.told]
+        log_lines = [*self.told]
         self.told.clear()
-        return is_failed, result, told
+        return is_failed, result, log_lines
 
 
 def serve(descriptor: int) -> None:

@@ -92,11 +92,11 @@ class SupervisedProgram:
 
     def answers(self, count: int, seconds: float) -> List[bytes]:
         self.wait(count, seconds)
-        found = [self._found.popleft() for _ in range(count)]
-        for each in found:
+        answers = [self._found.popleft() for _ in range(count)]
+        for each in answers:
             if isinstance(each, RoundTooLongError):
                 raise each
-        return [each for each in found if isinstance(each, bytes)]
+        return [each for each in answers if isinstance(each, bytes)]
 
     def wait(self, count: int, seconds: float) -> None:
         until = time.monotonic() + seconds
@@ -297,14 +297,14 @@ class SupervisedProgram:
 
     def _give_up_round(self) -> None:
         self._pipes.kill()
-        told = f"a round took more than {self.round_seconds:g} s"
+        message = f"a round took more than {self.round_seconds:g} s"
         if self._talk is not None:  # by which a cut was to be found
             self._last_round = self._round_at = None
         elif self._too_long:
-            self._tell(RoundTooLongError(f"{told}, twice"))
+            self._tell(RoundTooLongError(f"{message}, twice"))
         else:
             self._too_long += 1
-        self._die(ProgramEndedError(told))
+        self._die(ProgramEndedError(message))
 
     def _die(self, error: ProgramEndedError) -> None:
         """Another one is started, if not too many have died over the same line."""

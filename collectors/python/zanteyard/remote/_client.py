@@ -108,7 +108,11 @@ class AuditClient(LocalSessions):
         ]
         self._hand_over_all()
         if len(taken) == len(self.sessions):
-            places = [it.place for it in self.sessions if it.place and it.place.is_audited]
+            places = [
+                session.place
+                for session in self.sessions
+                if session.place and session.place.is_audited
+            ]
             self._messages.tell("leave", [astuple(place) for place in places])
         else:
             self._messages.tell("lose", "a session was in a transaction as it left")
@@ -203,23 +207,23 @@ class AuditClient(LocalSessions):
             place: Place = session.place
             return place
         wait = self.policy.wait / 2
-        found = self._requests.ask("join", False, seconds=wait)
-        if found is None:
+        answer = self._requests.ask("join", False, seconds=wait)
+        if answer is None:
             self._renewed = time.monotonic()
             if self._handover.lost is None and not self._is_over:
                 self._lose("no session is left for a client")
             return session.place or self._requests.ask("overflow", seconds=wait)
         if session.place is not None and session.place.is_audited:  # which has ended
             self._give_back(session.place)
-        return found
+        return answer
 
     def _cant_join(self, session: Session, why: Exception) -> Optional[Place]:
         if self._handover.lost is None:
             self._lose(f"a client can't join: {why}")
-        found = self._requests.ask("overflow", seconds=self.policy.wait / 2)
-        if found is not None:
+        answer = self._requests.ask("overflow", seconds=self.policy.wait / 2)
+        if answer is not None:
             self._give_back(session.place)
-        return found
+        return answer
 
     def _notes_of(self, store: Store) -> Any:
         """The auditor's process is told first where they are, and how the store is asked."""

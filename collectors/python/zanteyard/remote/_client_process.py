@@ -91,9 +91,9 @@ class ClientProcess:
     def lose(self, why: str) -> None:
         """It is gone without a word, which ends the audit if it may have done anything."""
         if self.group.had_sessions:
-            told = f"the process of the sessions {self.group.told()} is lost"
-            told = f"{told}, and what was done in them last isn't known"
-            self._live.lose(ProgramEndedError(f"{told}: {why}"))
+            message = f"the process of the sessions {self.group.told()} is lost"
+            message = f"{message}, and what was done in them last isn't known"
+            self._live.lose(ProgramEndedError(f"{message}: {why}"))
 
     def _listen(self) -> None:
         live = self._live
@@ -142,8 +142,8 @@ class ClientProcess:
                     if place.is_ended and not place.must_join:
                         self._live.take_close(place.number)
             if places:
-                told = ", ".join(str(place.number) for place in places)
-                logger.warning("the process of the sessions %s was killed: %s", told, HANDED_IN)
+                numbers = ", ".join(str(place.number) for place in places)
+                logger.warning("the process of the sessions %s was killed: %s", numbers, HANDED_IN)
         except Exception as error:
             self.lose(f"{why}: {error}" if str(error) != why else why)
             self._live.drop_places(place.number for place in places)
@@ -154,8 +154,8 @@ class ClientProcess:
             self._live.give_back(place for place in places if place.number not in ended)
             self._live.drop_places(place.number for place in places if place.number in ended)
 
-    def _hand_in(self, session: int, found: Sequence[Tuple[int, Logged]]) -> None:
-        for came, number, unseen, packed in handed_in(found):
+    def _hand_in(self, session: int, transactions: Sequence[Tuple[int, Logged]]) -> None:
+        for came, number, unseen, packed in handed_in(transactions):
             self._live.hand_in_packed(came, session, number, unseen, packed)
 
     def _take_unnoted(self, *why: str) -> None:
@@ -228,12 +228,16 @@ class ClientProcess:
 
     def _take_leave(self, places: Sequence[Sequence[Any]]) -> None:
         """Its sessions are left for others; so are those that it was to join, and didn't."""
-        numbers, told = self.group.numbers(), [Place(*place) for place in places]
-        known = {place.number for place in told}
-        unused = [it for it in self.group.places() if it.must_join and it.number not in known]
-        known.update(self.group.ended, (it.number for it in [*unused, *self.group.given_back()]))
+        numbers, returned = self.group.numbers(), [Place(*place) for place in places]
+        known = {place.number for place in returned}
+        unused = [
+            place for place in self.group.places() if place.must_join and place.number not in known
+        ]
+        known.update(
+            self.group.ended, (place.number for place in [*unused, *self.group.given_back()])
+        )
         self.group.leave()
-        self._live.give_back([*told, *unused])
+        self._live.give_back([*returned, *unused])
         self._live.drop_places(numbers)  # of those that have ended
         for number in numbers:
             if number not in known:  # it was told too late that it had this, and did nothing there

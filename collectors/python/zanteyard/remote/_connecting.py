@@ -44,14 +44,18 @@ def door_to(address: str, audit: str) -> Door:
 
 def welcomed(messages: Any) -> Any:
     if not messages.comes(ANSWERING):
-        told = f"the auditor's process hasn't answered for {ANSWERING:g} s"
-        raise ProgramEndedError(told)
-    _, form, version, *found = messages.receive()
+        message = f"the auditor's process hasn't answered for {ANSWERING:g} s"
+        raise ProgramEndedError(message)
+    _, form, version, *welcome = messages.receive()
     if form != FORM:
-        told = f"of zanteyard {version}" if isinstance(version, str) else "of an earlier version"
-        told = f"the auditor's process is {told}, and this one of {VERSION}: they don't understand"
-        raise OtherVersionError(f"{told} one another, and nothing is audited (docs/OPERATION.md)")
-    return found
+        message = f"of zanteyard {version}" if isinstance(version, str) else "of an earlier version"
+        message = (
+            f"the auditor's process is {message}, and this one of {VERSION}: they don't understand"
+        )
+        raise OtherVersionError(
+            f"{message} one another, and nothing is audited (docs/OPERATION.md)"
+        )
+    return welcome
 
 
 class SocketDoor:
@@ -62,11 +66,11 @@ class SocketDoor:
 
     def welcome(self) -> Any:
         try:
-            *found, self._notes_path = welcomed(self.messages)
+            *welcome, self._notes_path = welcomed(self.messages)
         except BaseException:
             self.messages.close()
             raise
-        return found
+        return welcome
 
     def notes(self, which: int, handover: Outbox) -> CrashNotes:
         """In files. Nobody waits for it where they fail: they aren't there then, which tells the

@@ -52,14 +52,14 @@ class CrashedProcess:
         """What the session did, which nobody has handed in: numbers, and what is to be logged. The
         place is then as it would have been given back, or ended. Where it was to be joined nothing
         is handed in but behind the fence of that, which may not be there. Raises LostError."""
-        begun, found = place.begun, self._told(place)
+        begun, transactions = place.begun, self._told(place)
         if not place.must_join:
-            return found
-        if found and found[0][1].outcome == "committed":
+            return transactions
+        if transactions and transactions[0][1].outcome == "committed":
             place.must_join = False
-            return found
+            return transactions
         if self.is_dead and not place.is_ended:  # what is aborted has left nothing
-            place.begun = max(begun, found[0][0]) if found else begun
+            place.begun = max(begun, transactions[0][0]) if transactions else begun
             # Where no answer was noted nobody else has this name: the store may have been asked of
             # an attempt before, and a fence may be overwritten by others by then.
             if (place.number, place.begun) in self._unanswered:
@@ -72,32 +72,32 @@ class CrashedProcess:
         first = max(place.begun, self.next_number(place.number))
         before, answered = self.sorted_out(place.number, first)
         last = max((*before, *answered, first - 1))
-        found: List[Tuple[int, Logged]] = []
+        transactions: List[Tuple[int, Logged]] = []
         place.begun, place.is_due, place.has_flag = first, True, False
         for note, _ in self.notes.get(place.number, ()):
             if note.outcome == "unknown" and note.is_last and note.number < first:
                 place.leave_open(note.number)
                 place.is_ended = note.number == last  # and it had no time to tell that
         if place.is_ended:
-            return found
+            return transactions
         for number in range(first, last + 1):
             logged = self.logged(number, before.get(number), answered.get(number))
             place.begun = number + 1
             if logged is not None:
-                found.append((number, logged))
+                transactions.append((number, logged))
             if logged is None or logged.outcome == "unknown":
                 place.leave_open(number)
                 place.is_ended = True
                 if number < last:
                     raise LostError("its notes have more behind what can't be found out")
-                return found if self.is_dead else without_end(found)
+                return transactions if self.is_dead else without_end(transactions)
         if not self.is_dead:
             place.leave_open(last + 1)
             place.is_ended = True
-            return without_end(found)
+            return without_end(transactions)
         # One more may have begun, of which nothing was sent to be committed.
         place.begun = last + 2
-        return [*found, (last + 1, NOTHING)]
+        return [*transactions, (last + 1, NOTHING)]
 
     def sorted_out(
         self, session: int, first: int
@@ -147,8 +147,8 @@ class CrashedProcess:
         if not logged.writes and note.unclear is None:
             return NOTHING  # whether what it has read is to be checked isn't known
         outcome, overwritten = find_out(how, note.ticket, SECONDS, self.is_dead)
-        told = f"{note.session}.{note.number} of a killed process"
-        logger.info("%s is %s by the store's word", told, outcome)
+        called = f"{note.session}.{note.number} of a killed process"
+        logger.info("%s is %s by the store's word", called, outcome)
         if outcome == "aborted":
             return undone_alone(StoreId((note.session, note.number)), logged)
         if note.unclear is not None:
@@ -174,28 +174,28 @@ class CrashedProcess:
 
 def in_files(asks: Dict[str, Any]) -> Noted:
     """What was noted in these files. Raises LostError where they aren't there."""
-    found: Noted = {}
+    noted: Noted = {}
     for path, how in asks.items():
         notes = notes_of(path)
         if notes is None:
             raise LostError("its notes aren't there")
         for note in notes:
-            found.setdefault(note.session, []).append((note, how))
-    return found
+            noted.setdefault(note.session, []).append((note, how))
+    return noted
 
 
-def without_end(found: List[Tuple[int, Logged]]) -> List[Tuple[int, Logged]]:
+def without_end(transactions: List[Tuple[int, Logged]]) -> List[Tuple[int, Logged]]:
     """Where the session is closed behind these: what did nothing, or flags that nobody reads any
     more, would say no more by being there, and nothing would say where they stand. Of a flag that
     is known to be there no more is known: what it has read is the flag before it."""
-    while found and is_without_use(found[-1][1]):
-        found.pop()
-    return found
+    while transactions and is_without_use(transactions[-1][1]):
+        transactions.pop()
+    return transactions
 
 
 def is_without_use(logged: Logged) -> bool:
-    its = (*logged.writes, *(key for key, _ in logged.reads))
-    return all(key.startswith(FLAG) for key in its)
+    keys = (*logged.writes, *(key for key, _ in logged.reads))
+    return all(key.startswith(FLAG) for key in keys)
 
 
 def undone_alone(id: StoreId, logged: Logged) -> Logged:
@@ -209,15 +209,15 @@ def undone_alone(id: StoreId, logged: Logged) -> Logged:
 
 
 def writes_alone(logged: Logged) -> Logged:
-    written = tuple(it for it in logged.statements if len(it[0]) == 1)
-    values = tuple(it for it in logged.values if it[0] == "wrote")
+    written = tuple(statement for statement in logged.statements if len(statement[0]) == 1)
+    values = tuple(value for value in logged.values if value[0] == "wrote")
     return logged._replace(reads=(), outcome="unknown", statements=written, values=values)
 
 
 def handed_in(
-    found: Iterable[Tuple[int, Logged]]
+    transactions: Iterable[Tuple[int, Logged]]
 ) -> Iterable[Tuple[float, int, Sequence[str], bytes]]:
     """As a process hands it over: when it came, the number, the keys that were written unseen, and
     what was logged, as bytes."""
-    for number, logged in found:
+    for number, logged in transactions:
         yield time.monotonic(), number, keys_written_unseen(logged), as_bytes(logged)

@@ -68,13 +68,13 @@ class StateFile:
         """Raises JournalError where it isn't there, or can't be believed."""
         try:
             with open(self.path, "rb") as file:
-                found = [text for text, _ in records(file.read(), 0)]
-            (text,) = found
-            version, its = marshal.loads(text)
+                texts = [text for text, _ in records(file.read(), 0)]
+            (text,) = texts
+            version, fields = marshal.loads(text)
             if version != VERSION:
                 raise ValueError(f"it is of version {version}")
             earlier: Dict[str, Any] = {"form": 0, "version": "unknown"}  # than these were noted
-            return LiveState(**{**earlier, **its})
+            return LiveState(**{**earlier, **fields})
         except (OSError, ValueError, TypeError, EOFError, JournalDamagedError) as error:
             raise JournalError(f"{self.path} can't be gone on with: {error}") from error
 
@@ -94,7 +94,7 @@ def identity(journal: str) -> str:
     """Of its lock, which stays: a copy of the folder has another one, though it has its path on a
     machine of the same name. Raises JournalError."""
     try:
-        found = os.stat(f"{journal}.lock")
+        status = os.stat(f"{journal}.lock")
     except OSError as error:
         raise JournalError(f"{journal} isn't locked any more: {error}") from error
-    return f"{found.st_dev}:{found.st_ino}"
+    return f"{status.st_dev}:{status.st_ino}"

@@ -104,8 +104,10 @@ class RemoteGroup:
     def given_back(self) -> List[Place]:
         """Of its places, in answers that weren't looked at yet."""
         with self._changed:
-            found = [it.answer[0] for it in self._unread if it.name == "gather" and it.answer]
-        return [Place(*place) for result in found if result for place in result[1]]
+            answers = [
+                call.answer[0] for call in self._unread if call.name == "gather" and call.answer
+            ]
+        return [Place(*place) for result in answers if result for place in result[1]]
 
     def go_on(
         self,
@@ -147,7 +149,11 @@ class RemoteGroup:
         return () if self._has_left else sorted(self._numbers)
 
     def there(self) -> Sequence[int]:
-        return () if self._has_left else [it for it in [*self._numbers] if it not in self._untold]
+        return (
+            ()
+            if self._has_left
+            else [number for number in [*self._numbers] if number not in self._untold]
+        )
 
     def told(self) -> str:
         """The numbers of its sessions, also where it has left, in words."""
@@ -193,9 +199,9 @@ class RemoteGroup:
 
     def edges(self) -> Optional[Sequence[Tuple[Any, ...]]]:
         try:
-            found: Sequence[Tuple[Any, ...]]
-            found = self._begin("edges")(time.monotonic() + self.patience)
-            return found
+            edges: Sequence[Tuple[Any, ...]]
+            edges = self._begin("edges")(time.monotonic() + self.patience)
+            return edges
         except (QuiesceMissed, ElsewhereError):
             return None
 
@@ -234,7 +240,7 @@ class RemoteGroup:
     def _begin(self, name: str, *arguments: Any, lent: Sequence[Place] = ()) -> Wait[Any]:
         """Gives what waits for the answer, until then and a little longer."""
         call = _OutgoingCall(name, lent)
-        told = (*arguments, [astuple(place) for place in lent])
+        sent = (*arguments, [astuple(place) for place in lent])
         with self._changed:
             if self._has_left:
                 raise QuiesceMissed(LEFT)
@@ -243,7 +249,7 @@ class RemoteGroup:
             self._calls[asked] = call
             for place in lent:
                 place.is_lent = True  # until it is answered
-        if not self._messages.tell("call", asked, name, told, seconds=self.patience):
+        if not self._messages.tell("call", asked, name, sent, seconds=self.patience):
             with self._changed:
                 if not self._has_left:  # else it isn't known whether it had got it
                     del self._calls[asked]
@@ -257,7 +263,7 @@ class RemoteGroup:
         with self._changed:
             self._changed.wait_for(lambda: call.answer or self._has_left, seconds)
             call.is_late = call.answer is None
-            self._unread = [it for it in self._unread if it is not call]
+            self._unread = [other for other in self._unread if other is not call]
         if call.answer is None:
             what = "has left" if self._has_left else f"hasn't answered for {seconds:.3g} s"
             raise QuiesceMissed(f"the process of the sessions {self.told()} {what}")

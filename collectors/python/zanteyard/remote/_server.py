@@ -94,7 +94,10 @@ class AuditServer:
                 return
             self._count += 1
             process = SocketProcess(self._live, connection, f"{self.notes}/{self._count}")
-            self._processes = [*(it for it in self._processes if it.thread.is_alive()), process]
+            self._processes = [
+                *(living for living in self._processes if living.thread.is_alive()),
+                process,
+            ]
             process.thread.start()
 
     def _tell_end(self) -> None:

@@ -61,8 +61,8 @@ class SocketProcess(ClientProcess):
         """Until it sends something. Raises EOFError where it has ended, and somebody else keeps its
         end of the connection open."""
         if self._watch is not None:
-            found = wait([self._connection, self._watch])
-            if self._connection not in found and not self._connection.poll(0):
+            ready = wait([self._connection, self._watch])
+            if self._connection not in ready and not self._connection.poll(0):
                 raise EOFError
 
     def _noted(self) -> Noted:
@@ -70,7 +70,7 @@ class SocketProcess(ClientProcess):
             raise LostError("it ended without leaving")
         if os.path.exists(f"{self.notes_path}{FORKED}"):
             raise LostError("it has forked, and its child may go on in its sessions")
-        there = {it[:-2] for it in glob.glob(f"{glob.escape(self.notes_path)}-*.0")}
+        there = {path[:-2] for path in glob.glob(f"{glob.escape(self.notes_path)}-*.0")}
         # Of a session that it had begun to make, and in which nothing was done, it hasn't told.
         if any(notes_of(path) for path in there - {*self._asks}):
             raise LostError("not all that it did could be noted")

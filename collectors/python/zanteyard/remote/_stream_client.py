@@ -42,13 +42,13 @@ class StreamDoor:
 
     def welcome(self) -> Any:
         try:
-            *found, _ = welcomed(self.messages)
+            *welcome, _ = welcomed(self.messages)
         except BaseException:
             self._go_away()
             raise
         self._link.close()
-        self._wait = found[-1][0]  # of the policy
-        return found
+        self._wait = welcome[-1][0]  # of the policy
+        return welcome
 
     def notes(self, which: int, handover: Outbox) -> StreamNotes:
         """Their order among all that the process tells says that nothing of them is missing."""

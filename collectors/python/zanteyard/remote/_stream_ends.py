@@ -50,7 +50,7 @@ class RedisLink:
                 return None
             try:
                 limit(self._connection, time.monotonic() + seconds)
-                found = answers(self._connection, commands)
+                replies = answers(self._connection, commands)
             except (redis.RedisError, *BROKEN) as error:
                 self.fail(error)
                 return None
@@ -64,7 +64,7 @@ class RedisLink:
             self.is_up = True  # one that hangs takes connections, and answers nothing
             if self._has_ended:
                 self.close()
-            return found
+            return replies
 
     @property
     def is_open(self) -> bool:
@@ -197,10 +197,10 @@ class Appender:
             rest = list(islice(reversed(self._kept), max(0, self.last - self.there)))[::-1][:MOST]
         if not rest:
             return True
-        found = self._link.ask([self._append(*each) for each in rest], seconds)
-        if found is None:
+        replies = self._link.ask([self._append(*each) for each in rest], seconds)
+        if replies is None:
             return False
-        for (number, _), answer in zip(rest, found):
+        for (number, _), answer in zip(rest, replies):
             if answer is None:
                 return self._is_lost(seconds)
             if isinstance(answer, redis.ResponseError) and "equal or smaller" not in str(answer):
@@ -217,16 +217,16 @@ class Appender:
     def _find_place(self, seconds: float) -> bool:
         """After the connection was lost: up to where Redis has it, which may be less than it had.
         """
-        found = self._link.ask([("XINFO", "STREAM", self.key)], seconds)
-        if found is None:
+        replies = self._link.ask([("XINFO", "STREAM", self.key)], seconds)
+        if replies is None:
             return False
-        if isinstance(found[0], redis.ResponseError):
-            if "no such key" not in str(found[0]):
-                self._link.fail(found[0])
+        if isinstance(replies[0], redis.ResponseError):
+            if "no such key" not in str(replies[0]):
+                self._link.fail(replies[0])
                 return False
             return self._may_make or self._is_lost(seconds)
-        its = dict(zip(found[0][::2], found[0][1::2]))
-        last = int(its[b"last-generated-id"].split(b"-")[0])
+        figures = dict(zip(replies[0][::2], replies[0][1::2]))
+        last = int(figures[b"last-generated-id"].split(b"-")[0])
         self.there, self._may_make = min(self.last, max(last, self.confirmed)), False
         return True
 
@@ -274,30 +274,30 @@ class Reader:
     def _read(self, seconds: float) -> None:
         milliseconds = max(1, int(1000 * seconds))
         command = ("XREAD", "COUNT", MOST, "BLOCK", milliseconds, "STREAMS", self.key)
-        found = self._link.ask([(*command, f"{self.last}-0")], seconds + 5.0)
-        if found is None:
+        replies = self._link.ask([(*command, f"{self.last}-0")], seconds + 5.0)
+        if replies is None:
             time.sleep(min(seconds, AGAIN))
             return
-        if isinstance(found[0], redis.ResponseError):
-            self._link.fail(found[0])
+        if isinstance(replies[0], redis.ResponseError):
+            self._link.fail(replies[0])
             return
         self.read_at = time.monotonic()
-        for _, entries in found[0] or ():
+        for _, entries in replies[0] or ():
             self._found.extend(map(entry, entries))
 
 
-def entry(found: Any) -> Tuple[int, Any]:
+def entry(reply: Any) -> Tuple[int, Any]:
     """A message's number, and the message."""
-    name, fields = found
+    name, fields = reply
     return int(name.split(b"-")[0]), marshal.loads(fields[1])
 
 
 def asked(link: RedisLink, commands: List[Command], seconds: float) -> List[Any]:
     """Raises OSError where Redis can't be reached, or refuses one of them."""
-    found = link.ask(commands, seconds)
-    if found is None:
+    replies = link.ask(commands, seconds)
+    if replies is None:
         raise OSError("the Redis with the audit's streams can't be reached")
-    for each in found:
+    for each in replies:
         if isinstance(each, redis.ResponseError):
             raise OSError(f"the Redis with the audit's streams refuses it: {each}")
-    return found
+    return replies

@@ -71,8 +71,8 @@ class ClientsEnd(StreamMessages):
         self._beating = threading.Thread(target=self._beat, daemon=True)
 
     def _is_buried(self, link: RedisLink, seconds: float) -> Optional[bool]:
-        found = link.ask([("EXISTS", self.names.buried(self.client))], seconds)
-        return None if found is None else found[0] == 1
+        replies = link.ask([("EXISTS", self.names.buried(self.client))], seconds)
+        return None if replies is None else replies[0] == 1
 
     def begin(self) -> None:
         self._beating.start()
@@ -98,8 +98,8 @@ class ClientsEnd(StreamMessages):
             if self.is_closed or self.appender.is_gone:
                 raise EOFError
             self._listen()
-        found, self._next = self._next, None
-        return found
+        numbered, self._next = self._next, None
+        return numbered
 
     def close(self) -> None:
         super().close()
@@ -110,10 +110,10 @@ class ClientsEnd(StreamMessages):
         self.reader.close()
 
     def _listen(self) -> None:
-        found = self.reader.receive(PAUSE)
-        if found is None:
+        numbered = self.reader.receive(PAUSE)
+        if numbered is None:
             return
-        message: Any = found[1]
+        message: Any = numbered[1]
         if message[0] == KEPT:
             self.appender.confirm(message[1])
             self._heard = max(self._heard, *message[1:])

@@ -81,21 +81,21 @@ class StreamProcess(ClientProcess):
                 time.sleep(PAUSE)
                 return
         try:
-            found = self.ends.next()
+            numbered = self.ends.next()
         except Gap as gap:
-            told = f"the Redis has lost what it told in the messages {gap}"
-            raise self._cut_off(told) from gap
+            message = f"the Redis has lost what it told in the messages {gap}"
+            raise self._cut_off(message) from gap
         now = time.monotonic()
         can_be_heard = self.ends.reader.is_up and self.takes_writes()
-        if found is not None or not can_be_heard or self._quiet_since is None:
+        if numbered is not None or not can_be_heard or self._quiet_since is None:
             self._quiet_since = now
         elif self._is_buried:  # and all is heard again that it told
             raise EOFError(f"nothing was heard of it for {self._silence:g} s")
         elif now > self._quiet_since + self._silence:
             self._quiet_since = now
             self._is_buried = self._hears_rest = self._bury(self.ends, False)
-        if found is not None:
-            self._take(*found)
+        if numbered is not None:
+            self._take(*numbered)
 
     def _take(self, number: int, message: Any) -> None:
         kind, *rest = message
@@ -170,22 +170,22 @@ class StreamProcess(ClientProcess):
     ) -> None:
         """An attempt that did nothing waits for what its session does behind it: were it the last
         of a session that is closed, nothing would say where it stands, and no fence be settled."""
-        its = (came, session, number, unseen, packed)
+        one_logged = (came, session, number, unseen, packed)
         logged = unpacked(packed) if number is not None else None
         if logged is not None and not logged.reads and not logged.writes:
-            self._held.setdefault(session, []).append(its)
+            self._held.setdefault(session, []).append(one_logged)
         else:
             self._give_held(session)
-            super()._take_one(*its)
+            super()._take_one(*one_logged)
 
     def _give_held(self, session: int) -> None:
-        for its in self._held.pop(session, ()):
-            super()._take_one(*its)
+        for one_logged in self._held.pop(session, ()):
+            super()._take_one(*one_logged)
 
     def _take_note(self, which: int, *note: Any) -> None:
-        its = CrashNote(*note)
-        self._notes.setdefault(its.session, deque()).append((self._at, which, its))
-        self._drop_notes(its.session)
+        crash_note = CrashNote(*note)
+        self._notes.setdefault(crash_note.session, deque()).append((self._at, which, crash_note))
+        self._drop_notes(crash_note.session)
 
     def _drop_notes(self, session: int) -> None:
         notes, handed_over = self._notes.get(session), self._live.next_number(session)
@@ -203,7 +203,7 @@ class StreamProcess(ClientProcess):
     def note_kept(self) -> bool:
         """Whether more is needed no more than was, or was heard; for who has the lock."""
         is_taken = self._live.is_taken
-        while self._logged and all(is_taken(*its) for its in self._logged[0][1].items()):
+        while self._logged and all(is_taken(*last) for last in self._logged[0][1].items()):
             self._logged.popleft()
         ends = [self._logged[0][0] - 1] if self._logged else []
         ends += [notes[0][0] - 1 for notes in self._notes.values() if notes]
@@ -230,15 +230,15 @@ class StreamProcess(ClientProcess):
         self._had = self._has()  # another process finds the same out, as long as it isn't taken in
         super()._find_out(places, why)
         if self._has_left and self._live.lost is None:  # it was heard again, and not to its end
-            told = f"what a process did that had left is lost: {why}"
-            self._live.note_missing(MissingError(told))
+            message = f"what a process did that had left is lost: {why}"
+            self._live.note_missing(MissingError(message))
         numbers = sorted(place.number for place in places if place.is_audited)
         if numbers and self._live.lost is None:
-            told = ", ".join(
+            message = ", ".join(
                 f"{number} from its transaction {self._live.next_number(number)} on"
                 for number in numbers
             )
-            missing = f"what was done in the sessions {told} isn't known, if anything was: {why}"
+            missing = f"what was done in the sessions {message} isn't known, if anything was: {why}"
             self._live.note_missing(MissingError(missing))
 
     def _end(self) -> None:
@@ -277,8 +277,8 @@ class StreamProcess(ClientProcess):
 
     def _has(self) -> Dict[str, Any]:
         gone = {place.number for place in self.group.given_back()}
-        its = [astuple(it) for it in self.group.places() if it.number not in gone]
-        return {"places": its, "calls": self.group.open_calls()}
+        plain = [astuple(place) for place in self.group.places() if place.number not in gone]
+        return {"places": plain, "calls": self.group.open_calls()}
 
     def begin_behind(self, state: Dict[str, Any]) -> List[Place]:
         """Another process; before it is heard. Gives the places that are lent to it."""
@@ -290,10 +290,12 @@ class StreamProcess(ClientProcess):
         self._is_buried = state.get("buried", False)
         if self._has_left and self.kept >= self.handled:
             self.group.leave()
-        calls = [(asked, name, [Place(*it) for it in lent]) for asked, name, lent in state["calls"]]
+        calls = [
+            (asked, name, [Place(*plain) for plain in lent]) for asked, name, lent in state["calls"]
+        ]
         lents = [place for _, _, lent in calls for place in lent]
         places = [Place(*place) for place in state["places"]]
-        closed = {number for number, its in enumerate(self._live.auditor.closed) if its}
+        closed = {number for number, is_closed in enumerate(self._live.auditor.closed) if is_closed}
         for place in lents:
             place.is_ended = place.is_ended or place.number in closed
         closed &= {place.number for place in [*places, *lents]}

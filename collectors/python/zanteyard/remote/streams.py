@@ -67,8 +67,8 @@ class StreamServer:
         journal = live.auditor.journal
         self._file = StateFile(journal) if isinstance(journal, str) else None
         self._written = 0  # times that this file was
-        its = f"{journal} ({identity(journal)})" if isinstance(journal, str) else os.getpid()
-        self._holder = f"{socket.gethostname()} {its} {live.run_name}".encode()
+        whose = f"{journal} ({identity(journal)})" if isinstance(journal, str) else os.getpid()
+        self._holder = f"{socket.gethostname()} {whose} {live.run_name}".encode()
         self._ours = live.token.encode()  # beside each client that is let in
         self._trimmed_at = self._held_at = 0.0
         self._downs: Dict[str, int] = {}
@@ -95,7 +95,7 @@ class StreamServer:
         self._thread.join(CLOSING)
         self._tell_end()
         until, processes = time.monotonic() + patience, list(self._processes.values())
-        while any(it.thread.is_alive() for it in processes) and time.monotonic() < until:
+        while any(process.thread.is_alive() for process in processes) and time.monotonic() < until:
             self._trim_last()  # who waits for room leaves, too
             time.sleep(TICK)
         for process in processes:
@@ -150,7 +150,7 @@ class StreamServer:
     @property
     def heard(self) -> Dict[str, int]:
         """Of each client's process up to which message all is needed no more, for who watches."""
-        heard = [it for it in list(self._processes.items()) if not it[1].is_over]
+        heard = [entry for entry in list(self._processes.items()) if not entry[1].is_over]
         return {client: process.kept for client, process in heard}
 
     # which auditor has it
@@ -167,8 +167,8 @@ class StreamServer:
                 asked(self._link, [mine], WAITS)
                 return
             if time.monotonic() > until:
-                told = (holder or b"").decode(errors="replace")
-                raise AuditTakenError(f"{self.names.audit}: another auditor has it ({told})")
+                other = (holder or b"").decode(errors="replace")
+                raise AuditTakenError(f"{self.names.audit}: another auditor has it ({other})")
             time.sleep(TICK)
 
     def _holds(self) -> bool:
@@ -180,12 +180,12 @@ class StreamServer:
             return
         (holder,) = asked(self._link, [("GET", self.names.auditor)], WAITS)
         if holder not in (None, self._holder):  # None: the Redis was away for too long, or lost it
-            told = holder.decode(errors="replace")
-            self._live.lose(AuditTakenError(f"another auditor has taken the audit: {told}"))
+            other = holder.decode(errors="replace")
+            self._live.lose(AuditTakenError(f"another auditor has taken the audit: {other}"))
             return
         mine = ("SET", self.names.auditor, self._holder, "PX", int(1000 * HELD))
-        its = f"{self._live.token} {self._written}"
-        written = ("SET", self.names.written, its, "EX", KEPT_AT_LEAST)
+        newest = f"{self._live.token} {self._written}"
+        written = ("SET", self.names.written, newest, "EX", KEPT_AT_LEAST)
         asked(self._link, [mine, *([written] if self._file is not None else ())], WAITS)
         self._held_at = time.monotonic()
 
@@ -208,8 +208,8 @@ class StreamServer:
             time.sleep(TICK)
 
     def _let_in(self) -> None:
-        (found,) = asked(self._link, [("HGETALL", self.names.clients)], WAITS)
-        for field, word in zip(found[::2], found[1::2]):
+        (fields,) = asked(self._link, [("HGETALL", self.names.clients)], WAITS)
+        for field, word in zip(fields[::2], fields[1::2]):
             client = field.decode()
             if client in self._processes:
                 continue
@@ -239,12 +239,14 @@ class StreamServer:
 
     def _is_heard_again(self) -> bool:
         """Whether some stream isn't heard again yet, up to where it had been heard."""
-        return any(it.is_heard_again for it in [*self._processes.values()])
+        return any(process.is_heard_again for process in [*self._processes.values()])
 
     def _trim(self) -> None:
         """What is on the disk is needed in no stream."""
         self._trimmed_at = time.monotonic()
-        kept = [(client, it) for client, it in self._processes.items() if it.note_kept()]
+        kept = [
+            (client, process) for client, process in self._processes.items() if process.note_kept()
+        ]
         if kept and self._file is not None:
             self._file.bring_to_disk()
             self._save()
@@ -260,7 +262,7 @@ class StreamServer:
             asked(self._link, commands, WAITS)
         for _, process in kept:
             process.tell_kept()
-        done = [client for client, it in self._processes.items() if self._is_done(it)]
+        done = [client for client, process in self._processes.items() if self._is_done(process)]
         if done and self._file is not None:
             self._file.bring_to_disk()
         for client in done:
@@ -291,8 +293,8 @@ class StreamServer:
         link = RedisLink(self.url)
         try:
             rest = ("XRANGE", up, f"{ends.reader.last + 1}-0", "+", "COUNT", 1)
-            _, found = asked(link, [("WATCH", up), rest], WAITS)
-            if found and not whatever:
+            _, rest_entries = asked(link, [("WATCH", up), rest], WAITS)
+            if rest_entries and not whatever:
                 return False
             # It may have that name by now, from a process of the auditor's that is gone.
             end: List[Any] = [("MULTI",), ("RENAMENX", up, rest_of_it), ("DEL", up)]
@@ -326,9 +328,9 @@ class StreamServer:
             left, unaudited = live.places_left()
             states = {client: process.state() for client, process in self._processes.items()}
             has = live.numbers_here()
-            for its in states.values():
-                lent = [place for call in its["calls"] for place in call[-1]]
-                has.update(place[0] for place in [*its["places"], *lent])
+            for process_state in states.values():
+                lent = [place for call in process_state["calls"] for place in call[-1]]
+                has.update(place[0] for place in [*process_state["places"], *lent])
             state = LiveState(
                 self.names.audit,
                 live.run_name,
@@ -349,12 +351,16 @@ class StreamServer:
     def _go_on(self) -> None:
         assert self._file is not None
         live, state = self._live, self._file.read()
-        its = (state.run_name, state.audits, state.audit)
-        if its != (live.run_name, live.auditor.audits, self.names.audit):
+        identity_of_state = (state.run_name, state.audits, state.audit)
+        if identity_of_state != (live.run_name, live.auditor.audits, self.names.audit):
             raise JournalError(f"{self._file.path} is of another audit than the journal")
         if state.form != FORM:
-            told = f"has clients of version {state.version}, which version {VERSION} doesn't know"
-            raise JournalError(f"{self._file.path} {told}: go on with that, or in another folder")
+            message = (
+                f"has clients of version {state.version}, which version {VERSION} doesn't know"
+            )
+            raise JournalError(
+                f"{self._file.path} {message}: go on with that, or in another folder"
+            )
         self._written = state.written
         self._check_newest(state.token)
         self._ours = state.token.encode()
@@ -366,15 +372,17 @@ class StreamServer:
         lent: List[Place] = []
         for client, of_client in state.clients.items():
             lent += self._add(client).begin_behind(of_client)
-        left = [Place(*it) for it in state.left]
-        taken = [number for it in self._processes.values() for number in it.group.numbers()]
+        left = [Place(*plain) for plain in state.left]
+        taken = [
+            number for process in self._processes.values() for number in process.group.numbers()
+        ]
         closed = [*live.auditor.closed]
         for place in [*left, *lent]:
             is_closed = place.number < len(closed) and closed[place.number]
             place.is_ended = place.is_ended or (is_closed and not place.must_join)
             place.must_join = place.must_join and is_closed
         live.go_on_with(left, taken, lent, state.unaudited)
-        open_ones = [it.number for it in [*left, *lent] if not it.is_ended]
+        open_ones = [place.number for place in [*left, *lent] if not place.is_ended]
         self._close_what_nobody_has({*taken, *open_ones})
         live.note_unseen()
         for process in self._processes.values():
@@ -384,9 +392,9 @@ class StreamServer:
     def _check_newest(self, token: str) -> None:
         """A folder that was brought back, or a copy, doesn't know what clients were told since: who
         went on with it might give a session of theirs to others."""
-        (found,) = asked(self._link, [("GET", self.names.written)], WAITS)
-        its, _, written = (found or b"").decode().rpartition(" ")
-        if its == token and int(written) > self._written:
+        (newest,) = asked(self._link, [("GET", self.names.written)], WAITS)
+        newest_token, _, written = (newest or b"").decode().rpartition(" ")
+        if newest_token == token and int(written) > self._written:
             assert self._file is not None
             told = "is older than what its audit came to: begin another one, in another folder"
             raise JournalError(f"{self._file.path} {told}")
