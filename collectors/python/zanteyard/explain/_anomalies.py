@@ -188,8 +188,8 @@ def _write_skews(
                 if following == start:
                     circle = [*way, start]
                     sentence = ", and ".join(
-                        f"{name(first)} read {_told(after[first][two])}, which {name(two)} overwrote"
-                        for first, two in zip(circle, circle[1:])
+                        f"{name(id)} read {_told(after[id][two])}, which {name(two)} overwrote"
+                        for id, two in zip(circle, circle[1:])
                     )
                     yield Anomaly("write skew", sentence, tuple(way))
                 elif following not in way and following > start and len(way) < 8:

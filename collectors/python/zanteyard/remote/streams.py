@@ -244,9 +244,8 @@ class StreamServer:
     def _trim(self) -> None:
         """What is on the disk is needed in no stream."""
         self._trimmed_at = time.monotonic()
-        kept = [
-            (client, process) for client, process in self._processes.items() if process.note_kept()
-        ]
+        processes = self._processes.items()
+        kept = [(client, process) for client, process in processes if process.note_kept()]
         if kept and self._file is not None:
             self._file.bring_to_disk()
             self._save()
@@ -355,12 +354,8 @@ class StreamServer:
         if identity_of_state != (live.run_name, live.auditor.audits, self.names.audit):
             raise JournalError(f"{self._file.path} is of another audit than the journal")
         if state.form != FORM:
-            message = (
-                f"has clients of version {state.version}, which version {VERSION} doesn't know"
-            )
-            raise JournalError(
-                f"{self._file.path} {message}: go on with that, or in another folder"
-            )
+            why = f"has clients of version {state.version}, which version {VERSION} doesn't know"
+            raise JournalError(f"{self._file.path} {why}: go on with that, or in another folder")
         self._written = state.written
         self._check_newest(state.token)
         self._ours = state.token.encode()
@@ -373,9 +368,8 @@ class StreamServer:
         for client, of_client in state.clients.items():
             lent += self._add(client).begin_behind(of_client)
         left = [Place(*plain) for plain in state.left]
-        taken = [
-            number for process in self._processes.values() for number in process.group.numbers()
-        ]
+        groups = [process.group for process in self._processes.values()]
+        taken = [number for group in groups for number in group.numbers()]
         closed = [*live.auditor.closed]
         for place in [*left, *lent]:
             is_closed = place.number < len(closed) and closed[place.number]
