@@ -194,8 +194,7 @@ def _server(asked: Any, live: LiveAuditor) -> Any:
 
 def _figures(live: LiveAuditor, server: Any) -> str:
     if isinstance(server, AuditServer):
-        clients = sum(process.thread.is_alive() for process in list(server._processes))
-        return text_of(families(live, clients))
+        return text_of(families(live, server.clients))
     return text_of(families(live, len(server.heard), server.is_up))
 
 

@@ -82,6 +82,11 @@ class AuditServer:
     def __exit__(self, *_: object) -> None:
         self.close()
 
+    @property
+    def clients(self) -> int:
+        """How many processes of clients are heard."""
+        return sum(process.thread.is_alive() for process in list(self._processes))
+
     def _let_in(self) -> None:
         while True:
             try:
