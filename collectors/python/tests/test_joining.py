@@ -180,8 +180,8 @@ class TakenIn(WithProgram):
         self.auditor, self.backlog = Auditor(2, 64), Backlog(8)
         self.addCleanup(self.auditor.end)
         its = (self.backlog, Figures(), self.told.append, "run", Coverage.of_all(2))
-        self.stints = Tenancy()
-        self.audit = Audit(self.auditor, *its, stints=self.stints)
+        self.tenancy = Tenancy()
+        self.audit = Audit(self.auditor, *its, tenancy=self.tenancy)
 
     def hand_in(self, *entries):
         for session, number, logged in entries:
@@ -193,7 +193,7 @@ class TakenIn(WithProgram):
         return list(self.auditor.received)
 
     def test_who_joins_waits_for_the_fence_before_its_own(self):
-        self.stints.begin(2, 0)
+        self.tenancy.begin(2, 0)
         self.hand_in((0, 0, fence("init")), (2, 0, fence((1, 0))), (2, 1, wrote("x")))
         self.assertEqual(self.received(), [1, 0])
         self.assertFalse(self.backlog.is_taken(2, 0))
@@ -396,15 +396,15 @@ class GivenOut(unittest.TestCase):
         self.assertEqual((places.sessions, places.wants_meeting), (2, False))
 
     def test_clients_by_what_they_did(self):
-        stints = Tenancy()
-        self.assertEqual([stints.begin(0, 0), stints.begin(1, 0), stints.begin(0, 0), stints.begin(0, 4)], [1, 2, 3, 4])
-        self.assertEqual([stints.client(0, number) for number in (0, 3, 4, 9)], [3, 3, 4, 4])
-        self.assertEqual([stints.first_of(0, 3), stints.first_of(0, 4), stints.first_of(0, 4)], [None, 4, None])
-        self.assertEqual([stints.called((0, 1), 1), stints.called((0, 2), 5), stints.called((1, 0), 0)],
+        tenancy = Tenancy()
+        self.assertEqual([tenancy.begin(0, 0), tenancy.begin(1, 0), tenancy.begin(0, 0), tenancy.begin(0, 4)], [1, 2, 3, 4])
+        self.assertEqual([tenancy.client(0, number) for number in (0, 3, 4, 9)], [3, 3, 4, 4])
+        self.assertEqual([tenancy.first_of(0, 3), tenancy.first_of(0, 4), tenancy.first_of(0, 4)], [None, 4, None])
+        self.assertEqual([tenancy.called((0, 1), 1), tenancy.called((0, 2), 5), tenancy.called((1, 0), 0)],
                          ["0.1 (client 3)", "0.2 (client 4)", "1.0"])
-        stints.forget([4, 9])
-        self.assertEqual((stints.client(0, 3), stints.client(0, 4), stints.client(1, 9)), (None, 4, 2))
-        self.assertEqual(stints.joined(), [[0, 4]])
+        tenancy.forget([4, 9])
+        self.assertEqual((tenancy.client(0, 3), tenancy.client(0, 4), tenancy.client(1, 9)), (None, 4, 2))
+        self.assertEqual(tenancy.joined(), [[0, 4]])
 
 
 class Joins(WithProgram):

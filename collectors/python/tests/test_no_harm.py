@@ -237,15 +237,26 @@ class Interrupts(NoHarm):
     function is entered, or behind a call."""
 
     KINDS = (KeyboardInterrupt, SystemExit, GeneratorExit)
-    PLACES = ("sessions", "auditor", "taking", "apart", "live", "backlog", "audit_client", "handover", "pipes")
+    FOLDER = os.path.dirname(os.path.abspath(zanteyard.__file__))
+    PLACES = {
+        os.path.join(FOLDER, f"{name}.py")
+        for name in (
+            *("session/_session", "session/_transaction", "session/_attempts", "session/_store_calls"),
+            *("program/_auditor", "program/_lines", "program/_intake", "program/_subprocess", "program/_pipes"),
+            *("live/_live_auditor", "live/_live_figures", "live/_for_processes", "live/_backlog"),
+            *("remote/_client", "remote/_outbox"),
+        )
+    }
+
+    def test_the_places_are_there(self):
+        self.assertEqual([path for path in self.PLACES if not os.path.isfile(path)], [])
 
     def interrupted(self, transaction, at):
         """Whether its commit was, at the place of this number."""
         places, kind = [], self.KINDS[at % len(self.KINDS)]
 
         def profile(frame, event, _):
-            name = os.path.basename(frame.f_code.co_filename)[: -len(".py")]
-            if event in ("call", "c_return") and name in self.PLACES:
+            if event in ("call", "c_return") and frame.f_code.co_filename in self.PLACES:
                 places.append(frame.f_lineno)
                 if len(places) == at:
                     sys.setprofile(None)

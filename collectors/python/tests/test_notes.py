@@ -276,10 +276,10 @@ class Lost(unittest.TestCase):
         """Else who is killed in between is taken for one that has told all."""
         messages, sent = mock.Mock(), []
         messages.send = lambda kind, *_: sent.append(kind)
-        handover = Outbox(messages, 8)
-        handover.put_behind("missed", 0, 1)
-        handover.lose("why")
-        handover.send_all()
+        outbox = Outbox(messages, 8)
+        outbox.put_behind("missed", 0, 1)
+        outbox.lose("why")
+        outbox.send_all()
         self.assertEqual(sent, ["lost", "missed"])
 
 
@@ -456,7 +456,7 @@ os.kill(os.getpid(), signal.SIGKILL)
             raise OutcomeUnknownError("no answer came")
 
         one.store.commit, one.store.outcome = unanswered, lambda: "unknown"
-        with self.assertRaises(OutcomeUnknownError), client._handover._sending:
+        with self.assertRaises(OutcomeUnknownError), client._outbox._sending:
             one.run(lambda transaction: transaction.put("x", "1"))
         client.leave()
         outcome = live.stop()

@@ -70,19 +70,19 @@ class ScriptHistory:
     history: List[List[Logged]] = field(default_factory=list)
     marks: List[int] = field(default_factory=list)  # of each session, how many are forgotten
     base: Dict[str, AuditId] = field(default_factory=dict)  # of a key the last one gone
-    stints: Tenancy = field(default_factory=Tenancy)  # of sessions that several clients had
+    tenancy: Tenancy = field(default_factory=Tenancy)  # of sessions that several clients had
 
     def begin(self, sessions: int) -> None:
         """Nothing has come yet."""
         self.history, self.marks, self.base = [[] for _ in range(sessions)], [0] * sessions, {}
-        self.stints = Tenancy()
+        self.tenancy = Tenancy()
 
     def join(self, session: int, transactions: Iterable[Any]) -> None:
         """What an accepted `join` has said."""
         if session == len(self.history):
             self.history.append([])
             self.marks.append(0)
-        self.stints.begin_behind(session, self.marks[session])  # nothing of it remains
+        self.tenancy.begin_behind(session, self.marks[session])  # nothing of it remains
         self.take_in(session, transactions)
 
     def take_in(self, session: int, transactions: Iterable[Any]) -> None:
@@ -97,7 +97,7 @@ class ScriptHistory:
     def called(self, id: AuditId) -> str:
         """How the transaction is told: with its client's first, where its session had others."""
         called, by_number = self.names.name(id), f"{id[0]}.{id[1]}"
-        return self.stints.called_by_first(id) if called == by_number else called
+        return self.tenancy.called_by_first(id) if called == by_number else called
 
     def key_name(self, number: int) -> str:
         """How the key is told."""

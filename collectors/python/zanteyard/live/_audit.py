@@ -41,7 +41,7 @@ class Audit:
         coverage: Coverage,
         counted: int = 0,
         earlier: Tuple[Outcome, ...] = (),
-        stints: Optional[Tenancy] = None,
+        tenancy: Optional[Tenancy] = None,
         closed: Iterable[int] = (),
     ) -> None:
         self._auditor, self._backlog, self._figures = auditor, backlog, figures
@@ -58,7 +58,7 @@ class Audit:
         self._pending: Tuple[Pending, ...] = ()
         self._is_collectors_own = False
         self.missing: Optional[MissingError] = None  # what may have been done, and never comes
-        self._stints = stints or Tenancy()
+        self._tenancy = tenancy or Tenancy()
         self._closed: Set[int] = {*closed}
         # What waits with its session, which is to join behind a fence that isn't taken in yet.
         self._held: Dict[int, List[HandedIn]] = {}
@@ -152,7 +152,7 @@ class Audit:
         self._closed.add(session)
 
     def _tell_first(self, session: int, number: int, joins: bool) -> None:
-        client = self._stints.first_of(session, number)
+        client = self._tenancy.first_of(session, number)
         if client is not None:
             how = "joins as" if joins else "goes on in" if number else "begins"
             logger.info("client %d %s session %d with %d.%d", client, how, session, session, number)
@@ -252,7 +252,7 @@ class Audit:
     def called(self, id: AuditId) -> str:
         """How a transaction of the audit is told: with its client, where its session had others."""
         number = self._coverage.number_there(*id)
-        return self._stints.called(id, id[1] if number is None else number)
+        return self._tenancy.called(id, id[1] if number is None else number)
 
     def _offer_all(self, offered: Sequence[Fragment], joining: Sequence[int] = ()) -> None:
         refused = self._auditor.offer_all(offered, joining)
@@ -349,13 +349,13 @@ class Audit:
             return "no cut: no fence is settled" if is_none else f"no cut: {error}"
         self._figures.cuts += 1
         self._figures.cut_at = time.monotonic()
-        self._forget_stints()
+        self._forget_clients()
         return f"cut at {cut.fence[0]}.{cut.fence[1]}: {cut.gone} forgotten"
 
-    def _forget_stints(self) -> None:
+    def _forget_clients(self) -> None:
         marks = self._auditor.marks
         there = (self._coverage.number_there(session, mark) for session, mark in enumerate(marks))
-        self._stints.forget([number or 0 for number in there])
+        self._tenancy.forget([number or 0 for number in there])
 
     # its end
 

@@ -321,7 +321,7 @@ class LiveAuditor(ForProcesses):
         )
         shared = (self._backlog, self._figures, self._tell, self.run_name, coverage, 0, earlier)
         closed = [session for session, is_closed in enumerate(auditor.closed) if is_closed]
-        audit = Audit(auditor, *shared, stints=self._pool.stints, closed=closed)
+        audit = Audit(auditor, *shared, tenancy=self._pool.tenancy, closed=closed)
         if FENCE in auditor.base:
             self._pool.let_join()
         audit.taken_in, audit.report = sum(auditor.received), auditor.violation
@@ -360,25 +360,25 @@ class LiveAuditor(ForProcesses):
     def _start_anew(self) -> None:
         """Only what is sent to the store from some moment on is audited; what was on its way then
         is left out, as if it had been read by nobody."""
-        why, convener = self._lost, self._coordinator
+        why, coordinator = self._lost, self._coordinator
         ended = self._audit.outcome(True, why)
         self._backlog.clear()
         self._audit.drop_held()
         # Nobody waits for room: processes are asked.
-        convener.is_meeting, self._backlog.room = True, self._backlog.most
+        coordinator.is_meeting, self._backlog.room = True, self._backlog.most
         self._lost = None  # nothing is dropped from here on: what has ended is known by its number
         try:
             self._pool.grow()
             self.auditor.sessions = sessions = self._pool.sessions
-            coverage = coverage_from_now(sessions, convener.groups, self._pool, self._backlog)
+            coverage = coverage_from_now(sessions, coordinator.groups, self._pool, self._backlog)
             self.auditor.start_anew(coverage)
         except Exception:
             self._lost = why
             raise
         finally:
-            convener.is_meeting = False
+            coordinator.is_meeting = False
         self._audit = self._next_audit(coverage, ended)
-        convener.start_anew()
+        coordinator.start_anew()
         earlier = self._audit.earlier
         self._tell(f"audit {len(earlier)} has ended: {earlier[-1]}; now audited: {self.name}")
         logger.warning("another audit begins, %s, after: %s", self.name, why)
@@ -386,12 +386,12 @@ class LiveAuditor(ForProcesses):
     def _next_audit(self, coverage: Coverage, before: Optional[Outcome] = None) -> Audit:
         """Behind this outcome of the last one, if there was any."""
         more = (self._backlog, self._figures, self._tell, self.run_name, coverage)
-        stints = self._pool.stints
+        tenancy = self._pool.tenancy
         if before is None:
-            return Audit(self.auditor, *more, stints=stints)
+            return Audit(self.auditor, *more, tenancy=tenancy)
         earlier = (*before.earlier, replace(before, earlier=()))
         counted = sum(outcome.handed_in for outcome in earlier)
-        return Audit(self.auditor, *more, counted, earlier, stints)
+        return Audit(self.auditor, *more, counted, earlier, tenancy)
 
     def _called(self, id: AuditId) -> str:
         """How a transaction of the audit is told: whose it was, where its session had others."""

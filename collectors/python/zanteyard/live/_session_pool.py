@@ -29,7 +29,7 @@ class SessionPool:
 
     def __init__(self, sessions: int) -> None:
         self.sessions = sessions  # by now, with one that hasn't joined yet
-        self.stints = Tenancy()  # which clients had them
+        self.tenancy = Tenancy()  # which clients had them
         self._left: Deque[Place] = deque(Place(number) for number in range(sessions))
         self._back: Deque[Place] = deque()  # which the next client is to join
         self._ended: Dict[int, Place] = {}  # by number, closed, and not forgotten yet
@@ -62,7 +62,7 @@ class SessionPool:
             self._taken.add(place.number)
             if self._has_ended:
                 place.must_join, self._new = False, None
-            place.client = self.stints.begin(place.number, place.begun)
+            place.client = self.tenancy.begin(place.number, place.begun)
             return place
 
     def take_unaudited(self) -> Place:

@@ -80,7 +80,7 @@ class Auditor(Lines):
         self.closed = [False] * self.sessions  # which nothing more comes of
         # Of each key that a forgotten transaction wrote, the last that did.
         self.base: Dict[str, AuditId] = {}
-        self._stints = Tenancy()  # of clients, by their first transactions
+        self._tenancy = Tenancy()  # of clients, by their first transactions
         self.can_cut = True  # until the program says that it doesn't know the command
         self.effort = EFFORTS[0]  # of the last round
         self.audits += 1
@@ -119,7 +119,7 @@ class Auditor(Lines):
         """For the journal."""
         coverage = asdict(self.coverage) if self.coverage is not None else None
         plain = (self.sessions, self.limit, self.run_name, self.audits, coverage)
-        return Head(*plain, joined=self._stints.joined())
+        return Head(*plain, joined=self._tenancy.joined())
 
     def _go_on_by(self, reopened_audit: Reopened) -> None:
         """Where the program of this journal stood."""
@@ -132,7 +132,7 @@ class Auditor(Lines):
         self.history, self.base = state.history(self.names), state.base(self.names)
         self.marks, self.closed = list(state.gone), list(state.closed)
         for joined in [*kept.head.joined, *state.joined]:
-            self._stints.begin_behind(*joined)
+            self._tenancy.begin_behind(*joined)
         for session, count in enumerate(self.received):
             self._seen[session] = (count, count)
         self.taken_in = sum(self.received)
@@ -213,7 +213,7 @@ class Auditor(Lines):
             self.history.append([])
             self.sessions = len(self.history)
         if joins:
-            self._stints.begin_behind(session, self.marks[session])  # nothing of it remains
+            self._tenancy.begin_behind(session, self.marks[session])  # nothing of it remains
             self.closed[session] = False
         self.history[session] += txns
         self.left_out += left_out
@@ -339,13 +339,13 @@ class Auditor(Lines):
         for session, count in Counter(session for session, _ in gone).items():
             del self.history[session][:count]
             self.marks[session] += count
-        self._stints.forget(self.marks)
+        self._tenancy.forget(self.marks)
         return Cut(AuditId((fence[0], fence[1])), len(gone))
 
     def called(self, id: AuditId) -> str:
         """How a transaction is told: by what its client began with, where its session had others;
         a live audit tells it by that client's number."""
-        return self.live_called(id) if self.live_called else self._stints.called_by_first(id)
+        return self.live_called(id) if self.live_called else self._tenancy.called_by_first(id)
 
     def _end_program(self) -> Optional[int]:
         if self.script is not None:

@@ -45,17 +45,17 @@ class AuditClient(LocalSessions):
         self._notes: Dict[Any, int] = {}  # by which number the auditor's process knows them
         self._count, self._noting = 0, threading.Lock()
         _forked.add(self)
-        self._handover = Outbox(self._messages, most)
+        self._outbox = Outbox(self._messages, most)
         self._requests = SessionRequests(self._messages)
         coming = self._requests.coming
-        self._calls = QuiesceCalls(self._group, self._messages, self._handover, coming)
+        self._calls = QuiesceCalls(self._group, self._messages, self._outbox, coming)
         self._is_over = self._is_gone = False  # the audit, and the auditor's process
         self._renewed = 0.0  # when a session was asked for in vain, in place of one that had ended
         self._deeds: Dict[str, Callable[..., None]] = {
             "call": self._calls.put,
             "left": self._requests.take_answer,
             "over": self._note_end,
-            "taken": self._handover.note_taken,
+            "taken": self._outbox.note_taken,
         }
         targets = (self._listen, self._calls.run_all, self._hand_over)
         self._threads = [threading.Thread(target=target, daemon=True) for target in targets]
@@ -147,53 +147,53 @@ class AuditClient(LocalSessions):
         self, session: int, number: int, logged: Logged, packed: Optional[bytes]
     ) -> None:
         """The same, where it may be bytes already."""
-        if self._handover.lost is not None or self._is_gone:
-            self._handover.dropped += 1
+        if self._outbox.lost is not None or self._is_gone:
+            self._outbox.dropped += 1
             return
         try:
-            self._handover.put(session, number, logged, packed)
+            self._outbox.put(session, number, logged, packed)
         except ValueError as error:
-            self._handover.dropped += 1
+            self._outbox.dropped += 1
             self._lose(f"transaction {number} of session {session} can't be handed over: {error}")
             return
         self._wait_for_room()
 
     def miss(self, session: int, number: int, error: Exception) -> None:
         """It isn't known whether a session has handed in what it did under this number."""
-        if self._handover.lost is None:  # first: who has heard of it alone wouldn't look for why
+        if self._outbox.lost is None:  # first: who has heard of it alone wouldn't look for why
             self._lose(str(error))
-        self._handover.put_behind("missed", session, number)
+        self._outbox.put_behind("missed", session, number)
 
     def lose(self, error: Exception) -> None:
         """Something was done that isn't audited. That is told at once, or, where it can't be, by
         notes that aren't there if this process is killed."""
-        if self._handover.lost is None:
+        if self._outbox.lost is None:
             self._lose(str(error))
-        if not self._handover.tell_lost(self.policy.wait):
+        if not self._outbox.tell_lost(self.policy.wait):
             for notes in list(self._notes):
                 notes.remove()
 
     def take_close(self, session: int) -> None:
         """Nothing more of this session comes."""
-        self._handover.put_close(session)
+        self._outbox.put_close(session)
 
     def _wait_for_room(self) -> None:
         """Not in a meeting, which wants the session's turn, and in which nothing is told of what
         was taken in."""
         ends, sessions = time.monotonic() + self.policy.wait, len(self.sessions)
-        while self._handover.is_full(sessions) and not self._goes_on():
+        while self._outbox.is_full(sessions) and not self._goes_on():
             if time.monotonic() > ends:
-                count = self._handover.on_their_way
+                count = self._outbox.on_their_way
                 self._lose(f"the auditor can't keep up: {count} transactions are on their way")
             time.sleep(PAUSE / 8)
 
     def _goes_on(self) -> bool:
         """Whether nobody waits for room."""
-        return self._is_over or self._handover.lost is not None or self._group.gate.locked()
+        return self._is_over or self._outbox.lost is not None or self._group.gate.locked()
 
     def _lose(self, why: str) -> None:
         """Nothing more of this process is audited, until another audit begins."""
-        self._handover.lose(why)
+        self._outbox.lose(why)
         logger.error("nothing more is audited: %s", why)
 
     @property
@@ -210,7 +210,7 @@ class AuditClient(LocalSessions):
         answer = self._requests.ask("join", False, seconds=wait)
         if answer is None:
             self._renewed = time.monotonic()
-            if self._handover.lost is None and not self._is_over:
+            if self._outbox.lost is None and not self._is_over:
                 self._lose("no session is left for a client")
             return session.place or self._requests.ask("overflow", seconds=wait)
         if session.place is not None and session.place.is_audited:  # which has ended
@@ -218,7 +218,7 @@ class AuditClient(LocalSessions):
         return answer
 
     def _cant_join(self, session: Session, why: Exception) -> Optional[Place]:
-        if self._handover.lost is None:
+        if self._outbox.lost is None:
             self._lose(f"a client can't join: {why}")
         answer = self._requests.ask("overflow", seconds=self.policy.wait / 2)
         if answer is not None:
@@ -231,7 +231,7 @@ class AuditClient(LocalSessions):
             self._count += 1
             which = self._count
         try:
-            notes = self._door.notes(which, self._handover)
+            notes = self._door.notes(which, self._outbox)
         except OSError as error:
             logger.error("if this process is killed, the audit ends with it: %s", error)
             self._messages.tell("unnoted", seconds=ANSWERING)
@@ -249,22 +249,22 @@ class AuditClient(LocalSessions):
         which = self._notes.pop(notes, None)
         notes.let_go()
         if which is not None:
-            self._handover.put_behind("forget", which)
+            self._outbox.put_behind("forget", which)
 
     def _give_back(self, place: Place) -> None:
-        self._handover.put_behind("back", astuple(place))
+        self._outbox.put_behind("back", astuple(place))
         self._requests.coming.discard(place.number)
 
     # the threads
 
     def _hand_over(self) -> None:
         while not (self._calls.is_leaving or self._is_gone):
-            self._handover.pause(PAUSE)
+            self._outbox.pause(PAUSE)
             self._hand_over_all()
 
     def _hand_over_all(self) -> None:
         try:
-            self._handover.send_all()
+            self._outbox.send_all()
         except OSError:
             self._note_gone()
 

@@ -25,7 +25,7 @@ class Door(Protocol):
     def welcome(self) -> Any:
         """Raises ProgramEndedError where nobody answers, and OtherVersionError."""
 
-    def notes(self, which: int, handover: Outbox) -> Any:
+    def notes(self, which: int, outbox: Outbox) -> Any:
         """Where a session notes what it does, as Notes do. Raises OSError."""
 
     def note_fork(self) -> None:
@@ -72,11 +72,11 @@ class SocketDoor:
             raise
         return welcome
 
-    def notes(self, which: int, handover: Outbox) -> CrashNotes:
+    def notes(self, which: int, outbox: Outbox) -> CrashNotes:
         """In files. Nobody waits for it where they fail: they aren't there then, which tells the
         same."""
-        tell = functools.partial(handover.put_behind, "unnoted")
-        sent: Dict[int, int] = handover.sent
+        tell = functools.partial(outbox.put_behind, "unnoted")
+        sent: Dict[int, int] = outbox.sent
         return CrashNotes(f"{self._notes_path}-{which}", sent, tell)
 
     def note_fork(self) -> None:

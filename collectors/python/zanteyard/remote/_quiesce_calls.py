@@ -22,11 +22,11 @@ class QuiesceCalls:
     """Runs calls one after another in a thread of their own; any may put them."""
 
     def __init__(
-        self, group: SessionGroup, messages: Messages, handover: Outbox, coming: Set[int]
+        self, group: SessionGroup, messages: Messages, outbox: Outbox, coming: Set[int]
     ) -> None:
         """`coming` are the numbers of sessions that were given to clients here, who may not have
         them yet."""
-        self._group, self._messages, self._handover = group, messages, handover
+        self._group, self._messages, self._outbox = group, messages, outbox
         self._coming = coming
         self._waiting: queue.SimpleQueue[Optional[IncomingCall]] = queue.SimpleQueue()
         self.is_leaving = False  # it takes part in no meeting any more
@@ -67,7 +67,7 @@ class QuiesceCalls:
         except Exception as error:
             failure = str(error).strip() or type(error).__name__
         if number:
-            self._handover.send_all()
+            self._outbox.send_all()
             now = [astuple(place) for place in places]
             self._messages.send("answer", number, result, failure, is_missed, now)
 
@@ -90,5 +90,5 @@ class QuiesceCalls:
         self._coming.clear()  # no other one is given out meanwhile
 
     def _edges(self, _: Sequence[Place]) -> List[Tuple[Any, ...]]:
-        self._handover.begin_anew()
+        self._outbox.begin_anew()
         return self._group.edges()

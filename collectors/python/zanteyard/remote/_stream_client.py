@@ -50,9 +50,9 @@ class StreamDoor:
         self._wait = welcome[-1][0]  # of the policy
         return welcome
 
-    def notes(self, which: int, handover: Outbox) -> StreamNotes:
+    def notes(self, which: int, outbox: Outbox) -> StreamNotes:
         """Their order among all that the process tells says that nothing of them is missing."""
-        return StreamNotes(self.messages, which, self._wait, lambda: handover.lost)
+        return StreamNotes(self.messages, which, self._wait, lambda: outbox.lost)
 
     def note_fork(self) -> None:
         if not self.messages.tell("forked", seconds=self._wait):

@@ -390,8 +390,8 @@ class StreamServer:
         newest_token, _, written = (newest or b"").decode().rpartition(" ")
         if newest_token == token and int(written) > self._written:
             assert self._file is not None
-            told = "is older than what its audit came to: begin another one, in another folder"
-            raise JournalError(f"{self._file.path} {told}")
+            why = "is older than what its audit came to: begin another one, in another folder"
+            raise JournalError(f"{self._file.path} {why}")
 
     def _close_what_nobody_has(self, numbers: Any) -> None:
         """As of processes that were given up as the auditor's was killed."""
