@@ -68,7 +68,7 @@ class Session(OwnTransactions):
             )
         if hasattr(auditor, "note_sessions"):
             auditor.note_sessions()
-        self.auditor, self.store, self.patience, self.renew = auditor, store, patience, renew
+        self.auditor, self.patience, self.renew = auditor, patience, renew
         self.calls = StoreCalls(store)
         self.cant_join: Optional[Callable[[Session, Exception], Optional[Place]]] = None
         self.is_changing = False  # it gets its place, or gives it back, and its turn is held
@@ -95,6 +95,15 @@ class Session(OwnTransactions):
         # For how many seconds this client waited for the audit: in all, and at most at a time.
         self.waited = self.longest = 0.0
         keep(self)
+
+    @property
+    def store(self) -> Store:
+        """Over which its transactions run; another one is for between two of them."""
+        return self.calls.store
+
+    @store.setter
+    def store(self, store: Store) -> None:
+        self.calls = StoreCalls(store)
 
     @property
     def number(self) -> Optional[int]:
