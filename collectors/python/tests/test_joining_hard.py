@@ -369,8 +369,9 @@ class HeardAgain(unittest.TestCase):
     def test_who_has_joined_by_the_journal_has_joined(self):
         """Another process of the auditor's goes on by what was written down before that."""
         for begun, must_join in ((4, False), (5, True)):  # the latter by a place of later
-            live, ends = mock.Mock(_backlog=Backlog(8)), mock.Mock()
-            live._backlog.begin_behind(3, 5, 5)
+            backlog, ends = Backlog(8), mock.Mock()
+            backlog.begin_behind(3, 5, 5)
+            live = mock.Mock(next_number=backlog.next_number, is_taken=backlog.is_taken)
             process = StreamProcess(live, ends, 10.0, threading.RLock(), bool, 8)
             process.group.add(Place(3, begun, must_join=True))
             process._at = 1
