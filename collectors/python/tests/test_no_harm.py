@@ -232,12 +232,14 @@ class Unspeakable:
         raise RuntimeError("no word for it")
 
 
+FOLDER = os.path.dirname(os.path.abspath(zanteyard.__file__))
+
+
 class Interrupts(NoHarm):
     """Ctrl-C and the like, wherever they come while a transaction is committed and handed in: as a
     function is entered, or behind a call."""
 
     KINDS = (KeyboardInterrupt, SystemExit, GeneratorExit)
-    FOLDER = os.path.dirname(os.path.abspath(zanteyard.__file__))
     PLACES = {
         os.path.join(FOLDER, f"{name}.py")
         for name in (
@@ -295,6 +297,7 @@ class Interrupts(NoHarm):
                     self.assertIn("was interrupted", str(outcome))
             if not is_interrupted:
                 self.assertEqual(outcome.kind, "serial")
+                self.assertGreater(at, 20)  # else its functions are elsewhere by now
                 return
         self.fail("it has no end")
 
