@@ -18,18 +18,8 @@ from psycopg import adapt, pq
 from ..core._circumstances import LETTERS
 from ..core.errors import StatementRefusedError
 from . import _savepoints as savepoints
-from ._cursor import (
-    Own,
-    gives_rows,
-    is_as_it_is,
-    is_there,
-    note,
-    own_columns,
-    pending,
-    sent,
-    status_of,
-    told_of,
-)
+from ._cursor import Own, gives_rows, is_as_it_is, is_there, note, own_columns, pending
+from ._cursor import sent, status_of, told_of
 from ._statements import NULL, OTHER, UNTYPED, Bound, Kinds, Statement
 
 TEXT, BINARY = pq.Format.TEXT, pq.Format.BINARY
