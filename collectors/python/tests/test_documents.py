@@ -1,6 +1,7 @@
 """The documents: every command that they show is run, and what it prints compared; no line is too
 long, and every file that they name is there."""
 import glob
+import importlib
 import os
 import re
 import shutil
@@ -102,6 +103,24 @@ class Documents(unittest.TestCase):
                     self.assertIn(f"`{name}`", listed.get(package, ""))
         (edits,) = re.findall(r"There are (\d+) edits", text_of("CONTRIBUTING.md"))
         self.assertEqual(int(edits), len(glob.glob(os.path.join(TOP, "crates/*/must-fail/*.edit"))))
+
+    def test_every_import_that_is_shown_runs(self):
+        """Of documents and examples, and from modules for users alone, which have no underscore."""
+        count = 0
+        paths = [*DOCUMENTS, *(os.path.relpath(path, TOP) for path in glob.glob(os.path.join(TOP, "examples/*.py")))]
+        for path in paths:
+            for module, names in re.findall(r"from (zanteyard[\w.]*) import (\w+(?:, \w+)*)", text_of(path)):
+                count += 1
+                with self.subTest(path=path, module=module):
+                    self.assertNotIn("._", module)
+                    try:
+                        there = importlib.import_module(module)
+                    except ImportError as error:
+                        if (error.name or "").startswith("zanteyard"):
+                            raise
+                        continue  # its driver isn't installed
+                    self.assertEqual([name for name in names.split(", ") if not hasattr(there, name)], [])
+        self.assertGreater(count, 20)
 
     def test_every_command_is_run_somewhere(self):
         """One without a prompt stands in a block of commands alone."""
