@@ -4,8 +4,9 @@ use Rattle.serde_json.specs.Data.{Data}
 use Rattle.serde_json.specs.View.{items_view}
 use Rattle.serde_json.specs.declared.value.Value.{Value}
 use Rattle.log_text.specs.Items.{alone, one_item, two_items, three_items}
-use Rattle.log_text.specs.Commands.{source_in, aborted_in, start_in, resume_in}
+use Rattle.log_text.specs.Commands.{source_in, aborted_in, effort_in, start_in, resume_in}
 use Rattle.log_text.specs.Refutations.{choice_in, ends_in}
+use Rattle.log_text.specs.Searches.{search_in}
 use Rattle.log_text.specs.Shown.{Reports}
 use Rattle.log_text.specs.Versions.{version_in}
 use Rattle.log_text.specs.declared.shown.Shown.{Shown}
@@ -44,7 +45,19 @@ version_none [] none one = absurd (omega (arith, none))
 version_none (a ∷ []) none one = absurd (omega (arith, one))
 version_none (a ∷ b ∷ vs) none one = refl
 
--- and two items before that
+-- and behind the numbers of a search, of which there are three
+pub search_none : (vs : List Value) → length vs ≢ 0 → length vs ≢ 1 → None ≡ search_in (items_view vs)
+search_none [] none one = absurd (omega (arith, none))
+search_none (a ∷ []) none one = absurd (omega (arith, one))
+search_none (a ∷ b ∷ vs) none one = refl
+
+pub effort_none : (vs : List Value) → length vs < 3 → None ≡ effort_in (items_view vs)
+effort_none [] few = refl
+effort_none (a ∷ []) few = refl
+effort_none (a ∷ b ∷ []) few = refl
+effort_none (a ∷ b ∷ c ∷ vs) few = absurd (omega (arith, few))
+
+-- and two items before a version
 pub start_none : (vs : List Value) → length vs < 2 → None ≡ start_in (items_view vs)
 start_none [] few = refl
 start_none (a ∷ []) few = refl

@@ -7,6 +7,7 @@ use Rattle.log_text.specs.Items.{with_both, with_three, with_four, alone, one_it
 use Rattle.log_text.specs.Lines.{plain_named}
 use Rattle.log_text.specs.Numbers.{whole_number, if_within, number_within, session_of}
 use Rattle.log_text.specs.Refutations.{id_at, choice_in, ends_in, keyed_ends_in, arc_named, arc_in, reader_in}
+use Rattle.log_text.specs.Searches.{search_in, search_of}
 use Rattle.log_text.specs.Shown.{id_in}
 use Rattle.log_text.specs.Streams.{is_atom, is_few, TakesFew}
 use Rattle.log_text.specs.Versions.{version_in}
@@ -201,8 +202,29 @@ resume_takes_few = of_few 3 resume_in resume_few
 pub close_takes_few : TakesFew 1 close_in
 close_takes_few = of_few 1 close_in (one_few _ session_of session_atom)
 
-pub effort_takes_few : TakesFew 3 effort_in
-effort_takes_few = of_few 3 effort_in (three_few _ (number_within 1 (2 ^ 32)) (number_within 0 6) (number_within 1 16) (within_atom 1 (2 ^ 32)) (within_atom 0 6) (within_atom 1 16))
+search_atom : (given : Data) → IsThere (search_of given) → IsAtom given
+search_atom null never = absurd never
+search_atom (boolean b) never = absurd never
+search_atom (number n) never = absurd never
+search_atom (string word) there = tt
+search_atom (array items) never = absurd never
+search_atom (object ms) never = absurd never
+
+search_few : (given : Items) → IsThere (search_in given) → AreFewAtoms 1 given
+search_few no_items there = tt
+search_few (item a no_items) there = (search_atom a there, tt)
+search_few (item a (item b rest)) never = absurd never
+
+effort_few : (given : Items) → IsThere (effort_in given) → AreFewAtoms 4 given
+effort_few no_items never = absurd never
+effort_few (item a no_items) never = absurd never
+effort_few (item a (item b no_items)) never = absurd never
+effort_few (item a (item b (item c rest))) there =
+    let all = four_there _ (number_within 1 (2 ^ 32) a) (number_within 0 6 b) (number_within 1 16 c) (search_in rest) there in
+    (within_atom 1 (2 ^ 32) a all.0, (within_atom 0 6 b all.1, (within_atom 1 16 c all.2, search_few rest all.3)))
+
+pub effort_takes_few : TakesFew 4 effort_in
+effort_takes_few = of_few 4 effort_in effort_few
 
 pub writer_takes_few : TakesFew 3 writer_in
 writer_takes_few = of_few 3 writer_in (three_few _ whole_number session_of whole_number number_atom session_atom number_atom)
@@ -330,16 +352,16 @@ if_none : {X : Type 0} (test : Bool) (one other : Option X) → one ≡ None →
 if_none true one other none never = none
 if_none false one other never none = none
 
-pub plain_takes_few : (name : List ℕ) → TakesFew 3 (plain_named name)
+pub plain_takes_few : (name : List ℕ) → TakesFew 4 (plain_named name)
 plain_takes_few name parts many =
-    if_none (bytes_eq name (codes "open")) _ _ (start_takes_few parts many)
-    (if_none (bytes_eq name (codes "close")) _ _ (takes_more 1 3 close_in (omega arith) close_takes_few parts many)
-    (if_none (bytes_eq name (codes "begin")) _ _ (takes_more 0 3 (alone Begin) (omega arith) (alone_takes_few Begin) parts many)
-    (if_none (bytes_eq name (codes "finish")) _ _ (map_takes_few _ 3 effort_in effort_takes_few parts many)
-    (if_none (bytes_eq name (codes "round")) _ _ (map_takes_few _ 3 effort_in effort_takes_few parts many)
-    (if_none (bytes_eq name (codes "truncate")) _ _ (takes_more 0 3 (alone Truncate) (omega arith) (alone_takes_few Truncate) parts many)
-    (if_none (bytes_eq name (codes "rebuild")) _ _ (takes_more 0 3 (alone Rebuild) (omega arith) (alone_takes_few Rebuild) parts many)
-    (if_none (bytes_eq name (codes "show")) _ _ (takes_more 0 3 (alone Show) (omega arith) (alone_takes_few Show) parts many)
-    (if_none (bytes_eq name (codes "resume")) _ _ (resume_takes_few parts many)
-    (if_none (bytes_eq name (codes "resumed")) _ _ (takes_more 0 3 (alone Resumed) (omega arith) (alone_takes_few Resumed) parts many)
-    (if_none (bytes_eq name (codes "save")) _ _ (save_takes_few parts many) refl))))))))))
+    if_none (bytes_eq name (codes "open")) _ _ (takes_more 3 4 start_in (omega arith) start_takes_few parts many)
+    (if_none (bytes_eq name (codes "close")) _ _ (takes_more 1 4 close_in (omega arith) close_takes_few parts many)
+    (if_none (bytes_eq name (codes "begin")) _ _ (takes_more 0 4 (alone Begin) (omega arith) (alone_takes_few Begin) parts many)
+    (if_none (bytes_eq name (codes "finish")) _ _ (map_takes_few _ 4 effort_in effort_takes_few parts many)
+    (if_none (bytes_eq name (codes "round")) _ _ (map_takes_few _ 4 effort_in effort_takes_few parts many)
+    (if_none (bytes_eq name (codes "truncate")) _ _ (takes_more 0 4 (alone Truncate) (omega arith) (alone_takes_few Truncate) parts many)
+    (if_none (bytes_eq name (codes "rebuild")) _ _ (takes_more 0 4 (alone Rebuild) (omega arith) (alone_takes_few Rebuild) parts many)
+    (if_none (bytes_eq name (codes "show")) _ _ (takes_more 0 4 (alone Show) (omega arith) (alone_takes_few Show) parts many)
+    (if_none (bytes_eq name (codes "resume")) _ _ (takes_more 3 4 resume_in (omega arith) resume_takes_few parts many)
+    (if_none (bytes_eq name (codes "resumed")) _ _ (takes_more 0 4 (alone Resumed) (omega arith) (alone_takes_few Resumed) parts many)
+    (if_none (bytes_eq name (codes "save")) _ _ (takes_more 3 4 save_in (omega arith) save_takes_few parts many) refl))))))))))

@@ -12,8 +12,9 @@ use Rattle.log_text.specs.declared.commands.Command.{Command}
 use Rattle.log_text.specs.declared.commands.Effort.{Effort}
 use Rattle.log_text.specs.declared.commands.Command.TheVariants.{Start, Offer, Join, Close, Begin, Finish, Round, Truncate, Rebuild, Show, Resume, Marks, Last, Resumed, Save, Answer}
 use Rattle.log_text.specs.declared.commands.Wanted.TheVariants as wanted
-use Rattle.log_text.specs.Items.{array_of, list_of, with_both, with_three, alone, one_item, two_items, three_items}
+use Rattle.log_text.specs.Items.{array_of, list_of, with_both, with_three, with_four, alone, one_item, two_items, three_items}
 use Rattle.log_text.specs.Numbers.{whole_number, number_within, session_of}
+use Rattle.log_text.specs.Searches.{search_in}
 use Rattle.log_text.specs.Shown.{IsAnswer}
 use Rattle.log_text.specs.declared.shown.Shown.{Shown}
 use Rattle.log_text.specs.Versions.{version_in}
@@ -96,17 +97,19 @@ join_in parts = option_map Join (joined_in parts)
 abbrev pub close_in : Items → Option Command
 close_in = one_item Close session_of
 
--- a budget from 1 to 2^32, a depth up to 6, and 1 to 16 workers
+-- a budget from 1 to 2^32, a depth up to 6, 1 to 16 workers, and which search it is
 abbrev pub effort_in : Items → Option Effort
-effort_in = three_items (λ budget depth workers. record { budget = budget; depth = depth; workers = workers }) (number_within 1 (2 ^ 32)) (number_within 0 6) (number_within 1 16)
+effort_in (item budget (item depth (item workers behind))) =
+    with_four (λ b d w s. record { budget = b; depth = d; workers = w; search = s }) (number_within 1 (2 ^ 32) budget) (number_within 0 6 depth) (number_within 1 16 workers) (search_in behind)
+effort_in items = None
 
--- ["finish",budget,depth,workers]
+-- ["finish",budget,depth,workers] or ["finish",budget,depth,workers,"guided"]
 abbrev pub finish_in : Items → Option Command
-finish_in parts = option_map (λ (effort : Effort). Finish effort.budget effort.depth effort.workers) (effort_in parts)
+finish_in parts = option_map (λ (effort : Effort). Finish effort.budget effort.depth effort.workers effort.search) (effort_in parts)
 
--- ["round",budget,depth,workers]
+-- ["round",budget,depth,workers] or ["round",budget,depth,workers,"guided"]
 abbrev pub round_in : Items → Option Command
-round_in parts = option_map (λ (effort : Effort). Round effort.budget effort.depth effort.workers) (effort_in parts)
+round_in parts = option_map (λ (effort : Effort). Round effort.budget effort.depth effort.workers effort.search) (effort_in parts)
 
 -- ["resume",sessions,limit] or ["resume",sessions,limit,2]
 abbrev pub resume_in : Items → Option Command
@@ -175,8 +178,8 @@ command_of = array_of command_in
 
 -- the numbers of a search, where a command has them, are within their limits
 abbrev pub HasLimits : Command → Type 0
-HasLimits (Finish budget depth workers) = IsEffort budget depth workers
-HasLimits (Round budget depth workers) = IsEffort budget depth workers
+HasLimits (Finish budget depth workers search) = IsEffort budget depth workers
+HasLimits (Round budget depth workers search) = IsEffort budget depth workers
 HasLimits command = ⊤
 
 -- the data are this command: one that hands an answer in, or another one

@@ -19,3 +19,4 @@ pub mod Told
 pub mod Trees
 pub mod Versions
 pub mod Waiting
+pub mod Searches

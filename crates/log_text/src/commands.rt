@@ -7,6 +7,7 @@ ghost use Rattle.log_text.specs.Numbers.{whole_number, session_of};
 ghost use Rattle.log_text.specs.Commands.{start_in, close_in, effort_in, finish_in, round_in, resume_in, save_named, save_in, HasLimits};
 
 use crate::numbers::{number_within, session_of, whole_number};
+use crate::searches::{Search, search_in};
 use crate::shown::Shown;
 use crate::versions::{Version, version_in};
 use logged_fragments::LoggedFragment;
@@ -41,12 +42,14 @@ pub enum Command {
         budget: u64,
         depth: u64,
         workers: u64,
+        search: Search,
     },
     /// To begin a round, search, and finish it.
     Round {
         budget: u64,
         depth: u64,
         workers: u64,
+        search: Search,
     },
     /// To apply the cut that the engine holds.
     Truncate,
@@ -86,12 +89,13 @@ pub enum Wanted {
     Remain { session: u8, number: u64 },
 }
 
-/// How much a search may cost.
+/// How much a search may cost, and which it is.
 #[derive(Clone, Copy)]
 struct Effort {
     budget: u64,
     depth: u64,
     workers: u64,
+    search: Search,
 }
 
 #[tactic(auto, using(crate::proofs::Arity::alone_none))]
@@ -132,16 +136,17 @@ fn close_in(parts: &[Value]) -> Option<Command>
     }
 }
 
-#[tactic(auto, using(crate::proofs::Arity::three_items_none))]
+#[tactic(auto, using(crate::proofs::Arity::effort_none))]
 fn effort_in(parts: &[Value]) -> Option<Effort>
     ensures form { result ≡ effort_in (items_view parts.now) }
     ensures limits { IfSome result (λ effort. IsEffort effort.budget effort.depth effort.workers) }
 {
     match parts {
-        [budget, depth, workers] => Some(Effort {
+        [budget, depth, workers, behind @ ..] => Some(Effort {
             budget: number_within(1, MOST_BUDGET, budget)?,
             depth: number_within(0, MOST_DEPTH, depth)?,
             workers: number_within(1, MOST_WORKERS, workers)?,
+            search: search_in(behind)?,
         }),
         _ => None,
     }
@@ -155,11 +160,13 @@ fn finish_in(parts: &[Value]) -> Option<Command>
         budget,
         depth,
         workers,
+        search,
     } = effort_in(parts)?;
     Some(Command::Finish {
         budget,
         depth,
         workers,
+        search,
     })
 }
 
@@ -171,11 +178,13 @@ fn round_in(parts: &[Value]) -> Option<Command>
         budget,
         depth,
         workers,
+        search,
     } = effort_in(parts)?;
     Some(Command::Round {
         budget,
         depth,
         workers,
+        search,
     })
 }
 

@@ -16,7 +16,7 @@ use std::alloc::Global;
 use txn::{NoMemory, Refusal};
 
 /// A command whose parts are words and numbers has no more of them.
-const MOST_PARTS: usize = 3;
+const MOST_PARTS: usize = 4;
 
 fn plain(alloc: Global, reader: &mut Reader<'_>, name: &str) -> Result<Option<Command>, NoMemory>
     ensures form { IfOk result (λ command. AreRead (plain_named name.now) 0 reader.old command reader.new) }
