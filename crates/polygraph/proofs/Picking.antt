@@ -106,7 +106,7 @@ budget_bound budget e c share low is small =
 
 -- what the cubes come to is what a search may come to
 may_come : (problem : ProblemState) (budget depth : ℕ) (answer : Answer) → IsProblem problem → IsPicked problem budget depth answer → MayComeTo problem.known.parts budget depth answer
-may_come problem budget depth answer is picked = (problem, is, refl, inl picked)
+may_come problem budget depth answer is picked = inl (problem, is, refl, picked)
 
 pub lawful_of : (problem : ProblemState) (budget depth : ℕ) (answer : Answer) → depth ≤ 6 → IsProblem problem → IsPickedOf problem depth (share_of problem budget depth) answer → IsLawful problem.known.parts budget depth answer
 lawful_of problem budget depth (Yes order) low is h = (h.0, may_come problem budget depth (Yes order) is h)

@@ -4,9 +4,8 @@ use Rattle.txn.specs.declared.choices.Choice.{Choice}
 use Rattle.order_check.specs.declared.remainder.Parts.{Parts}
 use Rattle.order_check.specs.Explains.{Explains}
 use Rattle.order_check.specs.Known.{AreOpenChoices}
-use Rattle.order_check.specs.Search.{used_up}
 use Rattle.refutation.specs.Refutes.{IsRefutation}
-use Rattle.polygraph.specs.Outcomes.{ComesTo, IsPicked, share_of}
+use Rattle.polygraph.specs.Outcomes.{IsPicked}
 use Rattle.polygraph.specs.ProblemState.{ProblemState, IsProblem}
 use Rattle.polygraph.specs.declared.solving.Answer.{Answer}
 use Rattle.polygraph.specs.declared.solving.Answer.TheVariants as answers
@@ -22,12 +21,15 @@ IsDecided (answers.Yes order) = ⊤
 IsDecided (answers.No tree) = ⊤
 IsDecided answer = ⊥
 
--- A search of the parts within this budget, split to this depth, may come to this answer: it is what the cubes come to, over the choices that
--- the parts leave open; or the cubes are used up, and a yes or a no was found otherwise.
+-- The plain search of the parts within this budget, split to this depth, comes to this answer: it is what the cubes come to, over the choices
+-- that the parts leave open. So all such answers but want of memory are of one kind, whatever the workers.
+abbrev pub IsPlain : Parts → ℕ → ℕ → Answer → Type 0
+IsPlain parts budget depth answer = (problem : ProblemState) × IsProblem problem × (problem.known.parts ≡ parts) × IsPicked problem budget depth answer
+
+-- A search of the parts within this budget, split to this depth, may come to this answer: the plain search does; or it is a yes or a no, which
+-- may be found otherwise too. So a search is spent only where the plain one is.
 abbrev pub MayComeTo : Parts → ℕ → ℕ → Answer → Type 0
-MayComeTo parts budget depth answer =
-    (problem : ProblemState) × IsProblem problem × (problem.known.parts ≡ parts)
-    × (IsPicked problem budget depth answer ⊎ (IsDecided answer × ComesTo problem depth (share_of problem budget depth) used_up))
+MayComeTo parts budget depth answer = IsPlain parts budget depth answer ⊎ IsDecided answer
 
 -- What a solver may answer for parts: an order that explains them, a tree that refutes them, or that the search is spent, which it may be;
 -- and each only where a search within this budget, split to this depth, may come to it. Want of memory may always be answered.

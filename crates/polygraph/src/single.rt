@@ -9,7 +9,7 @@ ghost use Rattle.polygraph.specs.Solving.{IsLawful};
 
 use crate::cubes::count_cubes;
 use crate::problems::Problem;
-use crate::solving::{Answer, Cube, Solver, solve_cube};
+use crate::solving::{Answer, Cube, PlainSolver, Solver, solve_cube};
 use order_check::scans_find_one;
 use refutation::{Tree, join, joined_depth, joined_trees_refute, shortened};
 use std::alloc::Global;
@@ -129,6 +129,20 @@ fn search_within(
     Ok(answer)
 }
 
+impl Single {
+    /// What it answers, as a solver too.
+    pub fn answer(&self, alloc: Global, problem: &Problem, budget: u64, depth: u64) -> Answer
+        requires { depth ≤ 6 }
+        ensures lawful { IsLawful problem.now.known.parts budget depth result }
+        ensures picked { IsPicked problem.now budget depth result }
+    {
+        match search_within(alloc, problem, budget, depth) {
+            Ok(answer) => answer,
+            Err(_) => Answer::NoMemory,
+        }
+    }
+}
+
 impl Solver for Single {
     ghost ready = { ⊤ };
 
@@ -144,9 +158,19 @@ impl Solver for Single {
         ensures lawful { IsLawful problem.now.known.parts budget depth result }
         ensures picked { IsPicked problem.now budget depth result }
     {
-        match search_within(alloc, problem, budget, depth) {
-            Ok(answer) => answer,
-            Err(_) => Answer::NoMemory,
-        }
+        self.answer(alloc, problem, budget, depth)
+    }
+}
+
+impl PlainSolver for Single {
+    fn search(
+        &self,
+        alloc: Global,
+        problem: &Problem,
+        budget: u64,
+        depth: u64,
+        workers: u64,
+    ) -> Answer {
+        self.answer(alloc, problem, budget, depth)
     }
 }

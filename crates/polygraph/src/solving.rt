@@ -1,6 +1,6 @@
 ghost use Rattle.std.specs.Prelude.{◌≡◌, ◌+◌, ◌-◌, ◌<◌, ◌≤◌, ◌^◌, length, IfOk};
 ghost use Rattle.order_check.specs.Effort.{IsEffort};
-ghost use Rattle.polygraph.specs.Outcomes.{IsCube, cube_count, split_choices};
+ghost use Rattle.polygraph.specs.Outcomes.{IsCube, IsPicked, cube_count, split_choices};
 ghost use Rattle.polygraph.specs.Solving.{IsLawful};
 ghost use Rattle.polygraph.specs.declared.solving.Cube.TheVariants as cubes;
 
@@ -51,6 +51,22 @@ pub trait Solver {
         requires ready { ready }
         requires effort { IsEffort budget depth workers }
         ensures { IsLawful problem.now.known.parts budget depth result };
+}
+
+/// A solver that makes the plain search, and no other. All its answers but want of memory are of one kind, whatever the workers.
+pub trait PlainSolver: Solver {
+    fn search(
+        &self,
+        alloc: Global,
+        problem: &Problem,
+        budget: u64,
+        depth: u64,
+        workers: u64,
+    ) -> Answer
+        requires ready { Self.ready }
+        requires effort { IsEffort budget depth workers }
+        ensures lawful { IsLawful problem.now.known.parts budget depth result }
+        ensures picked { IsPicked problem.now budget depth result };
 }
 
 /// Searches one cube, within `share` nodes. A search of this depth splits the first so many open choices, of which the cube takes a side each:
