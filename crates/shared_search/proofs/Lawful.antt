@@ -175,7 +175,7 @@ module _ (law : ScansFindOne) (problem : ProblemState) (budget depth : ℕ) wher
   small_of (inr (outs, are, (none, some))) = (spent_of_outs outs are none some).1
 
   may_come : (answer : Answer) → IsProblem problem → IsPicked problem budget depth answer → MayComeTo problem.known.parts budget depth answer
-  may_come answer is picked = (problem, is, refl, inl picked)
+  may_come answer is picked = inl (problem, is, refl, picked)
 
   lawful_of : (answer : Answer) → depth ≤ 6 → IsProblem problem → Picked (MayGive problem depth share) (split_choices problem depth) (cube_count problem depth) answer → IsPicked problem budget depth answer → IsLawful problem.known.parts budget depth answer
   lawful_of (answers.Yes order) low is p h = (h.0, may_come (answers.Yes order) is h)
@@ -197,5 +197,5 @@ both_laws law refute deep problem budget depth count answer low problem_is is p 
 
 -- where a search may come to a no, it may come to one by another tree
 pub other_tree : (parts : Parts) (budget depth : ℕ) (tree other : Tree) → IsRefutation parts other → MayComeTo parts budget depth (answers.No tree) → MayComeTo parts budget depth (answers.No other)
-other_tree parts budget depth tree other refutes (problem, is, about, inl picked) = (problem, is, about, inl (subst (λ (p : Parts). IsRefutation p other) (sym about) refutes, picked.1))
-other_tree parts budget depth tree other refutes (problem, is, about, inr (decided, spent)) = (problem, is, about, inr (tt, spent))
+other_tree parts budget depth tree other refutes (inl (problem, is, about, picked)) = inl (problem, is, about, (subst (λ (p : Parts). IsRefutation p other) (sym about) refutes, picked.1))
+other_tree parts budget depth tree other refutes (inr decided) = inr tt

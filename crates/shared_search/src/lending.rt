@@ -7,7 +7,7 @@ use crate::gates::{Gate, OpenGate};
 use crate::sharing::solve_all;
 use crate::workers::CubeSolver;
 use order_check::scans_find_one;
-use polygraph::{Answer, Cube, Problem, Solver, solve_cube};
+use polygraph::{Answer, Cube, PlainSolver, Problem, Solver, solve_cube};
 use refutation::{joined_depth, joined_trees_refute, shortened};
 use std::alloc::Global;
 use std::thread::Threads;
@@ -144,6 +144,19 @@ impl<R: Threads + Sync> Solver for Shared<R, OpenGate> {
         ensures lawful { IsLawful problem.now.known.parts budget depth result }
         ensures picked { IsPicked problem.now budget depth result }
     {
+        self.answer(alloc, problem, budget, depth, workers)
+    }
+}
+
+impl<R: Threads + Sync> PlainSolver for Shared<R, OpenGate> {
+    fn search(
+        &self,
+        alloc: Global,
+        problem: &Problem,
+        budget: u64,
+        depth: u64,
+        workers: u64,
+    ) -> Answer {
         self.answer(alloc, problem, budget, depth, workers)
     }
 }
