@@ -109,6 +109,23 @@ pub finish_right : (old new : EngineState) (budget depth workers : ℕ) (answer 
 finish_right old new budget depth workers answer (Ok report) law good lawful ok err = finish_reported old new budget depth workers answer report law good lawful ok.0 ok.1
 finish_right old new budget depth workers answer (Err refusal) law good lawful ok err = (finish_refused old budget depth answer refusal lawful err.0, err.1)
 
+-- a right certificate tells the answer that earns it
+tells_answer : (parts : Parts) (answer : Answer) (kind : Kind) (certificate : Certificate) → IsRight parts answer kind certificate → answer_told certificate ≡ answer
+tells_answer parts (answers.Yes order) kind (Order shown) right = ap answers.Yes right.0
+tells_answer parts (answers.No tree) kind (Refuted shown) right = ap answers.No right.0
+tells_answer parts answers.Spent kind Nothing right = refl
+tells_answer parts answer kind certificate right = absurd right
+
+tells_on : (asked : Option Parts) (round : ℕ) (answer : Answer) (report : Report) (Held : Parts → Type 0) → IsSomeAnd asked (λ parts. IsReportOn parts round answer report × Held parts) → answer_told report.certificate ≡ answer
+tells_on None round answer report Held said = absurd said
+tells_on (Some parts) round answer report Held said = tells_answer parts answer report.kind report.certificate said.0.right
+
+pub report_tells : (old new : EngineState) (answer : Answer) (said : Result Report Refusal)
+    → IfOk said (λ report. IsSomeAnd old.asked (λ parts. IsReportOn parts (old.rounds + 1) answer report × IsHeldAfter parts report.kind old.held new.held) × IsFinished old new)
+    → IfOk said (λ report. answer_told report.certificate ≡ answer)
+report_tells old new answer (Ok report) ok = tells_on old.asked (old.rounds + 1) answer report (λ parts. IsHeldAfter parts report.kind old.held new.held) ok.0
+report_tells old new answer (Err refusal) ok = tt
+
 -- Whole histories.
 
 true_kind : (parts : Parts) (whole : History) (kind : Kind) → ((k : Kind) → IsVerdict parts k → IsVerdictWhole whole k) → IsKindOf parts kind → IsTrueOf whole kind

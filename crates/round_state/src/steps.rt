@@ -154,9 +154,10 @@ impl Engine {
 
     /// Finishes the open round as `finish` does. Where the answer is what a search of this budget and depth may answer for the round's
     /// snapshot, the report or the refusal is right for a finish by such a search, whatever workers share it: it is then refused only for
-    /// want of memory, or because no round is open.
+    /// want of memory, or because no round is open. The report tells that very answer.
     pub fn finish_lawfully(&mut self, alloc: Global, answer: Answer) -> Result<Report, Refusal>
-        ensures { (budget depth workers : ℕ) → IfSome self.old.asked (λ parts. IsLawful parts budget depth answer) → MatchResult result (λ report. StepsTo self.old (Step.Finish budget depth workers) (StepReply.Report report) self.new) (λ refusal. StepsTo self.old (Step.Finish budget depth workers) (StepReply.Refused refusal) self.new) }
+        ensures told { IfOk result (λ report. answer_told report.certificate ≡ answer) }
+        ensures right { (budget depth workers : ℕ) → IfSome self.old.asked (λ parts. IsLawful parts budget depth answer) → MatchResult result (λ report. StepsTo self.old (Step.Finish budget depth workers) (StepReply.Report report) self.new) (λ refusal. StepsTo self.old (Step.Finish budget depth workers) (StepReply.Refused refusal) self.new) }
     {
         refuted_has_no_order();
         self.has_good_snapshot();
