@@ -1,2 +1,1 @@
 pub mod DecidedKinds
-pub mod Believing

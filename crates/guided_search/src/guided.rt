@@ -1,97 +1,39 @@
-ghost use Rattle.std.specs.Prelude.{◌≡◌, IfOk};
+ghost use Rattle.std.specs.Prelude.{◌≡◌, ℕ};
 ghost use Rattle.order_check.specs.Effort.{IsEffort};
-ghost use Rattle.order_check.specs.Good.{IsGood};
+ghost use Rattle.polygraph.specs.ProblemState.{ProblemState};
 ghost use Rattle.polygraph.specs.Solving.{IsLawful};
-ghost use Rattle.guided_search.specs.Believed.{IsBelieved};
+ghost use Rattle.polygraph.specs.declared.solving.Answer.{Answer};
+ghost use Rattle.guided_search.specs.Believed.{FollowsFind, IsBelieved};
 
-use crate::running::run_of;
-use crate::searching::{Found, search_within};
-use forced_choices::Branch;
-use order_check::{Parts, explains};
-use polygraph::{Answer, Problem, Solver};
-use refutation::{Tree, check};
+use polygraph::{Answer, PlainSolver, Problem, Solver};
 use std::alloc::Global;
-use txn::{NoMemory, Sequence, TxnId};
 
-/// The order, if it explains the parts.
-fn believed_order(alloc: Global, parts: &Parts, order: Sequence<TxnId>) -> Result<Answer, NoMemory>
-    requires { IsGood parts.now }
-    ensures { IfOk result (IsBelieved parts.now) }
-{
-    if explains(alloc, parts, order.as_slice())? {
-        return Ok(Answer::Yes(order));
-    }
-    Ok(Answer::Spent)
+/// What may find an order or a refutation otherwise than the plain search. It isn't told how many workers there are.
+pub trait Finder {
+    /// What may be found of the problem within the budget.
+    ghost finds: { ProblemState → ℕ → Answer → Type 0 };
+
+    /// What is found within so many nodes, spent where nothing is.
+    fn find(&self, alloc: Global, problem: &Problem, budget: u64) -> Answer
+        ensures finds { finds problem.now budget result }
+        ensures believed { IsBelieved problem.now.known.parts result };
 }
 
-/// The tree, if it refutes the parts.
-fn believed_tree(alloc: Global, parts: &Parts, tree: Tree) -> Result<Answer, NoMemory>
-    requires { IsGood parts.now }
-    ensures { IfOk result (IsBelieved parts.now) }
-{
-    if check(alloc, parts, &tree)? {
-        return Ok(Answer::No(tree));
-    }
-    Ok(Answer::Spent)
-}
-
-/// What of it is believed.
-fn believed(alloc: Global, parts: &Parts, found: Found) -> Result<Answer, NoMemory>
-    requires { IsGood parts.now }
-    ensures { IfOk result (IsBelieved parts.now) }
-{
-    match found {
-        Found::Order(order) => believed_order(alloc, parts, order),
-        Found::Refutation(tree) => believed_tree(alloc, parts, tree),
-        Found::Nothing => Ok(Answer::Spent),
-    }
-}
-
-/// The order of a store's run, or else what the search finds. The parts and the branch are the problem's.
-fn answer_from(
-    alloc: Global,
-    problem: &Problem,
-    parts: &Parts,
-    branch: &mut Branch,
-    budget: u64,
-) -> Result<Answer, NoMemory>
-    requires { IsGood parts.now }
-    ensures { IfOk result (IsBelieved parts.now) }
-{
-    let order = run_of(alloc, problem, branch, false)?;
-    if explains(alloc, parts, order.as_slice())? {
-        return Ok(Answer::Yes(order));
-    }
-    let order = run_of(alloc, problem, branch, true)?;
-    if explains(alloc, parts, order.as_slice())? {
-        return Ok(Answer::Yes(order));
-    }
-    let found = search_within(alloc, problem, branch, order.as_slice(), budget)?;
-    believed(alloc, parts, found)
-}
-
-/// The answer where another solver was spent.
-fn answer_within(alloc: Global, problem: &Problem, budget: u64) -> Result<Answer, NoMemory>
-    ensures { IfOk result (IsBelieved problem.now.known.parts) }
-{
-    let mut branch = Branch::of(alloc, problem.known())?;
-    answer_from(alloc, problem, problem.parts(), &mut branch, budget)
-}
-
-/// The solver that asks another one, and where that is spent searches again, within the same budget: what its conflicts used comes first. It
-/// tells an order or a tree only once it is checked. It has no use for workers itself.
+/// The solver that answers what is found, and where nothing is, what the plain search comes to within the same budget. So the kind of its answer
+/// doesn't depend on the workers, which the plain search alone is told of.
 #[derive(Drop)]
-pub struct Guided<S: Solver + Drop> {
-    below: S,
+pub struct Guided<F: Finder + Drop, S: PlainSolver + Drop> {
+    finder: F,
+    plain: S,
 }
 
-impl<S: Solver + Drop> Guided<S> {
-    pub fn new(below: S) -> Guided<S> {
-        Guided { below }
+impl<F: Finder + Drop, S: PlainSolver + Drop> Guided<F, S> {
+    pub fn new(finder: F, plain: S) -> Guided<F, S> {
+        Guided { finder, plain }
     }
 }
 
-impl<S: Solver + Drop> Solver for Guided<S> {
+impl<F: Finder + Drop, S: PlainSolver + Drop> Solver for Guided<F, S> {
     ghost ready = { S.ready };
 
     fn solve(
@@ -101,13 +43,15 @@ impl<S: Solver + Drop> Solver for Guided<S> {
         budget: u64,
         depth: u64,
         workers: u64,
-    ) -> Answer {
-        match self.below.solve(alloc, problem, budget, depth, workers) {
-            Answer::Spent => match answer_within(alloc, problem, budget) {
-                Ok(answer) => answer,
-                Err(_) => Answer::NoMemory,
-            },
-            answer => answer,
+    ) -> Answer
+        requires ready { S.ready }
+        requires effort { IsEffort budget depth workers }
+        ensures lawful { IsLawful problem.now.known.parts budget depth result }
+        ensures found { (first : Answer) × F.finds problem.now budget first × FollowsFind problem.now budget depth first result }
+    {
+        match self.finder.find(alloc, problem, budget) {
+            Answer::Spent => self.plain.search(alloc, problem, budget, depth, workers),
+            found => found,
         }
     }
 }
