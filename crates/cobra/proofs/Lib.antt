@@ -13,3 +13,4 @@ pub mod Resumed
 pub mod ScriptRounds
 pub mod ServedLines
 pub mod ToldWriters
+pub mod SearchedAnswers

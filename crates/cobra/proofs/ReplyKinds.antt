@@ -29,6 +29,7 @@ use Rattle.txn.specs.declared.transactions.TxnId.{TxnId}
 use Rattle.txn.specs.declared.transactions.Fragment.{Fragment}
 use Rattle.cobra.specs.Saving.{saved_told, fragment_told}
 use Rattle.log_text.specs.declared.saved.Saved.TheVariants as saved
+use Rattle.log_text.specs.declared.searches.Search.{Search}
 use Rattle.log_text.specs.declared.versions.Version.{Version}
 use Rattle.log_text.specs.declared.versions.Version.TheVariants.{One}
 use Rattle.logged_fragments.specs.declared.logged.LoggedFragment.{LoggedFragment}
@@ -79,15 +80,15 @@ told_kind said answer is kind = subst HasKindOfOrder (sym is) kind
 bad_line_kind : {X : Type 0} (old new : X) (answer : Reply) → IsBadLine old answer new → HasKindOfOrder answer
 bad_line_kind old new answer bad = subst HasKindOfOrder (sym bad.0) tt
 
-ended_kind : (begun new : EngineState) (budget depth workers : ℕ) (said : StepReply) → EndsRound begun budget depth workers said new → HasKindOfOrder (reply_of said)
-ended_kind begun new budget depth workers reply.Done ends = tt
-ended_kind begun new budget depth workers (reply.Refused refusal) ends = tt
-ended_kind begun new budget depth workers (reply.Cut cut) ends = tt
-ended_kind begun new budget depth workers (reply.Report report) ends = step_kind begun new (step.Finish budget depth workers) (reply.Report report) ends
+ended_kind : (begun new : EngineState) (search : Search) (budget depth workers : ℕ) (said : StepReply) → EndsRound begun search budget depth workers said new → HasKindOfOrder (reply_of said)
+ended_kind begun new search budget depth workers reply.Done ends = tt
+ended_kind begun new search budget depth workers (reply.Refused refusal) ends = tt
+ended_kind begun new search budget depth workers (reply.Cut cut) ends = tt
+ended_kind begun new search budget depth workers (reply.Report report) ends = step_kind begun new (step.Finish budget depth workers) (reply.Report report) ends.goes
 
-round_kind : (old new : EngineState) (budget depth workers : ℕ) (said : StepReply) → IsRound old budget depth workers said new → HasKindOfOrder (reply_of said)
-round_kind old new budget depth workers said round =
-    ⊎_elim (λ refused. step_kind old new step.Begin said refused.2) (λ begun. ended_kind begun.0 new budget depth workers said begun.2) round
+round_kind : (old new : EngineState) (search : Search) (budget depth workers : ℕ) (said : StepReply) → IsRound old search budget depth workers said new → HasKindOfOrder (reply_of said)
+round_kind old new search budget depth workers said round =
+    ⊎_elim (λ refused. step_kind old new step.Begin said refused.2) (λ begun. ended_kind begun.0 new search budget depth workers said begun.2) round
 
 told_or_not : (test : Bool) (fragment : Fragment) → HasKindOfOrder (cond test (told.Saved (saved.Offer fragment)) (told.No BadSession))
 told_or_not true fragment = tt
@@ -105,8 +106,8 @@ open_kind : (version : Version) (old new : EngineState) (command : Command) (ans
 open_kind version old new (Offer logged) answer is = taken_kind version logged old new answer (IsStep old (step.Offer logged) answer new) (λ taken. told_kind taken.0 answer taken.2 (step_kind old new (step.Offer logged) taken.0 taken.1)) is
 open_kind version old new (Join logged) answer is = taken_kind version logged old new answer (IsStep old (step.Join logged) answer new) (λ taken. told_kind taken.0 answer taken.2 (step_kind old new (step.Join logged) taken.0 taken.1)) is
 open_kind version old new Begin answer is = told_kind is.0 answer is.2 (step_kind old new step.Begin is.0 is.1)
-open_kind version old new (Finish budget depth workers) answer is = told_kind is.0 answer is.2 (step_kind old new (step.Finish budget depth workers) is.0 is.1)
-open_kind version old new (Round budget depth workers) answer is = told_kind is.0 answer is.2 (round_kind old new budget depth workers is.0 is.1)
+open_kind version old new (Finish budget depth workers search) answer is = told_kind is.0 answer is.2 (step_kind old new (step.Finish budget depth workers) is.0 is.1.goes)
+open_kind version old new (Round budget depth workers search) answer is = told_kind is.0 answer is.2 (round_kind old new search budget depth workers is.0 is.1)
 open_kind version old new (Answer shown) answer is = told_kind is.0 answer is.2 (step_kind old new (step.Judge (certificate_of shown)) is.0 is.1)
 open_kind version old new Truncate answer is = told_kind is.0 answer is.2 (step_kind old new step.Truncate is.0 is.1)
 open_kind version old new Rebuild answer is = told_kind is.0 answer is.2 (step_kind old new step.Rebuild is.0 is.1)

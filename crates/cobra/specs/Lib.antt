@@ -7,3 +7,4 @@ pub mod Programs
 pub mod Saving
 pub mod Scripts
 pub mod StepReplies
+pub mod Searches

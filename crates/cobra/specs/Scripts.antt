@@ -13,6 +13,7 @@ use Rattle.log_text.specs.declared.commands.Command.{Command}
 use Rattle.log_text.specs.declared.commands.Command.TheVariants.{Start, Offer, Join, Close, Begin, Finish, Round, Truncate, Rebuild, Show, Resume, Marks, Last, Resumed, Save, Answer}
 use Rattle.log_text.specs.declared.replies.Reply.{Reply}
 use Rattle.log_text.specs.declared.replies.Reply.TheVariants as told
+use Rattle.log_text.specs.declared.searches.Search.{Search}
 use Rattle.log_text.specs.declared.versions.Version.{Version}
 use Rattle.log_text.specs.declared.versions.Version.TheVariants.{One}
 use Rattle.log_text.specs.Versions.{has_form}
@@ -28,6 +29,7 @@ use Rattle.round_state.specs.declared.steps.StepReply.{StepReply}
 use Rattle.round_state.specs.declared.steps.StepReply.TheVariants as reply
 use Rattle.cobra.specs.HandOver.{AreOfSessions, AreGoodParts, IsHandRefusal, IsMarksRefusal, IsNextOffer, IsResumedRefusal, handed_first, handed_offer, handed_parts, handed_writers}
 use Rattle.cobra.specs.Saving.{saved_told}
+use Rattle.cobra.specs.Searches.{IsSearched}
 use Rattle.cobra.specs.StepReplies.{certificate_of, reply_of}
 use Rattle.cobra.specs.declared.handing.Handing.{Handing}
 use Rattle.cobra.specs.declared.stages.Stage.{Stage}
@@ -53,17 +55,22 @@ pub record Goes (old : EngineState) (asked : Step) (said : StepReply) (new : Eng
 abbrev pub IsStep : EngineState → Step → Reply → EngineState → Type 0
 IsStep old asked answer new = (said : StepReply) × Goes old asked said new × (answer ≡ reply_of said)
 
+-- A finish of the open round by the search of this name: what it tells is what that search may answer.
+pub record Finishes (old : EngineState) (search : Search) (budget depth workers : ℕ) (said : StepReply) (new : EngineState) : Type 0 where
+  pub goes : Goes old (step.Finish budget depth workers) said new
+  pub searched : IsSearched search old.asked budget depth said
+
 -- A round that was begun is finished. Where memory is wanting for that, it is abandoned.
-abbrev pub EndsRound : EngineState → ℕ → ℕ → ℕ → StepReply → EngineState → Type 0
-EndsRound begun budget depth workers (reply.Report report) new = Goes begun (step.Finish budget depth workers) (reply.Report report) new
-EndsRound begun budget depth workers (reply.Refused NoMemory) new = (kept : EngineState) × Goes begun (step.Finish budget depth workers) (reply.Refused NoMemory) kept × Goes kept step.Abandon reply.Done new
-EndsRound begun budget depth workers said new = ⊥
+abbrev pub EndsRound : EngineState → Search → ℕ → ℕ → ℕ → StepReply → EngineState → Type 0
+EndsRound begun search budget depth workers (reply.Report report) new = Finishes begun search budget depth workers (reply.Report report) new
+EndsRound begun search budget depth workers (reply.Refused NoMemory) new = (kept : EngineState) × Goes begun (step.Finish budget depth workers) (reply.Refused NoMemory) kept × Goes kept step.Abandon reply.Done new
+EndsRound begun search budget depth workers said new = ⊥
 
 -- A round is begun and ended. Where the begin is refused, that is the reply.
-abbrev pub IsRound : EngineState → ℕ → ℕ → ℕ → StepReply → EngineState → Type 0
-IsRound old budget depth workers said new =
+abbrev pub IsRound : EngineState → Search → ℕ → ℕ → ℕ → StepReply → EngineState → Type 0
+IsRound old search budget depth workers said new =
     ((refusal : Refusal) × (said ≡ reply.Refused refusal) × Goes old step.Begin said new)
-    ⊎ ((begun : EngineState) × Goes old step.Begin reply.Done begun × EndsRound begun budget depth workers said new)
+    ⊎ ((begun : EngineState) × Goes old step.Begin reply.Done begun × EndsRound begun search budget depth workers said new)
 
 -- what is told of an engine: of each session how many are gone, how many were received and whether it is closed, the last
 -- gone writer of each key, keys rising, and how many transactions remain
@@ -76,8 +83,8 @@ AnswersOpen version old (Offer logged) answer new = IsTakenIn version logged old
 AnswersOpen version old (Join logged) answer new = IsTakenIn version logged old answer new (IsStep old (step.Join logged) answer new)
 AnswersOpen version old (Close session) answer new = IsStep old (step.Close session) answer new
 AnswersOpen version old Begin answer new = IsStep old step.Begin answer new
-AnswersOpen version old (Finish budget depth workers) answer new = IsStep old (step.Finish budget depth workers) answer new
-AnswersOpen version old (Round budget depth workers) answer new = (said : StepReply) × IsRound old budget depth workers said new × (answer ≡ reply_of said)
+AnswersOpen version old (Finish budget depth workers search) answer new = (said : StepReply) × Finishes old search budget depth workers said new × (answer ≡ reply_of said)
+AnswersOpen version old (Round budget depth workers search) answer new = (said : StepReply) × IsRound old search budget depth workers said new × (answer ≡ reply_of said)
 AnswersOpen version old (Answer shown) answer new = IsStep old (step.Judge (certificate_of shown)) answer new
 AnswersOpen version old Truncate answer new = IsStep old step.Truncate answer new
 AnswersOpen version old Rebuild answer new = IsStep old step.Rebuild answer new

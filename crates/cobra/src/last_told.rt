@@ -1,17 +1,21 @@
 //! The order that a search told last: it is told again where nothing has come or gone since, and no search is made.
 ghost use Rattle.std.specs.Prelude.{◌≡◌, ℕ, IfSome};
-ghost use Rattle.polygraph.specs.Solving.{IsLawful};
 ghost use Rattle.polygraph.specs.declared.solving.Answer.TheVariants as answers;
 ghost use Rattle.round_state.specs.EngineState.{EngineState};
 ghost use Rattle.round_state.specs.Steps.{StepsTo};
 ghost use Rattle.cobra.specs.LastTold.{Fits};
+ghost use Rattle.cobra.specs.Scripts.{Finishes};
+ghost use Rattle.cobra.specs.Searches.{MayAnswerOf};
 
+use crate::searches::{Effort, is_same};
+use log_text::Search;
 use round_state::{Certificate, Step, StepReply};
 use txn::{Sequence, TxnId};
 
 /// An order, and what the search that told it was given. Workers make no difference to it.
 #[derive(Drop, Debug)]
 pub(crate) struct Told {
+    pub search: Search,
     pub budget: u64,
     pub depth: u64,
     pub order: Sequence<TxnId>,
@@ -37,15 +41,17 @@ fn copy_of(order: &Sequence<TxnId>) -> Option<Sequence<TxnId>>
 }
 
 /// The order that the certificate has, as such a search told it.
-fn told_by(certificate: &Certificate, budget: u64, depth: u64) -> Option<Told>
-    ensures { IfSome result (λ told. (certificate.now ≡ Certificate.Order told.order) × (told.budget ≡ budget) × (told.depth ≡ depth)) }
+fn told_by(certificate: &Certificate, effort: Effort) -> Option<Told>
+    ensures order { IfSome result (λ told. certificate.now ≡ Certificate.Order told.order) }
+    ensures search { IfSome result (λ told. (told.search ≡ effort.search) × (told.budget ≡ effort.budget) × (told.depth ≡ effort.depth)) }
 {
     match certificate {
         Certificate::Order(order) => {
             let order = copy_of(order)?;
             Some(Told {
-                budget,
-                depth,
+                search: effort.search,
+                budget: effort.budget,
+                depth: effort.depth,
                 order,
             })
         }
@@ -72,21 +78,24 @@ impl LastTold {
     }
 
     /// The order that such a search told of what the open round is about.
-    pub(crate) fn again(&self, budget: u64, depth: u64) -> Option<Sequence<TxnId>>
-        ensures { IfSome result (λ order. (engine : EngineState) → Fits engine self.now → IfSome engine.asked (λ parts. IsLawful parts budget depth (answers.Yes order))) }
+    pub(crate) fn again(&self, effort: Effort) -> Option<Sequence<TxnId>>
+        ensures { IfSome result (λ order. (engine : EngineState) → Fits engine self.now → MayAnswerOf effort.search engine.asked effort.budget effort.depth (answers.Yes order)) }
     {
         let Some(told) = &self.told else {
             return None;
         };
-        if !self.still || told.budget != budget || told.depth != depth {
+        if !self.still || told.budget != effort.budget || told.depth != effort.depth {
+            return None;
+        }
+        if !is_same(told.search, effort.search) {
             return None;
         }
         copy_of(&told.order)
     }
 
     /// What is kept after this reply to a finish by such a search.
-    pub(crate) fn after(&self, said: &StepReply, budget: u64, depth: u64) -> LastTold
-        ensures { (old new : EngineState) (workers : ℕ) → Fits old self.now → StepsTo old (Step.Finish budget depth workers) said.now new → Fits new result }
+    pub(crate) fn after(&self, said: &StepReply, effort: Effort) -> LastTold
+        ensures { (old new : EngineState) → Fits old self.now → Finishes old effort.search effort.budget effort.depth effort.workers said.now new → Fits new result }
     {
         if !self.still {
             return LastTold::nothing();
@@ -94,7 +103,7 @@ impl LastTold {
         match said {
             StepReply::Report(report) => LastTold {
                 still: false,
-                told: told_by(&report.certificate, budget, depth),
+                told: told_by(&report.certificate, effort),
             },
             _ => LastTold::nothing(),
         }

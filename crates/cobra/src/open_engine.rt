@@ -1,20 +1,44 @@
 ghost use Rattle.std.specs.Prelude.{◌≡◌, IfOk, IfErr, IfSome, OnOk};
 ghost use Rattle.order_check.specs.Effort.{IsEffort};
 ghost use Rattle.order_check.specs.Good.{IsGood};
-ghost use Rattle.polygraph.specs.Solving.{IsLawful};
 ghost use Rattle.polygraph.specs.declared.solving.Answer.TheVariants as answers;
-ghost use Rattle.round_state.specs.EngineState.{engine_over};
+ghost use Rattle.round_state.specs.EngineState.{engine_over, parts_asked};
 ghost use Rattle.round_state.specs.Opening.{IsSessions, IsLimit, IsOpenRefusal, IsPartsRefusal, fresh, fresh_state};
 ghost use Rattle.round_state.specs.Runs.{HasLimits, Holds};
-ghost use Rattle.cobra.specs.Scripts.{Goes};
+ghost use Rattle.cobra.specs.Scripts.{Finishes, Goes};
+ghost use Rattle.cobra.specs.Searches.{MayAnswerOf};
 
 use crate::last_told::LastTold;
+use crate::searches::{Effort, Solvers, solve};
 use order_check::Parts;
-use polygraph::{Answer, Problem, Solver};
+use polygraph::{Answer, PlainSolver, Problem, Single, Solver};
 use round_state::{Engine, Step, StepReply};
 use std::alloc::Global;
 use std::marker::Model;
 use txn::{Refusal, Sequence, TxnId};
+
+/// Finishes the open round by what such a search may answer.
+fn finish_by(
+    engine: &mut Engine,
+    kept: &mut Option<Problem>,
+    alloc: Global,
+    effort: Effort,
+    answer: Answer,
+) -> StepReply
+    requires kept { parts_asked kept.old ≡ engine.old.asked }
+    requires answer { MayAnswerOf effort.search engine.old.asked effort.budget effort.depth answer }
+    ensures finishes { Finishes engine.old effort.search effort.budget effort.depth effort.workers result engine.new }
+    ensures kept { parts_asked kept.new ≡ engine.new.asked }
+{
+    engine.right_is_legal();
+    match engine.finish_lawfully(alloc, answer) {
+        Ok(report) => {
+            *kept = None;
+            StepReply::Report(report)
+        }
+        Err(refusal) => StepReply::Refused(refusal),
+    }
+}
 
 /// An engine, with the problem of the round that is open, and the order that was told last. Contracts see the engine.
 #[derive(Drop)]
@@ -73,12 +97,14 @@ impl OpenEngine {
         &self.engine
     }
 
-    /// Begins a round.
-    fn begin<S: Solver>(&mut self, alloc: Global, solver: &S) -> StepReply
-        requires { S.ready }
+    /// Begins a round. No search is made.
+    fn begin(&mut self, alloc: Global) -> StepReply
         ensures { Goes self.old Step.Begin result self.new }
     {
-        match self.engine.step(alloc, Step::Begin, &mut self.kept, solver) {
+        match self
+            .engine
+            .step(alloc, Step::Begin, &mut self.kept, &Single)
+        {
             StepReply::Done => {
                 self.last.begin();
                 StepReply::Done
@@ -90,94 +116,74 @@ impl OpenEngine {
         }
     }
 
-    /// Finishes the open round by an order that such a search may tell.
-    fn finish_by(
-        &mut self,
-        alloc: Global,
-        budget: u64,
-        depth: u64,
-        workers: u64,
-        order: Sequence<TxnId>,
-    ) -> StepReply
-        requires { IfSome self.old.asked (λ parts. IsLawful parts budget depth (answers.Yes order)) }
-        ensures { Goes self.old (Step.Finish budget depth workers) result self.new }
+    /// Finishes the open round by an order that such a search told of the same.
+    fn finish_again(&mut self, alloc: Global, effort: Effort, order: Sequence<TxnId>) -> StepReply
+        requires { MayAnswerOf effort.search self.old.asked effort.budget effort.depth (answers.Yes order) }
+        ensures { Finishes self.old effort.search effort.budget effort.depth effort.workers result self.new }
     {
-        self.engine.right_is_legal();
-        match self.engine.finish_lawfully(alloc, Answer::Yes(order)) {
-            Ok(report) => {
-                self.kept = None;
-                StepReply::Report(report)
-            }
-            Err(refusal) => StepReply::Refused(refusal),
-        }
+        finish_by(
+            &mut self.engine,
+            &mut self.kept,
+            alloc,
+            effort,
+            Answer::Yes(order),
+        )
     }
 
     /// Finishes the open round by a search.
-    fn finish_anew<S: Solver>(
+    fn finish_anew<P: PlainSolver, S: Solver>(
         &mut self,
         alloc: Global,
-        budget: u64,
-        depth: u64,
-        workers: u64,
-        solver: &S,
+        effort: Effort,
+        solvers: &Solvers<P, S>,
     ) -> StepReply
-        requires ready { S.ready }
-        requires effort { IsEffort budget depth workers }
-        ensures { Goes self.old (Step.Finish budget depth workers) result self.new }
+        requires plain { P.ready }
+        requires guided { S.ready }
+        requires effort { IsEffort effort.budget effort.depth effort.workers }
+        ensures { Finishes self.old effort.search effort.budget effort.depth effort.workers result self.new }
     {
-        let finish = Step::Finish {
-            budget,
-            depth,
-            workers,
-        };
-        let said = self.engine.step(alloc, finish, &mut self.kept, solver);
-        self.last = self.last.after(&said, budget, depth);
+        let answer = solve(alloc, &self.kept, effort, solvers);
+        let said = finish_by(&mut self.engine, &mut self.kept, alloc, effort, answer);
+        self.last = self.last.after(&said, effort);
         said
     }
 
     /// Finishes the open round by the order that was told last, where it may be told again, or else by a search.
-    fn finish<S: Solver>(
+    pub(crate) fn finish<P: PlainSolver, S: Solver>(
         &mut self,
         alloc: Global,
-        budget: u64,
-        depth: u64,
-        workers: u64,
-        solver: &S,
+        effort: Effort,
+        solvers: &Solvers<P, S>,
     ) -> StepReply
-        requires ready { S.ready }
-        requires effort { IsEffort budget depth workers }
-        ensures { Goes self.old (Step.Finish budget depth workers) result self.new }
+        requires plain { P.ready }
+        requires guided { S.ready }
+        requires effort { IsEffort effort.budget effort.depth effort.workers }
+        ensures { Finishes self.old effort.search effort.budget effort.depth effort.workers result self.new }
     {
-        match self.last.again(budget, depth) {
-            Some(order) => self.finish_by(alloc, budget, depth, workers, order),
-            None => self.finish_anew(alloc, budget, depth, workers, solver),
+        match self.last.again(effort) {
+            Some(order) => self.finish_again(alloc, effort, order),
+            None => self.finish_anew(alloc, effort, solvers),
         }
     }
 
     /// Makes any other step, after which nothing is known of the parts.
-    fn step_on<S: Solver>(&mut self, alloc: Global, step: Step, solver: &S) -> StepReply
-        requires ready { S.ready }
-        requires limits { HasLimits step }
+    fn step_on(&mut self, alloc: Global, step: Step) -> StepReply
+        requires { HasLimits step }
         ensures { Goes self.old step result self.new }
     {
-        let said = self.engine.step(alloc, step, &mut self.kept, solver);
+        let said = self.engine.step(alloc, step, &mut self.kept, &Single);
         self.last = LastTold::nothing();
         said
     }
 
-    pub(crate) fn step<S: Solver>(&mut self, alloc: Global, step: Step, solver: &S) -> StepReply
-        requires ready { S.ready }
-        requires limits { HasLimits step }
+    /// Makes a step that isn't a finish. It searches nothing.
+    pub(crate) fn step(&mut self, alloc: Global, step: Step) -> StepReply
+        requires { HasLimits step }
         ensures { Goes self.old step result self.new }
     {
         match step {
-            Step::Begin => self.begin(alloc, solver),
-            Step::Finish {
-                budget,
-                depth,
-                workers,
-            } => self.finish(alloc, budget, depth, workers, solver),
-            step => self.step_on(alloc, step, solver),
+            Step::Begin => self.begin(alloc),
+            step => self.step_on(alloc, step),
         }
     }
 }

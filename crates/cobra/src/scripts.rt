@@ -11,12 +11,13 @@ use crate::beginnings::{answer_handing, answer_resuming, begin};
 use crate::open_engine::OpenEngine;
 use crate::replies::{certificate_of, reply_of};
 use crate::saving::saved_told;
+use crate::searches::{Effort, Solvers};
 use crate::showing::state_told;
 use crate::stages::Stage;
 use byte_lines::Next;
 use log_text::{Command, Reply, Version, read_line_within, write_reply};
 use logged_fragments::LoggedFragment;
-use polygraph::Solver;
+use polygraph::{PlainSolver, Solver};
 use round_state::{Step, StepReply};
 use std::alloc::{AllocError, Global};
 use std::mem;
@@ -29,63 +30,54 @@ pub(crate) struct Script {
 }
 
 /// Finishes the open round, or abandons it where memory is wanting.
-fn end_round<S: Solver>(
+fn end_round<P: PlainSolver, S: Solver>(
     engine: &mut OpenEngine,
     alloc: Global,
-    budget: u64,
-    depth: u64,
-    workers: u64,
-    solver: &S,
+    effort: Effort,
+    solvers: &Solvers<P, S>,
 ) -> StepReply
-    requires ready { S.ready }
-    requires effort { IsEffort budget depth workers }
-    ensures { IsSome engine.old.asked → EndsRound engine.old budget depth workers result engine.new }
+    requires plain { P.ready }
+    requires guided { S.ready }
+    requires effort { IsEffort effort.budget effort.depth effort.workers }
+    ensures { IsSome engine.old.asked → EndsRound engine.old effort.search effort.budget effort.depth effort.workers result engine.new }
 {
-    let finish = Step::Finish {
-        budget,
-        depth,
-        workers,
-    };
-    match engine.step(alloc, finish, solver) {
+    match engine.finish(alloc, effort, solvers) {
         StepReply::Refused(refusal) => {
-            let _ = engine.step(alloc, Step::Abandon, solver);
+            let _ = engine.step(alloc, Step::Abandon);
             StepReply::Refused(refusal)
         }
         finished => finished,
     }
 }
 
-fn make_round<S: Solver>(
+fn make_round<P: PlainSolver, S: Solver>(
     engine: &mut OpenEngine,
     alloc: Global,
-    budget: u64,
-    depth: u64,
-    workers: u64,
-    solver: &S,
+    effort: Effort,
+    solvers: &Solvers<P, S>,
 ) -> StepReply
-    requires ready { S.ready }
-    requires effort { IsEffort budget depth workers }
-    ensures { IsRound engine.old budget depth workers result engine.new }
+    requires plain { P.ready }
+    requires guided { S.ready }
+    requires effort { IsEffort effort.budget effort.depth effort.workers }
+    ensures { IsRound engine.old effort.search effort.budget effort.depth effort.workers result engine.new }
 {
-    match engine.step(alloc, Step::Begin, solver) {
-        StepReply::Done => end_round(engine, alloc, budget, depth, workers, solver),
+    match engine.step(alloc, Step::Begin) {
+        StepReply::Done => end_round(engine, alloc, effort, solvers),
         refused => refused,
     }
 }
 
 /// Takes an offer, where the script's version has a form for it.
-fn answer_offer<S: Solver>(
+fn answer_offer(
     engine: &mut OpenEngine,
     alloc: Global,
     version: Version,
     logged: LoggedFragment,
-    solver: &S,
 ) -> Result<Reply, NoMemory>
-    requires { S.ready }
     ensures { IfOk result (λ answer. IsTakenIn version logged engine.old answer engine.new (IsStep engine.old (Step.Offer logged) answer engine.new)) }
 {
     if version.has_form(&logged) {
-        let said = engine.step(alloc, Step::Offer(logged), solver);
+        let said = engine.step(alloc, Step::Offer(logged));
         reply_of(alloc, said)
     } else {
         Ok(Reply::No(Refusal::BadLine))
@@ -93,77 +85,85 @@ fn answer_offer<S: Solver>(
 }
 
 /// The same of a join.
-fn answer_join<S: Solver>(
+fn answer_join(
     engine: &mut OpenEngine,
     alloc: Global,
     version: Version,
     logged: LoggedFragment,
-    solver: &S,
 ) -> Result<Reply, NoMemory>
-    requires { S.ready }
     ensures { IfOk result (λ answer. IsTakenIn version logged engine.old answer engine.new (IsStep engine.old (Step.Join logged) answer engine.new)) }
 {
     if version.has_form(&logged) {
-        let said = engine.step(alloc, Step::Join(logged), solver);
+        let said = engine.step(alloc, Step::Join(logged));
         reply_of(alloc, said)
     } else {
         Ok(Reply::No(Refusal::BadLine))
     }
 }
 
-fn answer_open<S: Solver>(
+fn answer_open<P: PlainSolver, S: Solver>(
     engine: &mut OpenEngine,
     alloc: Global,
     version: Version,
     command: Command,
-    solver: &S,
+    solvers: &Solvers<P, S>,
 ) -> Result<Reply, NoMemory>
-    requires ready { S.ready }
+    requires plain { P.ready }
+    requires guided { S.ready }
     requires limits { HasLimits command }
     ensures { IfOk result (λ answer. AnswersOpen version engine.old command answer engine.new) }
 {
     match command {
-        Command::Offer(logged) => answer_offer(engine, alloc, version, logged, solver),
-        Command::Join(logged) => answer_join(engine, alloc, version, logged, solver),
+        Command::Offer(logged) => answer_offer(engine, alloc, version, logged),
+        Command::Join(logged) => answer_join(engine, alloc, version, logged),
         Command::Close(session) => {
-            let said = engine.step(alloc, Step::Close(session), solver);
+            let said = engine.step(alloc, Step::Close(session));
             reply_of(alloc, said)
         }
         Command::Begin => {
-            let said = engine.step(alloc, Step::Begin, solver);
+            let said = engine.step(alloc, Step::Begin);
             reply_of(alloc, said)
         }
         Command::Finish {
             budget,
             depth,
             workers,
+            search,
         } => {
-            let finish = Step::Finish {
+            let effort = Effort {
                 budget,
                 depth,
                 workers,
+                search,
             };
-            let said = engine.step(alloc, finish, solver);
+            let said = engine.finish(alloc, effort, solvers);
             reply_of(alloc, said)
         }
         Command::Round {
             budget,
             depth,
             workers,
+            search,
         } => {
-            let said = make_round(engine, alloc, budget, depth, workers, solver);
+            let effort = Effort {
+                budget,
+                depth,
+                workers,
+                search,
+            };
+            let said = make_round(engine, alloc, effort, solvers);
             reply_of(alloc, said)
         }
         Command::Answer(shown) => {
-            let said = engine.step(alloc, Step::Judge(certificate_of(shown)), solver);
+            let said = engine.step(alloc, Step::Judge(certificate_of(shown)));
             reply_of(alloc, said)
         }
         Command::Truncate => {
-            let said = engine.step(alloc, Step::Truncate, solver);
+            let said = engine.step(alloc, Step::Truncate);
             reply_of(alloc, said)
         }
         Command::Rebuild => {
-            let said = engine.step(alloc, Step::Rebuild, solver);
+            let said = engine.step(alloc, Step::Rebuild);
             reply_of(alloc, said)
         }
         Command::Show => state_told(alloc, engine.engine()),
@@ -177,13 +177,14 @@ fn answer_open<S: Solver>(
 }
 
 /// The reply to a command, and how far the script is then.
-fn answered<S: Solver>(
+fn answered<P: PlainSolver, S: Solver>(
     alloc: Global,
     stage: Stage,
     command: Command,
-    solver: &S,
+    solvers: &Solvers<P, S>,
 ) -> Result<(Reply, Stage), NoMemory>
-    requires ready { S.ready }
+    requires plain { P.ready }
+    requires guided { S.ready }
     requires limits { HasLimits command }
     ensures { IfOk result (λ answered. Answers stage command answered.0 answered.1) }
 {
@@ -199,7 +200,7 @@ fn answered<S: Solver>(
         }
         Stage::Open { engine, version } => {
             let mut engine = engine;
-            let reply = answer_open(&mut engine, alloc, version, command, solver)?;
+            let reply = answer_open(&mut engine, alloc, version, command, solvers)?;
             Ok((reply, Stage::Open { engine, version }))
         }
     }
@@ -247,51 +248,54 @@ impl Script {
         }
     }
 
-    fn answer<S: Solver>(
+    fn answer<P: PlainSolver, S: Solver>(
         &mut self,
         alloc: Global,
         command: Command,
-        solver: &S,
+        solvers: &Solvers<P, S>,
     ) -> Result<Reply, NoMemory>
-        requires ready { S.ready }
+        requires plain { P.ready }
+        requires guided { S.ready }
         requires limits { HasLimits command }
         requires light { IsLight self.old.stage command }
         ensures { IfOk result (λ answer. Answers self.old.stage command answer self.new.stage) }
     {
         let stage = mem::replace(&mut self.stage, Stage::Nothing);
-        let (reply, stage) = answered(alloc, stage, command, solver)?;
+        let (reply, stage) = answered(alloc, stage, command, solvers)?;
         self.stage = stage;
         Ok(reply)
     }
 
-    fn answer_next<S: Solver>(
+    fn answer_next<P: PlainSolver, S: Solver>(
         &mut self,
         alloc: Global,
         next: &Next,
-        solver: &S,
+        solvers: &Solvers<P, S>,
     ) -> Result<Reply, NoMemory>
-        requires ready { S.ready }
+        requires plain { P.ready }
+        requires guided { S.ready }
         ensures answers { IfOk result (λ answer. AnswersNext self.old.stage next.now answer self.new.stage) }
         ensures kind { IfOk result HasKindOfOrder }
     {
         let most = self.stage.most_held();
         match command_within(alloc, next, most)? {
-            Some(command) => self.answer(alloc, command, solver),
+            Some(command) => self.answer(alloc, command, solvers),
             None => Ok(Reply::No(Refusal::BadLine)),
         }
     }
 
     /// The line of the reply to what was read.
-    pub(crate) fn answer_line<S: Solver>(
+    pub(crate) fn answer_line<P: PlainSolver, S: Solver>(
         &mut self,
         alloc: Global,
         next: &Next,
-        solver: &S,
+        solvers: &Solvers<P, S>,
     ) -> Result<Vec<u8>, NoMemory>
-        requires ready { S.ready }
+        requires plain { P.ready }
+        requires guided { S.ready }
         ensures { IfOk result (λ text. RepliesTo self.old.stage next.now text.items self.new.stage) }
     {
-        let answer = self.answer_next(alloc, next, solver)?;
+        let answer = self.answer_next(alloc, next, solvers)?;
         write_reply(alloc, &answer)
     }
 }

@@ -4,19 +4,21 @@ ghost use Rattle.cobra.specs.Outputs.{IsOutput, StopsForMemory, StopsReading, St
 ghost use Rattle.cobra.specs.declared.stages.Stage.{Stage};
 
 use crate::scripts::Script;
+use crate::searches::Solvers;
 use byte_lines::{ByteSink, ByteSource, Failure, LONGEST_LINE, LineReader, Next, write_all};
-use polygraph::Solver;
+use polygraph::{PlainSolver, Solver};
 use std::alloc::Global;
 
 /// Writes the reply to what was read.
-fn reply_to<W: ByteSink, S: Solver>(
+fn reply_to<W: ByteSink, P: PlainSolver, S: Solver>(
     alloc: Global,
     script: &mut Script,
     next: &Next,
     sink: &mut W,
-    solver: &S,
+    solvers: &Solvers<P, S>,
 ) -> Result<(), Failure>
-    requires ready { S.ready }
+    requires plain { P.ready }
+    requires guided { S.ready }
     ensures written { OnOk result ((text : List ℕ) × RepliesTo script.old.stage next.now text script.new.stage × Appends (W.contents sink.old) (W.contents sink.new) text) }
     ensures ok { OnOk result (W.faults sink.new ≡ W.faults sink.old) }
 
@@ -27,22 +29,23 @@ fn reply_to<W: ByteSink, S: Solver>(
     ensures unwritten { IsErrOf result Failure.NoMemory → Keeps (W.contents sink.old) (W.contents sink.new) }
     ensures unfailed { IsErrOf result Failure.NoMemory → W.faults sink.new ≡ W.faults sink.old }
 {
-    let text = script.answer_line(alloc, next, solver)?;
+    let text = script.answer_line(alloc, next, solvers)?;
     write_all(sink, &text)?;
     Ok(())
 }
 
 /// Reads on with a reader that has taken nothing yet, for a script that has not begun, to the end of input, and writes the reply to each
 /// line before it reads on. It owns neither, so that nothing is let go where it returns: that keeps its proof short.
-fn serve_lines<R: ByteSource, W: ByteSink, S: Solver>(
+fn serve_lines<R: ByteSource, W: ByteSink, P: PlainSolver, S: Solver>(
     alloc: Global,
     reader: &mut LineReader,
     script: &mut Script,
     source: &mut R,
     sink: &mut W,
-    solver: &S,
+    solvers: &Solvers<P, S>,
 ) -> Result<(), Failure>
-    requires ready { S.ready }
+    requires plain { P.ready }
+    requires guided { S.ready }
     requires limit { reader.old.limit ≡ LONGEST_LINE }
     requires ahead { reader.old.ahead ≡ [] }
     requires under_way { reader.old.under_way ≡ Some [] }
@@ -66,19 +69,21 @@ fn serve_lines<R: ByteSource, W: ByteSink, S: Solver>(
         if let Next::End = next {
             return Ok(());
         }
-        reply_to(alloc, script, &next, sink, solver)?;
+        reply_to(alloc, script, &next, sink, solvers)?;
     }
 }
 
-/// Reads a script to the end of input, and writes the reply to each line before it reads on. What a failure of a device or
+/// Reads a script to the end of input, and writes the reply to each line before it reads on. Each finish and round is searched by the solver of the
+/// search that it asks for. What a failure of a device or
 /// want of memory leaves half done isn't tried again.
-pub fn serve<R: ByteSource, W: ByteSink, S: Solver>(
+pub fn serve<R: ByteSource, W: ByteSink, P: PlainSolver, S: Solver>(
     alloc: Global,
     source: &mut R,
     sink: &mut W,
-    solver: &S,
+    solvers: &Solvers<P, S>,
 ) -> Result<(), Failure>
-    requires { S.ready }
+    requires plain { P.ready }
+    requires guided { S.ready }
 
     // All of the input is read, and an output of it is written.
     ensures at_end { OnOk result (IfSome (R.remaining source.old) (λ input. R.remaining source.new ≡ Some [])) }
@@ -95,5 +100,5 @@ pub fn serve<R: ByteSource, W: ByteSink, S: Solver>(
 {
     let mut reader = LineReader::new(alloc, LONGEST_LINE)?;
     let mut script = Script::new();
-    serve_lines(alloc, &mut reader, &mut script, source, sink, solver)
+    serve_lines(alloc, &mut reader, &mut script, source, sink, solvers)
 }

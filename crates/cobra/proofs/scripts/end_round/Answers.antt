@@ -3,8 +3,8 @@ use Rattle.cobra.proofs.scripts.end_round.Goals as goal
 
 pub returns-in-Refused : goal.returns-in-Refused
 returns-in-Refused g c =
-    ends_abandoned c.args.engine.now c.step.new.self c.step-in-Refused.new.self c.args.budget c.args.depth c.args.workers c.in-Refused.refusal c.step-in-Refused.result c.in-Refused.ensures c.step-in-Refused.ensures
+    ends_abandoned c.args.engine.now c.finish.new.self c.step.new.self c.args.effort.search c.args.effort.budget c.args.effort.depth c.args.effort.workers c.in-Refused.refusal c.step.result c.in-Refused.ensures c.step.ensures
 
 pub returns-in_default : goal.returns-in_default
 returns-in_default g c = λ some.
-    ends_finished c.args.engine.now c.step.new.self c.args.budget c.args.depth c.args.workers c.step.result c.step.ensures c.in_default.not-Refused
+    ends_finished c.args.engine.now c.finish.new.self c.args.effort.search c.args.effort.budget c.args.effort.depth c.args.effort.workers c.finish.result c.finish.ensures c.in_default.not-Refused
