@@ -2,9 +2,10 @@
 #![tactic(auto)]
 
 use cobra::{
-    Asked, ByteSink, Exit, Failure, ReaderSource, WriterSink, asked_of, exit_of, serve, write_all,
+    Asked, ByteSink, Exit, Failure, ReaderSource, Solvers, WriterSink, asked_of, exit_of, serve,
+    write_all,
 };
-use guided_search::Guided;
+use guided_search::{Conflicts, Guided};
 use shared_search::{OpenGate, Shared};
 use std::env;
 use std::io::ErrorKind;
@@ -36,7 +37,8 @@ The replies:
   ["ok"]
   ["report",1,"serial",[1],[[0,0]]]
 
-Other lines end a session (close), begin a round and finish it later (begin, finish), forget what is
+A round that ends with "guided", ["round",32,0,1,"guided"], searches in other ways first: it finds more
+within its budget. Other lines end a session (close), begin a round and finish it later (begin, finish), forget what is
 settled (truncate), have all made anew of what is kept (rebuild), tell the state (show), give out what
 is kept (save), and begin with what another run gave out (resume).
 
@@ -70,9 +72,12 @@ fn main(rt: HostRuntime) -> ExitCode {
     let mut input = ReaderSource::new(rt.stdin());
     let mut output = WriterSink::new(rt.stdout());
     let alloc = rt.alloc();
-    let solver = Guided::new(Shared::new(&rt, OpenGate));
+    let solvers = Solvers {
+        plain: Shared::new(&rt, OpenGate),
+        guided: Guided::new(Conflicts, Shared::new(&rt, OpenGate)),
+    };
     let exit = match asked(&rt) {
-        Ok(Asked::Work) => exit_of(serve(alloc, &mut input, &mut output, &solver)),
+        Ok(Asked::Work) => exit_of(serve(alloc, &mut input, &mut output, &solvers)),
         Ok(Asked::Help) => exit_of(told(&mut output, HELP)),
         Ok(Asked::Version) => exit_of(told(&mut output, VERSION)),
         Ok(Asked::Unknown) => Exit {

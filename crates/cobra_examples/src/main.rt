@@ -3,8 +3,8 @@
 
 ghost use Rattle.std.specs.Prelude.{◌<◌};
 
-use cobra::{MemorySink, MemorySource, Pace, serve};
-use guided_search::Guided;
+use cobra::{MemorySink, MemorySource, Pace, Solvers, serve};
+use guided_search::{Conflicts, Guided};
 use polygraph::Single;
 use std::alloc::Global;
 use std::{env, fs, io};
@@ -21,8 +21,11 @@ fn is_answered(alloc: Global, script: &[u8], replies: &[u8], most: usize) -> boo
         bytes: Vec::new(alloc),
         pace: Pace::new(most, 0),
     };
-    let solver = Guided::new(Single);
-    let end = serve(alloc, &mut source, &mut sink, &solver);
+    let solvers = Solvers {
+        plain: Single,
+        guided: Guided::new(Conflicts, Single),
+    };
+    let end = serve(alloc, &mut source, &mut sink, &solvers);
     end.is_ok() && sink.bytes.as_slice() == replies
 }
 
