@@ -3,6 +3,7 @@ pub mod Ends
 pub mod Finishing
 pub mod Fronts
 pub mod Joining
+pub mod Moments
 pub mod Rounds
 pub mod Sound
 pub mod Stepping

@@ -1,5 +1,6 @@
 pub mod CoreState
 pub mod Live
+pub mod Moments
 pub mod Running
 pub mod Takes
 pub mod Told

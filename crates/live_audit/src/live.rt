@@ -1,4 +1,4 @@
-ghost use Rattle.std.specs.Prelude.{◌≡◌, ℕ, ◌<◌, ◌++◌, ◌∷◌, [], map, length, All, MatchResult};
+ghost use Rattle.std.specs.Prelude.{◌≡◌, ℕ, ◌+◌, ◌<◌, ◌≤◌, ◌++◌, ◌∷◌, [], map, length, All, MatchResult};
 ghost use Rattle.std.specs.Option.{option_to_list};
 ghost use Rattle.order_check.specs.Effort.{IsEffort};
 ghost use Rattle.polygraph.specs.Solving.{IsLawful};
@@ -6,6 +6,7 @@ ghost use Rattle.report_queue.specs.Reports.{IsBefore};
 ghost use Rattle.round_state.specs.Opening.{fresh_state};
 ghost use Rattle.round_state.specs.Runs.{Holds};
 ghost use Rattle.live_audit.specs.Live.{Live};
+ghost use Rattle.live_audit.specs.Moments.{rounds_in, IsLook, IsRoundMade, IsTimed, IsTurn, Turns};
 ghost use Rattle.live_audit.specs.Running.{AreEnded, HasEnded, HasMoved, HasPublished, IsBetweenRounds, IsLastCount, IsLastSkipped, IsRound, CanBeTold, IsSaid, told_in, reports_in};
 ghost use Rattle.live_audit.specs.Truth.{IsTrueEntry, accepted_history};
 
@@ -114,6 +115,7 @@ fn take_one<R: Wait>(rt: &R, desk: &Desk, side: &mut AuditorSide, running: &mut 
     ensures told { HasPublished running.new.core side.new.sender.sent side.new.seat.published }
     ensures round { running.new.core.engine.asked ≡ running.old.core.engine.asked }
     ensures ended { AreEnded running.new.ended side.new.pass.1 }
+    ensures look { IsLook result running.old.unasked side.old.pass.1 side.old.sender.sent running.new.unasked side.new.pass.1 side.new.sender.sent }
     ensures same { (side.new.pass.0 ≡ side.old.pass.0) × (side.new.sender.ring ≡ side.old.sender.ring) × (side.new.seat ≡ side.old.seat) }
 {
     let Some(parcel) = desk.take(rt, &mut side.pass) else {
@@ -139,6 +141,9 @@ fn take_until<R: Wait>(
     ensures told { HasPublished running.new.core side.new.sender.sent side.new.seat.published }
     ensures round { running.new.core.engine.asked ≡ running.old.core.engine.asked }
     ensures ended { AreEnded running.new.ended side.new.pass.1 }
+    // No round is told of, and what is counted more was taken.
+    ensures quiet { rounds_in side.new.sender.sent ≡ rounds_in side.old.sender.sent }
+    ensures counted { running.new.unasked + length side.old.pass.1 ≤ running.old.unasked + length side.new.pass.1 }
     ensures same { (side.new.pass.0 ≡ side.old.pass.0) × (side.new.sender.ring ≡ side.old.sender.ring) × (side.new.seat ≡ side.old.seat) }
 {
     let mut patience = Patience::new();
@@ -175,6 +180,9 @@ fn answer<'s, E, R: Threads + Wait, S: Solver + Sync>(
     ensures round { running.new.core.engine.asked ≡ running.old.core.engine.asked }
     ensures ended { AreEnded running.new.ended side.new.pass.1 }
     ensures same { (side.new.pass.0 ≡ side.old.pass.0) × (side.new.sender.ring ≡ side.old.sender.ring) × (side.new.seat ≡ side.old.seat) }
+    // No round is told of, and what is counted more was taken.
+    ensures quiet { rounds_in side.new.sender.sent ≡ rounds_in side.old.sender.sent }
+    ensures counted { running.new.unasked + length side.old.pass.1 ≤ running.old.unasked + length side.new.pass.1 }
     ensures lawful { IsLawful problem.known.parts running.old.core.search.budget running.old.core.search.depth result }
 {
     let (budget, depth) = running.core.search();
@@ -214,6 +222,7 @@ fn make_round_meanwhile<'s, E, R: Threads + Wait, S: Solver + Sync>(
     ensures moved { HasMoved running.old.core side.old.pass.1 side.old.sender.sent running.new.core side.new.pass.1 side.new.sender.sent }
     ensures between { IsBetweenRounds running.new.core side.new.sender.sent side.new.seat.published }
     ensures ended { AreEnded running.new.ended side.new.pass.1 }
+    ensures made { IsRoundMade side.old.pass.1 side.old.sender.sent running.new.unasked side.new.pass.1 side.new.sender.sent }
     ensures same { (side.new.pass.0 ≡ side.old.pass.0) × (side.new.sender.ring ≡ side.old.sender.ring) × (side.new.seat.word ≡ side.old.seat.word) }
 {
     running.unasked = 0;
@@ -248,10 +257,45 @@ fn make_round<R: Wait, S: Solver>(
     ensures round { IsRound running.old.core side.old.sender.sent result running.new.core side.new.sender.sent }
     ensures moved { HasMoved running.old.core side.old.pass.1 side.old.sender.sent running.new.core side.new.pass.1 side.new.sender.sent }
     ensures between { IsBetweenRounds running.new.core side.new.sender.sent side.new.seat.published }
+    ensures counts { rounds_in side.new.sender.sent ≡ rounds_in side.old.sender.sent + 1 }
     ensures same { (side.new.pass ≡ side.old.pass) × (side.new.sender.ring ≡ side.old.sender.ring) × (side.new.seat.word ≡ side.old.seat.word) × (running.new.ended ≡ running.old.ended) }
 {
     let (outcome, more) = running.make_round(alloc, solver, workers);
     tell(rt, latest, side, outcome, more)
+}
+
+/// Takes a parcel, if one waits, and then makes a round, if it is time for one. It says whether either was done.
+fn turn<'s, E, R: Threads + Wait, S: Solver + Sync>(
+    scope: &Scope<'s, E>,
+    rt: &R,
+    alloc: Global,
+    desk: &Desk,
+    latest: &Latest,
+    side: &mut AuditorSide,
+    running: &mut Running,
+    solver: &'s S,
+    workers: u64,
+) -> bool
+    requires ready { S.ready }
+    requires effort { IsEffort running.old.core.search.budget running.old.core.search.depth workers }
+    requires desk { side.old.pass.0 ≡ desk.now.0 }
+    requires word { side.old.seat.word ≡ latest.now }
+    requires between { IsBetweenRounds running.old.core side.old.sender.sent side.old.seat.published }
+    requires ended { AreEnded running.old.ended side.old.pass.1 }
+    ensures moved { HasMoved running.old.core side.old.pass.1 side.old.sender.sent running.new.core side.new.pass.1 side.new.sender.sent }
+    ensures between { IsBetweenRounds running.new.core side.new.sender.sent side.new.seat.published }
+    ensures ended { AreEnded running.new.ended side.new.pass.1 }
+    ensures turn { IsTurn running.old.unasked side.old.pass.1 side.old.sender.sent running.new.unasked side.new.pass.1 side.new.sender.sent }
+    ensures same { (side.new.pass.0 ≡ side.old.pass.0) × (side.new.sender.ring ≡ side.old.sender.ring) × (side.new.seat.word ≡ side.old.seat.word) }
+{
+    let found = take_one(rt, desk, side, running);
+    if running.wants_round(found) {
+        make_round_meanwhile(
+            scope, rt, alloc, desk, latest, side, running, solver, workers,
+        );
+        return true;
+    }
+    found
 }
 
 /// Takes parcels and makes rounds until all four collectors have ended.
@@ -275,6 +319,7 @@ fn take_all<'s, E, R: Threads + Wait, S: Solver + Sync>(
     ensures moved { HasMoved running.old.core side.old.pass.1 side.old.sender.sent running.new.core side.new.pass.1 side.new.sender.sent }
     ensures between { IsBetweenRounds running.new.core side.new.sender.sent side.new.seat.published }
     ensures ended { (collector : ℕ) → collector < 4 → HasEnded collector side.new.pass.1 }
+    ensures turns { Turns running.old.unasked side.old.pass.1 side.old.sender.sent running.new.unasked side.new.pass.1 side.new.sender.sent }
     ensures same { (side.new.pass.0 ≡ side.old.pass.0) × (side.new.sender.ring ≡ side.old.sender.ring) × (side.new.seat.word ≡ side.old.seat.word) }
 {
     let mut patience = Patience::new();
@@ -282,14 +327,10 @@ fn take_all<'s, E, R: Threads + Wait, S: Solver + Sync>(
         if running.is_over() {
             return;
         }
-        let is_idle = !take_one(rt, desk, side, running);
-        if running.wants_round(is_idle) {
-            make_round_meanwhile(
-                scope, rt, alloc, desk, latest, side, running, solver, workers,
-            );
-        } else {
-            patience.after(rt, !is_idle);
-        }
+        let is_done = turn(
+            scope, rt, alloc, desk, latest, side, running, solver, workers,
+        );
+        patience.after(rt, is_done);
     }
     unreachable!()
 }
@@ -324,6 +365,8 @@ pub fn audit_live<'s, E, R: Threads + Wait, S: Solver + Sync>(
     ensures ended { (collector : ℕ) → collector < 4 → HasEnded collector side.new.pass.1 }
     // The last report counts all that was accepted.
     ensures last { (sessions limit : ℕ) → Holds engine (fresh_state sessions limit) → MatchResult result (λ _. IsLastCount (map length (accepted_history sessions side.new.pass.1 side.new.sender.sent)) side.new.sender.sent) (λ refusal. IsLastSkipped refusal side.new.sender.sent) }
+    // Rounds are made when they are to be, and the last one at the end.
+    ensures timed { IsTimed side.new.pass.1 side.new.sender.sent }
     ensures published { side.new.seat.published ≡ reports_in side.new.sender.sent }
     ensures same { (side.new.pass.0 ≡ side.old.pass.0) × (side.new.sender.ring ≡ side.old.sender.ring) × (side.new.seat.word ≡ side.old.seat.word) }
 {

@@ -1,8 +1,10 @@
-ghost use Rattle.std.specs.Prelude.{◌≡◌, ℕ, ◌<◌, ◌++◌, ◌∷◌, [], true, false, IsTrue, None, List, slice_index_or};
+ghost use Rattle.std.specs.Prelude.{◌≡◌, ℕ, ◌<◌, ◌++◌, ◌∷◌, ◌↔◌, [], true, false, IsTrue, None, List, slice_index_or};
 ghost use Rattle.std.specs.Option.{option_to_list};
 ghost use Rattle.order_check.specs.Effort.{IsEffort};
+ghost use Rattle.fragment_intake.specs.declared.rules.Item.{Item};
 ghost use Rattle.fragment_intake.specs.declared.rules.Parcel.{Parcel};
 ghost use Rattle.live_audit.specs.Live.{MovesOn};
+ghost use Rattle.live_audit.specs.Moments.{IsTime, unasked_after};
 ghost use Rattle.live_audit.specs.Running.{AreEnded, IsRoundTold};
 ghost use Rattle.live_audit.specs.Told.{IsTold, IsFollowUp};
 
@@ -18,7 +20,7 @@ const MOST_UNASKED: u64 = 1024;
 
 /// Whether the parcel tells that nothing more comes.
 fn is_end(parcel: &Parcel) -> bool
-    ensures { IsTrue result → parcel.now.item ≡ Item.End }
+    ensures { IsTrue result ↔ (parcel.now.item ≡ Item.End) }
 {
     matches!(parcel.item, Item::End)
 }
@@ -36,6 +38,7 @@ pub(crate) struct Running {
 impl Running {
     pub(crate) fn new(core: Core) -> Running
         ensures core { result.core ≡ core }
+        ensures unasked { result.unasked ≡ 0 }
         ensures ended { AreEnded result.ended [] }
     {
         Running {
@@ -52,9 +55,11 @@ impl Running {
         self.ended[0] && self.ended[1] && self.ended[2] && self.ended[3]
     }
 
-    /// Whether it is time for a round. With nothing to take it is, once something was accepted.
-    pub(crate) fn wants_round(&self, is_idle: bool) -> bool {
-        self.unasked >= MOST_UNASKED || is_idle && self.unasked > 0
+    /// Whether it is time for a round, where a look at the desk has found something or not.
+    pub(crate) fn wants_round(&self, found: bool) -> bool
+        ensures { IsTrue result ↔ IsTime self.now.unasked found }
+    {
+        self.unasked >= MOST_UNASKED || !found && self.unasked > 0
     }
 
     /// Takes a parcel in.
@@ -65,6 +70,7 @@ impl Running {
         ensures search { self.new.core.search ≡ self.old.core.search }
         ensures round { (self.new.core.engine.asked ≡ self.old.core.engine.asked) × (self.new.core.engine.rounds ≡ self.old.core.engine.rounds) }
         ensures ended { (taken : List Parcel) → AreEnded self.old.ended taken → AreEnded self.new.ended (taken ++ parcel ∷ []) }
+        ensures counted { self.new.unasked ≡ unasked_after self.old.unasked parcel.item result }
     {
         self.note_end(&parcel);
         let is_end = is_end(&parcel);
@@ -77,6 +83,7 @@ impl Running {
     fn note_end(&mut self, parcel: &Parcel)
         requires { parcel.now.collector < 4 }
         ensures core { self.new.core ≡ self.old.core }
+        ensures unasked { self.new.unasked ≡ self.old.unasked }
         ensures ended { (taken : List Parcel) → AreEnded self.old.ended taken → AreEnded self.new.ended (taken ++ parcel.now ∷ []) }
     {
         if is_end(parcel) {
@@ -87,6 +94,7 @@ impl Running {
     /// Counts what was accepted, unless it was an end.
     fn count(&mut self, entry: &Entry, is_end: bool)
         ensures same { (self.new.core ≡ self.old.core) × (self.new.ended ≡ self.old.ended) }
+        ensures counted { (item : Item) → (IsTrue is_end ↔ (item ≡ Item.End)) → self.new.unasked ≡ unasked_after self.old.unasked item entry.now }
     {
         if !is_end && matches!(entry, Entry::Accepted { .. }) && self.unasked < MOST_UNASKED {
             self.unasked += 1;

@@ -1,7 +1,8 @@
 //! Single steps of an engine, each with what it is by law.
-ghost use Rattle.std.specs.Prelude.{◌≡◌, None, IsSome, IsSomeAnd};
+ghost use Rattle.std.specs.Prelude.{◌≡◌, None, IfErr, IfOk, IsSome, IsSomeAnd};
 ghost use Rattle.polygraph.specs.Solving.{IsLawful};
 ghost use Rattle.round_state.specs.Runs.{StepsLegally};
+ghost use Rattle.round_state.specs.Steps.{StepsTo};
 ghost use Rattle.live_audit.specs.CoreState.{Search};
 ghost use Rattle.live_audit.specs.Takes.{TakesIn, BeginsBy, Finishes, Forgets};
 
@@ -10,6 +11,7 @@ use fragment_intake::Item;
 use polygraph::{Answer, Problem};
 use report_queue::Entry;
 use round_state::{Engine, Report, Step, StepReply};
+use settle::Cut;
 use std::alloc::Global;
 use txn::Refusal;
 
@@ -54,6 +56,14 @@ pub(crate) fn finish(alloc: Global, engine: &mut Engine, answer: Answer) -> Opti
     }
 }
 
+/// Applies the cut that is held, or tells why there is none to apply, or that memory is wanting.
+fn truncated(alloc: Global, engine: &mut Engine) -> Result<Cut, Refusal>
+    ensures ok { IfOk result (λ cut. StepsTo engine.old Step.Truncate (StepReply.Cut cut) engine.new) }
+    ensures err { IfErr result (λ refusal. StepsTo engine.old Step.Truncate (StepReply.Refused refusal) engine.new) }
+{
+    engine.truncate(alloc)
+}
+
 /// Applies the cut that is held, if one is.
 pub(crate) fn forget(alloc: Global, engine: &mut Engine) -> Option<Entry>
     requires { engine.old.asked ≡ None }
@@ -61,7 +71,7 @@ pub(crate) fn forget(alloc: Global, engine: &mut Engine) -> Option<Entry>
     ensures round { (engine.new.asked ≡ None) × (engine.new.rounds ≡ engine.old.rounds) }
 {
     engine.right_is_legal();
-    match engine.truncate(alloc) {
+    match truncated(alloc, engine) {
         Ok(cut) => Some(Entry::Cut(cut)),
         Err(_) => None,
     }

@@ -1,5 +1,6 @@
 //! What gives the searches of rounds up.
-ghost use Rattle.std.specs.Prelude.{◌≡◌};
+ghost use Rattle.std.specs.Prelude.{◌≡◌, ◌+◌, ◌<◌, ◌^◌};
+ghost use Rattle.live_audit.specs.Moments.{one_item_more};
 
 use fragment_intake::Item;
 use polygraph::{Problem, StopWord};
@@ -13,12 +14,17 @@ pub(crate) struct RoundStops {
 }
 
 impl RoundStops {
-    pub(crate) fn new(word: Option<StopWord>) -> RoundStops {
+    pub(crate) fn new(word: Option<StopWord>) -> RoundStops
+        ensures { result ≡ record { word = word; taken = 0 } }
+    {
         RoundStops { word, taken: 0 }
     }
 
     /// Counts an item that is taken.
-    pub(crate) fn count(&mut self, item: &Item) {
+    pub(crate) fn count(&mut self, item: &Item)
+        ensures word { self.new.word ≡ self.old.word }
+        ensures taken { self.old.taken + 1 < 2 ^ 64 → self.new.taken ≡ one_item_more self.old.taken item.now }
+    {
         if !matches!(item, Item::End) {
             self.taken = self.taken.saturating_add(1);
         }

@@ -7,6 +7,7 @@ use Rattle.live_audit.specs.CoreState.{CoreState}
 use Rattle.live_audit.specs.Running.{HasEnded, IsLastCount, IsLastSkipped}
 use Rattle.live_audit.specs.Truth.{accepted_history}
 use Rattle.live_audit.proofs.Finishing.{fresh_moved, live_of, true_of, last_of, published_end}
+use Rattle.live_audit.proofs.Moments.{timed, turns_from}
 use Rattle.live_audit.proofs.Rounds.{moved_on}
 use Rattle.live_audit.proofs.live.audit_live.Goals as goal
 
@@ -38,3 +39,10 @@ returns-clause-last g c sessions limit holds =
     subst (λ (taken : List Parcel). MatchResult last.result (λ _. IsLastCount (map length (accepted_history sessions taken c.send.new.sender.sent)) c.send.new.sender.sent) (λ refusal. IsLastSkipped refusal c.send.new.sender.sent)) (sym (ap (λ pass. pass.1) last.ensures.same.0))
     (last_of sessions limit first middle.new.running.core last.new.running.core middle.new.side.pass.1 middle.new.side.sender.sent last.new.side.sender.sent c.send.new.sender.sent last.result
     (subst (λ (core : CoreState). Holds core.engine (fresh_state sessions limit)) (sym is) holds) moved last.ensures.round c.send.ensures.sent)
+
+pub returns-clause-timed : goal.returns-clause-timed
+returns-clause-timed g c =
+    let first = c.args.side.now in let middle = c.take_all in let last = c.make_round-last in
+    timed middle.new.running.unasked middle.new.side.pass.1 last.new.side.pass.1 middle.new.side.sender.sent last.new.side.sender.sent c.send.new.sender.sent last.ensures.moved.entries
+    (turns_from c.new-running.result.unasked middle.new.running.unasked first.pass.1 middle.new.side.pass.1 first.sender.sent middle.new.side.sender.sent c.new-running.ensures.unasked c.requires.fresh.0 c.requires.fresh.1 middle.ensures.turns)
+    (ap (λ pass. pass.1) last.ensures.same.0) last.ensures.moved.sent_is last.ensures.counts c.send.ensures.sent

@@ -1,4 +1,4 @@
-use Rattle.std.proofs.Common.{List, sym, subst}
+use Rattle.std.proofs.Common.{List, refl, sym, subst}
 use Rattle.fragment_intake.specs.declared.rules.Parcel.{Parcel}
 use Rattle.live_audit.specs.Running.{AreEnded, HasMoved}
 use Rattle.live_audit.proofs.Rounds.{told_taken, not_moved}
@@ -17,3 +17,9 @@ returns-clause-told g c =
 pub returns-clause-ended : goal.returns-clause-ended
 returns-clause-ended g c =
     subst (λ (taken : List Parcel). AreEnded c.take_in-entry.new.self.ended taken) (sym c.in-Some.ensures.taken.0) (c.take_in-entry.ensures.ended c.args.side.now.pass.1 c.requires.ended)
+
+pub returns-in_default-clause-look : goal.returns-in_default-clause-look
+returns-in_default-clause-look g c = (refl, c.in_default.ensures.taken.0, refl)
+
+pub returns-clause-look : goal.returns-clause-look
+returns-clause-look g c = (c.in-Some.parcel, c.take_in-entry.result, c.in-Some.ensures.taken.0, c.send.ensures.sent, c.take_in-entry.ensures.told, c.take_in-entry.ensures.counted)
