@@ -14,3 +14,4 @@ pub mod ScriptRounds
 pub mod ServedLines
 pub mod ToldWriters
 pub mod SearchedAnswers
+pub mod TrueReports

@@ -8,3 +8,4 @@ pub mod Saving
 pub mod Scripts
 pub mod StepReplies
 pub mod Searches
+pub mod TrueReports

@@ -4,6 +4,7 @@
 mod beginnings;
 mod handing;
 mod last_told;
+mod laws;
 mod open_engine;
 mod programs;
 mod replies;
@@ -19,6 +20,7 @@ pub use byte_lines::{
     Next, Pace, ReaderSource, StandardInput, StandardOutput, WriterSink, write_all,
 };
 pub use handing::Handing;
+pub use laws::each_report_is_true;
 pub use programs::{Asked, Exit, asked_of, exit_of};
 pub use replies::{certificate_of, cut_of, reply_of, report_of};
 pub use saving::{given_out_is_taken, saved_told};

@@ -1,0 +1,371 @@
+-- Replies whose reports are true of what a script's lines had offered and what was answered ok.
+use Rattle.std.proofs.Common.{◌≡◌, ℕ, ◌+◌, Bool, true, false, cond, nat_lt, List, [], ◌∷◌, ◌++◌, length, map, Option, Some, None, refl, sym, ap, ◌∙◌, subst, inl, inr, ⊎_elim}
+use Rattle.std.specs.Prelude.{⊤, IsSomeAnd}
+use Rattle.std.specs.List.{concat}
+use Rattle.txn.specs.declared.refusals.Refusal.{Refusal}
+use Rattle.txn.specs.declared.refusals.Refusal.TheVariants.{BadLine, BadSession, NoMemory}
+use Rattle.txn.specs.declared.transactions.Fragment.{Fragment}
+use Rattle.txn.specs.History.{History}
+use Rattle.logged_fragments.specs.Effects.{effects}
+use Rattle.logged_fragments.specs.declared.logged.LoggedFragment.{LoggedFragment}
+use Rattle.order_check.specs.declared.remainder.Kind.{Kind}
+use Rattle.order_check.specs.declared.remainder.Kind.TheVariants as kinds
+use Rattle.order_check.specs.declared.remainder.Parts.{Parts}
+use Rattle.order_check.specs.StandsFor.{StandsFor, history_after, with_fragment}
+use Rattle.log_text.specs.declared.commands.Command.{Command}
+use Rattle.log_text.specs.declared.commands.Command.TheVariants.{Start, Offer, Join, Close, Begin, Finish, Round, Truncate, Rebuild, Show, Resume, Marks, Last, Resumed, Save, Answer}
+use Rattle.log_text.specs.declared.commands.Wanted.{Wanted}
+use Rattle.log_text.specs.declared.commands.Wanted.TheVariants as wanted
+use Rattle.log_text.specs.declared.replies.Reply.{Reply}
+use Rattle.log_text.specs.declared.replies.Reply.TheVariants as told
+use Rattle.log_text.specs.declared.saved.Saved.TheVariants as saved
+use Rattle.log_text.specs.declared.versions.Version.{Version}
+use Rattle.log_text.specs.Replies.{line_of}
+use Rattle.polygraph.specs.declared.solving.Answer as solved
+use Rattle.polygraph.specs.declared.solving.Answer.TheVariants as answers
+use Rattle.round_state.specs.EngineState.{EngineState}
+use Rattle.round_state.specs.Legal.{State, IsTrueOf, whole_after, asked_after}
+use Rattle.round_state.specs.Runs.{Holds}
+use Rattle.round_state.specs.Solving.{IsRight, IsReportOn}
+use Rattle.round_state.specs.Steps.{Shows, IsRightReport, IsHeldAfter, answer_told, arrival_of}
+use Rattle.round_state.specs.declared.reports.Certificate.{Certificate}
+use Rattle.round_state.specs.declared.reports.Certificate.TheVariants.{Order, Refuted, Nothing}
+use Rattle.round_state.specs.declared.reports.Report.{Report}
+use Rattle.round_state.specs.declared.steps.Step.{Step}
+use Rattle.round_state.specs.declared.steps.Step.TheVariants as step
+use Rattle.round_state.specs.declared.steps.StepReply.{StepReply}
+use Rattle.round_state.specs.declared.steps.StepReply.TheVariants as reply
+use Rattle.settle.specs.declared.cuts.Cut.{Cut}
+use Rattle.cobra.specs.Outputs.{RepliesAll}
+use Rattle.cobra.specs.Saving.{saved_told, fragment_told}
+use Rattle.cobra.specs.Scripts.{IsBadLine, IsTakenIn, Goes, IsStep, EndsRound, IsRound, AnswersOpen, AnswersFirst, BeginsAnew, AnswersResuming, AnswersHanding, HandsOffer, Answers, stage_after}
+use Rattle.cobra.specs.StepReplies.{certificate_of, certified, reply_of}
+use Rattle.cobra.specs.TrueReports.{Accepted, accepted_more, accepted_after, reported_on, TellsTrueOf, IsTrueTold, BeginsWith, AreTrueReplies, EachReportIsTrue}
+use Rattle.cobra.specs.declared.handing.Handing.{Handing}
+use Rattle.cobra.specs.declared.stages.Stage.{Stage}
+use Rattle.cobra.specs.declared.stages.Stage.TheVariants as stage
+
+-- the state of an engine, beside which this was accepted
+abbrev state_of : EngineState → Accepted → State
+state_of engine accepted = record { engine = engine; whole = accepted.whole; asked = accepted.asked }
+
+-- Where an engine is open it stands for what was accepted; else nothing was.
+abbrev Fits : Stage → Option Accepted → Type 0
+Fits (stage.Open engine version) (Some accepted) = Holds engine (state_of engine accepted)
+Fits (stage.Open engine version) None = ⊥
+Fits stage.Nothing None = ⊤
+Fits (stage.Resuming sessions limit version) None = ⊤
+Fits (stage.Handing handed version) None = ⊤
+Fits other (Some accepted) = ⊥
+
+-- ---- reports
+
+-- what shows a tree is violated
+abbrev KindOfTree : Kind → Certificate → Type 0
+KindOfTree kind (Refuted tree) = kind ≡ kinds.Violated
+KindOfTree kind other = ⊤
+
+shown_tree : (parts : Parts) (budget depth : ℕ) (kind : Kind) (certificate : Certificate) → Shows parts budget depth kind certificate → KindOfTree kind certificate
+shown_tree parts budget depth kinds.Violated (Refuted tree) shows = refl
+shown_tree parts budget depth kinds.Serial (Refuted tree) shows = absurd shows
+shown_tree parts budget depth kinds.Pending (Refuted tree) shows = absurd shows
+shown_tree parts budget depth kinds.Spent (Refuted tree) shows = absurd shows
+shown_tree parts budget depth kind (Order order) shows = tt
+shown_tree parts budget depth kind Nothing shows = tt
+
+right_tree : (parts : Parts) (answer : solved.Answer) (kind : Kind) (certificate : Certificate) → IsRight parts answer kind certificate → KindOfTree kind certificate
+right_tree parts (answers.No tree) kind (Refuted shown) right = right.1
+right_tree parts (answers.Yes order) kind (Refuted shown) right = absurd right
+right_tree parts answers.Spent kind (Refuted shown) right = absurd right
+right_tree parts answers.NoMemory kind (Refuted shown) right = absurd right
+right_tree parts answer kind (Order order) right = tt
+right_tree parts answer kind Nothing right = tt
+
+finished_tree : (old : EngineState) (held : Option Cut) (asked : Option Parts) (budget depth : ℕ) (report : Report) → IsSomeAnd asked (λ parts. IsRightReport old parts budget depth report × IsHeldAfter parts report.kind old.held held) → KindOfTree report.kind report.certificate
+finished_tree old held None budget depth report right = absurd right
+finished_tree old held (Some parts) budget depth report right = shown_tree parts budget depth report.kind report.certificate right.0.shown
+
+judged_tree : (rounds : ℕ) (before held : Option Cut) (asked : Option Parts) (answer : solved.Answer) (report : Report) → IsSomeAnd asked (λ parts. IsReportOn parts rounds answer report × IsHeldAfter parts report.kind before held) → KindOfTree report.kind report.certificate
+judged_tree rounds before held None answer report right = absurd right
+judged_tree rounds before held (Some parts) answer report right = right_tree parts answer report.kind report.certificate right.0.right
+
+certified_true : (history : History) (round : ℕ) (counts : List ℕ) (kind : Kind) (certificate : Certificate) → counts ≡ map length history → IsTrueOf history kind → KindOfTree kind certificate → TellsTrueOf history (certified (record { round = round; kind = kind; counts = counts; certificate = certificate }) certificate)
+certified_true history round counts kind (Order order) counted is tree = (counted, is)
+certified_true history round counts kind (Refuted shown) counted is tree = (counted, subst (IsTrueOf history) tree is)
+certified_true history round counts kind Nothing counted is tree = counted
+
+-- ---- steps of an open engine
+
+-- what it has received is what was accepted
+step_on : (old new : EngineState) (accepted next : Accepted) (asked : Step) (said : StepReply) → Goes old asked said new → Holds old (state_of old accepted) → whole_after (state_of old accepted) asked said ≡ next.whole → asked_after (state_of old accepted) asked said ≡ next.asked → Holds new (state_of new next)
+step_on old new accepted next asked said goes holds whole_is asked_is =
+    let after = goes.legal (state_of old accepted) holds in
+    record {
+      same = refl;
+      parts = subst (λ (history : History). StandsFor new.parts history) (after.1.whole ∙ whole_is) after.2.parts;
+      asked = λ parts e. subst (λ (history : History). StandsFor parts history) (after.1.asked ∙ asked_is) (after.2.asked parts e);
+    }
+
+-- a reply to a step that is a report is true
+step_true : (old new : EngineState) (accepted : Accepted) (asked : Step) (said : StepReply) → Goes old asked said new → Holds old (state_of old accepted) → TellsTrueOf accepted.asked (reply_of said)
+step_true old new accepted asked reply.Done goes holds = tt
+step_true old new accepted asked (reply.Refused refusal) goes holds = tt
+step_true old new accepted asked (reply.Cut cut) goes holds = tt
+step_true old new accepted (step.Finish budget depth workers) (reply.Report report) goes holds =
+    let tells = (goes.legal (state_of old accepted) holds).1.true_reply in
+    certified_true accepted.asked report.round report.counts report.kind report.certificate tells.counts tells.kind (finished_tree old new.held old.asked budget depth report goes.right.0)
+step_true old new accepted (step.Judge certificate) (reply.Report report) goes holds =
+    let tells = (goes.legal (state_of old accepted) holds).1.true_reply in
+    certified_true accepted.asked report.round report.counts report.kind report.certificate tells.counts tells.kind (judged_tree (old.rounds + 1) old.held new.held old.asked (answer_told certificate) report goes.right.0)
+step_true old new accepted asked (reply.Report report) goes holds = absurd goes.right
+
+-- The reply to a command is true, and what the engine stands for after it is what was accepted by then.
+record IsOn (accepted : Accepted) (command : Command) (answer : Reply) (new : EngineState) : Type 0 where
+  is_true : TellsTrueOf (reported_on accepted command) answer
+  holds : Holds new (state_of new (accepted_more accepted command answer))
+
+told_on : (accepted : Accepted) (command : Command) (answer : Reply) (said : StepReply) (new : EngineState) → answer ≡ reply_of said → IsOn accepted command (reply_of said) new → IsOn accepted command answer new
+told_on accepted command answer said new is on = subst (λ (a : Reply). IsOn accepted command a new) (sym is) on
+
+-- a line that may not stand where it does
+no_more : (accepted : Accepted) (command : Command) → accepted_more accepted command (told.No BadLine) ≡ accepted
+no_more accepted (Offer logged) = refl
+no_more accepted (Join logged) = refl
+no_more accepted Begin = refl
+no_more accepted command = refl
+
+bad_on : (old new : EngineState) (accepted : Accepted) (command : Command) (answer : Reply) → IsBadLine old answer new → Holds old (state_of old accepted) → IsOn accepted command answer new
+bad_on old new accepted command answer bad holds =
+    let more : Holds old (state_of old (accepted_more accepted command (told.No BadLine))) = subst (λ (a : Accepted). Holds old (state_of old a)) (sym (no_more accepted command)) holds in
+    subst (λ (a : Reply). IsOn accepted command a new) (sym bad.0)
+    (subst (λ (engine : EngineState). IsOn accepted command (told.No BadLine) engine) (sym bad.1) (record { is_true = tt; holds = more }))
+
+taken_on : (version : Version) (logged : LoggedFragment) (old new : EngineState) (accepted : Accepted) (command : Command) (answer : Reply) (Taken : Type 0) → (Taken → IsOn accepted command answer new) → IsTakenIn version logged old answer new Taken → Holds old (state_of old accepted) → IsOn accepted command answer new
+taken_on version logged old new accepted command answer Taken on taken holds = ⊎_elim (λ good. on good.1) (λ bad. bad_on old new accepted command answer bad.1 holds) taken
+
+offer_on : (old new : EngineState) (accepted : Accepted) (logged : LoggedFragment) (said : StepReply) → Goes old (step.Offer logged) said new → Holds old (state_of old accepted) → IsOn accepted (Offer logged) (reply_of said) new
+offer_on old new accepted logged reply.Done goes holds = record {
+  is_true = tt;
+  holds = step_on old new accepted (record accepted { whole = with_fragment accepted.whole (effects logged) }) (step.Offer logged) reply.Done goes holds refl refl;
+}
+offer_on old new accepted logged (reply.Refused refusal) goes holds = record { is_true = tt; holds = step_on old new accepted accepted (step.Offer logged) (reply.Refused refusal) goes holds refl refl }
+offer_on old new accepted logged (reply.Report report) goes holds = absurd goes.right
+offer_on old new accepted logged (reply.Cut cut) goes holds = absurd goes.right
+
+join_on : (old new : EngineState) (accepted : Accepted) (logged : LoggedFragment) (said : StepReply) → Goes old (step.Join logged) said new → Holds old (state_of old accepted) → IsOn accepted (Join logged) (reply_of said) new
+join_on old new accepted logged reply.Done goes holds = record {
+  is_true = tt;
+  holds = step_on old new accepted (record accepted { whole = history_after accepted.whole (arrival_of (length accepted.whole) (effects logged)) }) (step.Join logged) reply.Done goes holds refl refl;
+}
+join_on old new accepted logged (reply.Refused refusal) goes holds = record { is_true = tt; holds = step_on old new accepted accepted (step.Join logged) (reply.Refused refusal) goes holds refl refl }
+join_on old new accepted logged (reply.Report report) goes holds = absurd goes.right
+join_on old new accepted logged (reply.Cut cut) goes holds = absurd goes.right
+
+begin_on : (old new : EngineState) (accepted : Accepted) (said : StepReply) → Goes old step.Begin said new → Holds old (state_of old accepted) → IsOn accepted Begin (reply_of said) new
+begin_on old new accepted reply.Done goes holds = record {
+  is_true = tt;
+  holds = step_on old new accepted (record accepted { asked = accepted.whole }) step.Begin reply.Done goes holds refl refl;
+}
+begin_on old new accepted (reply.Refused refusal) goes holds = record { is_true = tt; holds = step_on old new accepted accepted step.Begin (reply.Refused refusal) goes holds refl refl }
+begin_on old new accepted (reply.Report report) goes holds = absurd goes.right
+begin_on old new accepted (reply.Cut cut) goes holds = absurd goes.right
+
+-- ---- a round of one line
+
+none_or_some : (parts : Parts) → None ≡ Some parts → ⊥
+none_or_some parts e = cc
+
+-- where no round is open it doesn't matter what was accepted when one began
+whatever_asked : (engine : EngineState) (accepted other : Accepted) → engine.asked ≡ None → accepted.whole ≡ other.whole → Holds engine (state_of engine accepted) → Holds engine (state_of engine other)
+whatever_asked engine accepted other none same holds = record {
+  same = refl;
+  parts = subst (λ (history : History). StandsFor engine.parts history) same holds.parts;
+  asked = λ parts e. absurd (none_or_some parts (sym none ∙ e));
+}
+
+ended_on : (begun new : EngineState) (accepted : Accepted) (budget depth workers : ℕ) (said : StepReply) → EndsRound begun budget depth workers said new → Holds begun (state_of begun (record accepted { asked = accepted.whole })) → IsOn accepted (Round budget depth workers) (reply_of said) new
+ended_on begun new accepted budget depth workers (reply.Report report) ends holds =
+    let all : Accepted = record accepted { asked = accepted.whole } in
+    record {
+      is_true = step_true begun new all (step.Finish budget depth workers) (reply.Report report) ends holds;
+      holds = whatever_asked new all accepted ends.right.1.none_open refl (step_on begun new all all (step.Finish budget depth workers) (reply.Report report) ends holds refl refl);
+    }
+ended_on begun new accepted budget depth workers (reply.Refused NoMemory) ends holds =
+    let all : Accepted = record accepted { asked = accepted.whole } in
+    let kept = step_on begun ends.0 all all (step.Finish budget depth workers) (reply.Refused NoMemory) ends.1 holds refl refl in
+    record {
+      is_true = tt;
+      holds = whatever_asked new all accepted (ap (λ (engine : EngineState). engine.asked) ends.2.right.1) refl (step_on ends.0 new all all step.Abandon reply.Done ends.2 kept refl refl);
+    }
+ended_on begun new accepted budget depth workers (reply.Refused refusal) ends holds = absurd ends
+ended_on begun new accepted budget depth workers reply.Done ends holds = absurd ends
+ended_on begun new accepted budget depth workers (reply.Cut cut) ends holds = absurd ends
+
+refused_on : (old new : EngineState) (accepted : Accepted) (budget depth workers : ℕ) (refusal : Refusal) (said : StepReply) → said ≡ reply.Refused refusal → Goes old step.Begin said new → Holds old (state_of old accepted) → IsOn accepted (Round budget depth workers) (reply_of said) new
+refused_on old new accepted budget depth workers refusal said is goes holds =
+    subst (λ (s : StepReply). IsOn accepted (Round budget depth workers) (reply_of s) new) (sym is) (record {
+      is_true = tt;
+      holds = step_on old new accepted accepted step.Begin (reply.Refused refusal) (subst (λ (s : StepReply). Goes old step.Begin s new) is goes) holds refl refl;
+    })
+
+round_on : (old new : EngineState) (accepted : Accepted) (budget depth workers : ℕ) (said : StepReply) → IsRound old budget depth workers said new → Holds old (state_of old accepted) → IsOn accepted (Round budget depth workers) (reply_of said) new
+round_on old new accepted budget depth workers said round holds =
+    ⊎_elim
+    (λ refused. refused_on old new accepted budget depth workers refused.0 said refused.1 refused.2 holds)
+    (λ begun. ended_on begun.0 new accepted budget depth workers said begun.2 (step_on old begun.0 accepted (record accepted { asked = accepted.whole }) step.Begin reply.Done begun.1 holds refl refl))
+    round
+
+-- ---- commands of an open engine
+
+saved_or_not : (history : History) (test : Bool) (fragment : Fragment) → TellsTrueOf history (cond test (told.Saved (saved.Offer fragment)) (told.No BadSession))
+saved_or_not history true fragment = tt
+saved_or_not history false fragment = tt
+
+saved_true : (history : History) (parts : Parts) (wanted : Wanted) → TellsTrueOf history (saved_told parts wanted)
+saved_true history parts wanted.Marks = tt
+saved_true history parts (wanted.Last key) = tt
+saved_true history parts (wanted.Remain s n) = saved_or_not history (nat_lt s (length parts.remain)) (fragment_told parts s n)
+
+-- nothing has changed
+same_on : (old new : EngineState) (accepted : Accepted) → new ≡ old → Holds old (state_of old accepted) → Holds new (state_of new accepted)
+same_on old new accepted same holds = subst (λ (engine : EngineState). Holds engine (state_of engine accepted)) (sym same) holds
+
+open_on : (version : Version) (old new : EngineState) (accepted : Accepted) (command : Command) (answer : Reply) → AnswersOpen version old command answer new → Holds old (state_of old accepted) → IsOn accepted command answer new
+open_on version old new accepted (Offer logged) answer is holds =
+    taken_on version logged old new accepted (Offer logged) answer (IsStep old (step.Offer logged) answer new) (λ taken. told_on accepted (Offer logged) answer taken.0 new taken.2 (offer_on old new accepted logged taken.0 taken.1 holds)) is holds
+open_on version old new accepted (Join logged) answer is holds =
+    taken_on version logged old new accepted (Join logged) answer (IsStep old (step.Join logged) answer new) (λ taken. told_on accepted (Join logged) answer taken.0 new taken.2 (join_on old new accepted logged taken.0 taken.1 holds)) is holds
+open_on version old new accepted Begin answer is holds = told_on accepted Begin answer is.0 new is.2 (begin_on old new accepted is.0 is.1 holds)
+open_on version old new accepted (Round budget depth workers) answer is holds = told_on accepted (Round budget depth workers) answer is.0 new is.2 (round_on old new accepted budget depth workers is.0 is.1 holds)
+open_on version old new accepted (Close session) answer is holds =
+    told_on accepted (Close session) answer is.0 new is.2 (record { is_true = step_true old new accepted (step.Close session) is.0 is.1 holds; holds = step_on old new accepted accepted (step.Close session) is.0 is.1 holds refl refl })
+open_on version old new accepted (Finish budget depth workers) answer is holds =
+    told_on accepted (Finish budget depth workers) answer is.0 new is.2 (record { is_true = step_true old new accepted (step.Finish budget depth workers) is.0 is.1 holds; holds = step_on old new accepted accepted (step.Finish budget depth workers) is.0 is.1 holds refl refl })
+open_on version old new accepted (Answer shown) answer is holds =
+    told_on accepted (Answer shown) answer is.0 new is.2 (record { is_true = step_true old new accepted (step.Judge (certificate_of shown)) is.0 is.1 holds; holds = step_on old new accepted accepted (step.Judge (certificate_of shown)) is.0 is.1 holds refl refl })
+open_on version old new accepted Truncate answer is holds =
+    told_on accepted Truncate answer is.0 new is.2 (record { is_true = step_true old new accepted step.Truncate is.0 is.1 holds; holds = step_on old new accepted accepted step.Truncate is.0 is.1 holds refl refl })
+open_on version old new accepted Rebuild answer is holds =
+    told_on accepted Rebuild answer is.0 new is.2 (record { is_true = step_true old new accepted step.Rebuild is.0 is.1 holds; holds = step_on old new accepted accepted step.Rebuild is.0 is.1 holds refl refl })
+open_on version old new accepted Show answer is holds = record { is_true = subst (λ (a : Reply). TellsTrueOf accepted.asked a) (sym is.0) tt; holds = same_on old new accepted is.1 holds }
+open_on version old new accepted (Save wanted) answer is holds = record { is_true = subst (λ (a : Reply). TellsTrueOf accepted.asked a) (sym is.0) (saved_true accepted.asked old.parts wanted); holds = same_on old new accepted is.1 holds }
+open_on version old new accepted (Start sessions limit other) answer is holds = bad_on old new accepted (Start sessions limit other) answer is holds
+open_on version old new accepted (Resume sessions limit other) answer is holds = bad_on old new accepted (Resume sessions limit other) answer is holds
+open_on version old new accepted (Marks marks closed) answer is holds = bad_on old new accepted (Marks marks closed) answer is holds
+open_on version old new accepted (Last last) answer is holds = bad_on old new accepted (Last last) answer is holds
+open_on version old new accepted Resumed answer is holds = bad_on old new accepted Resumed answer is holds
+
+-- ---- scripts
+
+-- a stage that begins
+abbrev Begun : History → Stage → Command → Reply → Option Stage → Type 0
+Begun whole old command answer begun = Fits (stage_after old begun) (accepted_after whole None command answer)
+
+along_begun : (whole : History) (old : Stage) (command : Command) (answer : Reply) (begun is : Option Stage) → begun ≡ is → Begun whole old command answer is → Begun whole old command answer begun
+along_begun whole old command answer begun is same fits = subst (λ (o : Option Stage). Begun whole old command answer o) (sym same) fits
+
+first_fits : (whole : History) (old : Stage) (command : Command) (answer : Reply) (begun : Option Stage) → Fits old None → AnswersFirst command answer begun → Begun whole old command answer begun
+first_fits whole old (Start sessions limit version) told.Done begun none first = along_begun whole old (Start sessions limit version) told.Done begun _ first.2 first.3
+first_fits whole old (Start sessions limit version) (told.No refusal) begun none first = along_begun whole old (Start sessions limit version) (told.No refusal) begun None first.1 none
+first_fits whole old (Start sessions limit version) answer begun none first = absurd first
+first_fits whole old (Resume sessions limit version) told.Done begun none first = along_begun whole old (Resume sessions limit version) told.Done begun _ first.2 tt
+first_fits whole old (Resume sessions limit version) (told.No refusal) begun none first = along_begun whole old (Resume sessions limit version) (told.No refusal) begun None first.1 none
+first_fits whole old (Resume sessions limit version) answer begun none first = absurd first
+first_fits whole old Resumed answer begun none first = subst (λ (a : Reply). Begun whole old Resumed a begun) (sym first.0) (along_begun whole old Resumed (told.No BadLine) begun None first.1 none)
+first_fits whole old command answer begun none first = along_begun whole old command answer begun None first.1 none
+
+anew_fits : (whole : History) (old new : Stage) (command : Command) (answer : Reply) → Fits old None → BeginsAnew old command answer new → Fits new (accepted_after whole None command answer)
+anew_fits whole old new command answer none anew =
+    subst (λ (s : Stage). Fits s (accepted_after whole None command answer)) (sym anew.2) (first_fits whole old command answer anew.0 none anew.1)
+
+-- where it goes on handing over
+along_new : (new is : Stage) → new ≡ is → Fits is None → Fits new None
+along_new new is same fits = subst (λ (s : Stage). Fits s None) (sym same) fits
+
+resuming_fits : (whole : History) (sessions limit : ℕ) (version : Version) (new : Stage) (command : Command) (answer : Reply) → AnswersResuming sessions limit version command answer new → Fits new (accepted_after whole None command answer)
+resuming_fits whole sessions limit version new (Marks marks closed) told.Done is = along_new new _ is.1 tt
+resuming_fits whole sessions limit version new (Marks marks closed) (told.No refusal) is = along_new new _ is.1 tt
+resuming_fits whole sessions limit version new (Marks marks closed) answer is = absurd is
+resuming_fits whole sessions limit version new command answer is = anew_fits whole (stage.Resuming sessions limit version) new command answer tt is
+
+hands_fits : (handed : Handing) (version : Version) (fragment : Fragment) (answer : Reply) (new : Stage) → HandsOffer handed version fragment answer new → Fits new None
+hands_fits handed version fragment told.Done new is = along_new new _ is.1 tt
+hands_fits handed version fragment (told.No refusal) new is = along_new new _ is.1 tt
+hands_fits handed version fragment answer new is = absurd is
+
+handing_fits : (whole : History) (handed : Handing) (version : Version) (new : Stage) (command : Command) (answer : Reply) → AnswersHanding handed version command answer new → BeginsWith whole (stage.Handing handed version) command answer → Fits new (accepted_after whole None command answer)
+handing_fits whole handed version new (Last more) told.Done is begins = along_new new _ is tt
+handing_fits whole handed version new (Last more) (told.No NoMemory) is begins = along_new new _ is tt
+handing_fits whole handed version new (Last more) answer is begins = absurd is
+handing_fits whole handed version new (Offer logged) answer is begins =
+    ⊎_elim (λ taken. hands_fits handed version logged.fragment answer new taken.1) (λ bad. along_new new (stage.Handing handed version) bad.1.1 tt) is
+handing_fits whole handed version new Resumed told.Done is begins =
+    subst (λ (s : Stage). Fits s (accepted_after whole None Resumed told.Done)) (sym is.1) (is.2 whole begins)
+handing_fits whole handed version new Resumed (told.No refusal) is begins = along_new new _ is.1 tt
+handing_fits whole handed version new Resumed answer is begins = absurd is
+handing_fits whole handed version new command answer is begins = anew_fits whole (stage.Handing handed version) new command answer tt is
+
+open_fits : (old : EngineState) (version : Version) (new : Stage) (accepted : Accepted) (command : Command) (answer : Reply) → Answers (stage.Open old version) command answer new → Holds old (state_of old accepted) → TellsTrueOf (reported_on accepted command) answer × Fits new (Some (accepted_more accepted command answer))
+open_fits old version new accepted command answer is holds =
+    let on = open_on version old is.0 accepted command answer is.1 holds in
+    (on.is_true, subst (λ (s : Stage). Fits s (Some (accepted_more accepted command answer))) (sym is.2) on.holds)
+
+answers_true : (old new : Stage) (accepted : Option Accepted) (command : Command) (answer : Reply) → Answers old command answer new → Fits old accepted → IsTrueTold accepted command answer
+answers_true old new None command answer is fits = tt
+answers_true (stage.Open engine version) new (Some accepted) command answer is fits = (open_fits engine version new accepted command answer is fits).0
+answers_true stage.Nothing new (Some accepted) command answer is fits = absurd fits
+answers_true (stage.Resuming sessions limit version) new (Some accepted) command answer is fits = absurd fits
+answers_true (stage.Handing handed version) new (Some accepted) command answer is fits = absurd fits
+
+answers_fit : (whole : History) (old new : Stage) (accepted : Option Accepted) (command : Command) (answer : Reply) → Answers old command answer new → Fits old accepted → BeginsWith whole old command answer → Fits new (accepted_after whole accepted command answer)
+answers_fit whole (stage.Open engine version) new (Some accepted) command answer is fits begins = (open_fits engine version new accepted command answer is fits).1
+answers_fit whole (stage.Open engine version) new None command answer is fits begins = absurd fits
+answers_fit whole stage.Nothing new None command answer is fits begins = anew_fits whole stage.Nothing new command answer tt is
+answers_fit whole (stage.Resuming sessions limit version) new None command answer is fits begins = resuming_fits whole sessions limit version new command answer is
+answers_fit whole (stage.Handing handed version) new None command answer is fits begins = handing_fits whole handed version new command answer is begins
+answers_fit whole stage.Nothing new (Some accepted) command answer is fits begins = absurd fits
+answers_fit whole (stage.Resuming sessions limit version) new (Some accepted) command answer is fits begins = absurd fits
+answers_fit whole (stage.Handing handed version) new (Some accepted) command answer is fits begins = absurd fits
+
+-- the replies to lines
+abbrev replies_in : (old new : Stage) (lines texts : List (List ℕ)) → RepliesAll old lines texts new → List Reply
+replies_in old new [] [] all = []
+replies_in old new (line ∷ lines) (text ∷ texts) all = all.1.answer ∷ replies_in all.0 new lines texts all.2
+replies_in old new [] (text ∷ texts) all = absurd all
+replies_in old new (line ∷ lines) [] all = absurd all
+
+texts_of : (old new : Stage) (lines texts : List (List ℕ)) (all : RepliesAll old lines texts new) → concat texts ≡ concat (map line_of (replies_in old new lines texts all))
+texts_of old new [] [] all = refl
+texts_of old new (line ∷ lines) (text ∷ texts) all =
+    ap (λ (bytes : List ℕ). bytes ++ concat texts) all.1.text_is ∙ ap (λ (bytes : List ℕ). line_of all.1.answer ++ bytes) (texts_of all.0 new lines texts all.2)
+texts_of old new [] (text ∷ texts) all = absurd all
+texts_of old new (line ∷ lines) [] all = absurd all
+
+all_true : (whole : History) (old new : Stage) (accepted : Option Accepted) (lines texts : List (List ℕ)) (all : RepliesAll old lines texts new) → Fits old accepted → AreTrueReplies whole old accepted lines (replies_in old new lines texts all) new
+all_true whole old new accepted [] [] all fits = all
+all_true whole old new accepted (line ∷ lines) (text ∷ texts) all fits =
+    ⊎_elim
+    (λ is. inl (
+      is.0,
+      all.0,
+      is.1,
+      is.2,
+      answers_true old all.0 accepted is.0 all.1.answer is.2 fits,
+      λ begins. all_true whole all.0 new (accepted_after whole accepted is.0 all.1.answer) lines texts all.2 (answers_fit whole old all.0 accepted is.0 all.1.answer is.2 fits begins),
+    ))
+    (λ none. inr (
+      none.0,
+      (none.1.0, refl),
+      subst (λ (s : Stage). AreTrueReplies whole s accepted lines (replies_in all.0 new lines texts all.2) new) none.1.1
+          (all_true whole all.0 new accepted lines texts all.2 (subst (λ (s : Stage). Fits s accepted) (sym none.1.1) fits)),
+    ))
+    all.1.answered
+all_true whole old new accepted [] (text ∷ texts) all fits = absurd all
+all_true whole old new accepted (line ∷ lines) [] all fits = absurd all
+
+pub each_report : EachReportIsTrue
+each_report whole asked output end is = (
+  replies_in stage.Nothing end asked is.0 is.1,
+  is.2 ∙ texts_of stage.Nothing end asked is.0 is.1,
+  all_true whole stage.Nothing end None asked is.0 is.1 tt,
+)
