@@ -2,10 +2,13 @@
 //! output what it finds of each report.
 #![tactic(auto)]
 
+ghost use Rattle.std.specs.Prelude.{OnOk};
+ghost use Rattle.std.specs.Io.KnownBytes.{Appends};
+
 use cobra::{
     Asked, ByteSink, Exit, Failure, ReaderSource, WriterSink, asked_of, exit_of, write_all,
 };
-use report_checking::check_replies;
+use report_checking::{check_replies, exit_of_check};
 use std::env;
 use std::io::ErrorKind;
 use std::process::ExitCode;
@@ -44,21 +47,11 @@ fn asked(rt: &HostRuntime) -> Result<Asked, Failure> {
     }
 }
 
-fn told<W: ByteSink>(sink: &mut W, text: &str) -> Result<(), Failure> {
+fn told<W: ByteSink>(sink: &mut W, text: &str) -> Result<(), Failure>
+    ensures { OnOk result (Appends (W.contents sink.old) (W.contents sink.new) text.now) }
+{
     write_all(sink, text.as_bytes())?;
     Ok(())
-}
-
-/// How the program ends, where the check came to this.
-fn exit_of_check(checked: Result<bool, Failure>) -> Exit {
-    match checked {
-        Ok(true) => exit_of(Ok(())),
-        Ok(false) => Exit {
-            status: 3,
-            words: None,
-        },
-        Err(failure) => exit_of(Err(failure)),
-    }
 }
 
 fn main(rt: HostRuntime) -> ExitCode {

@@ -3,3 +3,4 @@ pub mod EarnedReports
 pub mod NoBraces
 pub mod OwedReplies
 pub mod RightReports
+pub mod ToldLines

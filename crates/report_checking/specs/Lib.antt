@@ -2,3 +2,4 @@ pub mod Checking
 pub mod Owing
 pub mod Reading
 pub mod RightReports
+pub mod Telling

@@ -1,8 +1,11 @@
-ghost use Rattle.std.specs.Prelude.{◌≡◌, ℕ, ◌<◌, List, [], Some, None, IfOk, IfSome, IsTrue, OnOk};
+ghost use Rattle.std.specs.Prelude.{◌≡◌, ℕ, ◌<◌, ◌++◌, List, [], Some, None, IfOk, IfSome, IsTrue, OnOk};
+ghost use Rattle.std.specs.Io.KnownBytes.{Appends};
 ghost use Rattle.byte_lines.specs.LineReaders.{lines_ahead, lines_left};
 ghost use Rattle.report_checking.specs.Checking.{IsAllRight};
 ghost use Rattle.report_checking.specs.Reading.{IsRead, IsFine, FindsNext, LeadsOn, Advances, IsFairNext, StopsOn};
 ghost use Rattle.report_checking.specs.RightReports.{StopsAtWrong};
+ghost use Rattle.report_checking.specs.Telling.{Tells, TellsNext, last_line, no_tally};
+ghost use Rattle.report_checking.specs.declared.texts.Tally.{Tally};
 ghost use Rattle.cobra.specs.Outputs.{IsTold};
 
 use crate::findings::{Advance, Fault, Found};
@@ -85,6 +88,7 @@ fn check_next<R: ByteSource, W: ByteSink>(
     ensures fresh { IfOk result (λ advance. advance ≡ Advance.On → reader.new.under_way ≡ Some []) }
     ensures limit { reader.new.limit ≡ reader.old.limit }
     ensures fewer { IfOk result (λ advance. advance ≡ Advance.On → lines_left reader.new (R.reads_left source.new) < lines_left reader.old (R.reads_left source.old)) }
+    ensures told { IfOk result (λ advance. TellsNext advance tally.old tally.new (W.contents sink.old) (W.contents sink.new)) }
 {
     let next = reader.next_line(source)?;
     if let Next::End = next {
@@ -112,8 +116,10 @@ fn check_lines<R: ByteSource, W: ByteSink>(
     requires ahead { reader.old.ahead ≡ [] }
     requires under_way { reader.old.under_way ≡ Some [] }
     requires unopened { replay.old.script ≡ None }
+    requires uncounted { tally.old ≡ no_tally }
     ensures right { IfOk result (λ right. IsTrue right → IfSome (R.remaining source.old) IsAllRight) }
     ensures wrong { IfOk result (λ right. ¬ IsTrue right → IfSome (R.remaining source.old) StopsAtWrong) }
+    ensures told { OnOk result ((text : List ℕ) × Tells tally.new text × Appends (W.contents sink.old) (W.contents sink.new) text) }
 {
     loop {
         let advance = check_next(alloc, reader, replay, tally, source, sink)?;
@@ -140,6 +146,7 @@ fn check_all<R: ByteSource, W: ByteSink>(
     requires unopened { replay.old.script ≡ None }
     ensures right { IfOk result (λ right. IsTrue right → IfSome (R.remaining source.old) IsAllRight) }
     ensures wrong { IfOk result (λ right. ¬ IsTrue right → IfSome (R.remaining source.old) StopsAtWrong) }
+    ensures told { IfOk result (λ right. (tally : Tally) × (text : List ℕ) × Tells tally text × Appends (W.contents sink.old) (W.contents sink.new) (text ++ last_line tally right)) }
 {
     let mut tally = Tally::new();
     let right = check_lines(alloc, reader, replay, &mut tally, source, sink)?;
@@ -157,6 +164,8 @@ pub fn check_replies<R: ByteSource, W: ByteSink>(
 ) -> Result<bool, Failure>
     ensures right { IfOk result (λ right. IsTrue right → IfSome (R.remaining source.old) IsAllRight) }
     ensures wrong { IfOk result (λ right. ¬ IsTrue right → IfSome (R.remaining source.old) StopsAtWrong) }
+    // What is written tells of one reply after another, and at its end whether all are right.
+    ensures told { IfOk result (λ right. (tally : Tally) × (text : List ℕ) × Tells tally text × Appends (W.contents sink.old) (W.contents sink.new) (text ++ last_line tally right)) }
 {
     let mut reader = LineReader::new(alloc, LONGEST_REPLY)?;
     let mut replay = Replay::new();

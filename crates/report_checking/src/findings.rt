@@ -1,3 +1,6 @@
+ghost use Rattle.std.specs.Prelude.{◌≡◌};
+ghost use Rattle.report_checking.specs.Telling.{what_of};
+
 use log_text::Reply;
 use order_check::Kind;
 
@@ -58,7 +61,9 @@ pub(crate) enum Advance {
     End,
 }
 
-pub(crate) fn what_of(answer: &Reply) -> What {
+pub(crate) fn what_of(answer: &Reply) -> What
+    ensures { result ≡ what_of answer.now }
+{
     match answer {
         Reply::Order { kind, .. } => What::Report(*kind),
         Reply::Violated { .. } => What::Report(Kind::Violated),

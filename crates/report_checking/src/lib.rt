@@ -4,6 +4,7 @@
 
 mod certificates;
 mod checking;
+mod exits;
 mod findings;
 mod owed;
 mod pairs;
@@ -11,3 +12,4 @@ mod replayed;
 mod texts;
 
 pub use checking::{LONGEST_REPLY, check_replies};
+pub use exits::exit_of_check;

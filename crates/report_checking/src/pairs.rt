@@ -4,6 +4,7 @@ ghost use Rattle.log_text.specs.Replies.{text_of, HasKindOfOrder};
 ghost use Rattle.txn.specs.declared.refusals.Refusal.TheVariants as refusals;
 ghost use Rattle.report_checking.specs.Checking.{TakesMemory};
 ghost use Rattle.report_checking.specs.Owing.{Owes};
+ghost use Rattle.report_checking.specs.Telling.{IsWhatOf};
 ghost use Rattle.report_checking.specs.Reading.{LeadsScript, IsOwedBy, IsOfKind, Finds, FindsFor, IsFoundBy, IsFoundOf, EarnsScript, OfRight, OwesText, IsFair, IsFairTo, has_brace};
 
 use crate::findings::{Fault, Found, Owed, Unshown, what_of};
@@ -170,7 +171,8 @@ fn is_want_of_memory(alloc: Global, stored: &[u8]) -> Result<bool, NoMemory>
 /// What is found of a stored reply, where this one is owed.
 fn found_by(alloc: Global, answer: &Reply, stored: &[u8]) -> Result<Found, NoMemory>
     requires { HasKindOfOrder answer.now }
-    ensures { IfOk result (IsFoundBy answer.now stored.now) }
+    ensures found { IfOk result (IsFoundBy answer.now stored.now) }
+    ensures what { IfOk result (IsWhatOf answer.now) }
 {
     let text = text_of(alloc, answer)?;
     if text.as_slice() == stored {

@@ -1,4 +1,7 @@
 //! What is told of replies.
+ghost use Rattle.std.specs.Prelude.{◌≡◌, IfOk, OnOk, option_map, string_bytes};
+ghost use Rattle.std.specs.Io.KnownBytes.{Appends};
+ghost use Rattle.report_checking.specs.Telling.{counted, words_of, words_of_fault, found_line, last_line, no_tally, numbered, text_owed, verdict_word};
 
 use crate::findings::{Fault, Found, Unshown, What};
 use byte_lines::{ByteSink, Failure, write_all};
@@ -16,7 +19,9 @@ pub(crate) struct Tally {
 }
 
 impl Tally {
-    pub(crate) fn new() -> Tally {
+    pub(crate) fn new() -> Tally
+        ensures { result ≡ no_tally }
+    {
         Tally {
             replies: 0,
             reports: 0,
@@ -26,7 +31,9 @@ impl Tally {
     }
 
     /// Counts a reply of which this was found.
-    pub(crate) fn count(&mut self, found: &Found) {
+    pub(crate) fn count(&mut self, found: &Found)
+        ensures { self.new ≡ counted self.old found.now }
+    {
         self.replies = self.replies.saturating_add(1);
         match found {
             Found::Right(What::Report(Kind::Spent)) => self.spent = self.spent.saturating_add(1),
@@ -37,8 +44,10 @@ impl Tally {
     }
 
     /// The last line: what was counted.
-    fn line(&self, alloc: Global, is_right: bool) -> Result<String, NoMemory> {
-        let word = if is_right { "right" } else { "wrong" };
+    fn line(&self, alloc: Global, is_right: bool) -> Result<String, NoMemory>
+        ensures { IfOk result (λ line. string_bytes line ≡ last_line self.now is_right) }
+    {
+        let word = verdict_word(is_right);
         let Tally {
             replies,
             reports,
@@ -51,8 +60,16 @@ impl Tally {
     }
 }
 
+fn verdict_word(is_right: bool) -> &'static str
+    ensures { result.now ≡ verdict_word is_right }
+{
+    if is_right { "right" } else { "wrong" }
+}
+
 /// The words for a reply that is right, where it has a line.
-fn words_of(what: What) -> Option<&'static str> {
+fn words_of(what: What) -> Option<&'static str>
+    ensures { option_map (λ words. words.now) result ≡ words_of what }
+{
     match what {
         What::Report(Kind::Spent) => Some("spent, which claims nothing"),
         What::Report(Kind::Serial) => Some("serial, right"),
@@ -63,7 +80,9 @@ fn words_of(what: What) -> Option<&'static str> {
     }
 }
 
-fn words_of_fault(fault: &Fault) -> &'static str {
+fn words_of_fault(fault: &Fault) -> &'static str
+    ensures { result.now ≡ words_of_fault fault.now }
+{
     match fault {
         Fault::Other(_) => "wrong: owed is ",
         Fault::Unshown(Unshown::Order) => "wrong: its order doesn't explain what had been accepted",
@@ -76,29 +95,54 @@ fn words_of_fault(fault: &Fault) -> &'static str {
     }
 }
 
+/// The text that is owed in place of a wrong reply, where it is known.
+fn text_owed(fault: &Fault) -> &[u8]
+    ensures { result.now ≡ text_owed fault.now }
+{
+    match fault {
+        Fault::Other(text) => text.as_slice(),
+        Fault::Unshown(_) | Fault::Missing | Fault::TooLong => b"",
+    }
+}
+
+/// Writes these words of the reply with this number.
+fn tell_words<W: ByteSink>(
+    alloc: Global,
+    sink: &mut W,
+    number: u64,
+    words: &str,
+    more: &[u8],
+) -> Result<(), Failure>
+    ensures { OnOk result (Appends (W.contents sink.old) (W.contents sink.new) (numbered number words.now more.now)) }
+{
+    let head = format!(in alloc; "reply {number} {words}")?;
+    write_all(sink, head.as_bytes())?;
+    write_all(sink, more)?;
+    write_all(sink, b"\n")?;
+    Ok(())
+}
+
 /// Writes what was found of the reply with this number, counted from 1, where it has a line.
 pub(crate) fn tell<W: ByteSink>(
     alloc: Global,
     sink: &mut W,
     number: u64,
     found: &Found,
-) -> Result<(), Failure> {
-    let (words, more): (&str, &[u8]) = match found {
+) -> Result<(), Failure>
+    ensures { OnOk result (Appends (W.contents sink.old) (W.contents sink.new) (found_line number found.now)) }
+{
+    match found {
         Found::Right(what) => match words_of(*what) {
-            Some(words) => (words, b""),
-            None => return Ok(()),
+            Some(words) => tell_words(alloc, sink, number, words, b""),
+            None => Ok(()),
         },
-        Found::Unchecked => ("not checked: memory was wanting", b""),
-        Found::Wrong(fault) => match fault {
-            Fault::Other(text) => (words_of_fault(fault), text.as_slice()),
-            _ => (words_of_fault(fault), b""),
-        },
-    };
-    let head = format!(in alloc; "reply {number} {words}")?;
-    write_all(sink, head.as_bytes())?;
-    write_all(sink, more)?;
-    write_all(sink, b"\n")?;
-    Ok(())
+        Found::Unchecked => {
+            tell_words(alloc, sink, number, "not checked: memory was wanting", b"")
+        }
+        Found::Wrong(fault) => {
+            tell_words(alloc, sink, number, words_of_fault(fault), text_owed(fault))
+        }
+    }
 }
 
 /// Writes the last line.
@@ -107,7 +151,9 @@ pub(crate) fn tell_tally<W: ByteSink>(
     sink: &mut W,
     tally: &Tally,
     is_right: bool,
-) -> Result<(), Failure> {
+) -> Result<(), Failure>
+    ensures { OnOk result (Appends (W.contents sink.old) (W.contents sink.new) (last_line tally.now is_right)) }
+{
     let line = tally.line(alloc, is_right)?;
     write_all(sink, line.as_bytes())?;
     Ok(())

@@ -2,13 +2,16 @@
 use Rattle.std.proofs.Common.{◌≡◌, ℕ, List, [], Some}
 use Rattle.byte_lines.specs.LineReaders.{lines_ahead, lines_left}
 use Rattle.report_checking.specs.declared.checking.TheConstants.{LONGEST_REPLY}
+use Rattle.std.specs.Io.KnownBytes.{Appends}
 use Rattle.report_checking.specs.Reading.{IsChecking}
+use Rattle.report_checking.specs.Telling.{Tells}
 use Rattle.report_checking.proofs.checking.check_lines.Given as goal
 
 abbrev pub invariant-loop-advance : goal.invariant-loop-advance
 invariant-loop-advance g l = record {
   fresh : l.reader.under_way ≡ Some [];
   limit : l.reader.limit ≡ LONGEST_REPLY;
+  tells : (text : List ℕ) × Tells l.tally text × Appends (g.W.ByteSink.contents l.initial.sink) (g.W.ByteSink.contents l.sink) text;
   told : (input : List ℕ) → g.R.ByteSource.remaining l.initial.source ≡ Some input → IsChecking input (lines_ahead l.reader (g.R.ByteSource.remaining l.source)) l.replay.script;
 }
 

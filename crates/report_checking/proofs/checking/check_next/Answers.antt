@@ -21,6 +21,7 @@ returns-in-Wrong g c = record {
   fresh = λ on. c.in_ok-found.ensures.fresh;
   limit = c.in_ok-found.ensures.limit ∙ c.in_ok-next.ensures.limit;
   fewer = λ on. absurd (let no : ⊥ = cc in no);
+  told = (c.in_ok-found.found, c.count.ensures, c.in_ok-tell.ensures);
 }
 
 pub returns : goal.returns
@@ -29,4 +30,5 @@ returns g c = record {
   fresh = λ on. c.in_ok-found.ensures.fresh;
   limit = c.in_ok-found.ensures.limit ∙ c.in_ok-next.ensures.limit;
   fewer = λ on. omega (arith, c.in_ok-next.ensures.fewer c.in_default.not-End, c.in_ok-found.ensures.fewer c.in_default-found.not-Wrong);
+  told = (c.in_ok-found.found, c.count.ensures, c.in_ok-tell.ensures);
 }

@@ -13,7 +13,7 @@ returns-in-Some-clause-finds c =
 pub returns-in-None-clause-finds : goal.returns-in-None-clause-finds
 returns-in-None-clause-finds c =
     let none = rw c.in-None.is at c.in_ok-command.ensures.none in
-    IfOk-weaker c.found_by.result _ _ (finds_none c.args.self.now.script c.args.next.now c.args.stored.now none) c.found_by.ensures
+    IfOk-weaker c.found_by.result _ _ (finds_none c.args.self.now.script c.args.next.now c.args.stored.now none) c.found_by.ensures.found
 
 pub returns-in-Some-clause-fair : goal.returns-in-Some-clause-fair
 returns-in-Some-clause-fair c =
@@ -23,4 +23,4 @@ returns-in-Some-clause-fair c =
 pub returns-in-None-clause-fair : goal.returns-in-None-clause-fair
 returns-in-None-clause-fair c =
     let none = rw c.in-None.is at c.in_ok-command.ensures.none in
-    IfOk-weaker c.found_by.result _ _ (λ got is. fair_none c.args.self.now.script c.args.next.now c.args.stored.now none got) c.found_by.ensures
+    IfOk-weaker c.found_by.result _ _ (λ got is. fair_none c.args.self.now.script c.args.next.now c.args.stored.now none got) c.found_by.ensures.found

@@ -1,0 +1,107 @@
+-- What is written of stored replies: a line of each report, each cut and each reply that isn't right or isn't checked, and a last one that
+-- counts what was checked.
+use Rattle.std.specs.Prelude.{◌≡◌, ℕ, ◌+◌, ◌-◌, ◌^◌, ⊤, Bool, true, false, min, List, [], ◌++◌, codes, Option, Some, None}
+use Rattle.std.specs.Fmt.{decimal}
+use Rattle.order_check.specs.declared.remainder.Kind.TheVariants as kinds
+use Rattle.log_text.specs.declared.replies.Reply.{Reply}
+use Rattle.log_text.specs.declared.replies.Reply.TheVariants as told
+use Rattle.std.specs.Io.KnownBytes.{Appends}
+use Rattle.report_checking.specs.declared.findings.Advance.{Advance}
+use Rattle.report_checking.specs.declared.findings.Advance.TheVariants as advance
+use Rattle.report_checking.specs.declared.findings.Fault.{Fault}
+use Rattle.report_checking.specs.declared.findings.Fault.TheVariants as fault
+use Rattle.report_checking.specs.declared.findings.Found.{Found}
+use Rattle.report_checking.specs.declared.findings.Found.TheVariants as found
+use Rattle.report_checking.specs.declared.findings.Unshown.{Unshown}
+use Rattle.report_checking.specs.declared.findings.Unshown.TheVariants as unshown
+use Rattle.report_checking.specs.declared.findings.What.{What}
+use Rattle.report_checking.specs.declared.findings.What.TheVariants as what
+use Rattle.report_checking.specs.declared.texts.Tally.{Tally}
+
+-- what a reply tells
+abbrev pub what_of : Reply → What
+what_of (told.Order round kind counts order) = what.Report kind
+what_of (told.Violated round counts tree) = what.Report kinds.Violated
+what_of (told.Spent round counts) = what.Report kinds.Spent
+what_of (told.Cut fence gone last) = what.Cut
+what_of other = what.Other
+
+-- a reply that is found right is told to be what it is
+abbrev pub IsWhatOf : Reply → Found → Type 0
+IsWhatOf answer (found.Right told_to_be) = told_to_be ≡ what_of answer
+IsWhatOf answer other = ⊤
+
+-- one more, up to the greatest number
+abbrev pub one_more : ℕ → ℕ
+one_more n = min (n + 1) (2 ^ 64 - 1)
+
+-- nothing was checked
+abbrev pub no_tally : Tally
+no_tally = record { replies = 0; reports = 0; spent = 0; unchecked = 0 }
+
+-- A reply more: a spent report is counted by itself, and no other reply is counted as a report.
+abbrev pub counted : Tally → Found → Tally
+counted tally (found.Right (what.Report kinds.Spent)) = record tally { replies = one_more tally.replies; spent = one_more tally.spent }
+counted tally (found.Right (what.Report kind)) = record tally { replies = one_more tally.replies; reports = one_more tally.reports }
+counted tally found.Unchecked = record tally { replies = one_more tally.replies; unchecked = one_more tally.unchecked }
+counted tally other = record tally { replies = one_more tally.replies }
+
+-- the words for a reply that is right, where it has a line
+abbrev pub words_of : What → Option (List ℕ)
+words_of (what.Report kinds.Spent) = Some (codes "spent, which claims nothing")
+words_of (what.Report kinds.Serial) = Some (codes "serial, right")
+words_of (what.Report kinds.Pending) = Some (codes "pending, right")
+words_of (what.Report kinds.Violated) = Some (codes "violated, right")
+words_of what.Cut = Some (codes "cut, right")
+words_of what.Other = None
+
+-- the words for one that is wrong: where another one is owed, its text
+abbrev pub words_of_fault : Fault → List ℕ
+words_of_fault (fault.Other text) = codes "wrong: owed is "
+words_of_fault (fault.Unshown unshown.Order) = codes "wrong: its order doesn't explain what had been accepted"
+words_of_fault (fault.Unshown unshown.Refutation) = codes "wrong: it refutes nothing of what had been accepted"
+words_of_fault (fault.Unshown unshown.Beginning) = codes "wrong: its script resumes another, and what had gone before isn't shown"
+words_of_fault fault.Missing = codes "wrong: the line has no reply"
+words_of_fault fault.TooLong = codes "wrong: it is too long to be read"
+
+abbrev pub text_owed : Fault → List ℕ
+text_owed (fault.Other text) = text.items
+text_owed other = []
+
+-- the line of a reply by its number, with these words
+abbrev pub numbered : ℕ → List ℕ → List ℕ → List ℕ
+numbered number words more = (codes "reply " ++ (decimal number ++ (codes " " ++ words))) ++ (more ++ codes "\n")
+
+abbrev pub numbered_or_none : ℕ → Option (List ℕ) → List ℕ
+numbered_or_none number None = []
+numbered_or_none number (Some words) = numbered number words []
+
+-- the line of what was found of the reply with this number, where it has one
+abbrev pub found_line : ℕ → Found → List ℕ
+found_line number (found.Right told_to_be) = numbered_or_none number (words_of told_to_be)
+found_line number found.Unchecked = numbered number (codes "not checked: memory was wanting") []
+found_line number (found.Wrong why) = numbered number (words_of_fault why) (text_owed why)
+
+-- whether all were right
+abbrev pub verdict_word : Bool → List ℕ
+verdict_word true = codes "right"
+verdict_word false = codes "wrong"
+
+-- the last line
+abbrev pub last_line : Tally → Bool → List ℕ
+last_line tally is_right =
+    verdict_word is_right ++ (codes ": replies " ++ (decimal tally.replies ++ (codes " reports " ++ (decimal tally.reports
+    ++ (codes " spent " ++ (decimal tally.spent ++ (codes " not-checked " ++ (decimal tally.unchecked ++ codes "\n"))))))))
+
+-- One reply after another, each of which is counted and told of by its number.
+pub data Tells : Tally → List ℕ → Type 0 where
+  none : Tells no_tally []
+  one : (tally : Tally) (text : List ℕ) (given : Found) → Tells tally text
+      → Tells (counted tally given) (text ++ found_line (counted tally given).replies given)
+
+-- ---- For private clauses.
+
+-- what is written of the next line and its reply, and counted
+abbrev pub TellsNext : Advance → Tally → Tally → Option (List ℕ) → Option (List ℕ) → Type 0
+TellsNext advance.End old new before after = (new ≡ old) × Appends before after []
+TellsNext other old new before after = (given : Found) × (new ≡ counted old given) × Appends before after (found_line new.replies given)

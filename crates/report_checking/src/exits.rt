@@ -1,0 +1,21 @@
+ghost use Rattle.std.specs.Prelude.{◌≡◌, ◌↔◌, true, false, Ok, None, OnOk, OnErr};
+
+use byte_lines::Failure;
+use cobra::{Exit, exit_of};
+
+/// How a program ends that checked replies, and came to this.
+pub fn exit_of_check(checked: Result<bool, Failure>) -> Exit
+    ensures right { (result.status ≡ 0) ↔ (checked ≡ Ok true) }
+    ensures wrong { (result.status ≡ 3) ↔ (checked ≡ Ok false) }
+    ensures failed { OnErr checked (result.status ≡ 1) }
+    ensures silent { OnOk checked (result.words ≡ None) }
+{
+    match checked {
+        Ok(true) => exit_of(Ok(())),
+        Ok(false) => Exit {
+            status: 3,
+            words: None,
+        },
+        Err(failure) => exit_of(Err(failure)),
+    }
+}
