@@ -4,3 +4,4 @@ mod LastKinds
 mod Lines
 pub mod Sending
 mod Spaces
+mod Steps

@@ -1,5 +1,9 @@
 -- What a collector has the store execute.
-use Rattle.std.specs.Prelude.{◌≡◌, ℕ, ◌+◌, ◌*◌, Bool, true, false, List, [], ◌∷◌, slice_get, Some}
+use Rattle.std.specs.Prelude.{◌≡◌, ℕ, ◌+◌, ◌*◌, Bool, true, false, List, [], ◌∷◌, map, slice_get, Some, ⊤}
+use Rattle.txn.specs.declared.transactions.Txn.{Txn}
+use Rattle.logged_fragments.specs.declared.logged.LoggedFragment.{LoggedFragment}
+use Rattle.fragment_intake.specs.declared.rules.Item.TheVariants as item
+use Rattle.fragment_intake.specs.declared.rules.Parcel.{Parcel}
 use Rattle.demo_store.specs.declared.requests.Request.{Request}
 
 -- two keys that no other session reads or writes
@@ -15,3 +19,21 @@ work_of session =
 -- the request of a session at a step
 abbrev pub IsRequestOf : ℕ → ℕ → Request → Type 0
 IsRequestOf session step request = (request.session ≡ session) × (slice_get (work_of session) step ≡ Some (request.reads, request.writes, request.abort))
+
+-- What is handed in of a step: a fragment of one transaction of the session, with the step's keys, which says whether it aborted.
+pub record IsHandedIn (session step : ℕ) (logged : LoggedFragment) : Type 0 where
+  pub session_is : logged.fragment.session ≡ session
+  pub txn : Txn
+  pub alone : logged.fragment.txns ≡ txn ∷ []
+  pub abort : Bool
+  pub aborted : logged.aborted ≡ abort ∷ []
+  pub work : slice_get (work_of session) step ≡ Some (map (λ read. read.0) txn.reads, txn.writes, abort)
+
+-- the parcel has what is handed in of this step
+abbrev pub IsStepOf : ℕ → ℕ → Parcel → Type 0
+IsStepOf session step parcel = (logged : LoggedFragment) × (parcel.item ≡ item.Fragment logged) × IsHandedIn session step logged
+
+-- the parcels have what is handed in of one step after another, from this one on
+abbrev pub AreStepsFrom : ℕ → ℕ → List Parcel → Type 0
+AreStepsFrom session step [] = ⊤
+AreStepsFrom session step (parcel ∷ more) = IsStepOf session step parcel × AreStepsFrom session (step + 1) more

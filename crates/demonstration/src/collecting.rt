@@ -1,5 +1,8 @@
-ghost use Rattle.std.specs.Prelude.{◌≡◌, ◌+◌, ◌<◌, ◌^◌, [], length, OnOk};
+ghost use Rattle.std.specs.Prelude.{◌≡◌, ◌+◌, ◌<◌, ◌^◌, ◌++◌, ◌∷◌, [], length, IfOk, OnErr, OnOk};
+ghost use Rattle.demo_store.specs.Logs.{IsExecuted, of_session};
 ghost use Rattle.demonstration.specs.Runs.{HasCollected};
+ghost use Rattle.demonstration.specs.Work.{AreStepsFrom, IsHandedIn};
+ghost use Rattle.fragment_intake.specs.Collectors.{parcel};
 
 use crate::halls::Hall;
 use crate::work::{STEPS, request_of};
@@ -36,6 +39,10 @@ const TOO_MANY: u64 = 1 << 48;
 /// Has the request executed, and tells the transaction's number in its session.
 fn execute(alloc: Global, store: &mut Store, request: Request) -> Result<(u64, Txn), NoMemory>
     requires { request.session < 64 }
+    ensures done { IfOk result (λ told. IsExecuted request store.old.log told.1 store.new.log) }
+    ensures number { IfOk result (λ told. told.0 ≡ length (of_session request.session store.old.log)) }
+    ensures fault { store.new.fault ≡ store.old.fault }
+    ensures err { OnErr result (store.new ≡ store.old) }
 {
     let number = store.executed(request.session);
     if number >= TOO_MANY {
@@ -54,6 +61,7 @@ fn fragment<R: Wait>(
     step: u64,
 ) -> Result<LoggedFragment, NoMemory>
     requires { (session < 4) × (step < 9) }
+    ensures { IfOk result (IsHandedIn session step) }
 {
     let request = request_of(alloc, session, step)?;
     let aborted = vec![in alloc; request.abort]?;
@@ -77,6 +85,7 @@ fn submit<R: Wait>(rt: &R, desk: &Desk, pass: &mut CollectorPass, item: Item)
     requires few { length pass.old.2 < 2 ^ 48 }
     ensures same { (pass.new.0 ≡ pass.old.0) × (pass.new.1 ≡ pass.old.1) }
     ensures one { length pass.new.2 ≡ length pass.old.2 + 1 }
+    ensures handed { pass.new.2 ≡ pass.old.2 ++ parcel pass.old.1 (length pass.old.2) item ∷ [] }
 {
     let mut item = item;
     for _ in rt.forever() {
@@ -102,6 +111,7 @@ fn work<R: Wait>(
     requires fresh { pass.old.2 ≡ [] }
     ensures same { (pass.new.0 ≡ pass.old.0) × (pass.new.1 ≡ pass.old.1) }
     ensures few { length pass.new.2 < 10 }
+    ensures handed { AreStepsFrom session 0 pass.new.2 }
     ensures all { OnOk result (length pass.new.2 ≡ 9) }
 {
     for step in 0..STEPS {
