@@ -19,6 +19,7 @@ use Rattle.log_text.specs.declared.commands.Wanted.TheVariants as wanted
 use Rattle.log_text.specs.declared.replies.Reply.{Reply}
 use Rattle.log_text.specs.declared.replies.Reply.TheVariants as told
 use Rattle.log_text.specs.declared.saved.Saved.TheVariants as saved
+use Rattle.log_text.specs.declared.searches.Search.{Search}
 use Rattle.log_text.specs.declared.versions.Version.{Version}
 use Rattle.log_text.specs.Replies.{line_of}
 use Rattle.polygraph.specs.declared.solving.Answer as solved
@@ -183,36 +184,36 @@ whatever_asked engine accepted other none same holds = record {
   asked = λ parts e. absurd (none_or_some parts (sym none ∙ e));
 }
 
-ended_on : (begun new : EngineState) (accepted : Accepted) (budget depth workers : ℕ) (said : StepReply) → EndsRound begun budget depth workers said new → Holds begun (state_of begun (record accepted { asked = accepted.whole })) → IsOn accepted (Round budget depth workers) (reply_of said) new
-ended_on begun new accepted budget depth workers (reply.Report report) ends holds =
+ended_on : (begun new : EngineState) (accepted : Accepted) (search : Search) (budget depth workers : ℕ) (said : StepReply) → EndsRound begun search budget depth workers said new → Holds begun (state_of begun (record accepted { asked = accepted.whole })) → IsOn accepted (Round budget depth workers search) (reply_of said) new
+ended_on begun new accepted search budget depth workers (reply.Report report) ends holds =
     let all : Accepted = record accepted { asked = accepted.whole } in
     record {
-      is_true = step_true begun new all (step.Finish budget depth workers) (reply.Report report) ends holds;
-      holds = whatever_asked new all accepted ends.right.1.none_open refl (step_on begun new all all (step.Finish budget depth workers) (reply.Report report) ends holds refl refl);
+      is_true = step_true begun new all (step.Finish budget depth workers) (reply.Report report) ends.goes holds;
+      holds = whatever_asked new all accepted ends.goes.right.1.none_open refl (step_on begun new all all (step.Finish budget depth workers) (reply.Report report) ends.goes holds refl refl);
     }
-ended_on begun new accepted budget depth workers (reply.Refused NoMemory) ends holds =
+ended_on begun new accepted search budget depth workers (reply.Refused NoMemory) ends holds =
     let all : Accepted = record accepted { asked = accepted.whole } in
     let kept = step_on begun ends.0 all all (step.Finish budget depth workers) (reply.Refused NoMemory) ends.1 holds refl refl in
     record {
       is_true = tt;
       holds = whatever_asked new all accepted (ap (λ (engine : EngineState). engine.asked) ends.2.right.1) refl (step_on ends.0 new all all step.Abandon reply.Done ends.2 kept refl refl);
     }
-ended_on begun new accepted budget depth workers (reply.Refused refusal) ends holds = absurd ends
-ended_on begun new accepted budget depth workers reply.Done ends holds = absurd ends
-ended_on begun new accepted budget depth workers (reply.Cut cut) ends holds = absurd ends
+ended_on begun new accepted search budget depth workers (reply.Refused refusal) ends holds = absurd ends
+ended_on begun new accepted search budget depth workers reply.Done ends holds = absurd ends
+ended_on begun new accepted search budget depth workers (reply.Cut cut) ends holds = absurd ends
 
-refused_on : (old new : EngineState) (accepted : Accepted) (budget depth workers : ℕ) (refusal : Refusal) (said : StepReply) → said ≡ reply.Refused refusal → Goes old step.Begin said new → Holds old (state_of old accepted) → IsOn accepted (Round budget depth workers) (reply_of said) new
-refused_on old new accepted budget depth workers refusal said is goes holds =
-    subst (λ (s : StepReply). IsOn accepted (Round budget depth workers) (reply_of s) new) (sym is) (record {
+refused_on : (old new : EngineState) (accepted : Accepted) (search : Search) (budget depth workers : ℕ) (refusal : Refusal) (said : StepReply) → said ≡ reply.Refused refusal → Goes old step.Begin said new → Holds old (state_of old accepted) → IsOn accepted (Round budget depth workers search) (reply_of said) new
+refused_on old new accepted search budget depth workers refusal said is goes holds =
+    subst (λ (s : StepReply). IsOn accepted (Round budget depth workers search) (reply_of s) new) (sym is) (record {
       is_true = tt;
       holds = step_on old new accepted accepted step.Begin (reply.Refused refusal) (subst (λ (s : StepReply). Goes old step.Begin s new) is goes) holds refl refl;
     })
 
-round_on : (old new : EngineState) (accepted : Accepted) (budget depth workers : ℕ) (said : StepReply) → IsRound old budget depth workers said new → Holds old (state_of old accepted) → IsOn accepted (Round budget depth workers) (reply_of said) new
-round_on old new accepted budget depth workers said round holds =
+round_on : (old new : EngineState) (accepted : Accepted) (search : Search) (budget depth workers : ℕ) (said : StepReply) → IsRound old search budget depth workers said new → Holds old (state_of old accepted) → IsOn accepted (Round budget depth workers search) (reply_of said) new
+round_on old new accepted search budget depth workers said round holds =
     ⊎_elim
-    (λ refused. refused_on old new accepted budget depth workers refused.0 said refused.1 refused.2 holds)
-    (λ begun. ended_on begun.0 new accepted budget depth workers said begun.2 (step_on old begun.0 accepted (record accepted { asked = accepted.whole }) step.Begin reply.Done begun.1 holds refl refl))
+    (λ refused. refused_on old new accepted search budget depth workers refused.0 said refused.1 refused.2 holds)
+    (λ begun. ended_on begun.0 new accepted search budget depth workers said begun.2 (step_on old begun.0 accepted (record accepted { asked = accepted.whole }) step.Begin reply.Done begun.1 holds refl refl))
     round
 
 -- ---- commands of an open engine
@@ -236,11 +237,11 @@ open_on version old new accepted (Offer logged) answer is holds =
 open_on version old new accepted (Join logged) answer is holds =
     taken_on version logged old new accepted (Join logged) answer (IsStep old (step.Join logged) answer new) (λ taken. told_on accepted (Join logged) answer taken.0 new taken.2 (join_on old new accepted logged taken.0 taken.1 holds)) is holds
 open_on version old new accepted Begin answer is holds = told_on accepted Begin answer is.0 new is.2 (begin_on old new accepted is.0 is.1 holds)
-open_on version old new accepted (Round budget depth workers) answer is holds = told_on accepted (Round budget depth workers) answer is.0 new is.2 (round_on old new accepted budget depth workers is.0 is.1 holds)
+open_on version old new accepted (Round budget depth workers search) answer is holds = told_on accepted (Round budget depth workers search) answer is.0 new is.2 (round_on old new accepted search budget depth workers is.0 is.1 holds)
 open_on version old new accepted (Close session) answer is holds =
     told_on accepted (Close session) answer is.0 new is.2 (record { is_true = step_true old new accepted (step.Close session) is.0 is.1 holds; holds = step_on old new accepted accepted (step.Close session) is.0 is.1 holds refl refl })
-open_on version old new accepted (Finish budget depth workers) answer is holds =
-    told_on accepted (Finish budget depth workers) answer is.0 new is.2 (record { is_true = step_true old new accepted (step.Finish budget depth workers) is.0 is.1 holds; holds = step_on old new accepted accepted (step.Finish budget depth workers) is.0 is.1 holds refl refl })
+open_on version old new accepted (Finish budget depth workers search) answer is holds =
+    told_on accepted (Finish budget depth workers search) answer is.0 new is.2 (record { is_true = step_true old new accepted (step.Finish budget depth workers) is.0 is.1.goes holds; holds = step_on old new accepted accepted (step.Finish budget depth workers) is.0 is.1.goes holds refl refl })
 open_on version old new accepted (Answer shown) answer is holds =
     told_on accepted (Answer shown) answer is.0 new is.2 (record { is_true = step_true old new accepted (step.Judge (certificate_of shown)) is.0 is.1 holds; holds = step_on old new accepted accepted (step.Judge (certificate_of shown)) is.0 is.1 holds refl refl })
 open_on version old new accepted Truncate answer is holds =

@@ -42,7 +42,7 @@ accepted_after whole (Some old) command answer = Some (accepted_more old command
 
 -- What the report that a command is answered tells of: a round begins with the line itself, and the others end one that is open.
 abbrev pub reported_on : Accepted → Command → History
-reported_on accepted (Round budget depth workers) = accepted.whole
+reported_on accepted (Round budget depth workers search) = accepted.whole
 reported_on accepted command = accepted.asked
 
 -- A reply that is a report is true of a history: it counts the transactions of each session, and its kind, where it isn't spent, is the
