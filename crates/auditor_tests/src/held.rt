@@ -1,5 +1,5 @@
 // What is held of the transactions of a line, and what a script answers to more than an offer may have.
-use cobra::{Failure, MemorySink, MemorySource, Pace, serve};
+use cobra::{Failure, MemorySink, MemorySource, Pace, Solvers, serve};
 use log_text::{Command, read_line_within};
 use logged_fragments::LoggedFragment;
 use polygraph::Single;
@@ -80,7 +80,11 @@ fn replies(alloc: Global, script: &[u8]) -> Result<Vec<u8>, Failure> {
         bytes: Vec::new(alloc),
         pace: Pace::new(4096, 0),
     };
-    serve(alloc, &mut source, &mut sink, &Single)?;
+    let solvers = Solvers {
+        plain: Single,
+        guided: Single,
+    };
+    serve(alloc, &mut source, &mut sink, &solvers)?;
     Ok(sink.bytes)
 }
 

@@ -1,5 +1,5 @@
 // Lines of scripts.
-use log_text::{Command, Shown, Version, Wanted, read_line};
+use log_text::{Command, Search, Shown, Version, Wanted, read_line};
 use logged_fragments::LoggedFragment;
 use std::alloc::Global;
 use std::process::Abort;
@@ -22,12 +22,26 @@ fn numbers_of(command: &Command) -> (&'static str, [u64; 3]) {
             budget,
             depth,
             workers,
+            search: Search::Plain,
         } => ("finish", [*budget, *depth, *workers]),
+        Command::Finish {
+            budget,
+            depth,
+            workers,
+            search: Search::Guided,
+        } => ("guided finish", [*budget, *depth, *workers]),
         Command::Round {
             budget,
             depth,
             workers,
+            search: Search::Plain,
         } => ("round", [*budget, *depth, *workers]),
+        Command::Round {
+            budget,
+            depth,
+            workers,
+            search: Search::Guided,
+        } => ("guided round", [*budget, *depth, *workers]),
         Command::Truncate => ("truncate", [0, 0, 0]),
         Command::Rebuild => ("rebuild", [0, 0, 0]),
         Command::Show => ("show", [0, 0, 0]),

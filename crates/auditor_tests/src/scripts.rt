@@ -245,7 +245,11 @@ fn served(
         bytes: Vec::new(alloc),
         pace: Pace::new(most, failing_write),
     };
-    let end = serve(alloc, &mut source, &mut sink, &Single);
+    let solvers = Solvers {
+        plain: Single,
+        guided: Single,
+    };
+    let end = serve(alloc, &mut source, &mut sink, &solvers);
     (end, sink.bytes)
 }
 

@@ -398,8 +398,8 @@ fair_none old next stored none (found.Wrong why) = λ line said other again. abs
 -- ---- where the check stops
 
 earns_of : (before : State) (asked : Command) (report : Report) (new : State) → OwesReport before asked report new → Earns before.engine asked report new.engine
-earns_of before (command.Finish budget depth workers) report new owes = owes.earned
-earns_of before (command.Round budget depth workers) report new owes = (owes.0.engine, owes.1.engine, owes.2.earned)
+earns_of before (command.Finish budget depth workers search) report new owes = owes.earned
+earns_of before (command.Round budget depth workers search) report new owes = (owes.0.engine, owes.1.engine, owes.2.earned)
 earns_of before (command.Answer it) report new owes = (it, shown_self it, owes.engine)
 earns_of before asked report new owes = absurd owes
 

@@ -151,8 +151,8 @@ OwesText text (owed.Nothing why) = ⊥
 
 -- By the engine alone: a command that ends a round earns the report. An answer that is handed in may be kept elsewhere in memory.
 abbrev pub Earns : EngineState → Command → Report → EngineState → Type 0
-Earns old (Finish budget depth workers) report new = IsEarned old report new
-Earns old (Round budget depth workers) report new = (begun : EngineState) × StepsTo old step.Begin reply.Done begun × IsEarned begun report new
+Earns old (Finish budget depth workers search) report new = IsEarned old report new
+Earns old (Round budget depth workers search) report new = (begun : EngineState) × StepsTo old step.Begin reply.Done begun × IsEarned begun report new
 Earns old (Answer handed) report new = (other : Shown) × IsSameShown (Some handed) (Some other) × StepsTo old (step.Judge (certificate_of other)) (reply.Report report) new
 Earns old command report new = ⊥
 

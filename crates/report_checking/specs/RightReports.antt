@@ -26,8 +26,8 @@ shown_of Nothing = None
 
 -- the report is owed to a command that ends a round; to one that hands an answer in, where that is right
 abbrev pub OwesReport : State → Command → Report → State → Type 0
-OwesReport old (Finish budget depth workers) report new = IsOwedReport old report new
-OwesReport old (Round budget depth workers) report new = (begun : State) × Legal old step.Begin reply.Done begun × IsOwedReport begun report new
+OwesReport old (Finish budget depth workers search) report new = IsOwedReport old report new
+OwesReport old (Round budget depth workers search) report new = (begun : State) × Legal old step.Begin reply.Done begun × IsOwedReport begun report new
 OwesReport old (Answer handed) report new = Legal old (step.Judge (certificate_of handed)) (reply.Report report) new
 OwesReport old command report new = ⊥
 

@@ -1,13 +1,15 @@
-//! The answers of a search that follows its conflicts, beside those of the solver below it.
+//! The answers of the guided search, beside those of the plain one.
 ghost use Rattle.std.specs.Prelude.{◌≤◌};
 
 use crate::cubes::said_by;
 use crate::histories::{Dice, history_by, problem_of, real_split, small_history_by};
-use guided_search::Guided;
+use guided_search::{Conflicts, Guided};
 use order_check::{Kind, Parts, brute};
 use polygraph::{Answer, Problem, Single, Solver};
+use shared_search::{OpenGate, Shared};
 use std::alloc::Global;
 use std::test::*;
+use std::thread::Threads;
 use txn::NoMemory;
 
 /// The most nodes with which the plain search, split to this problem's depth, looks at none: fewer than there are cubes.
@@ -32,25 +34,22 @@ fn a_worked_refutation_is_found_where_the_plain_search_looks_at_no_node(
     let problem = problem_of(&rt, rt.alloc(), &parts)?;
     let nodes = few_nodes(&problem);
     let plain = Single.solve(rt.alloc(), &problem, nodes, 6, 1);
-    let guided = Guided::new(Single).solve(rt.alloc(), &problem, nodes, 6, 1);
+    let guided = Guided::new(Conflicts, Single).solve(rt.alloc(), &problem, nodes, 6, 1);
     assert_eq!(&rt; (said_by(&plain), said_by(&guided)), ("spent", "no"));
     Ok(())
 }
 
-/// Whether the guided search answers what the plain one does, in each byte.
-fn is_as_below(alloc: Global, problem: &Problem, budget: u64) -> Result<bool, NoMemory>
+/// Whether the guided search answers a yes or a no where the plain one does.
+fn is_as_plain(alloc: Global, problem: &Problem, budget: u64) -> bool
     requires { (1 ≤ budget) × (budget ≤ 4096) }
 {
     let plain = Single.solve(alloc, problem, budget, 2, 1);
-    let guided = Guided::new(Single).solve(alloc, problem, budget, 2, 1);
-    Ok(
-        matches!(plain, Answer::Spent)
-            || format!(in alloc; "{plain:?}")? == format!(in alloc; "{guided:?}")?,
-    )
+    let guided = Guided::new(Conflicts, Single).solve(alloc, problem, budget, 2, 1);
+    matches!(plain, Answer::Spent) || said_by(&plain) == said_by(&guided)
 }
 
 /// What came of generated histories: where the plain search looked at no node, where the guided one was spent too, where it told another kind
-/// than a plain one with more nodes, how often it told a yes and a no, and where it told something else though the plain one decided.
+/// than a plain one with more nodes, how often it told a yes and a no, and where it told another kind though the plain one decided.
 #[derive(Drop, Debug, Default, PartialEq)]
 struct Tally {
     blind: u64,
@@ -79,10 +78,10 @@ impl Tally {
     fn compare(&mut self, alloc: Global, problem: &Problem) -> Result<(), NoMemory> {
         let nodes = few_nodes(problem);
         let plain = Single.solve(alloc, problem, nodes, 6, 1);
-        let guided = Guided::new(Single).solve(alloc, problem, nodes, 6, 1);
+        let guided = Guided::new(Conflicts, Single).solve(alloc, problem, nodes, 6, 1);
         let whole = Single.solve(alloc, problem, 65_536, 0, 1);
         self.count(said_by(&plain), said_by(&guided), said_by(&whole));
-        if !is_as_below(alloc, problem, 24)? || !is_as_below(alloc, problem, 4096)? {
+        if !is_as_plain(alloc, problem, 24) || !is_as_plain(alloc, problem, 4096) {
             self.changed = self.changed.saturating_add(1);
         }
         Ok(())
@@ -154,7 +153,7 @@ impl Trials {
             return Ok(());
         }
         self.blind = self.blind.saturating_add(1);
-        let guided = Guided::new(Single).solve(alloc, problem, nodes, 6, 1);
+        let guided = Guided::new(Conflicts, Single).solve(alloc, problem, nodes, 6, 1);
         self.count(said_by(&guided), tried(alloc, parts)?);
         Ok(())
     }
@@ -180,5 +179,42 @@ fn small_histories_have_the_kind_that_all_orders_tell(rt: HostRuntime) -> Result
         no: 253,
     };
     assert_eq!(&rt; trials, wanted);
+    Ok(())
+}
+
+/// Of so many numbers of workers, how many have the guided search answer something else than over the plain search of one thread.
+fn count_others<R: Threads + Sync>(
+    rt: &R,
+    alloc: Global,
+    problem: &Problem,
+    nodes: u64,
+    depth: u64,
+) -> Result<u64, NoMemory>
+    requires { (1 ≤ nodes) × (nodes ≤ 63) × (depth ≤ 6) }
+{
+    let single = Guided::new(Conflicts, Single).solve(alloc, problem, nodes, depth, 1);
+    let single = format!(in alloc; "{single:?}")?;
+    let shared = Guided::new(Conflicts, Shared::new(rt, OpenGate));
+    let mut others = 0u64;
+    for workers in [1u64, 2, 4, 16] {
+        let answer = shared.solve(alloc, problem, nodes, depth, workers);
+        if format!(in alloc; "{answer:?}")? != single {
+            others = others.saturating_add(1);
+        }
+    }
+    Ok(others)
+}
+
+/// The plain search looks at no node with few of them, and is spent with one at depth 0.
+#[test]
+fn answers_are_the_same_with_all_numbers_of_workers(rt: HostRuntime) -> Result<(), Fail> {
+    let mut dice = Dice::of(13);
+    for _ in 0..40u64 {
+        let parts = history_by(rt.alloc(), &mut dice)?;
+        let problem = problem_of(&rt, rt.alloc(), &parts)?;
+        let nodes = few_nodes(&problem);
+        assert_eq!(&rt; count_others(&rt, rt.alloc(), &problem, nodes, 6)?, 0);
+        assert_eq!(&rt; count_others(&rt, rt.alloc(), &problem, 1, 0)?, 0);
+    }
     Ok(())
 }

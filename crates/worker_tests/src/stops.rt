@@ -1,41 +1,28 @@
 //! Searches that are given up.
 ghost use Rattle.std.specs.Prelude.{⊤};
-ghost use Rattle.order_check.specs.Effort.{IsEffort};
-ghost use Rattle.polygraph.specs.Solving.{IsLawful};
 
 use crate::cubes::said_by;
 use crate::guided::few_nodes;
 use crate::histories::{problem_of, real_split};
-use guided_search::Guided;
+use guided_search::{Conflicts, Finder, Guided};
 use polygraph::{Answer, Problem, Single, Solver, StopWord};
 use shared_search::{OpenGate, Shared};
 use std::alloc::Global;
 use std::test::*;
 use std::thread::Threads;
 
-/// A solver that has answered when it gives all searches up.
+/// A finder that finds nothing, and has then given all searches up.
 #[derive(Drop)]
 struct Raising<'a> {
     word: &'a StopWord,
 }
 
-impl<'a> Solver for Raising<'a> {
-    ghost ready = { ⊤ };
+impl<'a> Finder for Raising<'a> {
+    ghost finds = { λ problem budget found. ⊤ };
 
-    fn solve(
-        &self,
-        alloc: Global,
-        problem: &Problem,
-        budget: u64,
-        depth: u64,
-        workers: u64,
-    ) -> Answer
-        requires effort { IsEffort budget depth workers }
-        ensures { IsLawful problem.now.known.parts budget depth result }
-    {
-        let answer = Single.solve(alloc, problem, budget, depth, workers);
+    fn find(&self, alloc: Global, problem: &Problem, budget: u64) -> Answer {
         self.word.give_up_below(u64::MAX);
-        answer
+        Answer::Spent
     }
 }
 
@@ -46,7 +33,7 @@ fn answers<R: Threads + Sync>(rt: &R, alloc: Global, problem: &Problem) -> [&'st
     let one = shared.solve(alloc, problem, 32, 6, 1);
     let two = shared.solve(alloc, problem, 32, 6, 2);
     let four = shared.solve(alloc, problem, 32, 6, 4);
-    let guided = Guided::new(Single).solve(alloc, problem, 32, 0, 1);
+    let guided = Guided::new(Conflicts, Single).solve(alloc, problem, 32, 0, 1);
     [
         said_by(&single),
         said_by(&one),
@@ -114,16 +101,19 @@ fn a_search_without_nodes_is_given_up(rt: HostRuntime) -> Result<(), Fail> {
     Ok(())
 }
 
-/// The plain search looks at none of these nodes, and the guided one would find a refutation.
+/// The search that follows its conflicts finds a refutation within these nodes; given up, it answers as if memory were refused. So does the plain
+/// search that is made where nothing was found.
 #[test]
 fn a_guided_search_is_given_up(rt: HostRuntime) -> Result<(), Fail> {
     let parts = real_split(rt.alloc())?;
     let word = StopWord::new(rt.alloc())?;
     let problem = problem_of(&rt, rt.alloc(), &parts)?.stopped_by(&word, 0);
     let nodes = few_nodes(&problem);
-    let found = Guided::new(Single).solve(rt.alloc(), &problem, nodes, 6, 1);
-    let raising = Guided::new(Raising { word: &word });
-    let given_up = raising.solve(rt.alloc(), &problem, nodes, 6, 1);
-    assert_eq!(&rt; (said_by(&found), said_by(&given_up)), ("no", "no memory"));
+    let found = Guided::new(Conflicts, Single).solve(rt.alloc(), &problem, nodes, 6, 1);
+    let raising = Guided::new(Raising { word: &word }, Single);
+    let raised = raising.solve(rt.alloc(), &problem, 32, 0, 1);
+    let given_up = Guided::new(Conflicts, Single).solve(rt.alloc(), &problem, nodes, 6, 1);
+    assert_eq!(&rt; (said_by(&found), said_by(&raised)), ("no", "no memory"));
+    assert_eq!(&rt; said_by(&given_up), "no memory");
     Ok(())
 }
