@@ -2,7 +2,7 @@
 #![tactic(auto)]
 
 use cobra::{Asked, ReaderSource, WriterSink, asked_of, write_all};
-use guided_search::Guided;
+use guided_search::{Conflicts, Guided};
 use live_lines::{LiveExit, LiveFailure, exit_of, run_live};
 use shared_search::{OpenGate, Shared};
 use std::env;
@@ -37,7 +37,8 @@ What comes of it. Reports come whenever no line waits, and at the end, so there 
   ["end"]
 
 A first line that ends with 2, ["open",1,8,4096,0,1,2], begins lines of version 2: in them a
-transaction that aborted is offered with what it tried, as [[],[5],"aborted"].
+transaction that aborted is offered with what it tried, as [[],[5],"aborted"]. One that ends with
+"guided" has each round search in other ways first: it finds more within its budget.
 
 Read what it writes while you write lines: it waits for its reader, and drops nothing.
 
@@ -69,9 +70,10 @@ fn told(rt: &HostRuntime, text: &str) -> Result<(), LiveFailure> {
 fn main(rt: HostRuntime) -> ExitCode {
     let input = ReaderSource::new(rt.stdin());
     let output = WriterSink::new(rt.stdout());
-    let solver = Guided::new(Shared::new(&rt, OpenGate));
+    let plain = Shared::new(&rt, OpenGate);
+    let guided = Guided::new(Conflicts, Shared::new(&rt, OpenGate));
     let exit = match asked(&rt) {
-        Ok(Asked::Work) => match run_live(&rt, rt.alloc(), &solver, input, output) {
+        Ok(Asked::Work) => match run_live(&rt, rt.alloc(), &plain, &guided, input, output) {
             Ok(_) => exit_of(Ok(())),
             Err(failure) => exit_of(Err(failure)),
         },

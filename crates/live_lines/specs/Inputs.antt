@@ -1,13 +1,16 @@
 -- What the lines of a run's input say, and what is handed in and noted of them.
-use Rattle.std.specs.Prelude.{◌≡◌, ℕ, ◌+◌, ◌^◌, ⊤, true, List, [], ◌∷◌, ◌++◌, length, Option, Some, None, IsUtf8, bytes_eq, codes, if◌then◌else◌}
-use Rattle.serde_json.specs.Data.{Data, string, Items, item}
+use Rattle.std.specs.Prelude.{◌≡◌, ℕ, ◌+◌, ◌^◌, ⊤, true, List, [], ◌∷◌, ◌++◌, length, Option, Some, None, IsUtf8, bytes_eq, codes, option_map, if◌then◌else◌}
+use Rattle.serde_json.specs.Data.{Data, string, Items, no_items, item}
 use Rattle.serde_json.specs.Read.{read}
 use Rattle.log_text.specs.declared.commands.Command.{Command}
 use Rattle.log_text.specs.declared.commands.Command.TheVariants as command
-use Rattle.log_text.specs.Items.{array_of, with_three, with_four}
+use Rattle.log_text.specs.Items.{array_of, with_both, with_three, with_four}
 use Rattle.log_text.specs.Numbers.{whole_number, number_within}
-use Rattle.log_text.specs.Versions.{has_form, version_in}
+use Rattle.log_text.specs.Searches.{search_named, search_of}
+use Rattle.log_text.specs.Versions.{has_form}
+use Rattle.log_text.specs.declared.searches.Search.TheVariants.{Plain}
 use Rattle.log_text.specs.declared.versions.Version.{Version}
+use Rattle.log_text.specs.declared.versions.Version.TheVariants.{One, Two}
 use Rattle.cobra.specs.Outputs.{Asks}
 use Rattle.fragment_intake.specs.Collectors.{parcel}
 use Rattle.fragment_intake.specs.declared.rules.Item.{Item}
@@ -17,6 +20,7 @@ use Rattle.live_audit.specs.declared.live.Effort.{Effort}
 use Rattle.live_lines.specs.declared.notes.About.TheVariants as about
 use Rattle.live_lines.specs.declared.notes.Note.{Note}
 use Rattle.live_lines.specs.declared.notes.Note.TheVariants as note
+use Rattle.live_lines.specs.declared.openings.Ending.{Ending}
 use Rattle.live_lines.specs.declared.openings.Opening.{Opening}
 use Rattle.live_lines.specs.Notes.{about_of}
 use Rattle.live_lines.specs.Skips.{AsksToSkip}
@@ -25,16 +29,28 @@ use Rattle.live_lines.specs.Skips.{AsksToSkip}
 abbrev pub effort_at : Data → Data → Data → Option Effort
 effort_at budget depth workers = with_three (λ b d w. record { budget = b; depth = d; workers = w }) (number_within 1 (2 ^ 32) budget) (number_within 0 6 depth) (number_within 1 16 workers)
 
--- sessions, limit, what a round may cost, and the version of the lines
+-- One item behind the numbers is the version 2, or the name of a search; the version is 1 and the search the plain one where nothing is said.
+abbrev pub ending_of : Data → Option Ending
+ending_of (string name) = option_map (λ s. record { version = One; search = s }) (search_named name)
+ending_of given = option_map (λ n. record { version = Two; search = Plain }) (number_within 2 2 given)
+
+-- nothing, one of the two, or the version 2 and then the name of a search
+abbrev pub ending_in : Items → Option Ending
+ending_in no_items = Some (record { version = One; search = Plain })
+ending_in (item one no_items) = ending_of one
+ending_in (item version (item search no_items)) = with_both (λ n s. record { version = Two; search = s }) (number_within 2 2 version) (search_of search)
+ending_in items = None
+
+-- sessions, limit, what a round may cost, the version of the lines, and the search
 abbrev pub numbers_in : Items → Option Opening
 numbers_in (item sessions (item limit (item budget (item depth (item workers behind))))) =
-    with_four (λ s l e v. record { sessions = s; limit = l; effort = e; version = v }) (whole_number sessions) (whole_number limit) (effort_at budget depth workers) (version_in behind)
+    with_four (λ s l e v. record { sessions = s; limit = l; effort = e; version = v.version; search = v.search }) (whole_number sessions) (whole_number limit) (effort_at budget depth workers) (ending_in behind)
 numbers_in items = None
 
 abbrev pub opening_named : List ℕ → Items → Option Opening
 opening_named name parts = if bytes_eq name (codes "open") then numbers_in parts else None
 
--- ["open",sessions,limit,budget,depth,workers] or ["open",sessions,limit,budget,depth,workers,2]
+-- ["open",sessions,limit,budget,depth,workers], and behind that 2, "guided", or both
 abbrev pub opening_in : Items → Option Opening
 opening_in (item (string name) parts) = opening_named name parts
 opening_in items = None

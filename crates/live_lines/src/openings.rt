@@ -3,12 +3,12 @@ ghost use Rattle.serde_json.specs.View.{view, items_view};
 ghost use Rattle.order_check.specs.Effort.{IsEffort};
 ghost use Rattle.byte_lines.specs.LineReaders.{lines_ahead};
 ghost use Rattle.log_text.specs.Numbers.{number_within};
-ghost use Rattle.live_lines.specs.Inputs.{effort_at, numbers_in, opening_named, opening_in, opening_of, IsOpening, Begins};
+ghost use Rattle.live_lines.specs.Inputs.{effort_at, ending_in, ending_of, numbers_in, opening_named, opening_in, opening_of, IsOpening, Begins};
 
 use crate::failures::LiveFailure;
 use byte_lines::{ByteSource, LineReader, Next};
 use live_audit::Effort;
-use log_text::{Version, version_in};
+use log_text::{Search, Version, search_of};
 use serde_json::Value;
 use std::alloc::Global;
 use std::str;
@@ -19,14 +19,22 @@ const MOST_DEPTH: u64 = 6;
 
 const MOST_WORKERS: u64 = 16;
 
-/// What the first line says: how many sessions there are, how many transactions may remain at a time, what each round may cost, and of which
-/// version the lines are.
+/// What the first line says: how many sessions there are, how many transactions may remain at a time, what each round may cost, of which
+/// version the lines are, and which search each round makes.
 #[derive(Clone, Copy, Debug, PartialEq, Eq)]
 pub struct Opening {
     pub sessions: u64,
     pub limit: u64,
     pub effort: Effort,
     pub version: Version,
+    pub search: Search,
+}
+
+/// What stands behind the numbers of the first line.
+#[derive(Clone, Copy)]
+struct Ending {
+    version: Version,
+    search: Search,
 }
 
 fn number_within(least: u64, most: u64, value: &Value) -> Option<u64>
@@ -52,6 +60,46 @@ fn effort_at(budget: &Value, depth: &Value, workers: &Value) -> Option<Effort>
     })
 }
 
+/// What one item there says: a version, or a search.
+fn ending_of(value: &Value) -> Option<Ending>
+    ensures { result ≡ ending_of (view value.now) }
+{
+    match search_of(value) {
+        Some(search) => Some(Ending {
+            version: Version::One,
+            search,
+        }),
+        None => {
+            let _ = number_within(2, 2, value)?;
+            Some(Ending {
+                version: Version::Two,
+                search: Search::Plain,
+            })
+        }
+    }
+}
+
+#[tactic(auto, using(crate::proofs::Arity::ending_none))]
+fn ending_in(behind: &[Value]) -> Option<Ending>
+    ensures { result ≡ ending_in (items_view behind.now) }
+{
+    match behind {
+        [] => Some(Ending {
+            version: Version::One,
+            search: Search::Plain,
+        }),
+        [one] => ending_of(one),
+        [version, search] => {
+            let _ = number_within(2, 2, version)?;
+            Some(Ending {
+                version: Version::Two,
+                search: search_of(search)?,
+            })
+        }
+        _ => None,
+    }
+}
+
 #[tactic(auto, using(crate::proofs::Arity::numbers_none))]
 fn numbers_in(parts: &[Value]) -> Option<Opening>
     ensures form { result ≡ numbers_in (items_view parts.now) }
@@ -60,11 +108,16 @@ fn numbers_in(parts: &[Value]) -> Option<Opening>
     let [sessions, limit, budget, depth, workers, behind @ ..] = parts else {
         return None;
     };
+    let sessions = sessions.as_u64()?;
+    let limit = limit.as_u64()?;
+    let effort = effort_at(budget, depth, workers)?;
+    let ending = ending_in(behind)?;
     Some(Opening {
-        sessions: sessions.as_u64()?,
-        limit: limit.as_u64()?,
-        effort: effort_at(budget, depth, workers)?,
-        version: version_in(behind)?,
+        sessions,
+        limit,
+        effort,
+        version: ending.version,
+        search: ending.search,
     })
 }
 

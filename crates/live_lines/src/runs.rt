@@ -24,6 +24,7 @@ use crate::writing::Written;
 use byte_lines::{ByteSink, ByteSource, LONGEST_LINE, LineReader};
 use fragment_intake::{AuditorPass, CollectorPasses, Desk};
 use live_audit::AuditorSide;
+use log_text::Search;
 use polygraph::Solver;
 use report_queue::{ReportReader, ReportSender};
 use round_state::Engine;
@@ -221,19 +222,49 @@ fn run_opened<
     }
 }
 
-/// Reads lines to their end, audits what they hand in as it comes, and writes what comes of it as it comes. The sink comes back.
-pub fn run_live<
+/// Runs an opened auditor with the solver of the search that its first line names.
+fn run_searched<
     R: Threads + Wait + Sync,
+    P: Solver + Sync,
     V: Solver + Sync,
     S: ByteSource + Send + Drop,
     W: ByteSink + Send + Drop,
->(rt: &R, alloc: Global, solver: &V, source: S, sink: W) -> Result<W, LiveFailure>
-    requires { V.ready }
+>(
+    rt: &R,
+    alloc: Global,
+    plain: &P,
+    guided: &V,
+    opened: Opened,
+    source: S,
+    sink: W,
+) -> Result<W, LiveFailure>
+    requires plain { P.ready }
+    requires guided { V.ready }
+    requires opened { IsOpened opened }
+    ensures { IfOk result (λ out. (text : List ℕ) × Appends (W.contents sink) (W.contents out) text × IsAuditOf (lines_ahead opened.lines (S.remaining source)) opened.opening text) }
+{
+    match opened.opening.search {
+        Search::Plain => run_opened(rt, alloc, plain, opened, source, sink),
+        Search::Guided => run_opened(rt, alloc, guided, opened, source, sink),
+    }
+}
+
+/// Reads lines to their end, audits what they hand in as it comes, and writes what comes of it as it comes. The sink comes back. Each round is
+/// searched by the solver of the search that the first line names.
+pub fn run_live<
+    R: Threads + Wait + Sync,
+    P: Solver + Sync,
+    V: Solver + Sync,
+    S: ByteSource + Send + Drop,
+    W: ByteSink + Send + Drop,
+>(rt: &R, alloc: Global, plain: &P, guided: &V, source: S, sink: W) -> Result<W, LiveFailure>
+    requires plain { P.ready }
+    requires guided { V.ready }
     ensures { IfOk result (λ out. (opening : Opening) × (text : List ℕ) × Appends (W.contents sink) (W.contents out) text × IsRunOf (S.remaining source) opening text) }
 {
     let mut source = source;
     match open_run(alloc, &mut source) {
-        Ok(opened) => run_opened(rt, alloc, solver, opened, source, sink),
+        Ok(opened) => run_searched(rt, alloc, plain, guided, opened, source, sink),
         Err(failure) => Err(failure),
     }
 }
