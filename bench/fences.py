@@ -37,7 +37,7 @@ def lines_of(sessions, meetings, silent, key):
         for session, log in enumerate(store.logs)
         for first in range(0, len(log), 64)
     ]
-    return [json.dumps(line, separators=(",", ":")) for line in [["open", sessions, REMAIN], *offers, ["round", 4096, 0, 1]]]
+    return [json.dumps(line, separators=(",", ":")) for line in [["open", sessions, REMAIN], *offers, ["round", 4096, 0, 1, "guided"]]]
 
 
 def main():

@@ -53,7 +53,8 @@ def compact(told):
 
 def effort(dice):
     depth = dice.choice((0, 0, 0, 0, 1, 2, 3, 6))
-    return [dice.choice(BUDGETS), depth, dice.choice((1, 1, 1, 1, 1, 1, 2, 16)) if depth else 1]
+    workers = dice.choice((1, 1, 1, 1, 1, 1, 2, 16)) if depth else 1
+    return [dice.choice(BUDGETS), depth, workers, *dice.choice(([], [], ["guided"]))]
 
 
 def save(dice, sessions):

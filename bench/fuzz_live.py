@@ -40,7 +40,8 @@ def lines_of(dice):
     model = Model()
     model.open(generator.sessions, generator.limit, generator.version)
     opening = ["open", generator.sessions, generator.limit, *dice.choice(EFFORTS)]
-    found = [compact([*opening, *([2] if generator.version == 2 else [])])]
+    opening += [2] if generator.version == 2 else []
+    found = [compact([*opening, *dice.choice(([], ["guided"]))])]
     skips = dice.choice((0.0, 0.0, 0.02, 0.2))
     for _ in range(dice.choice((30, 120))):
         if sum(model.parts.received()) >= MOST:

@@ -43,7 +43,7 @@ class Log:
         for session, txns in enumerate(self.sessions):
             for first in range(0, len(txns), 256):
                 lines.append(["offer", session, first, txns[first : first + 256]])
-        lines.append(["round", budget, depth, workers])
+        lines.append(["round", budget, depth, workers, "guided"])
         return [json.dumps(line, separators=(",", ":")) for line in lines]
 
 

@@ -59,7 +59,7 @@ def blind(draw, keys):
 KINDS = {"counter": counter, "mixed": mixed, "skew": skew, "blind": blind}
 
 
-def script(kind, transactions, sessions=8, keys=400, seed=1, stale=0, fragment=8, last=("round", 4096, 0, 1)):
+def script(kind, transactions, sessions=8, keys=400, seed=1, stale=0, fragment=8, last=("round", 4096, 0, 1, "guided")):
     """The lines of a script: the offers of a history, shuffled between its sessions, and then one more command."""
     store = Store(sessions, seed, stale)
     lines, sent = [["open", sessions, 4096]], [0] * sessions

@@ -227,7 +227,7 @@ class Run:
             elif turn < 0.93:
                 self.round()
         self.hand_in_all()
-        self.ask("round", 4096, 0, 1)
+        self.ask("round", 4096, 0, 1, "guided")
         self.ask("show")
 
     def settle(self):
@@ -237,16 +237,16 @@ class Run:
         if self.dice.random() < 0.2:
             self.clients.leave()
         self.hand_in_all()
-        self.ask("round", 4096, 0, 1)
+        self.ask("round", 4096, 0, 1, "guided")
         self.ask("truncate")
 
     def hand_in_all(self):
         if self.opens and self.dice.random() < 0.9:
-            self.ask("finish", 4096, 0, 1)
+            self.ask("finish", 4096, 0, 1, "guided")
         for _ in range(3):
             self.hand_in(100)
         if self.opens:
-            self.ask("finish", 4096, 0, 1)
+            self.ask("finish", 4096, 0, 1, "guided")
 
     def hand_in(self, most=3):
         """What waits in some sessions, in any order."""
@@ -289,11 +289,11 @@ class Run:
     def round(self):
         turn = self.dice.random()
         if self.opens and turn < 0.7:
-            self.ask("finish", 4096, 0, 1)
+            self.ask("finish", 4096, 0, 1, "guided")
         elif turn < 0.25:
             self.ask("begin")
         else:
-            self.ask("round", 4096, 0, 1)
+            self.ask("round", 4096, 0, 1, "guided")
         if self.dice.random() < 0.8:
             self.ask("truncate")
         if self.dice.random() < 0.05:

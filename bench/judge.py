@@ -51,6 +51,10 @@ def is_effort(parts):
             and is_whole(workers, 17) and workers >= 1)
 
 
+def is_guided(parts):
+    return is_effort(parts[:3]) and parts[3] == "guided"
+
+
 def is_read(it):
     if type(it) is not list or not it or not is_whole(it[0]):
         return False
@@ -176,7 +180,9 @@ FORMS = {
     ("close", 2): lambda parts: is_whole(parts[0], 256),
     ("begin", 1): is_nothing,
     ("finish", 4): is_effort,
+    ("finish", 5): is_guided,
     ("round", 4): is_effort,
+    ("round", 5): is_guided,
     ("truncate", 1): is_nothing,
     ("rebuild", 1): is_nothing,
     ("show", 1): is_nothing,
@@ -534,7 +540,7 @@ class Model:
         """A report on the open round, or on all that was taken in."""
         parts, self.snapshot = self.snapshot or self.parts, None
         self.rounds += 1
-        budget, depth, _ = command[1:]
+        budget, depth = command[1:3]
         report = report_of(reply)
         self.check_front(parts, report)
         relation = Relation(parts)
@@ -550,7 +556,7 @@ class Model:
             self.held = cut_of(parts, relation)
         check_by_trial(parts, report[2])
         if command[0] == "round" and self.judges_search:  # the same, whatever the workers
-            if self.told.setdefault((budget, depth), report[2:]) != report[2:]:
+            if self.told.setdefault((budget, depth, *command[4:]), report[2:]) != report[2:]:
                 raise Wrong("another answer than before to the same question")
 
     def check_front(self, parts, report):

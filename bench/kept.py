@@ -29,7 +29,7 @@ sys.path.insert(0, os.path.dirname(os.path.abspath(__file__)))
 from histories import KINDS, script  # noqa: E402
 from long_run import Auditor, Clients  # noqa: E402
 
-ROUND = ("round", 4096, 0, 1)
+ROUND = ("round", 4096, 0, 1, "guided")
 TABLES = ("again", "grown", "runs", "keys")
 MORE = (1, 8, 32, 64, 128, 192, 256, 320)
 

@@ -105,7 +105,7 @@ def tenth(clients, kind, transactions, every, meets, sweeps):
             clients.flush()
             if clients.refused:
                 break
-            report = clients.auditor.ask("round", 4096, 0, 1)
+            report = clients.auditor.ask("round", 4096, 0, 1, "guided")
             if report[0] != "report" or report[2] != "serial":
                 sys.exit(f"no serial report: {json.dumps(report)[:200]}")
             rounds += 1

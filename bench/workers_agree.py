@@ -31,9 +31,9 @@ def is_round(line):
         told = json.loads(line)
     except (ValueError, RecursionError):
         return False
-    if not isinstance(told, list) or len(told) != 4 or told[0] not in ("round", "finish"):
+    if not isinstance(told, list) or len(told) < 4 or told[0] not in ("round", "finish"):
         return False
-    if any(type(number) is not int for number in told[1:]):
+    if any(type(number) is not int for number in told[1:4]) or told[4:] not in ([], ["guided"]):
         return False
     return 1 <= told[1] <= 2**32 and 0 <= told[2] <= 6 and 1 <= told[3] <= 16
 

@@ -283,13 +283,13 @@ def rounds(size, some):
                            "pairs that nothing orders", "chain of 256 keys and open pairs")]
     for name, what, effort in asked:
         if some in name:
-            yield name, opened(made[what]()), compact(["round", *effort])
+            yield name, opened(made[what]()), compact(["round", *effort, "guided"])
 
 
 def later(size):
     """A round to which a fragment came since the last one: of readers of what was before all
     others, of writers of what these read."""
-    some, asked = 128, compact(["round", 4096, 0, 1])
+    some, asked = 128, compact(["round", 4096, 0, 1, "guided"])
     for what, at in (("readers", 0), ("writers", 32)):
         made = from_the_start(size - some, MOST)
         lines, first = opened(made), len(made[at])
@@ -307,7 +307,7 @@ def awaited(size):
     lead, arrives = opened([*sessions, []]), compact(["offer", 63, 0, [[[], keys]]])
     yield f"offer, for which {reads:,} reads wait", lead, arrives
     for what, lines in (("wait for one", lead), ("have come of one", [*lead, arrives])):
-        yield (f"round of 4096, {reads:,} reads {what}", lines, compact(["round", 4096, 0, 1]))
+        yield (f"round of 4096, {reads:,} reads {what}", lines, compact(["round", 4096, 0, 1, "guided"]))
 
 
 def joins(size):
@@ -325,7 +325,7 @@ def joins(size):
         last = session, 0
     yield f"join, the 64th, {each} of each", lines[:-1], lines[-1]
     for budget in BUDGETS:
-        yield (f"round of {budget}, 63 sessions joined", lines, compact(["round", budget, 0, 1]))
+        yield (f"round of {budget}, 63 sessions joined", lines, compact(["round", budget, 0, 1, "guided"]))
 
 
 def hand_overs(size):
@@ -338,7 +338,7 @@ def hand_overs(size):
     yield f"show, {keys:,} last writers", opened_so, b'["show"]'
     yield f"begin, {keys:,} last writers", opened_so, b'["begin"]'
     yield f"rebuild, {keys:,} last writers", opened_so, b'["rebuild"]'
-    yield f"round of 4096, {keys:,} last writers", opened_so, compact(["round", 4096, 0, 1])
+    yield f"round of 4096, {keys:,} last writers", opened_so, compact(["round", 4096, 0, 1, "guided"])
     many, marks = [begin], compact(["marks", [2] * 64, [False] * 64])
     writers = ",".join(f"[{key},0,0]" for key in range(1, LONGEST // 11)).encode()
     yield "last, the longest", [*many, marks], b'["last",[' + writers[:LONGEST - 30].rsplit(
@@ -368,7 +368,7 @@ def others(size):
     reader = [[[1, 0, 0]], []]
     yield "offer, the last, blind, 1 key", last, compact(["offer", 0, (size - 1) // 2 // 32 + 1,
                                                           [reader]])
-    asked = compact(["round", 65536, 0, 1])
+    asked = compact(["round", 65536, 0, 1, "guided"])
     past = [*opened(wide_fences(size)), asked]
     yield f"truncate, {(size - 1) * MOST:,} keys", past, b'["truncate"]'
     yield f"show, {(size - 1) * MOST:,} keys of the past", [*past, b'["truncate"]'], b'["show"]'

@@ -79,7 +79,8 @@ def generated(dice):
     store, version = Store(dice, sessions), dice.choice(([], [2]))
     if version:
         store.aborts = dice.choice((0.0, 0.2))
-    chunks = [[compact(["open", sessions, limit, *effort, *version])]]
+    search = dice.choice(([], ["guided"]))
+    chunks = [[compact(["open", sessions, limit, *effort, *version, *search])]]
     sent = [0] * sessions
     joins = dice.choice((0.0, 0.0, 0.5))
     for _ in range(dice.randrange(1, 9)):
@@ -209,7 +210,7 @@ class Judge:
         self.lines, self.next = lines, 1
         self.effort = opening[3:6]
         self.model = Model()
-        self.model.open(*opening[1:3], *opening[6:])
+        self.model.open(*opening[1:3], *(it for it in opening[6:] if it != "guided"))
         self.history = [[] for _ in range(opening[1])]  # all that was accepted, in whole
         self.counted = [0] * opening[1]  # by the last report
         self.items = 0  # that were answered

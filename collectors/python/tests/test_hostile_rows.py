@@ -201,7 +201,9 @@ class Audited(unittest.TestCase):
                 told = replies_to(*lines, asked, b'["show"]')
                 self.assertEqual(told[5], kept)
                 report = json.loads(told[4])
-                self.assertIn(report[2], ("serial", "spent") if is_spent else ("serial",))
+                self.assertEqual(report[2], "spent" if is_spent else "serial")
+                *_, found = replies_to(*lines, compact(["round", budget, depth, 1, "guided"]))
+                self.assertEqual(json.loads(found)[2], "serial")
                 model.rounds = 0
                 model.judge(asked, told[4])
         lines += [compact(["round", budget, depth, 1]) for budget, depth in ((1, 0), (63, 6))]
@@ -209,7 +211,7 @@ class Audited(unittest.TestCase):
             b"\n".join([*lines, b""]), b"\n".join([*replies_to(*lines), b""])))
 
     def test_a_round_that_is_spent_changes_nothing(self):
-        """Over a history that takes a search both searches are spent, and a greater budget does."""
+        """Over a history that takes a search it is spent, and a greater budget does."""
         with open(os.path.join(TOP, "crates/cobra_examples/data/real_split.jsonl"), "rb") as file:
             *lines, _ = file.read().splitlines()
         asked = [b'["show"]', b'["round",1,0,1]', b'["show"]', b'["round",1,6,16]', b'["show"]',

@@ -15,7 +15,7 @@ from ..core._own_keys import FENCE
 from ..core._records import ABORTED, AuditId, Logged, Pending
 from ..core._tenancy import Tenancy
 from ..core.errors import ProgramEndedError, ProgramTooOldError, ScriptMistakeError
-from ..program._intake import never_came
+from ..program._intake import EFFORTS, GUIDED, never_came
 from ..program._lines import TOO_OLD
 from ._script_names import NamedTransaction, ScriptNames
 
@@ -184,9 +184,14 @@ class ScriptRun:
             begins = 'a script begins with ["open",..], or by ["resume",..] up to ["resumed"]'
             raise ScriptMistakeError(number, "nothing", begins)
         if self._round_is_open:
-            yield from self._taken(["finish", 4096, 0, 1], self._ask_for("finish", 4096, 0, 1), 0)
+            yield from self._searched("finish")
         if self._has_more or self.verdict is None:
-            yield from self._taken(["round", 4096, 0, 1], self._ask_for("round", 4096, 0, 1), 0)
+            yield from self._searched("round")
+
+    def _searched(self, word: str) -> Iterator[Verdict]:
+        """A finish or a round that the script doesn't have."""
+        command = [word, *EFFORTS[0], GUIDED]
+        yield from self._taken(command, self._ask_for(*command), 0)
 
     def _taken(self, command: List[Any], reply: List[Any], number: int) -> Iterator[Verdict]:
         """Keeps what the command has done."""
@@ -227,7 +232,7 @@ class ScriptRun:
                 break
             if nodes < more <= self.most_nodes:
                 nodes, rounds, self._has_more = more, rounds + 1, False
-                reply = self._ask_for("round", more, depth, workers)
+                reply = self._ask_for("round", more, depth, workers, GUIDED)
         return Verdict(
             reply[2], number, reply[3], reply[4] if len(reply) > 4 else [], nodes, rounds
         )

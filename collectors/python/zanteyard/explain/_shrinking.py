@@ -15,6 +15,7 @@ from ..core._own_keys import FENCE, FORM, LONGEST, PLAIN_FENCE, is_own
 from ..core._records import AuditId, AuditNaming, History, Logged, Naming, Report, ShownId, Source
 from ..program._auditor import Auditor
 from ..program._binaries import PROGRAM
+from ..program._intake import GUIDED
 from ..program._lines import written
 
 TOLD, FROM = 300, 150  # characters of a statement, at most, and of its end, where its place stands
@@ -38,7 +39,7 @@ def audited(history: History, program: str = PROGRAM) -> Tuple[Report, str]:
         for at, number, offered in fragments:
             auditor.offer(at, number, *offered)
         report = auditor.last_round()
-        script.append(["round", *auditor.effort])
+        script.append(["round", *auditor.effort, GUIDED])
         return report, "".join(written(line) + "\n" for line in script)
 
 

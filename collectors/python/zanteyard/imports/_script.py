@@ -30,7 +30,7 @@ from ._times import EVERY, Times, check_times, part_of
 SESSIONS = 64
 LIMIT = 4096  # transactions that remain at a time
 NEVER_OFFERED = 1_000_000_000  # numbers from here on are those of transactions that don't come
-ROUND = ["round", 4096, 0, 1]
+ROUND = ["round", 4096, 0, 1, "guided"]
 REST = "the rest of the file"  # a key that stands for what wasn't imported
 
 

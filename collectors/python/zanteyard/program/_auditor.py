@@ -23,7 +23,7 @@ from ..core.errors import (
 )
 from ..journal._entries import Head
 from ._binaries import PROGRAM as PROGRAM
-from ._intake import EFFORTS, Effort, Fragment
+from ._intake import EFFORTS, GUIDED, Effort, Fragment
 from ._lines import BAD_LINE, ENDED, TOO_OLD, Lines, written
 from ._pipes import Pipes
 from ._resuming import Reopened, journaled, reopened
@@ -310,7 +310,7 @@ class Auditor(Lines):
 
     def last_round(self, efforts: Sequence[Effort] = EFFORTS) -> Report:
         for self.effort in efforts:
-            report = Report(*self.ask(["round", *self.effort])[1:])
+            report = Report(*self.ask(["round", *self.effort, GUIDED])[1:])
             if report.kind != "spent":
                 break
         return report

@@ -24,6 +24,7 @@ LIMIT = 4096  # the most transactions that may remain
 # Of a round: how many nodes of the search it may look at, how deep the search is split, and how
 # many workers share it. The next is tried where one hasn't decided.
 EFFORTS = ((4096, 0, 1), (65536, 4, max(1, min(16, os.cpu_count() or 1))))
+GUIDED = "guided"  # the search that each round asks for: it finds more than the plain one
 SECONDS = 60.0  # for the answer to a line that no client waits for
 LATEST = 10.0  # seconds after which an answer that no client waits for isn't waited for any more
 Effort = Tuple[int, int, int]  # nodes, depth, workers

@@ -26,7 +26,7 @@ from ..core._window import SESSIONS
 from ..core.errors import NoCutError, ProgramEndedError, ProgramLateError, RefusedError
 from ._auditor import Auditor
 from ._checkpoint import NO_MEMORY, OK
-from ._intake import EFFORTS, SECONDS, Effort, Fragment
+from ._intake import EFFORTS, GUIDED, SECONDS, Effort, Fragment
 from ._lines import WAITS, written
 from ._live_lines import Line, LivePipes, is_fence, pieces_of, standing
 from ._pipes import Pipes
@@ -76,7 +76,8 @@ class RunningAuditor(Auditor):
         self._keep([written(["open", self.sessions, self.limit, FORM]).encode()])
         self._has_round = False  # the script, as its last line, or before a truncate
         self.live = LivePipes(self.running)
-        self.live.ask([written(["open", self.sessions, self.limit, *EFFORT, FORM]).encode()])
+        opening = ["open", self.sessions, self.limit, *EFFORT, FORM, GUIDED]
+        self.live.ask([written(opening).encode()])
 
     # what is held
 
@@ -312,7 +313,7 @@ class RunningAuditor(Auditor):
 
     def _keep_round(self) -> None:
         """In the script."""
-        self._keep([written(["round", *EFFORT]).encode()])
+        self._keep([written(["round", *EFFORT, GUIDED]).encode()])
         self._has_round = True
 
     def truncate(self) -> Cut:
