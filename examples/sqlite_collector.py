@@ -125,7 +125,7 @@ with tempfile.TemporaryDirectory() as folder:
     setup.executescript(f"PRAGMA journal_mode = WAL; CREATE TABLE {table}")
     auditor = Auditor(sessions=2, limit=8)
     work(Session(0, auditor, f"{folder}/bank"), Session(1, auditor, f"{folder}/bank"))
-    _, _, kind, counts, certificate = auditor.ask("round", 4096, 0, 1)
+    _, _, kind, counts, certificate = auditor.ask("round", 4096, 0, 1, "guided")
     order = certificate if kind != "violated" else []
     told = " ".join(f"{session}.{number}" for session, number in order)
     says = {
