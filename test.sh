@@ -1,13 +1,16 @@
 #!/usr/bin/env bash
-# The test command: the gate (`rt ci`: every proof from nothing, the edits that must be refused, the programs and their tests), and then the
-# Python tests of the collectors, over the auditor that the gate has just proved and built. It installs nothing. The last line is the gate's own,
-# `N passed, M failed`. Where the Python tests fail it counts one more as failed, so that whoever sees that line alone doesn't take it for a pass.
+# The test command: Debian's packages that the tests want, where they may be installed; the gate (`rt ci`: every proof from nothing, the
+# edits that must be refused, the programs and their tests); the proxy's tests in Go; and the Python tests, over the auditor that the gate has
+# just proved and built. The last line is the gate's own, `N passed, M failed`. If the proxy's or the Python tests fail, it counts one more as
+# failed for each, so that nobody who sees that line alone takes it for a pass.
 set -euo pipefail
 cd "$(dirname "$0")"
 export COBRA_AUDIT=$PWD/crates/cobra_audit/out/cobra_audit PYTHONDONTWRITEBYTECODE=1
 rm -f "$COBRA_AUDIT" # what stands there later is of this run
 told=$(mktemp)
 trap 'rm -f "$told"' EXIT
+
+./install_packages.sh
 
 gate=0
 rt ci | tee "$told" || gate=$?
@@ -19,6 +22,14 @@ else
     gate=1
 fi
 [ "$gate" -eq 0 ] || [ "$failed" -gt 0 ] || failed=1
+
+echo "== proxy"
+proxy=0
+proxy/test.sh 2>&1 || proxy=$?
+if [ "$proxy" -ne 0 ]; then
+    echo "FAILED: proxy/test.sh (status $proxy)"
+    failed=$((failed + 1))
+fi
 
 echo "== collectors/python"
 python=0
