@@ -6,17 +6,14 @@ import socket
 import threading
 import time
 from http.server import BaseHTTPRequestHandler, ThreadingHTTPServer
-from typing import Any, Callable, Iterator, List, Sequence, Tuple
+from typing import Any, Callable, Iterator
 
+from ..core._prometheus import TEXT, Family, text_of
 from ..core._version import VERSION
 from ..live._live_auditor import LiveAuditor
 
-TEXT = "text/plain; version=0.0.4; charset=utf-8"
 KINDS = ("serial", "pending", "violated", "spent")
 SLOWEST = 10.0  # seconds in which who asks has to send its lines, and to take the answer
-Labels = Tuple[Tuple[str, object], ...]
-Sample = Tuple[Labels, float]
-Family = Tuple[str, str, str, Sequence[Sample]]  # name, kind, what it is, samples
 
 
 def families(live: LiveAuditor, clients: int = 0, redis_up: Any = None) -> Iterator[Family]:
@@ -74,24 +71,6 @@ def families(live: LiveAuditor, clients: int = 0, redis_up: Any = None) -> Itera
         yield one("redis_up", "gauge", "1 where the Redis can be reached.", bool(redis_up))
 
 
-def text_of(every: Iterator[Family]) -> str:
-    lines: List[str] = []
-    for name, kind, about, samples in every:
-        lines += [f"# HELP {name} {about}", f"# TYPE {name} {kind}"]
-        lines += [f"{name}{labels(labelled)} {float(value):g}" for labelled, value in samples]
-    return "\n".join(lines) + "\n"
-
-
-def labels(pairs: Labels) -> str:
-    if not pairs:
-        return ""
-    return "{" + ",".join(f'{label}="{escaped(str(value))}"' for label, value in pairs) + "}"
-
-
-def escaped(text: str) -> str:
-    return text.replace("\\", "\\\\").replace('"', '\\"').replace("\n", "\\n")
-
-
 class MetricsServer:
     """Answers GET /metrics at HOST:PORT by what `tell` gives, until it is closed. Raises OSError
     where nobody can listen there. Port 0 takes any; `port` is the one taken."""
@@ -128,3 +107,6 @@ class MetricsServer:
     def close(self) -> None:
         self._server.shutdown()
         self._server.server_close()
+
+
+__all__ = ["MetricsServer", "families", "text_of"]
