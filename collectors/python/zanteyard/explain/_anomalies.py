@@ -40,6 +40,15 @@ MEANINGS: Mapping[str, str] = {
 }
 
 
+UNREPEATABLE = "non-repeatable read"  # a name of SQL's, which `zanteyard watch` uses
+OF_SQL = {UNREPEATABLE: "a transaction read a row twice, and found two versions of it"}
+
+
+def meaning_of(name: str) -> str:
+    """What an anomaly's name says; empty if it isn't known."""
+    return {**OF_SQL, **MEANINGS}.get(name, "")
+
+
 def find_anomaly(
     history: Sequence[Sequence[Logged]], name: Naming = plain_name
 ) -> Optional[Anomaly]:

@@ -8,7 +8,7 @@ from typing import Iterable, List, Sequence
 
 from ..core._records import ABORTED
 from ..core._version import VERSION
-from ._anomalies import MEANINGS
+from ._anomalies import meaning_of
 from ._charts import RoundSeen, draw_rounds
 from ._report import SHOWN, Step, Story
 from ._timeline_svg import draw_story
@@ -92,7 +92,7 @@ def page_of(story: Story, about: str, origin: str, rounds: Sequence[RoundSeen] =
     """The whole page. `about` says in a few words what was audited, `origin` by which program."""
     parts: List[str] = [_head(story, about)]
     if story.kind == "violated":
-        parts += [*_picture(story), *_reasons(story), *_table(story.steps), *_again(story)]
+        parts += [*picture_part(story), *reasons_part(story), *_table(story.steps), *_again(story)]
     else:
         parts += _order(story)
     parts += _rounds(rounds)
@@ -123,7 +123,7 @@ def _head(story: Story, about: str) -> str:
         f"<p>{escape(_sentence(story))}.</p>",
     ]
     if story.anomaly is not None:
-        meaning = MEANINGS.get(story.anomaly.name)
+        meaning = meaning_of(story.anomaly.name)
         more = f' <span class="soft">({escape(meaning)})</span>' if meaning else ""
         lines.append(
             f'<div class="anomaly"><strong>{escape(_capital(story.anomaly.name))}</strong>{more}'
@@ -141,7 +141,7 @@ def _capital(text: str) -> str:
     return text[:1].upper() + text[1:]
 
 
-def _picture(story: Story) -> Iterable[str]:
+def picture_part(story: Story) -> Iterable[str]:
     drawn = draw_story(story)
     if not drawn:
         return
@@ -161,7 +161,7 @@ def _picture(story: Story) -> Iterable[str]:
     yield f"<figcaption>{caption}</figcaption></figure>"
 
 
-def _reasons(story: Story) -> Iterable[str]:
+def reasons_part(story: Story) -> Iterable[str]:
     yield "<h2>Why no order is left</h2>"
     if not story.links:
         yield "<ul>" + "".join(f"<li>{escape(line)}</li>" for line in story.because) + "</ul>"

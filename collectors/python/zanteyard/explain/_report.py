@@ -11,7 +11,7 @@ from typing import Sequence, Tuple
 
 from ..core._circumstances import caller_of, clock_of, values_of
 from ..core._records import AuditId, History, Logged, Naming, ShownId
-from ._anomalies import MEANINGS, Anomaly, find_anomaly
+from ._anomalies import Anomaly, find_anomaly, meaning_of
 from ._reasons import SESSION, Explanation, below, explain_history
 from ._scripts import ScriptHistory, Verdict
 from ._shrinking import SECONDS, audited, from_start, refuted, smaller, words
@@ -193,7 +193,7 @@ def story_lines(story: Story) -> Iterator[str]:
     """The story as text, for a terminal."""
     yield f"{story.kind}: {story.sentence}"
     if story.anomaly is not None:
-        meaning = MEANINGS.get(story.anomaly.name)
+        meaning = meaning_of(story.anomaly.name)
         yield f"  {story.anomaly.name}" + (f" ({meaning}):" if meaning else ":")
         yield f"  {story.anomaly.sentence}"
     for line in story.lines:

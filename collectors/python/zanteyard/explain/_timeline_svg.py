@@ -11,9 +11,9 @@ from typing import Dict, List, Mapping, Sequence, Tuple
 from ..core._records import ABORTED, ShownId
 from ._report import IN_ONE_SESSION, Link, Step, Story
 
-WIDTH, GAP, LANE_GAP = 210.0, 130.0, 76.0  # of a box, and between boxes, in the picture's units
+WIDTH, GAP, LANE_GAP = 264.0, 120.0, 76.0  # of a box, and between boxes, in the picture's units
 LINE, PADDING, LEFT = 18.0, 8.0, 100.0
-MOST_LETTERS = 30  # of a line in a box
+MOST_LETTERS = 38  # of a line in a box
 Point = Tuple[float, float]
 
 
