@@ -26,6 +26,7 @@ from typing import Iterator, List, Optional, Sequence
 HERE = os.path.dirname(os.path.abspath(__file__))
 TOP = os.path.normpath(os.path.join(HERE, "../.."))
 PROGRAMS = ("cobra_audit", "cobra_check", "cobra_live")  # each a crate of this name
+PROXY = os.path.join(TOP, "proxy", "out", "zanteyard-proxy")  # where its build.sh puts it
 PATIENCE = 600  # seconds in which a build without proofs has to have come to its run
 
 
@@ -162,7 +163,11 @@ def stage(folder: str, programs: Sequence[str], is_proved: bool) -> None:
     os.mkdir(inside)
     for path in programs:
         os.chmod(shutil.copy(path, inside), 0o755)
-    write_note(inside, is_proved)
+    write_note(inside, is_proved)  # of the proved programs, to which the proxy doesn't belong
+    if os.path.isfile(PROXY):
+        os.chmod(shutil.copy(PROXY, inside), 0o755)
+    else:
+        print("the wheel has no proxy for `zanteyard watch`: proxy/build.sh builds it")
     platform = sysconfig.get_platform().replace("-", "_").replace(".", "_")
     with open(os.path.join(folder, "setup.cfg"), "w", encoding="utf-8") as file:
         file.write(f"[bdist_wheel]\nplat_name = {platform}\npython_tag = py3\n")

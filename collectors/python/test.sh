@@ -77,6 +77,9 @@ fi
 if ! "$python" -c "import psycopg2, pglast, sqlalchemy" 2> /dev/null; then
     echo "skipped: what needs SQLAlchemy, psycopg2 and pglast, which aren't all installed (no application over SQLAlchemy was audited)"
 fi
+if [ ! -x "${ZANTEYARD_PROXY:-../../proxy/out/zanteyard-proxy}" ]; then
+    echo "skipped: what needs the proxy, which isn't built by proxy/build.sh (no application was watched over a real one)"
+fi
 if ! "$python" -c "import psycopg2" 2> /dev/null || ! "$python" -c "import sys; from zanteyard.trial.postgres_server import program; sys.exit(not program('initdb'))"; then
     echo "skipped: what needs PostgreSQL and psycopg2, which aren't both installed (nothing was audited live)"
 fi

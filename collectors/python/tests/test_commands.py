@@ -300,7 +300,7 @@ class Programs(unittest.TestCase):
             self.assertEqual(file.read().strip(), VERSION)
         status, out, _ = run("--version")
         self.assertEqual((status, out.splitlines()[0]), (0, f"zanteyard {VERSION}"))
-        self.assertEqual(len(out.splitlines()), 3)
+        self.assertEqual(len(out.splitlines()), 4)
 
 
 if __name__ == "__main__":

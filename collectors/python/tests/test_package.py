@@ -106,7 +106,7 @@ class Package(unittest.TestCase):
     def test_what_it_says_of_its_auditor(self):
         first, *programs = self.zanteyard("--version").stdout.splitlines()
         self.assertEqual(first, f"zanteyard {VERSION}")
-        self.assertEqual([line.split()[0] for line in programs], ["auditor", "checker"])
+        self.assertEqual([line.split()[0] for line in programs], ["auditor", "checker", "proxy"])
         self.assertIn(f"{self.folder}/venv/", programs[0])
         self.assertIn(": proved by " if self.is_of_the_tree else "NOT PROVED", programs[0])
         self.assertEqual("+unproved" in os.path.basename(self.wheel), not self.is_of_the_tree)

@@ -23,6 +23,9 @@ from ..program._auditor import Auditor
 from ..program._binaries import checker_path, find_program, origin_of, program_path
 from ..trial import _demo as demo
 from ..trial.store_kinds import KINDS
+from ..watch import _command as watch_command
+from ..watch import _prepare as watch_prepare
+from ..watch._proxy import build_of
 from . import _serve as serve_command
 from . import audit as audit_command
 
@@ -78,7 +81,8 @@ class _Version(argparse.Action):
     def __call__(self, parser: argparse.ArgumentParser, *_: Any) -> None:
         print(f"zanteyard {VERSION}")
         print(f"auditor {origin_of(program_path()).sentence()}")
-        print(f"checker {origin_of(checker_path()).sentence()}", flush=True)
+        print(f"checker {origin_of(checker_path()).sentence()}")
+        print(f"proxy {build_of()}", flush=True)
         parser.exit()
 
 
@@ -122,6 +126,10 @@ def parser() -> argparse.ArgumentParser:
     check_report.add_arguments(checked)
     made = command("import", import_command.run, "makes a script of a history of another tool's")
     import_command.add_arguments(made)
+    watched = command("watch", watch_command.run, "audits any application over PostgreSQL")
+    watch_command.add_arguments(watched)
+    prepared = command("prepare", watch_prepare.run, "shows what a server lacks for `watch`")
+    watch_prepare.add_arguments(prepared)
     served = command("serve", serve_command.run, "audits as a daemon, for clients that come and go")
     served.epilog = serve_command.STATUS_WORDS
     serve_command.add_arguments(served)

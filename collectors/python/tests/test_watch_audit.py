@@ -1,0 +1,209 @@
+"""An audit by a feed that is made up: the real auditor, and no proxy."""
+import io
+import json
+import os
+import sys
+import threading
+import unittest
+
+from tests import watch_feed as feed
+from zanteyard.program._binaries import PROGRAM
+from zanteyard.watch._auditing import Auditing
+from zanteyard.watch._board import Board
+from zanteyard.watch._explaining import Explaining
+from zanteyard.watch._feed import Split
+from zanteyard.watch._intake import Intake
+from zanteyard.watch._watching import Watching
+
+
+class Output(io.StringIO):
+    """Of a fake proxy: what it writes goes into the intake."""
+
+    def __init__(self, intake):
+        super().__init__()
+        self.intake, self.split = intake, Split()
+
+    def write(self, text):
+        items = self.split.items(text.encode())
+        if items:
+            self.intake.put(items)
+        return len(text)
+
+
+class Commands:
+    """Lines for a fake proxy, as they come; they end with None."""
+
+    def __init__(self):
+        self.lines, self.change = [], threading.Condition()
+
+    def put(self, line):
+        with self.change:
+            self.lines.append(line)
+            self.change.notify_all()
+        return True
+
+    def __iter__(self):
+        while True:
+            with self.change:
+                while not self.lines:
+                    self.change.wait()
+                line = self.lines.pop(0)
+            if line is None:
+                return
+            yield line
+
+
+@unittest.skipUnless(os.path.isfile(PROGRAM), f"{PROGRAM} is not built")
+class Audits(unittest.TestCase):
+    def begin(self, parts, **more):
+        """A Watching over a fake proxy of these parts."""
+        self.board, intake, self.commands = Board("shop"), Intake(), Commands()
+        self.changed = threading.Condition()
+        self.told = []
+        self.explaining = Explaining(PROGRAM, self.board.violation)
+        auditing = Auditing(PROGRAM, **more)
+        self.watching = Watching(auditing, self.board, intake, self.tell, self.explaining)
+        self.watching.start()
+        self.fake = feed.Fake(parts, Output(intake))
+        threading.Thread(target=self.fake.run, args=(self.commands,), daemon=True).start()
+        self.addCleanup(self.end)
+        return self.watching
+
+    def tell(self, line):
+        self.told.append(json.loads(line))
+        return self.commands.put(line)
+
+    def end(self):
+        self.commands.put(None)
+        self.watching.end()
+
+    def stop(self):
+        """Gives the status after the last round."""
+        self.watching.stop()
+        self.watching.stopped.wait()
+        self.explaining.wait(60)
+        return self.board.status()
+
+    def told_of(self, name):
+        return [its for its in self.told if its["command"] == name]
+
+    def test_a_serial_one(self):
+        parts = [
+            feed.started(warnings=["take care"]),
+            feed.OPEN,
+            feed.offer(0, 0, [[[5, "init"]], [5]]),
+            feed.meeting(),
+            *feed.ROUND,
+            feed.coverage(),
+            ("await", "cut"),
+        ]
+        self.begin(parts)
+        self.fake_has("cut")
+        status = self.stop()
+        self.assertEqual(status.whole_kind, "serial")
+        self.assertEqual((status.rounds_count, status.violations_count), (2, 0))
+        self.assertEqual((status.seen.offered, status.seen.whole), (8, 11))
+        self.assertEqual(status.notes, ("take care",))
+        self.assertEqual([its["marks"] for its in self.told_of("cut")], [[0] * 64] * 2)
+
+    def test_a_cut_is_told_with_its_marks(self):
+        fence = [[[0, "init"]], [0]]
+        parts = [
+            feed.started(),
+            feed.OPEN,
+            *(["close", session] for session in range(2, 64)),
+            feed.offer(0, 0, [[], [5]], fence),
+            feed.offer(1, 0, [[[0, 0, 1]], [0]]),
+            *feed.ROUND,
+            ("await", "cut"),
+        ]
+        self.begin(parts)
+        self.fake_has("cut")
+        status = self.stop()
+        self.assertEqual([its["marks"][:3] for its in self.told_of("cut")], [[2, 0, 0]] * 2)
+        self.assertEqual((status.cuts, status.forgotten, status.remaining), (1, 2, 1))
+
+    def test_a_violation_is_explained_and_another_audit_begins(self):
+        self.begin([feed.started(), feed.OPEN, *feed.LOST_UPDATE, *feed.ROUND, ("await", "restart")])
+        self.fake_has("restart")
+        status = self.stop()
+        self.assertEqual((status.whole_kind, status.kind), ("violated", "serial"))
+        self.assertEqual((status.audit, status.violations_count), (2, 1))
+        (found,) = status.violations
+        self.assertEqual(found.title, "lost update")
+        self.assertEqual([one.label for one in found.told], ["T1", "T2", "T3"])
+        text = "\n".join(found.lines())
+        for wanted in (
+            "T2 and T3 both read stock(7) from T1 and both overwrote it",
+            "T2 (1.0): shop from 10.0.0.7:50001 as shop, read committed, began at ",
+            "SELECT qty FROM stock WHERE id = $1  [$1 = '7']  [shop/orders.py:41]",
+            "UPDATE stock SET qty = 4 WHERE id = 7",
+            "T3 comes before T2: T3 read stock(7) from T1, and T2, which wrote it too, comes",
+        ):
+            with self.subTest(wanted=wanted):
+                self.assertIn(wanted, text)
+        asked = self.told_of("describe")
+        self.assertEqual([sorted(its["transactions"]) for its in asked], [[[0, 0], [1, 0], [2, 0]]])
+
+    def until(self, is_so):
+        """Waits for it, for two minutes at most."""
+        pause = threading.Event()
+        for _ in range(12000):
+            if is_so():
+                return
+            pause.wait(0.01)
+        self.fail("it hasn't come to that in two minutes")
+
+    def fake_has(self, name):
+        """Waits until the fake proxy was told this."""
+        self.until(lambda: self.told_of(name))
+
+    def test_a_line_that_is_refused_ends_the_audit(self):
+        self.begin([feed.started(), feed.OPEN, feed.offer(0, 5, [[], [5]]), ("await", "restart")])
+        self.fake_has("restart")
+        status = self.stop()
+        self.assertEqual(status.whole_kind, "incomplete")
+        self.assertIn('the auditor answered Gap to ["offer",0,5', status.ended[0].reason)
+        self.assertEqual((status.audit, status.kind), (2, "serial"))
+
+    def test_the_proxys_end_of_an_audit(self):
+        self.begin(
+            [
+                feed.started(),
+                feed.OPEN,
+                feed.offer(0, 0, [[], [5]]),
+                *feed.ROUND,
+                feed.event("ended", at=feed.AT, reason="the slot was lost"),
+                ("await", "restart"),
+            ]
+        )
+        self.fake_has("restart")
+        status = self.stop()
+        self.assertEqual(status.ended[0].reason, "the slot was lost")
+        self.assertEqual((status.ended[0].kind, status.whole_kind), ("serial", "incomplete"))
+
+    def test_a_proxy_that_gave_up_isnt_waited_for(self):
+        """It doesn't answer to `stop` then."""
+        ended = feed.event("ended", at=feed.AT, reason="the slot was lost")
+        self.begin([feed.started(), feed.OPEN, *feed.ROUND, ended])
+        self.until(lambda: self.board.status().is_over)
+        self.fake.answer = lambda its: None
+        status = self.stop()
+        self.assertEqual(status.whole_kind, "incomplete")
+
+    def test_an_auditor_that_dies(self):
+        self.begin([feed.started(), feed.OPEN, feed.offer(0, 0, [[], [5]]), *feed.ROUND])
+        self.wait_for_rounds(1)
+        self.watching.auditing._program.process.kill()
+        self.fake.write(feed.offer(0, 1, [[], [5]]))
+        self.fake_has("restart")
+        status = self.stop()
+        self.assertIn("ended with status -9", status.ended[0].reason)
+        self.assertEqual((status.whole_kind, status.kind), ("incomplete", "serial"))
+
+    def wait_for_rounds(self, count):
+        self.until(lambda: self.board.status().rounds_count >= count)
+
+
+if __name__ == "__main__":
+    sys.exit(unittest.main())

@@ -1,0 +1,322 @@
+"""The pages of a watched audit: what they say, that nothing in them is from outside or unsafe, and
+how they look in a real browser."""
+import os
+import re
+import shutil
+import subprocess
+import sys
+import tempfile
+import unittest
+from dataclasses import replace
+
+from tests import watch_feed as feed
+from tests.test_page import BROWSER, Tags, pixels
+from zanteyard.core._records import Logged
+from zanteyard.explain._charts import RoundSeen
+from zanteyard.explain._report import story_of
+from zanteyard.watch import _ending as ending
+from zanteyard.watch import _live_page as live_page
+from zanteyard.watch._described import Described, Statement
+from zanteyard.watch._feed import answered_of, seen_of
+from zanteyard.watch._serving import Pages
+from zanteyard.watch._state import Ended, Status
+from zanteyard.watch._style import NOW, SCRIPT, STYLE
+from zanteyard.watch._text import counted, escaped, visible, visible_lines
+from zanteyard.watch._violation_page import violation_page
+from zanteyard.watch._violations import Row, Told, Violation
+from zanteyard.watch._web import Answer, WebServer
+
+EVIL = "<script>alert(1)</script>\x1b[2J\u202egnp.exe\u200b\x00"
+SHOWN_EVIL = "&lt;script&gt;alert(1)&lt;/script&gt;\\u001b[2J\\u202egnp.exe\\u200b\\u0000"
+
+
+def violation(evil=""):
+    first = Logged((), ("stock(7)",))
+    read = ("stock(7)", (0, 0))
+    both = Logged((read,), ("stock(7)",))
+    names = {(0, 0): "T1", (0, 1): "T2", (1, 0): "T3"}
+    story = story_of([[first, both], [both]], names.__getitem__, '["open",2,3]\n', (2, 1))
+    statements = (
+        Statement(f"SELECT qty FROM stock WHERE id = $1 {evil}", ("7" + evil,), feed.AT, (evil,)),
+        Statement(f"UPDATE stock SET qty = 4 {evil} /*file='shop.py{evil}',line='3'*/"),
+    )
+    its = Described((0, 1), "shop" + evil, "10.0.0.7:5" + evil, "u" + evil, statements=statements)
+    told = (Told("T1", (0, 0), None), Told("T2", (0, 1), its), Told("T3", (1, 0), its))
+    return Violation(1, 17, feed.AT, story, told)
+
+
+def status(**more):
+    its = {
+        "seen": seen_of(feed.coverage()),
+        "kind": "serial",
+        "rounds": (RoundSeen(1.0, "serial", 9, 0.1), RoundSeen(2.0, "serial", 12, 0.2)),
+        "rounds_count": 2,
+        "told_at": 1001.0,
+        "checked_until": 1000.5,
+        "origin": "proved",
+    }
+    return Status("shop at db", 900.0, 1002.0, **{**its, **more})
+
+
+class Texts(unittest.TestCase):
+    def test_what_cant_be_seen_is_shown(self):
+        for text, wanted in (
+            ("a  b\n c\t", "a b c"),
+            ("\x1b[31mred", "\\u001b[31mred"),
+            ("\u202eabc\u2066", "\\u202eabc\\u2066"),
+            ("\U000e0041", "\\U000e0041"),
+            ("\ud800", "\\ud800"),
+            ("naïve Ω 漢 🙂", "naïve Ω 漢 🙂"),
+            ("a\u00a0b", "a b"),
+            ("x" * 50, "x" * 10 + " .."),
+        ):
+            with self.subTest(text=text):
+                self.assertEqual(visible(text, 10 if len(text) == 50 else 4000), wanted)
+        self.assertEqual(visible_lines("SELECT 1\r\n  , 2\x07\n"), "SELECT 1\n  , 2\\u0007")
+        self.assertEqual(escaped(EVIL), SHOWN_EVIL)
+        self.assertEqual(
+            [counted(1, "read"), counted(2000, "read"), counted(1, "thing is", "things are")],
+            ["1 read", "2,000 reads", "1 thing is"],
+        )
+
+
+class Live(unittest.TestCase):
+    def test_it_is_whole_and_asks_for_nothing(self):
+        for one in (status(), status(violations=(violation(EVIL),), violations_count=3)):
+            text = live_page.whole_page(one)
+            tags = Tags(text)
+            asked = [it for it in tags.asked if not re.fullmatch(r"/violation/\d+", it)]
+            self.assertEqual((tags.open, tags.wrong, asked), ([], [], []))
+            self.assertEqual({"link", "img", "iframe", "object"} & {*tags.seen}, set())
+            self.assertEqual(tags.seen.count("script"), 1)
+            self.assertNotIn("http", text.replace('http-equiv="refresh"', ""))
+            self.assertNotIn(" style=", text)  # which the policy forbids
+
+    def test_what_it_says(self):
+        for one, wanted in (
+            (status(), ["No violation so far", "72.7 % of 11", "an aggregate", "checked up to "]),
+            (status(kind="running", rounds_count=0), ["Nothing has been checked yet"]),
+            (
+                status(violations=(violation(),), violations_count=22),
+                ["22 violations found", "/violation/1", "21 violations more, whose"],
+            ),
+            (
+                status(kind="pending", pending=("1.0 read key 5",), pending_count=1),
+                ["some reads still wait", "1 read of the last round", "1.0 read key 5"],
+            ),
+            (
+                status(is_over=True, ended=(Ended(1, "serial", 2, "the slot was lost", 950.0),)),
+                ["something wasn't checked", "Nothing is being checked: the slot was lost"],
+            ),
+            (
+                status(
+                    violations_count=1, is_over=True,
+                    ended=(Ended(1, "violated", 2, "a violation was found", 950.0, False),),
+                ),
+                ["An explanation is being made", "Another audit begins soon"],
+            ),
+            (status(subtransactions="returning"), ["pg_walinspect isn’t there"]),
+            (status(notes=("take care",)), ["take care"]),
+        ):
+            text = live_page.whole_page(one).replace("&#x27;", "'")
+            for each in wanted:
+                with self.subTest(wanted=each):
+                    self.assertIn(each, text)
+
+    def test_what_comes_from_outside_is_made_safe(self):
+        its = feed.coverage(
+            folded={EVIL: 3},
+            reads={"offered": 1, "left_out": {EVIL: 4}},
+            unseen=[{"shape": EVIL, "reason": EVIL, "reads": True, "count": 1, "first": feed.AT}],
+        )
+        one = status(
+            seen=seen_of(its), notes=(EVIL,), ended=(Ended(1, EVIL, 2, EVIL, 1.0),),
+            pending=(EVIL,), pending_count=1, violations=(violation(EVIL),), violations_count=1,
+        )
+        for text in (
+            live_page.whole_page(replace(one, title=EVIL, origin=EVIL)),
+            violation_page(violation(EVIL), EVIL, EVIL),
+        ):
+            self.assertNotIn("<script>alert", text)
+            self.assertEqual(set("\x1b\u202e\u200b\x00") & set(text), set())
+            self.assertGreaterEqual(text.count("\\u202egnp"), 5)
+
+    def test_what_was_aborted_doesnt_count_as_left_out(self):
+        its = {"offered": 6, "left_out": {"it aborted": 500, "its version isn't known": 2}}
+        seen = seen_of(feed.coverage(reads=its))
+        self.assertEqual((seen.left_out_count, seen.whole_reads), (2, 8))
+
+    def test_a_share_is_whole_only_if_nothing_is_missing(self):
+        for part, whole, wanted in ((9999999, 10000000, "99.9 %"), (5, 5, "100 %"), (0, 0, "0 %")):
+            self.assertEqual(live_page._share(part, whole), wanted)
+
+    def test_times(self):
+        for seconds, wanted in (
+            (0.25, "0.2 s"), (75, "75 seconds"), (600, "10 minutes"), (7200, "2 hours"),
+            (200000, "2 days"),
+        ):
+            self.assertEqual(live_page.lasting(seconds), wanted)
+
+
+class OfAViolation(unittest.TestCase):
+    def test_it_is_whole(self):
+        for is_file in (False, True):
+            text = violation_page(violation(), "shop", "proved", is_file)
+            tags = Tags(text)
+            asked = [] if is_file else ["/", "/violation/1.jsonl"]
+            self.assertEqual((tags.open, tags.wrong, tags.asked), ([], [], asked))
+            self.assertNotIn("script", tags.seen)
+
+    def test_what_it_says(self):
+        text = violation_page(violation(), "shop", "proved").replace("&#x27;", "'")
+        for wanted in (
+            "<h1>Lost update</h1>",
+            "T2 and T3 both read stock(7) from T1 and both overwrote it",
+            "SELECT qty FROM stock WHERE id = $1\n-- $1 = '7'</pre>",
+            "shop.py:3",
+            "UPDATE stock SET qty = 4</pre>",
+            "T2 → T3 → T2",
+            "T1: transaction 0.0",
+            "[&quot;open&quot;,2,3]",
+            "SELECT .. FOR UPDATE",
+        ):
+            with self.subTest(wanted=wanted):
+                self.assertIn(wanted, text)
+
+
+class Endings(unittest.TestCase):
+    def test_what_the_status_is(self):
+        violated = {"violations_count": 1}
+        lost = {"ended": (Ended(1, "serial", 2, "it was lost", 1.0),)}
+        for more, wanted in (
+            ({}, 0),
+            (violated, 1),
+            ({**violated, **lost}, 1),
+            ({"kind": "pending"}, 3),
+            ({"kind": "spent"}, 4),
+            ({"kind": "running"}, 4),
+            (lost, 4),
+            ({"seen": seen_of(feed.coverage(offered=2))}, 4),
+        ):
+            with self.subTest(more=more):
+                self.assertEqual(ending.status_of(status(**more)), wanted)
+
+    def test_an_audit_that_checked_nothing_isnt_serial(self):
+        its = status(seen=seen_of({}))
+        self.assertEqual(
+            [*ending.lines_of(its)],
+            ["nothing was checked: no application has read or written a table through the proxy"],
+        )
+
+    def test_earlier_audits_count(self):
+        its = status(earlier_seen=seen_of(feed.coverage()))
+        self.assertIn("16 of 22 transactions", next(ending.lines_of(its)))
+
+
+class Feeds(unittest.TestCase):
+    def test_fields_that_are_missing_or_wrong(self):
+        for event in ({}, {"reads": 5, "unseen": [7, {}], "folded": None, "committed": "x"}):
+            seen = seen_of(event)
+            self.assertEqual((seen.offered, seen.whole, seen.reads), (0, 0, 0))
+
+    def test_what_is_described(self):
+        its = [feed.described(1, 2), {"session": 3, "number": 4, "known": False}]
+        answered = answered_of(feed.event("transactions", id=1, transactions=its))
+        self.assertEqual([*answered.transactions], [(1, 2)])
+        self.assertEqual(answered.keys[5].named(), "stock(7)")
+        first = answered.transactions[(1, 2)].statements[0]
+        self.assertEqual((first.origin, first.values), ("shop/orders.py:41", "$1 = '7'"))
+        self.assertEqual(first.plain, "SELECT qty FROM stock WHERE id = $1")
+
+    def test_how_rows_are_named(self):
+        for row, columns, wanted in (
+            (Row("public.stock", "7"), (), "stock(7)"),
+            (Row("public.stock", "7"), ("id",), "stock(id=7)"),
+            (Row("shop.stock", "7, x"), ("id", "place"), "shop.stock(id=7, place=x)"),
+            (Row("public.stock", "7, x, y"), ("id", "place"), "stock(7, x, y)"),
+            (Row("public.stock", "7, x", ("a",)), ("id", "place"), "stock(a=7, x)"),
+        ):
+            self.assertEqual(row.named(columns), wanted)
+
+
+@unittest.skipUnless(BROWSER, "chromium is not installed")
+class InABrowser(unittest.TestCase):
+    """A page of the state that `now` gives, once more for each time that the browser asks."""
+
+    def setUp(self):
+        self.folder = tempfile.mkdtemp()
+        self.addCleanup(shutil.rmtree, self.folder, ignore_errors=True)  # the browser may linger
+
+        class Board:
+            status = staticmethod(lambda: self.one)
+
+        self.one = status(violations=(violation(),), violations_count=1)
+        self.server = WebServer("127.0.0.1:0", Pages(Board()))
+        self.addCleanup(self.server.close)
+
+    def browse(self, path, *words):
+        whole = [
+            BROWSER, "--headless", "--no-sandbox", "--disable-gpu", "--hide-scrollbars",
+            f"--user-data-dir={self.folder}/user", *words, self.server.url.rstrip("/") + path,
+        ]
+        ended = subprocess.run(
+            whole, stdout=subprocess.PIPE, stderr=subprocess.DEVNULL, timeout=120
+        )
+        self.assertEqual(ended.returncode, 0)
+        return ended.stdout.decode()
+
+    def seen(self, path, width):
+        picture = os.path.join(self.folder, f"{width}.png")
+        self.browse(path, f"--window-size={width},900", f"--screenshot={picture}")
+        found_width, _, rows = pixels(picture)
+        self.assertEqual(found_width, width)
+        return [pixel for row in rows for pixel in row]
+
+    def test_it_is_seen(self):
+        for path, width in (("/", 1200), ("/", 500), ("/violation/1", 1200), ("/violation/1", 500)):
+            with self.subTest(path=path, width=width):
+                seen = self.seen(path, width)
+                red = sum(pixel == (179, 38, 30) for pixel in seen)
+                self.assertGreater(red, 300)  # the edge of the box that says it
+                self.assertGreater(sum(pixel == (251, 236, 235) for pixel in seen), 20000)
+
+    def test_nothing_is_wider_than_a_narrow_screen(self):
+        """What doesn't fit scrolls by itself: the page as a whole stays as wide as the screen."""
+        page = live_page.whole_page(status(violations=(violation(EVIL * 9),), violations_count=1))
+        for text in (page, violation_page(violation(EVIL * 9), "shop", "proved")):
+            wide = "document.title = document.documentElement.scrollWidth"
+            own = f"<script>{wide}</script></body>"
+            self.server.close()
+            answer = Answer(text.replace("</body>", own), policy="")
+            self.server = WebServer("127.0.0.1:0", lambda path, answer=answer: answer)
+            self.addCleanup(self.server.close)
+            found = self.browse("/", "--window-size=500,900", "--dump-dom")
+            self.assertEqual(re.findall("<title>(.*?)</title>", found)[0], "500")
+
+    def test_it_refreshes_itself(self):
+        """The page says what it was as it was asked for; the part that changes says more."""
+        first = Pages(type("Board", (), {"status": staticmethod(lambda: status())}))
+        later = Pages(type("Board", (), {"status": staticmethod(lambda: self.one)}))
+        asked = []
+
+        def tell(path):
+            asked.append(path)
+            return later(path) if path == NOW else first(path)
+
+        self.server.close()
+        self.server = WebServer("127.0.0.1:0", tell)
+        self.addCleanup(self.server.close)
+        found = self.browse("/", "--virtual-time-budget=9000", "--dump-dom")
+        self.assertIn(NOW, asked)
+        self.assertIn("1 violation found", found)
+        self.assertNotIn("No violation so far</h1>", found)
+
+    def test_the_policy_fits_the_page(self):
+        """Else the browser wouldn't run the script, or use the style."""
+        text = live_page.whole_page(status())
+        self.assertIn(f"<style>{STYLE}</style>", text)
+        self.assertIn(f"<script>{SCRIPT}</script>", text)
+
+
+if __name__ == "__main__":
+    sys.exit(unittest.main())

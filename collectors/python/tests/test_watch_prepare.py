@@ -1,0 +1,271 @@
+"""What `zanteyard prepare` finds of a server and its tables."""
+import contextlib
+import io
+import os
+import sys
+import unittest
+
+from zanteyard.cli._main import main
+from zanteyard.trial.postgres_server import PostgresServer, program
+from zanteyard.watch import _facts as facts
+from zanteyard.watch import _hosts as hosts
+from zanteyard.watch._columns import KeyColumns
+from zanteyard.watch._database import Database, without_password
+from zanteyard.watch._facts import Server
+from zanteyard.watch._prepare import host_name, is_ready, report
+from zanteyard.watch._schema import Table, quoted, tables_of
+
+try:
+    import psycopg2
+except ImportError:
+    psycopg2 = None
+TABLES = '''
+CREATE TABLE right_one (id int PRIMARY KEY);
+CREATE TABLE two (a uuid, b text, PRIMARY KEY (a, b));
+CREATE TABLE no_key (a int);
+CREATE UNLOGGED TABLE unlogged (a int PRIMARY KEY);
+CREATE TABLE deferred (a int PRIMARY KEY DEFERRABLE);
+CREATE TABLE by_json (a int, b jsonb, PRIMARY KEY (a, b));
+CREATE TABLE nothing (a int PRIMARY KEY); ALTER TABLE nothing REPLICA IDENTITY NOTHING;
+CREATE TABLE by_other (a int PRIMARY KEY, b int NOT NULL UNIQUE);
+ALTER TABLE by_other REPLICA IDENTITY USING INDEX by_other_b_key;
+CREATE TABLE by_key (a int PRIMARY KEY); ALTER TABLE by_key REPLICA IDENTITY USING INDEX by_key_pkey;
+CREATE TABLE "whole ""one""" (a int PRIMARY KEY); ALTER TABLE "whole ""one""" REPLICA IDENTITY FULL;
+CREATE TYPE state AS ENUM ('on', 'off'); CREATE DOMAIN short AS varchar(9);
+CREATE TABLE by_enum (a state, b short, c timestamptz, d numeric, PRIMARY KEY (a, b, c, d));
+CREATE TABLE parts (a int PRIMARY KEY, b int) PARTITION BY RANGE (a);
+CREATE TABLE parts_1 PARTITION OF parts FOR VALUES FROM (0) TO (10);
+CREATE VIEW seen AS SELECT * FROM right_one;
+CREATE TEMPORARY TABLE temporary (a int);
+CREATE COLLATION loose (provider = icu, locale = 'und', deterministic = false);
+CREATE TABLE by_loose (a text COLLATE loose PRIMARY KEY);
+'''
+WHOLE = 'public.' + quoted('whole "one"')
+NO_ICU = "CREATE COLLATION loose"
+
+
+class Hosts(unittest.TestCase):
+    def test_whose_server_it_is(self):
+        for name, settings, wanted in (
+            ("db.example", [], hosts.OWN),
+            ("db.example", ["plpgsql.check"], hosts.OWN),
+            ("a.b.eu-west-1.rds.amazonaws.com", [], hosts.RDS),
+            ("a.cluster-b.eu-west-1.rds.amazonaws.com", [], hosts.AURORA),
+            ("10.0.0.1", ["rds.extensions"], hosts.RDS),
+            ("10.0.0.1", ["rds.extensions", "aurora.x"], hosts.AURORA),
+            ("10.0.0.1", ["cloudsql.logical_decoding"], hosts.CLOUD_SQL),
+            ("10.0.0.1", ["alloydb.logical_decoding"], hosts.ALLOYDB),
+            ("x.postgres.database.azure.com", ["azure.extensions"], hosts.AZURE),
+            ("db.abc.supabase.co", [], hosts.SUPABASE),
+            ("ep-x.eu-central-1.aws.NEON.tech", [], hosts.NEON),
+            ("ec2-1-2-3-4.compute-1.amazonaws.com", [], hosts.HEROKU),
+        ):
+            with self.subTest(name=name, settings=settings):
+                self.assertIs(hosts.host_of(name, settings), wanted)
+
+    def test_each_host_has_a_remedy_for_all(self):
+        whats = (hosts.WAL_LEVEL, hosts.SLOTS, hosts.SENDERS, hosts.REPLICATION, hosts.KEEP)
+        for host in (hosts.OWN, hosts.RDS, hosts.NEON, hosts.HEROKU):
+            for what in (*whats, hosts.WALINSPECT):
+                self.assertTrue(host.remedy(what, "bob"))
+                self.assertNotIn("{user}", host.remedy(what, "bob"))
+
+    def test_where_the_server_is(self):
+        for url, wanted in (
+            ("postgresql://a@db.example:5433/x", "db.example"),
+            ("postgresql://a@/x?host=/tmp/s", "/tmp/s"),
+            ("host=x dbname=y", ""),
+        ):
+            self.assertEqual(host_name(url), wanted)
+
+    def test_a_password_isnt_shown(self):
+        for url, wanted in (
+            ("postgresql://a:b@c:1/d?e=f", "postgresql://a@c:1/d?e=f"),
+            ("postgresql://c/d", "postgresql://c/d"),
+            ("host=a password=b", "the server given"),
+        ):
+            self.assertEqual(without_password(url), wanted)
+
+    def test_names_as_sql_has_them(self):
+        for name, wanted in (("a_1", "a_1"), ("A", '"A"'), ('a"b', '"a""b"'), ("1a", '"1a"')):
+            self.assertEqual(quoted(name), wanted)
+
+
+class Reports(unittest.TestCase):
+    server = Server("15.1", 150001, "shop", "bob", hosts.OWN)
+
+    def test_its_lines(self):
+        found = [
+            facts.Finding(True, True, "PostgreSQL 15.1"),
+            facts.Finding(False, True, "wal_level is replica", "set it"),
+            facts.Finding(False, False, "pg_walinspect isn't created", "create it"),
+        ]
+        tables = [Table("a", "table"), Table("b", "table", "no primary key", "add one")]
+        self.assertFalse(is_ready(found))
+        self.assertEqual(
+            [*report(self.server, found, tables)],
+            [
+                "the server",
+                "  ok      PostgreSQL 15.1",
+                "  MISSING wal_level is replica",
+                "            set it",
+                "            " + hosts.DOCKER_NOTE,
+                "  note    pg_walinspect isn't created",
+                "            create it",
+                "the tables: 1 of 2 tables can be audited",
+                "  b: no primary key",
+                "    add one",
+                "  what is read and written of these is left out, and counted",
+                "1 thing is missing: an audit can't begin",
+            ],
+        )
+        self.assertEqual([*report(self.server, found[:1], [])][-1], "ready: an audit can begin")
+
+
+@unittest.skipUnless(psycopg2 and program("initdb"), "PostgreSQL or psycopg2 is not installed")
+class OverAServer(unittest.TestCase):
+    @classmethod
+    def setUpClass(cls):
+        cls.cluster = PostgresServer()
+        cls.cluster.__enter__()
+        cls.addClassCleanup(cls.cluster.__exit__)
+        cls.url = f"postgresql://postgres@/postgres?host={cls.cluster.folder}"
+
+    def prepare(self, *words, url=None):
+        out = io.StringIO()
+        with contextlib.redirect_stdout(out):
+            status = main(["prepare", url or self.url, *words])
+        return status, out.getvalue().splitlines()
+
+    def test_1_what_is_missing(self):
+        status, lines = self.prepare()
+        self.assertEqual(status, 2)
+        whole = "\n".join(lines)
+        for wanted in (
+            "MISSING wal_level is replica, and has to be logical",
+            f"MISSING the table {facts.FENCE} isn't there",
+            "ok      the role postgres may replicate",
+            "note    max_slot_wal_keep_size has no limit",
+            "2 things are missing",
+        ):
+            self.assertIn(wanted, whole)
+
+    def test_2_what_can_be_created(self):
+        with Database(self.url) as database:
+            database.run("ALTER SYSTEM SET wal_level = 'logical'")
+        self.cluster.stop()
+        self.cluster.start()
+        status, lines = self.prepare("--create")
+        self.assertEqual(status, 0, lines)
+        self.assertEqual(lines[-1], "ready: an audit can begin")
+        self.assertEqual(self.prepare("--create")[0], 0)  # a second time changes nothing
+        with Database(self.url) as database:
+            self.assertEqual(database.run(f"SELECT id, n FROM {facts.FENCE}"), [(0, 0)])
+            slots = database.one("SELECT count(*) FROM pg_replication_slots")
+        self.assertEqual(slots, 0)  # what was tried is gone
+
+    def test_3_a_tables(self):
+        with Database(self.url) as database:
+            text = TABLES
+            if not database.one("SELECT 1 FROM pg_collation WHERE collprovider = 'i' LIMIT 1"):
+                text = TABLES[: TABLES.index(NO_ICU)]
+            for statement in filter(str.strip, text.split(";")):
+                database.run(statement)
+            found = {table.name: table for table in tables_of(database)}
+        seen = {name for name, table in found.items() if table.is_seen}
+        self.assertEqual(
+            seen,
+            {
+                "public.right_one", "public.two", "public.by_key", WHOLE,
+                "public.by_enum", "public.parts", "public.parts_1",
+            },
+        )
+        for name, wanted in (
+            ("no_key", "no primary key"),
+            ("unlogged", "unlogged"),
+            ("deferred", "deferrable"),
+            ("by_json", "b of its primary key has the type jsonb"),
+            ("nothing", "replica identity"),
+            ("by_other", "replica identity"),
+            ("seen", "a view"),
+        ):
+            with self.subTest(table=name):
+                self.assertIn(wanted, found[f"public.{name}"].reason)
+        if "public.by_loose" in found:
+            self.assertIn("collation", found["public.by_loose"].reason)
+        self.assertEqual(
+            (found["public.parts_1"].kind, found["public.seen"].kind), ("partition", "view")
+        )
+        self.assertNotIn(facts.FENCE, found)
+        self.assertNotIn("public.temporary", found)
+
+    def test_3_b_columns_of_keys(self):
+        columns = KeyColumns(self.url)
+        self.assertEqual(columns("public.two"), ("a", "b"))
+        self.assertEqual(columns("public.nothing_there"), ())
+        self.assertEqual(KeyColumns("postgresql://a@127.0.0.1:1/b")("public.two"), ())
+
+    def test_4_a_role_that_may_little(self):
+        with Database(self.url) as database:
+            database.run("CREATE ROLE bob LOGIN")
+        url = self.url.replace("postgres@", "bob@")
+        status, lines = self.prepare(url=url)
+        self.assertEqual(status, 2)
+        at = lines.index("  MISSING the role bob may not replicate")
+        self.assertIn("ALTER ROLE bob REPLICATION", lines[at + 1])
+        with Database(self.url) as database:
+            database.run("ALTER ROLE bob REPLICATION")
+        self.assertEqual(self.prepare(url=url)[0], 0)
+
+    def test_5_no_room_for_a_slot(self):
+        name = "zanteyard_test"
+        with Database(self.url) as database:
+            most = database.one("SELECT current_setting('max_replication_slots')::int")
+            for at in range(most):
+                database.run("SELECT pg_create_physical_replication_slot(%s)", (f"{name}{at}",))
+            try:
+                status, lines = self.prepare()
+            finally:
+                for at in range(most):
+                    database.run("SELECT pg_drop_replication_slot(%s)", (f"{name}{at}",))
+        self.assertEqual(status, 2)
+        self.assertIn(f"MISSING max_replication_slots is {most}", "\n".join(lines))
+
+
+@unittest.skipUnless(program("initdb"), "PostgreSQL is not installed")
+class OverEitherDriver(unittest.TestCase):
+    def test_both_give_the_same(self):
+        """Each is taken if the other one isn't there."""
+        found = {}
+        with PostgresServer() as cluster:
+            url = f"postgresql://postgres@/postgres?host={cluster.folder}"
+            for name, other in (("psycopg2", "psycopg"), ("psycopg", "psycopg2")):
+                before = {it: sys.modules.pop(it, None) for it in (name, other)}
+                sys.modules[other] = None  # an import of it fails
+                try:
+                    __import__(name)
+                except ImportError:
+                    continue
+                else:
+                    with Database(url) as database:
+                        found[name] = [
+                            database.run("SELECT %s::int, 'a%%b'", (5,)),
+                            database.run("SELECT 'a%b'"),
+                            database.run("SET lock_timeout = 5"),
+                            type(database.one("SELECT 1::bigint")),
+                        ]
+                finally:
+                    for it, module in before.items():
+                        sys.modules.pop(it, None)
+                        if module is not None:
+                            sys.modules[it] = module
+        if not found:
+            self.skipTest("neither psycopg2 nor psycopg 3 is installed")
+        for name, its in found.items():
+            with self.subTest(driver=name):
+                self.assertEqual(its, [[(5, "a%b")], [("a%b",)], [], int])
+
+
+if __name__ == "__main__":
+    os.environ.setdefault("PGCONNECT_TIMEOUT", "20")
+    sys.exit(unittest.main())

@@ -1,0 +1,276 @@
+"""A whole run of `zanteyard watch`, over a proxy that isn't one and the real auditor."""
+import json
+import os
+import shutil
+import signal
+import subprocess
+import sys
+import tempfile
+import threading
+import unittest
+import urllib.request
+
+from tests import watch_feed as feed
+from zanteyard.core.errors import ProgramMissingError
+from zanteyard.program._binaries import PROGRAM
+from zanteyard.trial.postgres_server import PostgresServer, program
+from zanteyard.watch._database import Database, DatabaseError
+from zanteyard.watch._proxy import build_of, find_proxy, proxy_path
+from zanteyard.watch._run import Plan, Run
+from zanteyard.watch._supervising import CantBeginError
+
+TOP = os.path.normpath(os.path.join(os.path.dirname(os.path.abspath(__file__)), ".."))
+SERIAL = [
+    feed.started(),
+    feed.OPEN,
+    feed.offer(0, 0, [[[5, "init"]], [5]]),
+    feed.meeting(),
+    *feed.ROUND,
+    feed.coverage(),
+]
+try:
+    import psycopg2
+except ImportError:
+    psycopg2 = None
+
+
+class InAFolder(unittest.TestCase):
+    def setUp(self):
+        self.folder = tempfile.mkdtemp()
+        self.addCleanup(shutil.rmtree, self.folder, ignore_errors=True)
+
+    def until(self, is_so):
+        """Waits for it, for two minutes at most."""
+        pause = threading.Event()
+        for _ in range(12000):
+            if is_so():
+                return
+            pause.wait(0.01)
+        self.fail("it hasn't come to that in two minutes")
+
+
+@unittest.skipUnless(os.path.isfile(PROGRAM), f"{PROGRAM} is not built")
+class Runs(InAFolder):
+    def run_of(self, *runs, is_done=None, **more):
+        """What a run tells, and its status, once it was stopped: after the first round, or once
+        `is_done` says so of the board's status."""
+        told = []
+        plan = Plan([feed.program(self.folder, *runs)], PROGRAM, "shop", "proved", **more)
+        run = Run(plan, told.append)
+        self.run = run
+        is_done = is_done or (lambda status: status.rounds_count >= 1 and status.seen.reads)
+
+        def stop():
+            try:
+                self.until(lambda: run.stop.is_set() or is_done(run.board.status()))
+            finally:
+                run.stop.set()
+
+        stopping = threading.Thread(target=stop)
+        stopping.start()
+        try:
+            return told, run.run()
+        finally:
+            run.stop.set()
+            stopping.join()
+
+    def test_a_serial_one(self):
+        told, status = self.run_of(SERIAL)
+        self.assertEqual(status, 0)
+        self.assertEqual(
+            told,
+            [
+                "serial: 8 of 11 transactions were checked, in 2 rounds",
+                "  15 of 19 rows read were checked, 6 of 9 rows written",
+                "  not checked",
+                "             3 transactions  committed by others than the proxy",
+                "             4 rows read     its version isn't known",
+                "             3 rows written  committed by others than the proxy",
+                "  statements that weren't seen in full",
+                "         times first    what wasn't seen, and the statement",
+                f"             7 {told[8].split()[1]} an aggregate",
+                "                          SELECT count(*) FROM orders WHERE customer = $1",
+            ],
+        )
+
+    def test_a_violated_one_is_kept(self):
+        folder = os.path.join(self.folder, "found")
+        parts = [feed.started(), feed.OPEN, *feed.LOST_UPDATE, *feed.ROUND, feed.coverage()]
+        told, status = self.run_of(
+            parts, is_done=lambda its: its.violations and its.audit == 2, save=folder
+        )
+        self.assertEqual(status, 1)
+        self.assertIn("  1 violation found: lost update", told)
+        self.assertIn("violated: 16 of 22 transactions were checked, in 2 rounds and 2 audits", told)
+        self.assertEqual(
+            sorted(os.listdir(folder)), ["violation-1.html", "violation-1.jsonl", "violation-1.txt"]
+        )
+        with open(os.path.join(folder, "violation-1.jsonl"), encoding="utf-8") as file:
+            script = file.read()
+        replies = subprocess.run([PROGRAM], input=script, capture_output=True, text=True).stdout
+        self.assertIn('"violated"', replies)
+        self.assertEqual(len(script.splitlines()), 5)  # without what did nothing
+
+    def test_a_proxy_that_cant_begin(self):
+        with self.assertRaisesRegex(CantBeginError, "the proxy ended with status 3"):
+            self.run_of([("exit", 3)], is_done=lambda its: False)
+
+    def test_a_proxy_that_dies_is_replaced(self):
+        told, status = self.run_of(
+            [*SERIAL, ("await", "cut"), ("exit", 7)],
+            SERIAL,
+            is_done=lambda its: its.audit == 2 and its.kind == "serial" and its.seen.reads,
+        )
+        self.assertEqual(status, 4)
+        self.assertTrue(told[0].startswith("incomplete: 16 of 22 transactions were checked"), told)
+        self.assertIn("the proxy ended with status 7", told[1])
+
+    def test_the_page_and_the_metrics(self):
+        seen = {}
+
+        def is_done(status):
+            if status.rounds_count < 1 or not status.seen.reads:
+                return False
+            for name, server in zip(("page", "metrics"), self.servers):
+                path = "metrics" if name == "metrics" else ""
+                with urllib.request.urlopen(server.url + path, timeout=60) as answer:
+                    seen[name] = answer.read().decode()
+            return True
+
+        self.servers = []
+        from zanteyard.watch import _run
+
+        class Noted(_run.WebServer):
+            def __init__(its, *arguments):
+                super().__init__(*arguments)
+                self.servers.append(its)
+
+        before, _run.WebServer = _run.WebServer, Noted
+        self.addCleanup(setattr, _run, "WebServer", before)
+        self.run_of(SERIAL, page="127.0.0.1:0", metrics="127.0.0.1:0", is_done=is_done)
+        self.assertIn("No violation so far", seen["page"])
+        self.assertIn("SELECT count(*) FROM orders WHERE customer = $1", seen["page"])
+        for line in (
+            "zanteyard_transactions_taken_total 8",
+            'zanteyard_rounds_total{kind="serial"} 1',
+            'zanteyard_reads_left_out_total{reason="its version isn\'t known"} 4',
+            "zanteyard_violated 0",
+            "zanteyard_auditing 1",
+        ):
+            with self.subTest(line=line):
+                self.assertIn(line, seen["metrics"].splitlines())
+
+    def test_the_journal_brings_another_auditor_to_where_it_stood(self):
+        def is_done(status):
+            if status.rounds_count == 1 and not killed:
+                killed.append(1)
+                self.run._watching.auditing._program._pipes.process.kill()
+            return status.rounds_count >= 2 and status.restarts == 1
+
+        killed = []
+        parts = [*SERIAL, ("await", "cut"), feed.offer(0, 1, [[], [6]]), *feed.ROUND]
+        journal = os.path.join(self.folder, "journal")
+        told, status = self.run_of(parts, is_done=is_done, journal=journal)
+        self.assertEqual(status, 0, told)
+        self.assertTrue(os.path.isfile(journal))
+
+
+class Programs(InAFolder):
+    def test_which_proxy_is_started(self):
+        path = feed.program(self.folder, [])
+        self.assertEqual(proxy_path({"ZANTEYARD_PROXY": "/mine"}), "/mine")
+        self.assertTrue(proxy_path({}).endswith("/zanteyard-proxy"))
+        self.assertEqual(find_proxy({"ZANTEYARD_PROXY": path}), path)
+        os.chmod(path, 0o600)
+        for wrong in (path, "/not/there"):
+            with self.assertRaises(ProgramMissingError):
+                find_proxy({"ZANTEYARD_PROXY": wrong})
+        self.assertIn("not there", build_of({"ZANTEYARD_PROXY": "/not/there"}))
+
+
+@unittest.skipUnless(psycopg2 and program("initdb"), "PostgreSQL or psycopg2 is not installed")
+@unittest.skipUnless(os.path.isfile(PROGRAM), f"{PROGRAM} is not built")
+class Command(InAFolder):
+    """The command itself, over a server that is real and a proxy that isn't."""
+
+    @classmethod
+    def setUpClass(cls):
+        cls.cluster = PostgresServer()
+        cls.cluster.__enter__()
+        cls.addClassCleanup(cls.cluster.__exit__)
+        cls.url = f"postgresql://postgres:secret@/postgres?host={cls.cluster.folder}"
+
+    def begin(self, *words, parts=SERIAL):
+        path = feed.program(self.folder, parts)
+        its = {**os.environ, "ZANTEYARD_PROXY": path, "COBRA_AUDIT": os.path.abspath(PROGRAM)}
+        pipe = subprocess.PIPE
+        return subprocess.Popen(
+            [sys.executable, "-m", "zanteyard", "watch", *words],
+            cwd=TOP, env=its, stdout=pipe, stderr=pipe, text=True,
+        )
+
+    def test_1_a_server_that_lacks_something(self):
+        ended = self.begin(self.url)
+        out, errors = ended.communicate(timeout=120)
+        self.assertEqual((ended.returncode, out), (2, ""))
+        self.assertIn("wal_level is replica, and has to be logical", errors)
+        self.assertNotIn("secret", errors)
+
+    def test_2_from_its_begin_to_a_signal(self):
+        with Database(self.url) as database:
+            database.run("ALTER SYSTEM SET wal_level = 'logical'")
+        self.cluster.stop()
+        self.cluster.start()
+        for number in (signal.SIGTERM, signal.SIGINT):
+            with self.subTest(signal=number):
+                run = self.begin(self.url, "--listen", "127.0.0.1:7777", "--sample", "0.5")
+                self.wait_for_round(run)
+                run.send_signal(number)
+                out, errors = run.communicate(timeout=120)
+                self.assertEqual(run.returncode, 0, errors)
+                self.assertIn("serial: 8 of 11 transactions were checked", out)
+                self.assertNotIn("secret", out + errors)
+        with open(os.path.join(self.folder, "zanteyard-proxy.starts"), encoding="utf-8") as file:
+            (words, _) = map(json.loads, file.read().splitlines())
+        self.assertEqual(words[2:], ["--listen", "127.0.0.1:7777", "--parameters=true", "--sample=0.5"])
+        self.assertEqual(words[0], "--server")
+        self.assertNotIn("secret", words[1])
+
+    def wait_for_round(self, run):
+        """Reads its log up to the first round."""
+        for line in run.stderr:
+            if "round 1: serial" in line:
+                return
+        self.fail("there was no round")
+
+    def test_3_a_server_that_isnt_there(self):
+        ended = self.begin("postgresql://nobody@127.0.0.1:1/nothing")
+        out, errors = ended.communicate(timeout=120)
+        self.assertEqual((ended.returncode, out), (2, ""))
+        self.assertIn("the server can't be asked", errors)
+
+    def test_4_wrong_words(self):
+        for words in (["--listen", "x"], ["--sample", "2"], ["--page", "1:2:3"], []):
+            ended = self.begin(*words)
+            ended.communicate(timeout=120)
+            self.assertEqual(ended.returncode, 2, words)
+
+    def test_5_prepare(self):
+        with Database(self.url) as database:
+            database.run("CREATE TABLE no_key (a int)")
+        words = [sys.executable, "-m", "zanteyard", "prepare", self.url]
+        ended = subprocess.run(words, cwd=TOP, capture_output=True, text=True, timeout=120)
+        self.assertIn("public.no_key: no primary key", ended.stdout)
+        self.assertIn("ready: an audit can begin", ended.stdout)
+        self.assertNotIn("secret", ended.stdout + ended.stderr)
+        self.assertEqual(ended.returncode, 0)
+
+    def test_6_errors_have_their_code(self):
+        with Database(self.url) as database:
+            with self.assertRaises(DatabaseError) as caught:
+                database.run("SELECT nothing")
+        self.assertEqual(caught.exception.code, "42703")
+
+
+if __name__ == "__main__":
+    sys.exit(unittest.main())

@@ -1,0 +1,297 @@
+"""From a round's refutation to the statements: what is kept of lines, made small, and named."""
+import json
+import os
+import subprocess
+import sys
+import threading
+import unittest
+
+from tests import watch_feed as feed
+from zanteyard.program._binaries import PROGRAM
+from zanteyard.watch._described import Described, Statement, by_time, clock, lines_of
+from zanteyard.watch._feed import answered_of
+from zanteyard.watch._intake import Intake
+from zanteyard.watch._pending import waiting_reads
+from zanteyard.watch._redacting import without_constants, without_values
+from zanteyard.watch._retained import Retained
+from zanteyard.watch._violations import (
+    NOTHING, Held, compact, explained, keys_of, last_writers, key_text,
+)
+from zanteyard.core._records import Logged
+
+FENCE = [[[0, "init"]], [0]]
+
+
+def text(line):
+    return json.dumps(line, separators=(",", ":")).encode()
+
+
+def kept(*lines):
+    retained = Retained()
+    for line in lines:
+        retained.note(text(line))
+    return retained
+
+
+class Kept(unittest.TestCase):
+    def test_lines_up_to_a_cut(self):
+        retained = kept(["open", 2, 16, 2], feed.offer(0, 0, [[], [5]], [[], [6]]))
+        retained.note(text(feed.offer(0, 2, [[], [7]])))
+        retained.note(text(feed.offer(1, 0, [[[5, 0, 0]], []])))
+        self.assertEqual([*retained.transactions()], [(0, 0), (0, 1), (0, 2), (1, 0)])
+        retained.forget([[0, 0]])
+        self.assertEqual(retained.marks, [1, 0])
+        self.assertEqual([*retained.transactions()], [(0, 1), (0, 2), (1, 0)])
+        size = retained.size
+        retained.forget([[0, 1], [1, 0]])
+        self.assertEqual(retained.marks, [2, 1])
+        self.assertEqual([*retained.transactions()], [(0, 2)])
+        self.assertLess(retained.size, size)  # the first line isn't kept any more
+
+    def test_sessions_that_join(self):
+        retained = kept(["open", 1, 16], ["join", 1, [FENCE]], ["close", 1])
+        self.assertEqual(retained.transactions(), {(1, 0): FENCE})
+        retained.forget([[1, 0]])
+        retained.note(text(["join", 1, 1, [FENCE, [[], [5]]]]))
+        self.assertEqual([*retained.transactions()], [(1, 1), (1, 2)])
+        self.assertEqual(retained.marks, [0, 1])
+
+    def test_another_audit(self):
+        retained = kept(["open", 1, 16], feed.offer(0, 0, [[], [5]]), ["open", 2, 16])
+        self.assertEqual((retained.transactions(), retained.marks), ({}, [0, 0]))
+
+
+class Refutations(unittest.TestCase):
+    def test_which_keys_one_names(self):
+        cycle = [["taken", 1, 0, 0, 0], ["read", 5, 0, 0, 1, 0], ["base", 9, 1, 0, 0, 1]]
+        for items, wanted in (
+            ([["nowrite", 1, 0, 7]], {7}),
+            ([["gone", 1, 0, 8]], {8}),
+            ([["force", [0, 1, 6, 0, 0, 1, 0], 2, cycle], ["cycle", []]], {5, 6, 9}),
+            ([["split", [0, 1, 6, 0, 0, 1, 0]], ["cycle", cycle]], {5, 6, 9}),
+            ([["cycle", [["session", 0, 0, 0, 1]]]], set()),
+        ):
+            self.assertEqual(keys_of(items), wanted)
+
+    def test_last_writers_of_a_long_reply(self):
+        last = [[0, 1, 7], [5, 0, 3], [55, 0, 4], [515, 5, 1]]
+        shown = text(["show", [5, 0, 3], [5, 0, 9], [False, True, False], last, 6])
+        self.assertEqual(last_writers(shown, {5, 0}), {5: (0, 3), 0: (1, 7)})
+        self.assertEqual(last_writers(shown, {7}), {})
+        self.assertEqual(last_writers(shown, set()), {})
+        self.assertEqual(last_writers(text(["show", [5, 0, 3], [], [True], [], 0]), {5}), {})
+
+    def test_what_is_left_is_numbered_without_holes(self):
+        idle, writes = Logged((), ()), Logged((), ("x",))
+        reads = Logged((("x", (2, 1)),), ())
+        history, places = compact([[idle, reads], [idle], [idle, writes]])
+        self.assertEqual(history, [[Logged([("x", (1, 0))], (), tried_reads=[])],
+                                   [Logged([], ("x",), tried_reads=[])]])
+        self.assertEqual(places, {(0, 0): (0, 1), (1, 0): (2, 1)})
+
+    def test_a_source_that_did_nothing_stays(self):
+        history, places = compact([[Logged((), ())], [Logged((("x", (0, 0)),), ())]])
+        self.assertEqual([len(each) for each in history], [1, 1])
+
+
+@unittest.skipUnless(os.path.isfile(PROGRAM), f"{PROGRAM} is not built")
+class Explained(unittest.TestCase):
+    def of(self, *lines, answered=NOTHING):
+        """The violation that a round behind these lines finds."""
+        script = [["open", 3, 64, 2], *lines, ["round", 4096, 0, 1], ["show"]]
+        told = subprocess.run(
+            [PROGRAM], input=b"".join(text(line) + b"\n" for line in script), capture_output=True
+        ).stdout.splitlines()
+        retained = Retained()
+        for line, reply in zip(script, told):
+            if reply == b'["ok"]':
+                retained.note(text(line))
+            elif reply.startswith(b'["cut"'):
+                retained.forget(json.loads(reply)[2])
+        report = json.loads(told[-2])
+        self.assertEqual(report[2], "violated", told)
+        keys = keys_of(report[4])
+        held = Held(retained, keys, last_writers(told[-1], keys))
+        return explained(1, report, held, answered, PROGRAM, feed.AT)
+
+    CUT = (  # 0.0 and 1.0 are forgotten, with the fences behind them
+        feed.offer(0, 0, [[], [5, 6]], FENCE),
+        feed.offer(1, 0, [[[5, 0, 0]], [5]], [[[0, 0, 1]], [0]]),
+        feed.offer(2, 0, [[[0, 1, 1]], [0]]),
+        feed.offer(0, 2, [[[0, 2, 0]], [0]]),
+        feed.offer(1, 2, [[[0, 0, 2]], [0]]),
+        ["round", 4096, 0, 1],
+        ["truncate"],
+    )
+
+    def test_a_read_of_what_is_forgotten(self):
+        """Both have read key 5 from the last writer before the cut, and both have written it."""
+        its = [feed.described(0, 3, keys=[]), feed.described(1, 3)]
+        answered = answered_of(feed.event("transactions", id=1, transactions=its))
+        found = self.of(
+            *self.CUT,
+            feed.offer(0, 3, [[[5, 1, 0]], [5]]),
+            feed.offer(1, 3, [[[5, 1, 0]], [5]]),
+            answered=answered,
+        )
+        self.assertEqual([one.id for one in found.told], [(0, 3), (1, 3)])
+        whole = "\n".join(found.lines())
+        self.assertIn("T1 and T2 both read stock(7) from the cut and both overwrote it", whole)
+        self.assertEqual(found.title, "lost update")
+
+    def test_a_read_of_an_older_version(self):
+        found = self.of(*self.CUT, feed.offer(2, 1, [[[5, 0, 0]], []]))
+        whole = "\n".join(found.lines())
+        self.assertIn("key 5 in a version older than that at the cut", whole)
+        self.assertEqual([one.id for one in found.told], [(2, 1)])
+
+    def test_a_cycle_over_keys_and_sessions(self):
+        found = self.of(
+            feed.offer(0, 0, [[[5, "init"]], [6]]),
+            feed.offer(1, 0, [[[6, "init"]], [5]]),
+            feed.offer(2, 0, [[[9, "init"]], [9]]),
+        )
+        self.assertEqual(found.title, "write skew")
+        self.assertEqual([one.id for one in found.told], [(0, 0), (1, 0)])
+
+    def test_a_lost_update_where_each_write_reads_what_it_replaces(self):
+        """As the proxy has it at read committed: 1.0 selected the first version, and then replaced
+        0.0's."""
+        found = self.of(
+            feed.offer(0, 0, [[[5, "init"]], [5]]),
+            feed.offer(1, 0, [[[5, "init"], [5, 0, 0]], [5]]),
+            feed.offer(2, 0, [[[5, 1, 0]], [5]]),
+        )
+        self.assertEqual(found.title, "lost update")
+        self.assertEqual([one.id for one in found.told], [(0, 0), (1, 0)])
+        self.assertIn("T1 and T2 both read key 5 as it was at first", found.sentence)
+
+    def test_the_same_from_a_version_that_somebody_wrote(self):
+        found = self.of(
+            feed.offer(0, 0, [[[5, "init"]], [5]], [[[5, 0, 0]], [5]]),
+            feed.offer(1, 0, [[[5, 0, 0], [5, 0, 1]], [5]]),
+        )
+        self.assertEqual(found.title, "lost update")
+        self.assertEqual([one.id for one in found.told], [(0, 0), (0, 1), (1, 0)])
+
+    def test_the_same_from_a_version_that_is_forgotten(self):
+        found = self.of(
+            *self.CUT,
+            feed.offer(0, 3, [[[5, 1, 0]], [5]]),
+            feed.offer(1, 3, [[[5, 0, 3], [5, 1, 0]], [5]]),
+        )
+        self.assertEqual(found.title, "lost update")
+        self.assertEqual([one.id for one in found.told], [(0, 3), (1, 3)])
+
+    def test_a_row_that_was_read_twice(self):
+        found = self.of(
+            feed.offer(0, 0, [[[5, "init"]], [5]]),
+            feed.offer(1, 0, [[[5, "init"], [5, 0, 0]], []]),
+        )
+        self.assertEqual(found.title, "non-repeatable read")
+        self.assertEqual(found.sentence, "T2 read key 5 from T1 and as it was at first")
+
+    def test_many_keys_that_dont_matter(self):
+        """A line has at most 256 keys of a transaction; what is forgotten has more here."""
+        first = feed.offer(0, 0, *([[], [*range(at, at + 200)]] for at in range(1000, 3000, 200)))
+        found = self.of(
+            first,
+            feed.offer(0, 10, FENCE),
+            feed.offer(1, 0, [[[0, 0, 10]], [0]]),
+            feed.offer(2, 0, [[[0, 1, 0]], [0]]),
+            feed.offer(0, 11, [[[0, 2, 0]], [0]]),
+            feed.offer(1, 1, [[[0, 0, 11]], [0]]),
+            ["round", 4096, 0, 1],
+            ["truncate"],
+            feed.offer(1, 2, [[[1000, 0, 0]], [1000]]),
+            feed.offer(2, 1, [[[1000, 0, 0]], [1000]]),
+        )
+        self.assertEqual([one.id for one in found.told], [(1, 2), (2, 1)])
+
+    def test_it_is_told_without_a_proxy(self):
+        found = self.of(*feed.LOST_UPDATE)
+        self.assertIn("T1 (0.0): nothing more is known of it", "\n".join(found.lines()))
+
+
+class Described_(unittest.TestCase):
+    def test_in_the_order_of_time(self):
+        known = {(0, 0): Described((0, 0), began=9.0), (1, 0): Described((1, 0), began=3.0)}
+        self.assertEqual(by_time([(2, 0), (0, 0), (1, 0)], known), [(1, 0), (0, 0), (2, 0)])
+        self.assertEqual(clock(0), "")
+
+    def test_its_lines(self):
+        statements = (Statement("SELECT 1", ("a" * 90, None), 0.0, ("an aggregate",)),)
+        its = Described((0, 1), "shop\x1b[1m", "10.0.0.7:1", level="serializable",
+                        statements=statements)
+        self.assertEqual(
+            [*lines_of("T1", its)],
+            [
+                "T1: shop\\u001b[1m from 10.0.0.7:1, serializable",
+                f"     SELECT 1  [$1 = '{'a' * 80} ..', $2 = NULL]",
+                "        not seen: an aggregate",
+            ],
+        )
+        self.assertEqual([*lines_of("T2", None)], ["T2: nothing more is known of it"])
+        fence = Described((0, 1), is_fence=True)
+        self.assertEqual([*lines_of("T3", fence)], ["T3: the proxy's own, a fence"])
+
+
+class Redacted(unittest.TestCase):
+    def test_constants(self):
+        for statement, wanted in (
+            ("SELECT a1 FROM t2 WHERE x = 5", "SELECT a1 FROM t2 WHERE x = ?"),
+            ("VALUES ('it''s', E'a\\'b', $$x'y$$, $t$a$$b$t$)", "VALUES (?, ?, ?, ?)"),
+            ("VALUES (B'01', x'ff', N'a', U&'b', 1.5e-3, .5, 0x1F)", "VALUES (?, ?, ?, ?, ?, ?, ?)"),
+            ('SELECT "a 1" FROM "it\'s" -- 77', 'SELECT "a 1" FROM "it\'s"'),
+            ("SELECT $1, %s, :name /* secret */, x::int4", "SELECT $1, %s, :name , x::int4"),
+            ("SELECT 'without an end", "SELECT ?"),
+            ("SELECT date '2020-01-01', date'2020-01-02'", "SELECT date ?, date?"),
+            ("SELECT naïve9 FROM été", "SELECT naïve9 FROM été"),
+        ):
+            with self.subTest(statement=statement):
+                self.assertEqual(without_constants(statement), wanted)
+
+    def test_what_is_described(self):
+        event = feed.event("transactions", id=1, transactions=[feed.described(1, 2)])
+        its = without_values(answered_of(event))
+        self.assertEqual(its.keys[5].named(), "stock(#5)")
+        first, second = its.transactions[(1, 2)].statements
+        self.assertEqual((first.text, first.parameters), ("SELECT qty FROM stock WHERE id = $1", None))
+        self.assertEqual(first.origin, "shop/orders.py:41")
+        self.assertEqual(second.text, "UPDATE stock SET qty = ? WHERE id = ?")
+
+
+class Waiting(unittest.TestCase):
+    def test_reads_that_wait(self):
+        its = {(0, 0): [[[5, "init"], [6, 1, 0], [7, 1, 1], [8, 2, 0]], []]}
+        lines, count = waiting_reads(its, [1, 1, 0])
+        self.assertEqual(count, 2)
+        self.assertEqual(lines[0], "0.0 read key 7 from 1.1, which hasn't arrived")
+
+    def test_key_names(self):
+        self.assertEqual([key_text(0), key_text(5)], ["zanteyard fence", "key 5"])
+
+
+class Queue(unittest.TestCase):
+    def test_who_puts_waits_for_room(self):
+        intake = Intake(most=10)
+        intake.put([b"x" * 10])
+        putting = threading.Thread(target=intake.put, args=([b"y", {"event": "z"}],))
+        putting.start()
+        self.assertEqual(intake.take(60), [b"x" * 10])
+        found = intake.take(60)
+        self.assertEqual(found, [b"y", {"event": "z"}])
+        putting.join()
+        self.assertEqual(intake.take(0), [])
+
+    def test_its_end(self):
+        intake = Intake()
+        intake.put([b"x"])
+        intake.close()
+        intake.put([b"y"])  # nobody waits for this
+        self.assertEqual(intake.take(60), [b"x"])
+        self.assertIsNone(intake.take(60))
+
+
+if __name__ == "__main__":
+    sys.exit(unittest.main())

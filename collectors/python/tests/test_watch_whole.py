@@ -1,0 +1,169 @@
+"""`zanteyard watch` over a real server, the real proxy and the real auditor."""
+import os
+import shutil
+import sys
+import tempfile
+import threading
+import time
+import unittest
+
+from zanteyard import comments
+from zanteyard.program._binaries import PROGRAM
+from zanteyard.trial.postgres_server import PostgresServer, program
+from zanteyard.watch import _facts as facts
+from zanteyard.watch._columns import KeyColumns
+from zanteyard.watch._database import Database
+from zanteyard.watch._proxy import proxy_path
+from zanteyard.watch._run import Plan, Run
+
+try:
+    import psycopg2
+except ImportError:
+    psycopg2 = None
+HERE = os.path.basename(__file__)
+LIMIT = 300.0  # seconds in which what is owed has to be found
+
+
+@unittest.skipUnless(psycopg2 and program("initdb"), "PostgreSQL or psycopg2 is not installed")
+@unittest.skipUnless(os.path.isfile(proxy_path()), "the proxy is not built")
+@unittest.skipUnless(os.path.isfile(PROGRAM), f"{PROGRAM} is not built")
+class Whole(unittest.TestCase):
+    @classmethod
+    def setUpClass(cls):
+        cls.cluster = PostgresServer()
+        cls.cluster.__enter__()
+        cls.addClassCleanup(cls.cluster.__exit__)
+        cls.url = f"postgresql://postgres@/postgres?host={cls.cluster.folder}"
+        with Database(cls.url) as database:
+            database.run("ALTER SYSTEM SET wal_level = 'logical'")
+        cls.cluster.stop()
+        cls.cluster.start()
+        with Database(cls.url) as database:
+            facts.create(database)
+            database.run("CREATE TABLE stock (id int PRIMARY KEY, qty int NOT NULL)")
+            database.run("INSERT INTO stock VALUES (7, 1000000), (8, 1000000)")
+
+    def setUp(self):
+        self.folder = tempfile.mkdtemp()
+        self.addCleanup(shutil.rmtree, self.folder, ignore_errors=True)
+        self.told = []
+        socket = f"{self.folder}/.s.PGSQL.6432"
+        call = [proxy_path(), "--server", self.url, "--listen", socket, "--parameters=true"]
+        columns = KeyColumns(self.url)
+        self.watch = Run(Plan(call, PROGRAM, "shop", columns=columns), self.told.append)
+        self.status = None
+        running = threading.Thread(target=self.run_it)
+        running.start()
+        self.addCleanup(self.end, running)
+
+    def run_it(self):
+        self.status = self.watch.run()
+
+    def end(self, running):
+        self.watch.stop.set()
+        running.join()
+
+    def connect(self, level=None):
+        """Through the proxy, as soon as it listens."""
+        ends = time.monotonic() + LIMIT
+        its = {"cursor_factory": comments.psycopg2_cursor(), "application_name": "shop"}
+        while True:
+            try:
+                connection = psycopg2.connect(
+                    f"host={self.folder} port=6432 user=postgres dbname=postgres", **its
+                )
+                break
+            except psycopg2.OperationalError:
+                if time.monotonic() > ends:
+                    raise
+                time.sleep(0.05)
+        self.addCleanup(connection.close)
+        if level is not None:
+            connection.set_session(isolation_level=level)
+        return connection
+
+    @staticmethod
+    def read(connection, item):
+        with connection.cursor() as cursor:
+            cursor.execute("SELECT qty FROM stock WHERE id = %s", (item,))
+            return cursor.fetchone()[0]
+
+    @staticmethod
+    def write(connection, item, qty):
+        with connection.cursor() as cursor:
+            cursor.execute("UPDATE stock SET qty = %s WHERE id = %s", (qty, item))
+
+    def until(self, go_on, is_done):
+        ends = time.monotonic() + LIMIT
+        while not is_done(self.watch.board.status()):
+            self.assertLess(time.monotonic(), ends, "it hasn't come to that in time")
+            go_on()
+
+    def finish(self):
+        """Stops it, and gives what it told."""
+        self.watch.stop.set()
+        ends = time.monotonic() + LIMIT
+        while self.status is None and time.monotonic() < ends:
+            time.sleep(0.05)
+        return "\n".join(self.told)
+
+    def test_a_lost_update(self):
+        """Both read, and then both write: again and again, since statements are seen only once the
+        proxy has tried them on their connection."""
+        one, other = self.connect(), self.connect()
+
+        def lose_one():
+            left, also = self.read(one, 7), self.read(other, 7)
+            self.write(one, 7, left - 1)
+            one.commit()
+            self.write(other, 7, also - 1)
+            other.commit()
+            time.sleep(0.05)
+
+        self.until(lose_one, lambda status: status.violations)
+        told = self.finish()
+        self.assertEqual(self.status, 1, told)
+        self.assertIn("lost update", told)
+        self.assertIn("stock(id=7)", told)
+        self.assertIn("shop from ", told)
+        self.assertIn(f"{HERE}:", told)
+        self.assertIn("UPDATE stock SET qty = ", told)
+
+    def test_nothing_is_made_up(self):
+        """Serializable, with a writer that isn't proxied, and statements that aren't seen."""
+        one, other = self.connect("SERIALIZABLE"), self.connect("SERIALIZABLE")
+        beside = psycopg2.connect(self.cluster.dsn)
+        self.addCleanup(beside.close)
+
+        def take(connection, item):
+            with connection.cursor() as cursor:
+                cursor.execute("SELECT count(*) FROM stock")
+            self.write(connection, item, self.read(connection, item) - 1)
+
+        def at_once():
+            calls = [(take, one, 7), (take, other, 8), (commit, one, 7), (commit, other, 8)]
+            for call, connection, item in calls:
+                try:
+                    call(connection, item)
+                except psycopg2.errors.SerializationFailure:
+                    connection.rollback()
+            with beside, beside.cursor() as cursor:
+                cursor.execute("UPDATE stock SET qty = qty + 1")
+            time.sleep(0.02)
+
+        def commit(connection, _):
+            connection.commit()
+
+        def is_done(status):
+            seen = status.seen
+            return status.rounds_count >= 3 and seen.reads >= 20 and seen.folded_count
+
+        self.until(at_once, is_done)
+        told = self.finish()
+        self.assertEqual(self.status, 0, told)
+        self.assertTrue(told.startswith("serial: "), told)
+        self.assertIn("an aggregate", told)
+
+
+if __name__ == "__main__":
+    sys.exit(unittest.main())

@@ -1,0 +1,195 @@
+"""A proxy that isn't one: it writes a feed from a list, and answers commands. Run as a program it
+is given a file of Python values; tests import its lists."""
+import json
+import os
+import sys
+import threading
+import time
+
+SESSIONS, LIMIT = 64, 4096
+AT = 1764220800.25
+
+
+def event(name, **more):
+    return {"event": name, **more}
+
+
+def started(**more):
+    its = {"at": AT, "limit": LIMIT, "sessions": SESSIONS, "database": "shop", "server": "15.14"}
+    return event("started", **{**its, "subtransactions": "pg_walinspect", "warnings": [], **more})
+
+
+OPEN = ["open", SESSIONS, LIMIT, 2]
+ROUND = [["round", 4096, 0, 1], ["truncate"]]
+
+
+def offer(session, first, *transactions):
+    return ["offer", session, first, list(transactions)]
+
+
+def meeting(at=AT, milliseconds=8.4):
+    return event("meeting", at=at, fences=2, milliseconds=milliseconds)
+
+
+def coverage(**more):
+    its = {
+        "at": AT,
+        "committed": 12,
+        "offered": 10,
+        "fences": 2,
+        "aborted": 1,
+        "empty": 1,
+        "folded": {"committed by others than the proxy": 3},
+        "reads": {"seen": 20, "offered": 15, "own": 1, "left_out": {"its version isn't known": 4}},
+        "writes": {"seen": 9, "offered": 6, "left_out": {"committed by others than the proxy": 3}},
+        "unseen": [
+            {
+                "shape": "SELECT count(*) FROM orders WHERE customer = $1",
+                "reason": "an aggregate",
+                "reads": True,
+                "count": 7,
+                "first": AT,
+            }
+        ],
+        "connections": {"now": 3, "audited": 3, "waiting": 0, "ever": 5},
+        "sessions": {"open": 3, "closed": 61},
+        "lag": {"bytes": 128, "seconds": 0.05},
+        "pending": 2,
+        "remaining": 8,
+        "rounds": 1,
+        "keys": 4,
+        "statements_dropped": 0,
+    }
+    return event("coverage", **{**its, **more})
+
+
+# A lost update: both read row 7 of stock as it was at first, and both wrote it.
+BOTH = [[[[5, "init"]], [5]], [[[5, 0, 0]], [5]]]
+LOST_UPDATE = [
+    offer(0, 0, [[[5, "init"]], [5]]),
+    offer(1, 0, [[[5, 0, 0]], [5]]),
+    offer(2, 0, [[[5, 0, 0]], [5]]),
+]
+
+
+def statement(text, at, **more):
+    return {"text": text, "parameters": None, "at": at, **more}
+
+
+def described(session, number, **more):
+    its = {
+        "session": session,
+        "number": number,
+        "known": True,
+        "fence": False,
+        "connection": session + 10,
+        "application_name": "shop",
+        "address": f"10.0.0.7:5{session:04}",
+        "user": "shop",
+        "database": "shop",
+        "level": "read committed",
+        "began": AT + session + number / 10,
+        "ended": AT + session + number / 10 + 0.05,
+        "xid": 700 + session,
+        "statements": [
+            statement(
+                "SELECT qty FROM stock WHERE id = $1 /*file='shop/orders.py',line='41'*/",
+                AT + session,
+                parameters=["7"],
+                file="shop/orders.py",
+                line=41,
+            ),
+            statement("UPDATE stock SET qty = 4 WHERE id = 7", AT + session + 0.01),
+        ],
+        "statements_dropped": 0,
+        "reads": [],
+        "writes": [5],
+        "keys": [{"key": 5, "table": "public.stock", "row": "7"}],
+    }
+    return {**its, **more}
+
+
+class Fake:
+    """Writes its parts one behind the other. A part is a line, an event, ("await", command): then it
+    goes on once that command has come, or ("exit", status), which ends the program. Each `describe` is answered by `describes`, and
+    `stop` and `restart` in the way of the real one."""
+
+    def __init__(self, parts, output=sys.stdout, describes=described, holds=False):
+        self.parts, self.output, self.describes, self.holds = parts, output, describes, holds
+        self.commands, self.change = [], threading.Condition()
+        self.turn = threading.Lock()
+
+    def write(self, part):
+        with self.turn:
+            self.output.write(json.dumps(part, separators=(",", ":")) + "\n")
+            self.output.flush()
+
+    def run(self, commands=sys.stdin):
+        threading.Thread(target=self.obey, args=(commands,), daemon=True).start()
+        for part in self.parts:
+            if isinstance(part, tuple) and part[0] == "exit":
+                sys.exit(part[1])
+            elif isinstance(part, tuple):
+                self.wait_for(part[1])
+            else:
+                self.write(part)
+        self.wait_for("end")
+
+    def wait_for(self, name):
+        with self.change:
+            while name not in self.commands:
+                self.change.wait()
+            self.commands.remove(name)
+
+    def obey(self, commands):
+        for line in commands:
+            its = json.loads(line)
+            self.answer(its)
+            self.note(its["command"])
+        self.note("end")
+
+    def note(self, name):
+        with self.change:
+            self.commands.append(name)
+            self.change.notify_all()
+
+    def answer(self, its):
+        if its["command"] == "describe":
+            found = [self.describes(session, number) for session, number in its["transactions"]]
+            self.write(event("transactions", id=its["id"], transactions=found))
+        elif its["command"] == "restart":
+            self.write(event("restarted", at=time.time()))
+            self.write(OPEN)
+        elif its["command"] == "stop":
+            for part in (*ROUND, coverage(), event("stopped", at=time.time())):
+                self.write(part)
+
+
+def program(folder, *runs):
+    """Writes a program into the folder that is a fake proxy of these parts; with several lists of
+    parts each start of it takes the next one, and the last list again and again. Gives its path."""
+    path = os.path.join(folder, "zanteyard-proxy")
+    with open(f"{path}.json", "w", encoding="utf-8") as file:
+        json.dump(runs, file)  # which makes lists of tuples
+    here = os.path.abspath(__file__)
+    with open(path, "w", encoding="utf-8") as file:
+        file.write(f'#!/bin/sh\nexec "{sys.executable}" "{here}" "{path}" "$@"\n')
+    os.chmod(path, 0o755)
+    return path
+
+
+def parts_of(path):
+    """Of this start of the program, with tuples as they were."""
+    with open(f"{path}.json", encoding="utf-8") as file:
+        runs = json.load(file)
+    with open(f"{path}.starts", "a+", encoding="utf-8") as file:
+        file.write(json.dumps(sys.argv[2:]) + "\n")
+        file.seek(0)
+        start = len(file.readlines())
+    parts = runs[min(start, len(runs)) - 1]
+    its_own = ("await", "exit")
+    return [tuple(it) if isinstance(it, list) and it[0] in its_own else it for it in parts]
+
+
+if __name__ == "__main__":
+    Fake(parts_of(sys.argv[1])).run()

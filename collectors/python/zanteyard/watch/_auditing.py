@@ -1,0 +1,128 @@
+"""Hands the proxy's lines to the auditor, and reads what it answers.
+
+Lines go through as bytes. Each `open` begins an audit, with a program of its own: what the one
+before it knew is gone with it.
+"""
+
+from __future__ import annotations
+
+import logging
+import os
+import uuid
+from collections import deque
+from typing import Deque, Iterator, List, Optional, Sequence, Tuple, Union
+
+from ..core._own_keys import FENCE
+from ..core.errors import JournalError, ProgramEndedError, RoundTooLongError
+from ..journal._file import Journal
+from ..journal._entries import Head
+from ..program._pipes import Pipes
+from ..program._supervised import SupervisedProgram
+from ..program._resuming import journaled
+from ._retained import OPEN
+
+SECONDS = 60.0  # in which a line has to be answered that isn't a round
+logger = logging.getLogger("zanteyard")
+
+Answered = Tuple[bytes, bytes]  # a line, and the reply to it
+
+
+class Auditing:
+    """For one thread at a time. With a journal a program that dies is replaced by another one that
+    is brought to where it stood; without one its end is the audit's."""
+
+    def __init__(
+        self, path: str, journal: Optional[str] = None, round_seconds: float = 60.0
+    ) -> None:
+        """`path` is the program to start. A journal that is there from an earlier run is set
+        aside. Raises JournalError."""
+        self.path, self.journal, self.round_seconds = path, journal, round_seconds
+        self.audits = 0
+        self.run_name = uuid.uuid4().hex
+        self._program: Union[Pipes, SupervisedProgram, None] = None
+        if journal is not None:
+            _set_aside(journal)
+
+    @property
+    def restarts(self) -> int:
+        """How many programs were replaced in this audit."""
+        return self._program.restarts if isinstance(self._program, SupervisedProgram) else 0
+
+    def give(self, lines: Sequence[bytes]) -> Iterator[Answered]:
+        """Yields each line with its reply, as it comes. Raises ProgramEndedError if the program
+        ends or doesn't answer in time, RoundTooLongError, and JournalError; then the audit is
+        over. A line before the first `open`, or one of an audit that is over, isn't answered."""
+        waiting: Deque[bytes] = deque()
+        for line in lines:
+            if OPEN.match(line):
+                yield from self._answers(waiting)
+                self._begin(line)
+            if self._program is not None:
+                waiting.append(line)
+        yield from self._answers(waiting)
+
+    def ask(self, line: bytes) -> bytes:
+        """The reply to one line. Raises as `give` does."""
+        ((_, reply),) = self.give([line])
+        return reply
+
+    @property
+    def is_running(self) -> bool:
+        return self._program is not None
+
+    def _begin(self, line: bytes) -> None:
+        self.end()
+        self.audits += 1
+        if self.journal is None:
+            self._program = Pipes(self.path)
+            return
+        found = OPEN.match(line)
+        assert found is not None
+        head = Head(int(found[1]), int(found[2]), self.run_name, self.audits)
+        self._program = journaled(
+            self.path, self.journal, lambda: head, [FENCE], self.round_seconds
+        )
+
+    def _answers(self, waiting: Deque[bytes]) -> Iterator[Answered]:
+        """Of all these lines, which are given at once."""
+        try:
+            if waiting and self._program is not None:
+                self._program.ask(list(waiting))
+            while waiting and self._program is not None:
+                (reply,) = self._program.answers(1, SECONDS + self.round_seconds)
+                yield waiting.popleft(), reply
+        except (ProgramEndedError, JournalError, RoundTooLongError):
+            self._kill()
+            raise
+
+    def _kill(self) -> None:
+        if self._program is not None:
+            self._program.kill()
+        self.end()
+
+    def end(self) -> None:
+        """Ends the program, if one runs."""
+        program, self._program = self._program, None
+        if program is not None:
+            try:
+                program.end()
+            except OSError as error:
+                logger.warning("the auditor didn't end in good order: %s", error)
+
+
+def _set_aside(path: str) -> None:
+    """A journal of a run that is over becomes PATH.old. Raises JournalInUseError if it isn't."""
+    if os.path.lexists(path):
+        journal = Journal(path)
+        try:
+            os.replace(path, f"{path}.old")
+        finally:
+            journal.close()
+
+
+def refusal_of(reply: bytes) -> str:
+    """The name of what a line was refused for; an empty text if it wasn't."""
+    if not reply.startswith(b'["no",'):
+        return ""
+    parts: List[str] = reply.decode(errors="replace").split('"')
+    return parts[3] if len(parts) > 3 else "refused"

@@ -1,0 +1,143 @@
+"""Where an audit stands, noted by one thread and read by others."""
+
+from __future__ import annotations
+
+import threading
+import time
+from collections import deque
+from dataclasses import replace
+from typing import Any, Deque, Dict, List, Mapping, Sequence
+
+from ..explain._charts import RoundSeen
+from ._feed import listed, number, seen_of, text, whole
+from ._state import Ended, Seen, Status, added
+from ._violations import Violation
+
+ROUNDS = 180  # that are shown, the last ones
+VIOLATIONS = 20  # that are kept with their explanations: the first half, and the last half
+NOTES = 12
+
+
+class Board:
+    """Safe for several threads. Times are in seconds since 1970."""
+
+    def __init__(self, title: str, origin: str = "") -> None:
+        now = time.time()
+        self._turn = threading.Lock()
+        self._status = Status(title, now, now, origin=origin)
+        self._rounds: Deque[RoundSeen] = deque(maxlen=ROUNDS)
+        self._kinds: Dict[str, int] = {}
+        self._violations: List[Violation] = []
+        self._notes: Deque[str] = deque(maxlen=NOTES)
+        self._met = 0.0  # when the meeting was of which the next round will tell
+
+    def status(self) -> Status:
+        """All of it by now."""
+        with self._turn:
+            return replace(
+                self._status,
+                now=time.time(),
+                rounds=tuple(self._rounds),
+                kinds=dict(self._kinds),
+                violations=tuple(self._violations),
+                notes=tuple(self._notes),
+            )
+
+    def _note(self, **changes: Any) -> None:
+        self._status = replace(self._status, **changes)
+
+    def started(self, event: Mapping[str, Any]) -> None:
+        with self._turn:
+            self._note(
+                is_over=False,
+                database=text(event.get("database")),
+                server=text(event.get("server")),
+                subtransactions=text(event.get("subtransactions")),
+            )
+            self._notes.extend(text(it) for it in listed(event.get("warnings")))
+
+    def coverage(self, event: Mapping[str, Any]) -> None:
+        with self._turn:
+            self._note(seen=seen_of(event))
+
+    def met(self, event: Mapping[str, Any]) -> None:
+        took, status = number(event.get("milliseconds")), self._status
+        with self._turn:
+            self._met = number(event.get("at"))
+            self._note(
+                meetings=status.meetings + 1,
+                meeting_ms=took,
+                longest_meeting_ms=max(took, status.longest_meeting_ms),
+                fences=whole(event.get("fences")),
+            )
+
+    def round(self, kind: str, counts: Sequence[int], remaining: int) -> RoundSeen:
+        """A round that was reported just now."""
+        now = time.time()
+        with self._turn:
+            status = self._status
+            behind = max(0.0, now - self._met) if self._met else 0.0
+            seen = RoundSeen(now - status.began, kind, remaining, behind, sum(counts))
+            self._rounds.append(seen)
+            self._kinds[kind] = self._kinds.get(kind, 0) + 1
+            more = {"pending": (), "pending_count": 0} if kind != "pending" else {}
+            self._note(
+                kind=kind,
+                rounds_count=status.rounds_count + 1,
+                told_at=now,
+                checked_until=self._met or now,
+                behind=behind,
+                remaining=remaining,
+                **more,
+            )
+            if kind == "violated":
+                self._note(violations_count=status.violations_count + 1)
+            return seen
+
+    def waits(self, lines: Sequence[str], count: int) -> None:
+        """The reads that wait, of the last round."""
+        with self._turn:
+            self._note(pending=tuple(lines), pending_count=count)
+
+    def cut(self, gone: int, remaining: int) -> None:
+        with self._turn:
+            forgotten = self._status.forgotten + gone
+            self._note(cuts=self._status.cuts + 1, forgotten=forgotten, remaining=remaining)
+
+    def violation(self, one: Violation) -> None:
+        """One that has been explained."""
+        with self._turn:
+            its = self._violations
+            its.append(one)
+            its.sort(key=lambda it: it.number)
+            while len(its) > VIOLATIONS:
+                del its[VIOLATIONS // 2]
+
+    def ended(self, reason: str, is_lost: bool = True) -> None:
+        """The audit is over, with what its last round said."""
+        with self._turn:
+            status = self._status
+            its = (status.kind, status.rounds_count, reason, time.time(), is_lost)
+            over = Ended(status.audit, *its)
+            self._note(ended=(*status.ended[-49:], over), is_over=True)
+
+    def begins_anew(self) -> None:
+        """Another audit, which nothing is known of yet."""
+        with self._turn:
+            its = {"is_over": False, "kind": "running", "pending": (), "pending_count": 0}
+            earlier = added(self._status.earlier_seen, self._status.seen)
+            self._met = 0.0
+            self._note(
+                audit=self._status.audit + 1, seen=Seen(), earlier_seen=earlier, remaining=0, **its
+            )
+
+    def note(self, told: str) -> None:
+        """A sentence for people."""
+        with self._turn:
+            if told not in self._notes:
+                self._notes.append(told)
+
+    def restarted(self, count: int) -> None:
+        """How many programs of the present audit were replaced."""
+        with self._turn:
+            self._note(restarts=count)

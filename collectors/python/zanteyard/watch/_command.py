@@ -1,0 +1,186 @@
+"""`zanteyard watch`: audits any application over PostgreSQL by its connection string.
+
+docs/WATCH.md says how it is used. Its exit status says what was found by the end: 0 serial, 1
+violated, 2 it can't begin, 3 pending, 4 something was lost or not decided, or nothing was checked.
+"""
+
+from __future__ import annotations
+
+import argparse
+import logging
+import os
+import sys
+from typing import Any, Dict, List, Sequence, Tuple
+from urllib.parse import unquote, urlsplit
+
+from ..core.errors import ZanteyardError
+from ..program._binaries import find_program, origin_of
+from . import _prepare
+from ._columns import KeyColumns
+from ._database import Database, DatabaseError, DriverMissingError, without_password
+from ._ending import STATUS_WORDS
+from ._facts import create, findings, server_of
+from ._prepare import host_name
+from ._proxy import find_proxy
+from ._run import Plan, Run, stopped_by_signals
+from ._supervising import CantBeginError
+from ._text import visible
+from ._violations import Columns, unknown
+from ._web import host_and_port
+
+MISTAKE = 2
+LISTEN = "127.0.0.1:6432"
+FORM = "%(asctime)s %(levelname)s %(message)s"
+URL = "ZANTEYARD_URL"  # the environment's name for it, so that no list of processes shows it
+logger = logging.getLogger("zanteyard")
+
+
+def add_arguments(command: argparse.ArgumentParser) -> None:
+    command.epilog = STATUS_WORDS
+    command.add_argument(
+        "url",
+        metavar="URL",
+        nargs="?",
+        default=os.environ.get(URL),
+        help=f"the server, as postgresql://user@server/database (or the environment's {URL})",
+    )
+    command.add_argument(
+        "--listen", type=place, metavar="HOST:PORT", default=LISTEN,
+        help=f"where applications connect ({LISTEN}); a socket's path if there is a / in it",
+    )
+    command.add_argument(
+        "--page", type=address, metavar="HOST:PORT", help="shows how the audit stands there"
+    )
+    command.add_argument(
+        "--metrics", type=address, metavar="HOST:PORT", help="Prometheus's figures, at /metrics"
+    )
+    command.add_argument(
+        "--save", metavar="DIR", help="keeps each violation there, as a page, a text and a script"
+    )
+    command.add_argument(
+        "--journal", metavar="FILE",
+        help="the audit goes on by this file if the auditor's program is killed",
+    )
+    command.add_argument(
+        "--sample", type=share, metavar="SHARE",
+        help="audits this share of the connections, as 0.1",
+    )
+    command.add_argument(
+        "--redact", action="store_true", help="shows no parameters and no constants of statements"
+    )
+    command.add_argument(
+        "--seconds", type=float, metavar="S", help="ends after so many seconds; else by a signal"
+    )
+    command.add_argument(
+        "--round-seconds", type=float, default=60.0, metavar="S",
+        help="seconds that a round may take, before the audit is given up (60)",
+    )
+    command.add_argument(
+        "--log", type=level, metavar="LEVEL", default="INFO", help="the log's level (INFO)"
+    )
+
+
+def address(text: str) -> str:
+    try:
+        host_and_port(text)
+    except ValueError as error:
+        raise argparse.ArgumentTypeError(str(error)) from error
+    return text
+
+
+def place(text: str) -> str:
+    return text if "/" in text else address(text)
+
+
+def share(text: str) -> float:
+    found = float(text)
+    if not 0 < found <= 1:
+        raise argparse.ArgumentTypeError("above 0, at most 1")
+    return found
+
+
+def level(text: str) -> int:
+    found = logging.getLevelName(text.upper())
+    if not isinstance(found, int):
+        raise argparse.ArgumentTypeError("DEBUG, INFO, WARNING or ERROR")
+    return found
+
+
+def run(asked: Any) -> int:
+    """Gives the exit status."""
+    logging.basicConfig(level=asked.log, format=FORM, stream=sys.stderr)
+    if not asked.url:
+        return _mistake(f"no server is named: give its URL, or set {URL}")
+    program, proxy = find_program(), find_proxy()
+    lacks = prepared(asked.url)
+    if lacks:
+        return _mistake("\n".join(lacks))
+    call, environment = call_of(proxy, asked)
+    title = f"{visible(without_password(asked.url))}, through {asked.listen}"
+    columns: Columns = unknown
+    if not asked.redact:
+        columns = KeyColumns(asked.url)
+    plan = Plan(
+        call, program, title, origin_of(program).sentence(), environment,
+        page=asked.page, metrics=asked.metrics, journal=asked.journal, save=asked.save,
+        round_seconds=asked.round_seconds, for_seconds=asked.seconds, redacts=asked.redact,
+        columns=columns,
+    )
+    watch = Run(plan, tell)
+    logger.info("applications connect to %s", asked.listen)
+    with stopped_by_signals(watch):
+        try:
+            return watch.run()
+        except CantBeginError as error:
+            return _mistake(str(error))
+
+
+def tell(line: str) -> None:
+    print(line, flush=True)
+
+
+def _mistake(told: str) -> int:
+    print(f"mistake: {told}", file=sys.stderr, flush=True)
+    return MISTAKE
+
+
+def prepared(url: str) -> List[str]:
+    """What an audit of this server can't begin without, after what can be created was; empty if
+    nothing is missing, or no driver is installed by which the server could be asked."""
+    try:
+        with Database(url) as database:
+            server = server_of(database, host_name(url))
+            found = findings(database, server)
+            if not _prepare.is_ready(found):
+                create(database)
+                found = findings(database, server)
+    except DriverMissingError as error:
+        logger.info("the server isn't looked at first: %s", error)
+        return []
+    except DatabaseError as error:
+        return [f"the server can't be asked: {visible(str(error))}"]
+    lacks = [one for one in found if one.is_needed and not one.is_right]
+    if not lacks:
+        return []
+    told = "the server lacks something; `zanteyard prepare URL` shows all of it"
+    return [told, *(f"  {visible(one.sentence)}: {visible(one.remedy)}" for one in lacks)]
+
+
+def call_of(proxy: str, asked: Any) -> Tuple[Sequence[str], Dict[str, str]]:
+    """The proxy's program with its arguments, and its environment, which has the password: a list
+    of processes doesn't show that."""
+    url, environment = asked.url, dict(os.environ)
+    try:
+        password = urlsplit(url).password
+    except ValueError:
+        password = None
+    if password is not None:
+        url, environment["PGPASSWORD"] = without_password(url), unquote(password)
+    call = [proxy, "--server", url, "--listen", asked.listen]
+    call.append(f"--parameters={'false' if asked.redact else 'true'}")
+    if asked.sample is not None:
+        call.append(f"--sample={asked.sample:g}")
+    return call, environment
+
+
+__all__ = ["ZanteyardError", "add_arguments", "run"]

@@ -1,0 +1,102 @@
+"""A connection to PostgreSQL over whichever driver is installed: psycopg2, or psycopg 3."""
+
+from __future__ import annotations
+
+from typing import Any, Dict, List, Sequence
+from urllib.parse import urlsplit, urlunsplit
+
+from ..core.errors import ZanteyardError
+
+CONNECTING = 10  # seconds for a server to take a connection
+ANSWERING = 20  # seconds for it to answer one statement
+
+
+class DriverMissingError(ZanteyardError):
+    """Neither psycopg2 nor psycopg 3 is installed."""
+
+
+class DatabaseError(ZanteyardError):
+    """The server can't be reached, or refused a statement; `code` is the error's SQLSTATE, empty
+    if there is none."""
+
+    def __init__(self, text: str, code: str = "") -> None:
+        super().__init__(text)
+        self.code = code
+
+
+class Database:
+    """One connection, in autocommit. For one thread. Raises DatabaseError."""
+
+    def __init__(self, url: str, **more: Any) -> None:
+        self._driver = _driver()
+        limits: Dict[str, Any] = {"connect_timeout": CONNECTING, "application_name": "zanteyard"}
+        try:
+            self._connection = self._driver.connect(url, **{**limits, **more})
+            self._connection.autocommit = True
+        except self._driver.Error as error:
+            raise _told(error) from None
+
+    def run(self, text: str, values: Sequence[Any] = ()) -> List[Sequence[Any]]:
+        """The rows that the statement returns; an empty list if it returns none."""
+        try:
+            with self._connection.cursor() as cursor:
+                cursor.execute(text, values or None)
+                return list(cursor.fetchall()) if cursor.description is not None else []
+        except self._driver.Error as error:
+            raise _told(error) from None
+
+    def one(self, text: str, values: Sequence[Any] = ()) -> Any:
+        """The first value of the first row; None if there is none."""
+        rows = self.run(text, values)
+        return rows[0][0] if rows else None
+
+    def close(self) -> None:
+        try:
+            self._connection.close()
+        except self._driver.Error:
+            pass
+
+    def __enter__(self) -> "Database":
+        return self
+
+    def __exit__(self, *_: object) -> None:
+        self.close()
+
+
+def _driver() -> Any:
+    try:
+        import psycopg2
+
+        return psycopg2
+    except ImportError:
+        pass
+    try:
+        import psycopg
+
+        return psycopg
+    except ImportError:
+        raise DriverMissingError(
+            "a driver for PostgreSQL is missing: install psycopg2 (Debian: python3-psycopg2) "
+            "or psycopg 3"
+        ) from None
+
+
+def _told(error: Any) -> DatabaseError:
+    code = getattr(error, "pgcode", None) or getattr(error, "sqlstate", None) or ""
+    lines = str(error).strip().splitlines()
+    return DatabaseError(lines[0] if lines else type(error).__name__, code)
+
+
+def without_password(url: str) -> str:
+    """The URL as it may be shown."""
+    try:
+        parts = urlsplit(url)
+        if parts.scheme and parts.password is not None:
+            place = parts.netloc.rpartition("@")[2]
+            user = parts.username or ""
+            return urlunsplit(parts._replace(netloc=f"{user}@{place}" if user else place))
+    except ValueError:
+        pass
+    if "password" in url:
+        return "the server given"
+    return url

@@ -1,0 +1,103 @@
+"""Explains violations beside the audit, in threads of their own: the audit goes on meanwhile."""
+
+from __future__ import annotations
+
+import logging
+import signal
+import threading
+import time
+from typing import Any, Callable, Dict, List, Optional, Sequence
+
+from ..core._records import AuditId
+from ._violations import NOTHING, Answered, Columns, Held, Violation, explained, unknown
+
+ANSWERING = 10.0  # seconds in which the proxy has to describe transactions
+MOST = 16  # violations that are explained; the rest is counted
+MOST_AT_ONCE = 2
+MOST_DESCRIBED = 256  # transactions of one violation
+logger = logging.getLogger("zanteyard")
+
+
+class Explaining:
+    """`begin` is for the thread that asks the auditor; `told` is called by a thread of this one,
+    with each violation once it is explained."""
+
+    def __init__(
+        self,
+        program: str,
+        told: Callable[[Violation], object],
+        columns: Columns = unknown,
+    ) -> None:
+        self._program, self._told, self._columns = program, told, columns
+        self._turn = threading.Lock()
+        self._places = threading.BoundedSemaphore(MOST_AT_ONCE)
+        self._awaited: Dict[int, _Answer] = {}
+        self._threads: List[threading.Thread] = []
+        self.count = 0
+
+    def begin(
+        self,
+        report: Sequence[Any],
+        held: Held,
+        describe: Callable[[int, Sequence[AuditId]], object],
+    ) -> None:
+        """Of a round that was violated just now. `describe` asks the proxy to describe these
+        transactions, and is called at once."""
+        self.count += 1
+        if self.count > MOST:
+            return
+        answer, now = _Answer(), time.time()
+        with self._turn:
+            self._awaited[self.count] = answer
+        describe(self.count, sorted(held.involved(report[4]))[:MOST_DESCRIBED])
+        whole = (self.count, report, held, answer, now)
+        thread = threading.Thread(target=self._explain, args=whole, daemon=True)
+        self._threads.append(thread)
+        thread.start()
+
+    def answered(self, number: int, answered: Answered) -> None:
+        """What the proxy said to `describe`."""
+        with self._turn:
+            answer = self._awaited.get(number)
+        if answer is not None:
+            answer.put(answered)
+
+    def _explain(
+        self, number: int, report: Sequence[Any], held: Held, answer: "_Answer", now: float
+    ) -> None:
+        signal.pthread_sigmask(signal.SIG_BLOCK, {signal.SIGINT})  # also of programs it starts
+        try:
+            answered = answer.take(ANSWERING)
+            with self._places:
+                its = (number, report, held, answered, self._program, now, self._columns)
+                found = explained(*its)
+            self._told(found)
+        except Exception:  # the verdict stands, whatever fails here
+            logger.exception("violation %d can't be explained", number)
+        finally:
+            with self._turn:
+                self._awaited.pop(number, None)
+
+    def wait(self, seconds: float) -> None:
+        """Until all that have begun are explained, for at most so long."""
+        ends = time.monotonic() + seconds
+        for thread in self._threads:
+            thread.join(max(0.0, ends - time.monotonic()))
+
+
+class _Answer:
+    """One that is awaited."""
+
+    def __init__(self) -> None:
+        self._is_there = threading.Event()
+        self._found: Optional[Answered] = None
+
+    def put(self, answered: Answered) -> None:
+        self._found = answered
+        self._is_there.set()
+
+    def take(self, seconds: float) -> Answered:
+        """What was put; an empty one if nothing was in so many seconds."""
+        if not self._is_there.wait(seconds):
+            logger.warning("the proxy hasn't described the transactions of a violation in time")
+        return self._found or NOTHING

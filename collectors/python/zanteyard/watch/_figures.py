@@ -1,0 +1,89 @@
+"""Figures of a watched audit, for Prometheus. Those that the daemon `zanteyard serve` has too have
+the same names."""
+
+from __future__ import annotations
+
+from typing import Iterator, Mapping
+
+from ..core._prometheus import TEXT, Family, text_of
+from ..core._version import VERSION
+from ._board import Board
+from ._state import Status
+from ._web import TEXT as PLAIN
+from ._web import Answer
+
+KINDS = ("serial", "pending", "violated", "spent")
+
+
+def families(status: Status) -> Iterator[Family]:
+    """All figures. Counts of transactions, reads and writes are those of all audits of this run."""
+    seen, earlier = status.seen, status.earlier_seen
+
+    def one(name: str, kind: str, about: str, value: float) -> Family:
+        return f"zanteyard_{name}", kind, about, [((), value)]
+
+    its = (("version", VERSION), ("database", status.database))
+    yield "zanteyard_info", "gauge", "Which audit it is, and of which version.", [(its, 1)]
+    for name, field, about in (
+        ("transactions_taken_total", "offered", "Transactions given to the auditor."),
+        ("transactions_committed_total", "committed", "Commits that the server's log told."),
+        ("transactions_aborted_total", "aborted", "Transactions of clients that aborted."),
+        ("reads_taken_total", "reads", "Rows read, in what was given to the auditor."),
+        ("writes_taken_total", "writes", "Rows written, in what was given to the auditor."),
+        ("clients_total", "connections_ever", "Connections that clients made."),
+    ):
+        yield one(name, "counter", about, getattr(seen, field) + getattr(earlier, field))
+    for name, field, about in (
+        ("transactions_left_out_total", "folded", "Transactions that weren't checked."),
+        ("reads_left_out_total", "reads_left_out", "Rows read that weren't checked."),
+        ("writes_left_out_total", "writes_left_out", "Rows written that weren't checked."),
+    ):
+        yield _by_reason(f"zanteyard_{name}", about, getattr(earlier, field), getattr(seen, field))
+    unseen = seen.unseen_count + earlier.unseen_count
+    yield one("statements_unseen_total", "counter", "Statements not seen in full.", unseen)
+    yield one("transactions_waiting", "gauge", "Transactions not given yet.", seen.waiting)
+    yield one("transactions_remaining", "gauge", "Given, and not forgotten.", status.remaining)
+    rounds = [((("kind", kind),), float(status.kinds.get(kind, 0))) for kind in KINDS]
+    yield "zanteyard_rounds_total", "counter", "Rounds, by what they said.", rounds
+    yield one("cuts_total", "counter", "Times that something was forgotten.", status.cuts)
+    yield one("meetings_total", "counter", "Meetings of all connections.", status.meetings)
+    about = "Seconds that the longest meeting took."
+    yield one("longest_meeting_seconds", "gauge", about, status.longest_meeting_ms / 1000)
+    since = max(0.0, status.now - status.told_at) if status.told_at else 0.0
+    yield one("seconds_since_round", "gauge", "Seconds since the last round.", since)
+    about = "Seconds from a meeting to the report on it, of the last one."
+    yield one("seconds_behind", "gauge", about, status.behind)
+    about = "Seconds that the reader of the server's log is behind."
+    yield one("log_lag_seconds", "gauge", about, seen.lag_seconds)
+    about = "Bytes of the server's log that aren't read yet."
+    yield one("log_lag_bytes", "gauge", about, seen.lag_bytes)
+    yield one("clients", "gauge", "Connections of clients.", seen.connections)
+    about = "Connections for which no session is free."
+    yield one("clients_beyond", "gauge", about, seen.waiting_connections)
+    yield one("audits_total", "counter", "Audits that have begun.", status.audit)
+    yield one("violations_total", "counter", "Violations found.", status.violations_count)
+    yield one("violated", "gauge", "1 after a violation.", bool(status.violations_count))
+    is_lost = any(one.is_lost for one in status.ended)
+    yield one("incomplete", "gauge", "1 after an audit ended before its time.", is_lost)
+    yield one("auditing", "gauge", "1 while an audit goes on.", not status.is_over)
+    yield one("program_restarts_total", "counter", "Programs replaced.", status.restarts)
+
+
+def _by_reason(
+    name: str, about: str, earlier: Mapping[str, int], now: Mapping[str, int]
+) -> Family:
+    reasons = sorted({*earlier, *now})
+    samples = [((("reason", it),), float(earlier.get(it, 0) + now.get(it, 0))) for it in reasons]
+    return name, "counter", about, samples
+
+
+class Metrics:
+    """Answers /metrics; safe for several threads."""
+
+    def __init__(self, board: Board) -> None:
+        self._board = board
+
+    def __call__(self, path: str) -> Answer:
+        if path != "/metrics":
+            return Answer("only /metrics is here\n", PLAIN, 404)
+        return Answer(text_of(families(self._board.status())), TEXT)

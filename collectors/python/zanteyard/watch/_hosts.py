@@ -1,0 +1,147 @@
+"""What has to be set up on a server, and where that is done: by hand, or on the console of a host.
+
+What is said of hosts was taken from their documentation and wasn't tried. Names of menus change:
+the names of settings are what to look for.
+"""
+
+from __future__ import annotations
+
+from dataclasses import dataclass
+from typing import Iterable, Mapping
+
+WAL_LEVEL, SLOTS, SENDERS, REPLICATION, WALINSPECT, KEEP = (
+    "wal_level", "slots", "senders", "replication", "walinspect", "keep"
+)
+
+
+@dataclass(frozen=True)
+class Host:
+    """Who runs the server, and how each thing is set there. {user} stands for the role."""
+
+    name: str
+    remedies: Mapping[str, str]
+
+    def remedy(self, what: str, user: str) -> str:
+        return self.remedies.get(what, OWN.remedies[what]).replace("{user}", user)
+
+
+OWN = Host(
+    "",
+    {
+        WAL_LEVEL: "ALTER SYSTEM SET wal_level = 'logical'; then restart the server",
+        SLOTS: "ALTER SYSTEM SET max_replication_slots = 10; then restart the server",
+        SENDERS: "ALTER SYSTEM SET max_wal_senders = 10; then restart the server",
+        REPLICATION: "as a superuser: ALTER ROLE {user} REPLICATION",
+        WALINSPECT: "as a superuser: CREATE EXTENSION pg_walinspect; "
+        "GRANT pg_read_server_files TO {user}",
+        KEEP: "ALTER SYSTEM SET max_slot_wal_keep_size = '4GB'; SELECT pg_reload_conf()",
+    },
+)
+_AMAZON = {
+    SLOTS: "in the parameter group: max_replication_slots = 10; then reboot",
+    SENDERS: "in the parameter group: max_wal_senders = 10; then reboot",
+    REPLICATION: "as the master user: GRANT rds_replication TO {user}",
+    WALINSPECT: "as the master user: CREATE EXTENSION pg_walinspect, if the version offers it",
+    KEEP: "in the parameter group: max_slot_wal_keep_size, in MB",
+}
+RDS = Host(
+    "Amazon RDS",
+    {
+        WAL_LEVEL: "in the instance's DB parameter group (not the default one, which can't be "
+        "changed): rds.logical_replication = 1; then reboot the instance",
+        **_AMAZON,
+    },
+)
+AURORA = Host(
+    "Amazon Aurora",
+    {
+        WAL_LEVEL: "in the DB cluster parameter group (not the default one, which can't be "
+        "changed): rds.logical_replication = 1; then reboot the writer instance",
+        **_AMAZON,
+    },
+)
+CLOUD_SQL = Host(
+    "Google Cloud SQL",
+    {
+        WAL_LEVEL: "under Edit, Flags: cloudsql.logical_decoding = on; the instance restarts",
+        SLOTS: "under Edit, Flags: max_replication_slots = 10; the instance restarts",
+        SENDERS: "under Edit, Flags: max_wal_senders = 10; the instance restarts",
+        REPLICATION: "as the user postgres: ALTER USER {user} WITH REPLICATION",
+        WALINSPECT: "as the user postgres: CREATE EXTENSION pg_walinspect, if it is offered",
+        KEEP: "under Edit, Flags: max_slot_wal_keep_size, if it is offered",
+    },
+)
+ALLOYDB = Host(
+    "Google AlloyDB",
+    {
+        WAL_LEVEL: "in the instance's flags: alloydb.logical_decoding = on; the instance restarts",
+        REPLICATION: "as the user postgres: ALTER USER {user} WITH REPLICATION",
+    },
+)
+AZURE = Host(
+    "Azure Database for PostgreSQL, Flexible Server",
+    {
+        WAL_LEVEL: "under Settings, Server parameters: wal_level = LOGICAL; save and restart",
+        SLOTS: "under Settings, Server parameters: max_replication_slots = 10; save and restart",
+        SENDERS: "under Settings, Server parameters: max_wal_senders = 10; save and restart",
+        REPLICATION: "as the server's administrator: ALTER ROLE {user} WITH REPLICATION",
+        WALINSPECT: "under Settings, Server parameters: add pg_walinspect to azure.extensions, if "
+        "it is offered; then CREATE EXTENSION pg_walinspect",
+        KEEP: "under Settings, Server parameters: max_slot_wal_keep_size",
+    },
+)
+SUPABASE = Host(
+    "Supabase",
+    {
+        WAL_LEVEL: "it is logical in every project by default: ask Supabase",
+        REPLICATION: "use the role postgres, which may replicate; and connect directly, or by the "
+        "pooler's session mode: its transaction mode has no replication",
+    },
+)
+NEON = Host(
+    "Neon",
+    {
+        WAL_LEVEL: "in the project's Settings, Logical Replication: Enable (it can't be undone)",
+        REPLICATION: "use a role that was made in the console or by its API, and the endpoint "
+        "without -pooler in its name",
+        KEEP: "it can't be set there: Neon removes slots that nobody reads",
+    },
+)
+HEROKU = Host(
+    "Heroku Postgres",
+    {
+        WAL_LEVEL: "as far as we know Heroku gives its users no logical replication: ask them, or "
+        "audit a copy of the application over a server of your own",
+        REPLICATION: "as far as we know Heroku gives its users no role that may replicate",
+    },
+)
+DOCKER_NOTE = (
+    "in a container: docker run .. postgres -c wal_level=logical, or `command: postgres -c "
+    "wal_level=logical` in compose.yaml"
+)
+NAMES = (
+    (".neon.tech", NEON),
+    (".supabase.co", SUPABASE),
+    (".supabase.com", SUPABASE),
+    (".postgres.database.azure.com", AZURE),
+    (".compute-1.amazonaws.com", HEROKU),
+    (".rds.amazonaws.com", RDS),
+    (".rds.amazonaws.com.cn", RDS),
+)
+
+
+def host_of(name: str, settings: Iterable[str]) -> Host:
+    """By the server's name, and by settings of a host's own that it has."""
+    prefixes = {setting.split(".")[0] for setting in settings if "." in setting}
+    if "alloydb" in prefixes:
+        return ALLOYDB
+    if "cloudsql" in prefixes:
+        return CLOUD_SQL
+    if "rds" in prefixes or ".rds.amazonaws.com" in name:
+        is_aurora = "aurora" in prefixes or ".cluster-" in name
+        return AURORA if is_aurora else RDS
+    if "azure" in prefixes:
+        return AZURE
+    if "neon" in prefixes:
+        return NEON
+    return next((host for end, host in NAMES if name.lower().endswith(end)), OWN)

@@ -1,0 +1,303 @@
+"""The page of an audit that goes on: the verdict so far, what was checked and what wasn't, rounds,
+clients, and each violation with a link to its own page. It reads well without scripting."""
+
+from __future__ import annotations
+
+import html
+from typing import Iterator, List, Mapping, Sequence, Tuple
+
+from ..explain._charts import draw_rounds
+from ..core._version import VERSION
+from ._described import clock
+from ._state import MOST_SHAPES, Shape, Status
+from ._style import EVERY_WITHOUT, SCRIPT, STYLE
+from ._text import counted, escaped
+from ._web import policy_for
+
+POLICY = policy_for(STYLE, SCRIPT)
+HEADINGS: Mapping[str, str] = {
+    "running": "Nothing has been checked yet",
+    "serial": "No violation so far",
+    "pending": "No violation so far, and some reads still wait",
+    "spent": "The last round wasn't decided",
+    "incomplete": "No violation so far, and something wasn't checked",
+    "violated": "Transactions ran that no serial order explains",
+}
+SHOWN = 40  # reads that wait
+
+
+def whole_page(status: Status) -> str:
+    """The page, with the part that changes in it."""
+    return "\n".join(
+        [
+            "<!DOCTYPE html>",
+            '<html lang="en"><head><meta charset="utf-8">',
+            '<meta name="viewport" content="width=device-width, initial-scale=1">',
+            f"<title>{escaped(heading_of(status))}: {escaped(status.title)}</title>",
+            f'<noscript><meta http-equiv="refresh" content="{EVERY_WITHOUT}"></noscript>',
+            f"<style>{STYLE}</style></head><body>",
+            '<header class="top"><span><strong>zanteyard watch</strong> '
+            f'{escaped(status.title)}</span><span id="lost" role="status">The audit can’t be '
+            "reached; this is how it last stood.</span></header>",
+            f'<main id="now">{changing(status)}</main>',
+            f"<footer><p>zanteyard {VERSION}; the auditor is {escaped(status.origin)}. "
+            "A verdict is about what was checked: see what was left out.</p></footer>",
+            f"<script>{SCRIPT}</script>",
+            "</body></html>",
+            "",
+        ]
+    )
+
+
+def heading_of(status: Status) -> str:
+    if status.violations_count:
+        return f"{counted(status.violations_count, 'violation')} found"
+    return HEADINGS[status.whole_kind]
+
+
+def changing(status: Status) -> str:
+    """What changes while the audit goes on."""
+    return "\n".join(
+        [
+            *_state(status),
+            *_figures(status),
+            *_violations(status),
+            *_shares(status),
+            *_shapes(status),
+            *_left_out(status),
+            *_rounds(status),
+            *_pending(status),
+            *_audits(status),
+            *_notes(status),
+        ]
+    )
+
+
+def _state(status: Status) -> Iterator[str]:
+    kind = status.whole_kind
+    yield f'<section class="state {escaped(kind)}"><h1>{escaped(heading_of(status))}</h1>'
+    for line in _sentences(status):
+        yield f"<p>{line}</p>"
+    yield "</section>"
+
+
+def _sentences(status: Status) -> Iterator[str]:
+    if status.violations_count:
+        yield f"{HEADINGS['violated']}. {_where_explained(status)}"
+    elif status.rounds_count:
+        yield (
+            "Some serial order explains all that was checked, with each connection’s own order "
+            "kept."
+        )
+    elif not status.seen.connections:
+        yield "No application has connected yet."
+    if status.ended and status.is_over and not status.ended[-1].is_lost:
+        yield "Another audit begins soon, of what is done from then on."
+    elif status.ended and status.is_over:
+        yield (
+            f"Nothing is being checked: {escaped(status.ended[-1].reason)}. Applications are "
+            "served as before, and another audit is tried."
+        )
+    lost = [one for one in status.ended if one.is_lost]
+    if lost and not status.is_over:
+        yield (
+            f"An audit ended at {clock(lost[-1].at, False)}: {escaped(lost[-1].reason)}. Another "
+            "one began after it. Nothing is said about what happened between the two."
+        )
+    told = f"Watching for {lasting(status.now - status.began)}"
+    if status.told_at and not status.is_over:
+        told += f"; checked up to {clock(status.checked_until, False)}, "
+        told += f"{lasting(max(0.0, status.now - status.checked_until))} ago"
+    yield f"{told}."
+
+
+def _where_explained(status: Status) -> str:
+    if not status.violations:
+        return "An explanation is being made."
+    return "Each has a page of its own, below."
+
+
+def lasting(seconds: float) -> str:
+    """A time that has passed, in words."""
+    whole = int(seconds)
+    for size, name in ((86400, "day"), (3600, "hour"), (60, "minute")):
+        if whole >= 2 * size:
+            return counted(whole // size, name)
+    return f"{seconds:.1f} s" if seconds < 10 else counted(whole, "second")
+
+
+def _figures(status: Status) -> Iterator[str]:
+    seen = status.whole_seen
+    of_all = f"{_share(seen.offered, seen.whole)} of {seen.whole:,}"
+    rows: List[Tuple[str, str, str]] = [
+        ("Transactions checked", f"{seen.offered:,}", of_all),
+        (
+            "Reads checked", f"{seen.reads:,}",
+            f"{_share(seen.reads, seen.whole_reads)} of {seen.whole_reads:,}",
+        ),
+        (
+            "Writes checked", f"{seen.writes:,}",
+            f"{_share(seen.writes, seen.whole_writes)} of {seen.whole_writes:,}",
+        ),
+        ("Rounds", f"{status.rounds_count:,}", f"{status.remaining:,} transactions remembered"),
+        ("Time to a verdict", f"{status.behind:.1f} s", f"{seen.waiting:,} transactions wait"),
+        (
+            "Connections", f"{seen.connections:,}",
+            f"{seen.audited_connections:,} checked, {seen.waiting_connections:,} beyond these",
+        ),
+    ]
+    yield '<dl class="figures">'
+    for name, value, more in rows:
+        yield f"<div><dt>{name}</dt><dd>{value}<small>{more}</small></dd></div>"
+    yield "</dl>"
+
+
+def _share(part: float, whole: float) -> str:
+    """In percent; 100 % only if nothing is missing."""
+    if not whole:
+        return "0 %"
+    found = 100 * part / whole
+    return "100 %" if part >= whole else f"{min(found, 99.9):.1f} %"
+
+
+def _violations(status: Status) -> Iterator[str]:
+    if not status.violations:
+        return
+    yield '<h2>Violations</h2><ol class="violations">'
+    for one in reversed(status.violations):
+        yield (
+            f'<li><a href="/violation/{one.number}">{escaped(_capital(one.title))}</a> '
+            f'<span class="soft">at {clock(one.at, False)}, round {one.round}</span><br>'
+            f"{escaped(_capital(one.sentence), 400)}.</li>"
+        )
+    yield "</ol>"
+    more = status.violations_count - len(status.violations)
+    if more > 0:
+        told = "whose explanation isn’t made yet, or isn’t kept"
+        yield f"<p>{counted(more, 'violation')} more, {told}.</p>"
+
+
+def _capital(text: str) -> str:
+    return text[:1].upper() + text[1:]
+
+
+def _shares(status: Status) -> Iterator[str]:
+    seen = status.whole_seen
+    if not (seen.whole or seen.whole_reads):
+        return
+    yield "<h2>How much was checked</h2>"
+    for name, part, whole, what in (
+        ("Transactions", seen.offered, seen.whole, "transactions"),
+        ("Reads", seen.reads, seen.whole_reads, "rows that were returned"),
+        ("Writes", seen.writes, seen.whole_writes, "rows that were written"),
+    ):
+        yield from _bar(name, part, whole, f"{_share(part, whole)}: {part:,} of {whole:,} {what}")
+    if seen.shapes:
+        shapes = counted(len(seen.shapes), "shape")
+        yield (
+            f"<p>Besides, {counted(seen.unseen_count, 'statement')} of {shapes} read or wrote "
+            "something that wasn’t seen. They are listed below. What isn’t seen may hide a "
+            "violation, and makes none up.</p>"
+        )
+    if status.subtransactions == "returning":
+        yield (
+            "<p>The server doesn’t tell which rows were written behind a savepoint, since "
+            "pg_walinspect isn’t there or may not be called: some reads of such rows are left "
+            "out.</p>"
+        )
+
+
+def _bar(name: str, part: float, whole: float, told: str) -> Iterator[str]:
+    width = 1000 * part / whole if whole else 0
+    yield (
+        f'<div class="share"><span>{name}</span><svg viewBox="0 0 1000 10" '
+        'preserveAspectRatio="none" aria-hidden="true"><rect class="track" width="1000" '
+        f'height="10"/><rect class="part" width="{width:.1f}" height="10"/></svg>'
+        f'<span class="soft">{html.escape(told)}</span></div>'
+    )
+
+
+def _shapes(status: Status) -> Iterator[str]:
+    shapes: Sequence[Shape] = sorted(status.whole_seen.shapes, key=lambda one: -one.count)
+    if not shapes:
+        return
+    yield '<h2>Statements that weren’t seen in full</h2><table class="stack"><thead><tr>'
+    yield '<th class="count">Times</th><th>Statement</th><th>What wasn’t seen</th>'
+    yield "<th>First</th></tr></thead><tbody>"
+    for one in shapes[:MOST_SHAPES]:
+        where = " ".join(it for it in (clock(one.first, False), escaped(one.where, 120)) if it)
+        what = "" if one.is_reads else " (a write)"
+        yield (
+            f'<tr><td class="count" data-of="Times">{one.count:,}</td>'
+            f'<td class="shape"><code>{escaped(one.shape, 300)}</code></td>'
+            f'<td data-of="Not seen">{escaped(one.reason, 200)}{what}</td>'
+            f'<td class="time" data-of="First">{where}</td></tr>'
+        )
+    yield "</tbody></table>"
+    if len(shapes) > MOST_SHAPES:
+        yield f"<p>and {counted(len(shapes) - MOST_SHAPES, 'shape')} more.</p>"
+
+
+def _left_out(status: Status) -> Iterator[str]:
+    seen = status.whole_seen
+    for title, its in (
+        ("Transactions that weren’t checked", seen.folded),
+        ("Rows whose reads weren’t checked", seen.reads_left_out),
+        ("Rows whose writes weren’t checked", seen.writes_left_out),
+    ):
+        rows = [(count, reason) for reason, count in its.items() if count]
+        if rows:
+            yield f"<h2>{title}</h2><table><tbody>"
+            for count, reason in sorted(rows, reverse=True):
+                yield f'<tr><td class="count">{count:,}</td><td>{escaped(reason, 200)}</td></tr>'
+            yield "</tbody></table>"
+
+
+def _rounds(status: Status) -> Iterator[str]:
+    if len(status.rounds) < 2:
+        return
+    yield "<h2>Round by round</h2>"
+    yield f'<figure><div class="wide">{draw_rounds(status.rounds)}</div></figure>'
+    if status.meetings:
+        yield (
+            f"<p>{counted(status.meetings, 'meeting')} of all connections. The last one took "
+            f"{status.meeting_ms:.0f} ms, the longest {status.longest_meeting_ms:.0f} ms. "
+            f"{counted(status.forgotten, 'transaction')} could be forgotten by now, at "
+            f"{counted(status.cuts, 'cut')}.</p>"
+        )
+
+
+def _pending(status: Status) -> Iterator[str]:
+    if not status.pending_count:
+        return
+    yield "<h2>Reads that wait</h2>"
+    yield (
+        f"<p>{counted(status.pending_count, 'read')} of the last round named a transaction that "
+        "hadn’t arrived by then.</p><ul>"
+    )
+    yield from (f"<li>{escaped(line)}</li>" for line in status.pending[:SHOWN])
+    yield "</ul>"
+
+
+def _audits(status: Status) -> Iterator[str]:
+    if not status.ended:
+        return
+    title = counted(len(status.ended), "earlier audit")
+    yield f'<details id="audits"><summary>{title}</summary><table class="stack"><thead><tr>'
+    yield '<th class="count">Audit</th><th>Ended</th><th>Last verdict</th><th>Why it ended</th>'
+    yield "</tr></thead><tbody>"
+    for one in reversed(status.ended):
+        yield (
+            f'<tr><td class="count" data-of="Audit">{one.number:,}</td>'
+            f'<td class="time" data-of="Ended">{clock(one.at, False)}</td>'
+            f'<td data-of="Last verdict">{escaped(one.kind)}</td>'
+            f'<td data-of="Why">{escaped(one.reason, 300)}</td></tr>'
+        )
+    yield "</tbody></table></details>"
+
+
+def _notes(status: Status) -> Iterator[str]:
+    if status.notes:
+        yield "<h2>Notes</h2><ul>"
+        yield from (f"<li>{escaped(note)}</li>" for note in status.notes)
+        yield "</ul>"

@@ -1,0 +1,27 @@
+"""The reads of the last round that wait for a transaction."""
+
+from __future__ import annotations
+
+from typing import Any, List, Mapping, Sequence, Tuple
+
+from ..core._records import AuditId
+
+SHOWN = 40
+
+
+def waiting_reads(
+    transactions: Mapping[AuditId, Sequence[Any]], received: Sequence[int]
+) -> Tuple[List[str], int]:
+    """Lines that tell of the first of them, and how many they are. `received` tells how many
+    transactions of each session the auditor has."""
+    lines: List[str] = []
+    count = 0
+    for (session, number), its in sorted(transactions.items()):
+        for key, *source in its[0]:
+            if source == ["init"] or source[1] < received[source[0]]:
+                continue
+            count += 1
+            if len(lines) < SHOWN:
+                read = f"{session}.{number} read key {key}"
+                lines.append(f"{read} from {source[0]}.{source[1]}, which hasn't arrived")
+    return lines, count

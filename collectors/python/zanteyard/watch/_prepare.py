@@ -1,0 +1,108 @@
+"""`zanteyard prepare`: what a server and its tables lack for an audit, all at once, and how each
+thing is had. Its exit status is 0 if an audit can begin, and 2 if something is missing for it."""
+
+from __future__ import annotations
+
+import argparse
+from typing import Any, Iterator, List, Sequence
+from urllib.parse import parse_qs, urlsplit
+
+from ._database import Database, DatabaseError, without_password
+from ._facts import Finding, Server, create, findings, server_of
+from ._hosts import DOCKER_NOTE, OWN
+from ._schema import Table, summary, tables_of
+from ._text import counted, visible
+
+READY, MISSING = 0, 2
+STATUS_WORDS = (
+    "The exit status is 0 if an audit can begin, 2 if something is missing or the server can't be "
+    "asked."
+)
+NOT_SHOWN = "not seen: reads and writes of it are left out, and counted"
+
+
+def add_arguments(command: argparse.ArgumentParser) -> None:
+    command.epilog = STATUS_WORDS
+    command.add_argument("url", metavar="URL", help="as postgresql://user@server/database")
+    command.add_argument(
+        "--create", action="store_true", help="creates the audit's own table, if it isn't there"
+    )
+
+
+def run(asked: Any) -> int:
+    with Database(asked.url) as database:
+        server = server_of(database, host_name(asked.url))
+        print(heading(server, asked.url))
+        if asked.create:
+            for line in _created(database):
+                print(line)
+        found = findings(database, server)
+        for line in report(server, found, tables_of(database)):
+            print(line)
+    return READY if is_ready(found) else MISSING
+
+
+def host_name(url: str) -> str:
+    """The server's name, as far as the URL tells it."""
+    try:
+        parts = urlsplit(url)
+        named = parse_qs(parts.query).get("host")
+        return named[0] if named else parts.hostname or ""
+    except ValueError:
+        return ""
+
+
+def is_ready(found: Sequence[Finding]) -> bool:
+    return all(one.is_right or not one.is_needed for one in found)
+
+
+def heading(server: Server, url: str) -> str:
+    at = f" ({server.host.name})" if server.host.name else ""
+    return (
+        f"{visible(without_password(url))}{at}: database {visible(server.database)}, "
+        f"role {visible(server.user)}"
+    )
+
+
+def _created(database: Database) -> Iterator[str]:
+    for statement, error in create(database):
+        yield f"  {visible(statement)}" + (f": {visible(error)}" if error else "")
+
+
+def report(server: Server, found: Sequence[Finding], tables: Sequence[Table]) -> Iterator[str]:
+    """The lines of what was found."""
+    yield "the server"
+    for one in found:
+        mark = "ok  " if one.is_right else "MISSING" if one.is_needed else "note"
+        yield f"  {mark:<8}{visible(one.sentence)}"
+        if one.remedy and not one.is_right:
+            yield f"  {'':<8}  {visible(one.remedy)}"
+            if server.host is OWN and one.sentence.startswith("wal_level"):
+                yield f"  {'':<8}  {DOCKER_NOTE}"
+    yield from _tables(tables)
+    missing = [one for one in found if one.is_needed and not one.is_right]
+    if missing:
+        yield f"{counted(len(missing), 'thing is', 'things are')} missing: an audit can't begin"
+    else:
+        yield "ready: an audit can begin"
+
+
+def _tables(tables: Sequence[Table]) -> Iterator[str]:
+    seen, count, others = summary(tables)
+    yield f"the tables: {seen} of {counted(count, 'table')} can be audited"
+    for table in others:
+        yield f"  {visible(table.name)}: {visible(table.reason)}"
+        if table.remedy:
+            yield f"    {visible(table.remedy)}"
+    if others:
+        yield "  what is read and written of these is left out, and counted"
+
+
+def missing_of(url: str) -> List[Finding]:
+    """What an audit of this server can't begin without. Raises DatabaseError."""
+    with Database(url) as database:
+        server = server_of(database, host_name(url))
+        return [one for one in findings(database, server) if one.is_needed and not one.is_right]
+
+
+__all__ = ["DatabaseError", "add_arguments", "missing_of", "run"]

@@ -1,0 +1,158 @@
+"""The program zanteyard-proxy: where it is, how it is started, what it writes, and how it ends."""
+
+from __future__ import annotations
+
+import contextlib
+import logging
+import os
+import signal
+import subprocess
+import threading
+from typing import Callable, List, Mapping, Optional, Sequence
+
+from ..core.errors import ProgramMissingError
+from ..program._binaries import CRATES, PACKED
+from ._feed import Item, Split
+from ._text import visible
+
+NAME = "zanteyard-proxy"
+ENVIRONMENT = "ZANTEYARD_PROXY"
+BUILT = os.path.join(os.path.dirname(CRATES), "proxy", "out", NAME)  # in a clone
+PIECE = 1 << 20  # bytes that are read at once
+ENDING = 10.0  # seconds in which it has to end once it was told to
+logger = logging.getLogger("zanteyard")
+
+
+def proxy_path(environment: Mapping[str, str] = os.environ) -> str:
+    """The program that would be started: the one that the environment names, else the one that came
+    with the package, else the one that a clone has built."""
+    named = environment.get(ENVIRONMENT)
+    if named:
+        return named
+    packed = os.path.join(PACKED, NAME)
+    return packed if os.path.isfile(packed) else BUILT
+
+
+def find_proxy(environment: Mapping[str, str] = os.environ) -> str:
+    """The same; raises ProgramMissingError if there is none that can be started."""
+    path = proxy_path(environment)
+    if not os.path.isfile(path):
+        raise ProgramMissingError(
+            f"{path} isn't there: install the wheel, build the proxy, or name it by {ENVIRONMENT}"
+        )
+    if not os.access(path, os.X_OK):
+        raise ProgramMissingError(f"{path} can't be executed")
+    return path
+
+
+def build_of(environment: Mapping[str, str] = os.environ) -> str:
+    """Where the program is, and what it says of its build."""
+    path = proxy_path(environment)
+    if not os.path.isfile(path):
+        return f"{path}: not there"
+    try:
+        its = subprocess.run(
+            [path, "--version"], stdin=subprocess.DEVNULL, capture_output=True, timeout=ENDING
+        )
+    except (OSError, subprocess.SubprocessError) as error:
+        return f"{path}: it can't be started ({visible(str(error), 200)})"
+    told = visible(its.stdout.decode("utf-8", "replace"), 200)
+    return f"{path}: {told or 'it says nothing of its build'}"
+
+
+class Proxy:
+    """One run of the program. What it writes is given to `take` by a thread of its own, piece by
+    piece; `take` may wait, and then the program isn't read. An empty piece tells that nothing more
+    comes. Signals that a terminal sends to this program's group don't reach it, so that it serves
+    applications until it is told to end."""
+
+    def __init__(
+        self,
+        call: Sequence[str],
+        take: Callable[[Sequence[Item]], None],
+        environment: Optional[Mapping[str, str]] = None,
+    ) -> None:
+        """Raises ProgramMissingError if it can't be started."""
+        pipe = subprocess.PIPE
+        try:
+            self.process = subprocess.Popen(
+                list(call),
+                stdin=pipe,
+                stdout=pipe,
+                stderr=pipe,
+                bufsize=0,
+                env=None if environment is None else dict(environment),
+                start_new_session=True,
+            )
+        except OSError as error:
+            raise ProgramMissingError(f"{call[0]} can't be started: {error.strerror}") from error
+        self.last_words: List[str] = []  # on standard error
+        self._take = take
+        self._turn = threading.Lock()  # to write a command
+        self._threads = [
+            threading.Thread(target=target, daemon=True) for target in (self._read, self._hear)
+        ]
+        for thread in self._threads:
+            thread.start()
+
+    @property
+    def is_running(self) -> bool:
+        return self.process.poll() is None
+
+    def tell(self, line: bytes) -> bool:
+        """Writes a command; tells whether that could be done."""
+        assert self.process.stdin is not None
+        with self._turn:
+            try:
+                self.process.stdin.write(line)
+                return True
+            except (OSError, ValueError):
+                return False
+
+    def _read(self) -> None:
+        assert self.process.stdout is not None
+        split = Split()
+        try:
+            while True:
+                data = os.read(self.process.stdout.fileno(), PIECE)
+                if not data:
+                    break
+                items = split.items(data)
+                if items:
+                    self._take(items)
+        except (OSError, ValueError) as error:
+            logger.error("the proxy can't be read: %s", error)
+        if split.wrong:
+            logger.warning("the proxy wrote %d lines that weren't understood", split.wrong)
+        self._take(())
+
+    def _hear(self) -> None:
+        """What it writes on standard error is logged."""
+        assert self.process.stderr is not None
+        with contextlib.suppress(OSError, ValueError):
+            for line in self.process.stderr:
+                told = visible(line.decode("utf-8", "replace"), 500)
+                self.last_words = [*self.last_words[-4:], told]
+                logger.info("proxy: %s", told)
+
+    def end(self, seconds: float = ENDING) -> int:
+        """Ends it, by force if it hasn't ended in so many seconds; gives its status. Applications
+        that are connected lose their connections."""
+        with contextlib.suppress(OSError, ValueError):
+            assert self.process.stdin is not None
+            self.process.stdin.close()
+        if self.is_running:
+            with contextlib.suppress(ProcessLookupError):
+                self.process.send_signal(signal.SIGTERM)
+        try:
+            status = self.process.wait(seconds)
+        except subprocess.TimeoutExpired:
+            logger.warning("the proxy didn't end in %g s, and was killed", seconds)
+            self.process.kill()
+            status = self.process.wait()
+        for thread in self._threads:
+            thread.join(ENDING)
+        for pipe in (self.process.stdout, self.process.stderr):
+            if pipe is not None and not any(thread.is_alive() for thread in self._threads):
+                pipe.close()
+        return status

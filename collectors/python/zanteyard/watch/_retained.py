@@ -1,0 +1,70 @@
+"""What the auditor holds by now, as the lines that it was given: enough to explain a violation.
+
+An offer is kept as bytes until what it says is forgotten by a cut. It is read only if there is
+something to explain.
+"""
+
+from __future__ import annotations
+
+import json
+import re
+from collections import Counter, deque
+from typing import Any, Deque, Dict, Iterable, List, Sequence, Tuple
+
+from ..core._records import AuditId
+
+Transaction = List[Any]  # its reads, the keys that it wrote, and "aborted" if it was
+OFFER = re.compile(rb'\["offer",(\d+),(\d+),')
+JOIN = re.compile(rb'\["join",(\d+),(?:(\d+),)?\[\[')
+OPEN = re.compile(rb'\["open",(\d+),(\d+)')
+
+
+class Retained:
+    """Of the audit that the last `open` has begun. `marks` are how many transactions of each
+    session are forgotten. For one thread at a time."""
+
+    def __init__(self) -> None:
+        self.marks: List[int] = []
+        self._lines: List[Deque[Tuple[int, bytes]]] = []  # of each session, with their first number
+
+    def note(self, line: bytes) -> None:
+        """A line that was answered ok."""
+        found = OFFER.match(line)
+        if found:
+            self._lines[int(found[1])].append((int(found[2]), line))
+            return
+        found = JOIN.match(line)
+        if found:
+            session, first = int(found[1]), int(found[2] or 0)
+            if session == len(self._lines):
+                self.marks.append(0)
+                self._lines.append(deque())
+            self._lines[session].append((first, line))
+            return
+        found = OPEN.match(line)
+        if found:
+            self.marks = [0] * int(found[1])
+            self._lines = [deque() for _ in self.marks]
+
+    def forget(self, gone: Iterable[Sequence[int]]) -> None:
+        """The transactions that a cut names."""
+        for session, count in Counter(its[0] for its in gone).items():
+            self.marks[session] += count
+            lines = self._lines[session]
+            while len(lines) > 1 and lines[1][0] <= self.marks[session]:
+                lines.popleft()
+
+    @property
+    def size(self) -> int:
+        """Bytes of lines that are kept."""
+        return sum(len(line) for lines in self._lines for _, line in lines)
+
+    def transactions(self) -> Dict[AuditId, Transaction]:
+        """Those that aren't forgotten, by session and number."""
+        found: Dict[AuditId, Transaction] = {}
+        for session, lines in enumerate(self._lines):
+            for first, line in lines:
+                for number, its in enumerate(json.loads(line)[-1], first):
+                    if number >= self.marks[session]:
+                        found[AuditId((session, number))] = its
+        return found

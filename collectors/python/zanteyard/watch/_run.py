@@ -1,0 +1,147 @@
+"""One run of `zanteyard watch`, from its start to its outcome."""
+
+from __future__ import annotations
+
+import contextlib
+import logging
+import signal
+import threading
+import time
+from dataclasses import dataclass
+from typing import Callable, Iterator, Mapping, Optional, Sequence, Tuple
+
+from ..core.errors import ProgramEndedError
+from ._auditing import Auditing
+from ._board import Board
+from ._ending import lines_of, status_of
+from ._explaining import Explaining
+from ._figures import Metrics
+from ._intake import Intake
+from ._saving import save
+from ._serving import Pages
+from ._supervising import Supervisor
+from ._violations import Columns, Violation, unknown
+from ._watching import Watching
+from ._web import Tell, WebServer
+
+LOOKS = 0.1  # seconds between two looks at whether it is over
+LAST_ROUND = 30.0  # seconds for the proxy to have its last meeting, besides what a round may take
+EXPLAINED = 90.0  # seconds for what is still being explained
+STOPS = (signal.SIGTERM, signal.SIGINT, signal.SIGHUP)
+logger = logging.getLogger("zanteyard")
+
+
+@dataclass(frozen=True)
+class Plan:
+    """What is to be run. `call` is the proxy with its arguments; the addresses are HOST:PORT, or
+    None if nothing is to be there."""
+
+    call: Sequence[str]
+    auditor: str
+    title: str
+    origin: str = ""
+    environment: Optional[Mapping[str, str]] = None
+    page: Optional[str] = None
+    metrics: Optional[str] = None
+    journal: Optional[str] = None
+    save: Optional[str] = None
+    round_seconds: float = 60.0
+    for_seconds: Optional[float] = None  # then it stops by itself
+    redacts: bool = False  # shows no values of statements
+    columns: Columns = unknown
+
+
+class Run:
+    """`tell` takes what is for standard output. Not for several threads, but for `stop`."""
+
+    def __init__(self, plan: Plan, tell: Callable[[str], object] = print) -> None:
+        """Raises JournalError, and OSError if it can't listen at one of the addresses."""
+        self.plan, self._tell = plan, tell
+        self.stop = threading.Event()
+        self._turn = threading.Lock()
+        self.board = Board(plan.title, plan.origin)
+        intake = Intake()
+        explaining = Explaining(plan.auditor, self._explained, plan.columns)
+        auditing = Auditing(plan.auditor, plan.journal, plan.round_seconds)
+        its = (auditing, self.board, intake, self._to_proxy, explaining, plan.redacts)
+        self._watching = Watching(*its)
+        self._explaining = explaining
+        self._supervisor = Supervisor(
+            plan.call, plan.environment, intake, self._watching.proxy_is_gone
+        )
+        self._stack = contextlib.ExitStack()
+        served: Tuple[Tuple[Optional[str], Tell, str, bool], ...] = (
+            (plan.page, Pages(self.board), "the page", False),
+            (plan.metrics, Metrics(self.board), "metrics", True),
+        )
+        for address, pages, name, any_name in served:
+            if address is not None:
+                server = WebServer(address, pages, any_name)
+                self._stack.callback(server.close)
+                where = server.url + ("metrics" if any_name else "")
+                logger.info("%s: %s", name, where)
+
+    def _to_proxy(self, line: bytes) -> bool:
+        """What is said to a proxy that has ended isn't for the one after it."""
+        is_of_now = self._supervisor.ended == self._watching.gone
+        return is_of_now and self._supervisor.tell(line)
+
+    def run(self) -> int:
+        """Until it is stopped; gives the exit status. Raises ProgramMissingError, and
+        CantBeginError if the proxy ends before it has begun an audit."""
+        with self._stack:
+            self._watching.start()
+            try:
+                self._supervisor.begin()
+                self._wait()
+                self._last_round()
+            finally:
+                self._supervisor.end()
+                self._watching.end()
+        status = self.board.status()
+        for line in lines_of(status):
+            self._tell(line)
+        return status_of(status)
+
+    def _wait(self) -> None:
+        ends: Optional[float] = None
+        try:
+            while not self.stop.wait(LOOKS) and (ends is None or time.monotonic() < ends):
+                self._supervisor.look()
+                has_started = self._supervisor.has_started.is_set()
+                if ends is None and has_started and self.plan.for_seconds is not None:
+                    ends = time.monotonic() + self.plan.for_seconds
+        except ProgramEndedError as error:
+            logger.error("%s", error)
+
+    def _last_round(self) -> None:
+        logger.info("a last round, and then it ends")
+        self._watching.stop()
+        if not self._watching.stopped.wait(LAST_ROUND + self.plan.round_seconds):
+            logger.warning("the last round hasn't come in time")
+            self.board.ended("its last round hasn't come in time")
+        self._explaining.wait(EXPLAINED)
+
+    def _explained(self, one: Violation) -> None:
+        """One after another."""
+        with self._turn:
+            self.board.violation(one)
+            for line in one.lines():
+                self._tell(line)
+            if self.plan.save is not None:
+                names = save(one, self.plan.save, self.plan.title, self.plan.origin)
+                self._tell(f"(saved: {', '.join(names)})" if names else "(it can't be saved)")
+
+
+@contextlib.contextmanager
+def stopped_by_signals(run: Run) -> Iterator[None]:
+    """In here the signals that end a program have the run stop instead. For the main thread."""
+    before = {number: signal.getsignal(number) for number in STOPS}
+    for number in STOPS:
+        if before[number] != signal.SIG_IGN:  # as nohup wants it
+            signal.signal(number, lambda *_: run.stop.set())
+    try:
+        yield
+    finally:
+        for number, handler in before.items():
+            signal.signal(number, handler)

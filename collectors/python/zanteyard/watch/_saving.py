@@ -1,0 +1,32 @@
+"""Keeps each violation as files: a page, a text, and a script for the auditor."""
+
+from __future__ import annotations
+
+import logging
+import os
+from typing import Tuple
+
+from ._violation_page import violation_page
+from ._violations import Violation
+
+logger = logging.getLogger("zanteyard")
+
+
+def save(one: Violation, folder: str, title: str, origin: str) -> Tuple[str, ...]:
+    """Writes violation-N.html, .txt and .jsonl into the folder, which is made if need be; gives the
+    names of those that were written. What can't be written is logged."""
+    found = []
+    base = os.path.join(folder, f"violation-{one.number}")
+    for end, text in (
+        (".txt", "".join(f"{line}\n" for line in one.lines())),
+        (".jsonl", one.story.script),
+        (".html", violation_page(one, title, origin, is_file=True)),
+    ):
+        try:
+            os.makedirs(folder, mode=0o700, exist_ok=True)
+            with open(base + end, "w", encoding="utf-8") as file:
+                file.write(text)
+            found.append(base + end)
+        except OSError as error:
+            logger.error("%s can't be written: %s", base + end, error.strerror)
+    return tuple(found)

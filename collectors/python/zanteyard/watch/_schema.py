@@ -1,0 +1,113 @@
+"""What an audit sees of a database's tables, and what each of them lacks."""
+
+from __future__ import annotations
+
+from dataclasses import dataclass
+from typing import Any, Dict, Iterable, Iterator, List, Sequence, Tuple
+
+from ._database import Database
+from ._facts import FENCE
+
+# Types of a primary key's columns whose values the proxy can compare; enums as well, and domains
+# over these.
+COMPARED = frozenset(
+    "bool bytea name int2 int4 int8 oid text varchar bpchar float4 float8 numeric uuid date time "
+    "timestamp timestamptz cidr inet macaddr bit varbit".split()
+)
+TABLES = """
+SELECT c.oid, n.nspname, c.relname, c.relkind, c.relpersistence, c.relreplident, c.relispartition,
+       i.indexrelid IS NOT NULL, coalesce(i.indimmediate, true), coalesce(i.indisreplident, false)
+  FROM pg_class c
+  JOIN pg_namespace n ON n.oid = c.relnamespace
+  LEFT JOIN pg_index i ON i.indrelid = c.oid AND i.indisprimary
+ WHERE c.relkind IN ('r', 'p', 'f', 'v', 'm') AND c.relpersistence <> 't'
+   AND n.nspname NOT IN ('pg_catalog', 'information_schema') AND n.nspname !~ '^pg_(toast|temp)'
+   AND NOT EXISTS (SELECT FROM pg_depend d WHERE d.classid = 'pg_class'::regclass
+                   AND d.objid = c.oid AND d.deptype = 'e')
+ ORDER BY n.nspname, c.relname
+"""
+COLUMNS = """
+SELECT i.indrelid, a.attname, format_type(a.atttypid, a.atttypmod), t.typtype, b.typname, b.typtype,
+       coalesce(l.collisdeterministic, true)
+  FROM pg_index i
+ CROSS JOIN unnest(i.indkey) WITH ORDINALITY k(number, place)
+  JOIN pg_attribute a ON a.attrelid = i.indrelid AND a.attnum = k.number
+  JOIN pg_type t ON t.oid = a.atttypid
+  JOIN pg_type b ON b.oid = CASE t.typtype WHEN 'd' THEN t.typbasetype ELSE t.oid END
+  LEFT JOIN pg_collation l ON l.oid = a.attcollation
+ WHERE i.indisprimary
+ ORDER BY i.indrelid, k.place
+"""
+ENUM = "e"
+
+
+@dataclass(frozen=True)
+class Table:
+    """One table or view. Of one that isn't seen `reason` says why, and the remedy what can be done,
+    if anything."""
+
+    name: str
+    kind: str  # "table", "partition", "view" or "foreign table"
+    reason: str = ""
+    remedy: str = ""
+
+    @property
+    def is_seen(self) -> bool:
+        return not self.reason
+
+
+def tables_of(database: Database) -> List[Table]:
+    """All tables and views that aren't PostgreSQL's own, an extension's or temporary ones."""
+    columns: Dict[Any, List[Sequence[Any]]] = {}
+    for oid, *its in database.run(COLUMNS):
+        columns.setdefault(oid, []).append(its)
+    found = (_table(row, columns.get(row[0], [])) for row in database.run(TABLES))
+    return [table for table in found if table.name != FENCE]
+
+
+def _table(row: Sequence[Any], key: Sequence[Sequence[Any]]) -> Table:
+    _, schema, name, kind, persistence, identity, is_partition, *index = row
+    full = f"{quoted(schema)}.{quoted(name)}"
+    if kind in ("v", "m"):
+        return Table(full, "view", "a view: rows that are read through it aren't seen")
+    if kind == "f":
+        return Table(full, "foreign table", "a foreign table: its rows are another server's")
+    what = "partition" if is_partition else "table"
+    if persistence == "u":
+        told = "unlogged: the server's log doesn't have its writes"
+        return Table(full, what, told, f"ALTER TABLE {full} SET LOGGED")
+    has_key, is_immediate, is_identity = index
+    if not has_key:
+        told = "no primary key: its rows can't be told apart"
+        return Table(full, what, told, f"ALTER TABLE {full} ADD PRIMARY KEY (..)")
+    if not is_immediate:
+        told = "its primary key is deferrable: the log doesn't have the keys of deleted rows"
+        return Table(full, what, told)
+    if identity == "n" or (identity == "i" and not is_identity):
+        told = "its replica identity isn't its primary key: the log lacks keys of deleted rows"
+        return Table(full, what, told, f"ALTER TABLE {full} REPLICA IDENTITY DEFAULT")
+    wrong = [*_not_compared(key)]
+    return Table(full, what, "; ".join(wrong))
+
+
+def _not_compared(key: Iterable[Sequence[Any]]) -> Iterator[str]:
+    for name, told, _, base, base_kind, is_deterministic in key:
+        if base not in COMPARED and base_kind != ENUM:
+            yield f"{quoted(name)} of its primary key has the type {told}, which isn't compared"
+        elif not is_deterministic:
+            yield f"{quoted(name)} of its primary key has a collation by which texts are equal"
+
+
+def quoted(name: str) -> str:
+    """The name as SQL has it."""
+    is_plain = name.isascii() and name.islower() and name.replace("_", "a").isalnum()
+    if is_plain and not name[0].isdigit():
+        return name
+    return '"' + name.replace('"', '""') + '"'
+
+
+def summary(tables: Sequence[Table]) -> Tuple[int, int, List[Table]]:
+    """How many tables are seen, of how many; and those that aren't, and views."""
+    real = [table for table in tables if table.kind != "view"]
+    seen = sum(table.is_seen for table in real)
+    return seen, len(real), [table for table in tables if not table.is_seen]

@@ -1,0 +1,41 @@
+"""What is at which path of the page's server."""
+
+from __future__ import annotations
+
+import re
+from typing import Optional
+
+from . import _live_page, _violation_page
+from ._board import Board
+from ._style import NOW
+from ._web import TEXT, Answer
+
+VIOLATION = re.compile(r"/violation/([1-9]\d{0,8})(\.jsonl|\.txt)?")
+
+
+class Pages:
+    """Answers a path; safe for several threads."""
+
+    def __init__(self, board: Board) -> None:
+        self._board = board
+
+    def __call__(self, path: str) -> Optional[Answer]:
+        if path == "/":
+            text = _live_page.whole_page(self._board.status())
+            return Answer(text, policy=_live_page.POLICY)
+        if path == NOW:
+            return Answer(_live_page.changing(self._board.status()))
+        found = VIOLATION.fullmatch(path)
+        return self._violation(int(found[1]), found[2] or "") if found else None
+
+    def _violation(self, number: int, form: str) -> Optional[Answer]:
+        status = self._board.status()
+        one = next((it for it in status.violations if it.number == number), None)
+        if one is None:
+            return None
+        if form == ".jsonl":
+            return Answer(one.story.script, TEXT)
+        if form == ".txt":
+            return Answer("".join(f"{line}\n" for line in one.lines()), TEXT)
+        page = _violation_page.violation_page(one, status.title, status.origin)
+        return Answer(page, policy=_violation_page.POLICY)

@@ -1,0 +1,184 @@
+"""What an audit has come to by now, as plain values: what the page, the metrics and the outcome at
+the end are made of."""
+
+from __future__ import annotations
+
+from dataclasses import dataclass, field, replace
+from typing import ClassVar, Mapping, Sequence, Tuple
+
+from ..explain._charts import RoundSeen
+from ._violations import Violation
+
+MOST_SHAPES = 200  # that are shown on a page
+ABORTED_READS = "it aborted"  # why a read is left out whose transaction was aborted
+
+
+@dataclass(frozen=True)
+class Shape:
+    """Statements of one shape of which something wasn't seen: why, how many times, and when and
+    where that was first. `is_reads` tells reads from writes."""
+
+    shape: str
+    reason: str
+    count: int
+    is_reads: bool = True
+    first: float = 0.0  # seconds since 1970
+    where: str = ""  # the file and line, or the application's name
+
+
+@dataclass(frozen=True)
+class Seen:
+    """The coverage of an audit: what of all that happened was checked, without fences.
+
+    Of the `committed` transactions `offered` were given to the auditor; the rest is folded, by
+    reason, or did nothing to a table. `reads` and `writes` are rows that were read and written in
+    what was offered; `reads_left_out` are rows that were returned to a client and aren't checked,
+    by reason; `shapes` are statements of which something wasn't seen at all."""
+
+    committed: int = 0
+    offered: int = 0
+    fences: int = 0
+    aborted: int = 0
+    empty: int = 0  # transactions that read and wrote nothing of a table
+    folded: Mapping[str, int] = field(default_factory=dict)
+    reads: int = 0
+    reads_seen: int = 0
+    reads_own: int = 0  # of what the reader itself had written
+    reads_left_out: Mapping[str, int] = field(default_factory=dict)
+    writes: int = 0
+    writes_seen: int = 0
+    writes_left_out: Mapping[str, int] = field(default_factory=dict)
+    shapes: Sequence[Shape] = ()
+    connections: int = 0
+    audited_connections: int = 0
+    waiting_connections: int = 0  # for which no session is free
+    connections_ever: int = 0
+    sessions: int = 0
+    lag_bytes: int = 0  # of the server's log that the proxy hasn't read yet
+    lag_seconds: float = 0.0
+    waiting: int = 0  # transactions that the proxy holds before they are offered
+    remaining: int = 0
+    keys: int = 0
+    statements_dropped: int = 0
+
+    COUNTED: ClassVar[Tuple[str, ...]] = (
+        "committed", "offered", "fences", "aborted", "empty", "reads", "reads_seen", "reads_own",
+        "writes", "writes_seen", "connections_ever", "statements_dropped",
+    )
+    BY_REASON: ClassVar[Tuple[str, ...]] = ("folded", "reads_left_out", "writes_left_out")
+
+    @property
+    def whole(self) -> int:
+        """Transactions that were offered or folded."""
+        return self.offered + self.folded_count
+
+    @property
+    def whole_reads(self) -> int:
+        """Rows that were returned, but for what the reader itself had written."""
+        return self.reads + self.left_out_count
+
+    @property
+    def whole_writes(self) -> int:
+        return self.writes + self.writes_left_out_count
+
+    @property
+    def folded_count(self) -> int:
+        return sum(self.folded.values())
+
+    @property
+    def left_out_count(self) -> int:
+        """Rows whose reads count and weren't checked; what was aborted counts for nothing."""
+        return sum(count for why, count in self.reads_left_out.items() if why != ABORTED_READS)
+
+    @property
+    def writes_left_out_count(self) -> int:
+        return sum(self.writes_left_out.values())
+
+    @property
+    def unseen_count(self) -> int:
+        """Statements of which something wasn't seen."""
+        return sum(one.count for one in self.shapes)
+
+
+@dataclass(frozen=True)
+class Ended:
+    """An audit that is over: how many rounds it had, what the last one said, and why it ended."""
+
+    number: int
+    kind: str
+    rounds: int
+    reason: str
+    at: float  # seconds since 1970
+    is_lost: bool = True  # something isn't audited that could have been; else it was stopped
+
+
+@dataclass(frozen=True)
+class Status:
+    """All of it at one moment. `kind` is that of the present audit's last round, "running" before
+    the first one. Times are in seconds since 1970."""
+
+    title: str  # which database, and by which address it is reached
+    began: float
+    now: float
+    origin: str = ""  # by which auditor
+    database: str = ""
+    server: str = ""  # its version
+    subtransactions: str = ""  # how those are resolved
+    audit: int = 1
+    kind: str = "running"
+    is_over: bool = False  # nothing is audited at the moment
+    ended: Tuple[Ended, ...] = ()
+    seen: Seen = field(default_factory=Seen)
+    earlier_seen: Seen = field(default_factory=Seen)  # of audits before this one
+    rounds: Tuple[RoundSeen, ...] = ()  # the last ones
+    rounds_count: int = 0
+    kinds: Mapping[str, int] = field(default_factory=dict)  # rounds, by what they said
+    cuts: int = 0
+    forgotten: int = 0  # transactions
+    remaining: int = 0
+    behind: float = 0.0  # seconds from a meeting to its round's report
+    told_at: float = 0.0  # when the last round reported; 0 before the first
+    checked_until: float = 0.0  # all that was answered by then was checked
+    pending: Tuple[str, ...] = ()
+    pending_count: int = 0
+    violations: Tuple[Violation, ...] = ()  # those that are explained by now
+    violations_count: int = 0
+    meetings: int = 0
+    meeting_ms: float = 0.0  # of the last one
+    longest_meeting_ms: float = 0.0
+    fences: int = 0  # of the last one
+    notes: Tuple[str, ...] = ()  # warnings
+    restarts: int = 0
+
+    @property
+    def whole_seen(self) -> Seen:
+        """Of all audits so far; what isn't counted is that of the present one."""
+        return added(self.earlier_seen, self.seen)
+
+    @property
+    def whole_kind(self) -> str:
+        """Over all audits so far: a violation stays one; else something is missing if one of them
+        ended before its time; else what the present one says."""
+        if self.violations_count:
+            return "violated"
+        if self.is_over or any(one.is_lost for one in self.ended):
+            return "incomplete"
+        return self.kind
+
+
+def added(one: Seen, other: Seen) -> Seen:
+    """Of two audits, as one: what is counted is added up."""
+    adds = {name: getattr(one, name) + getattr(other, name) for name in Seen.COUNTED}
+    tables = {
+        name: _by_reason(getattr(one, name), getattr(other, name)) for name in Seen.BY_REASON
+    }
+    shapes = {(it.shape, it.reason, it.is_reads): it for it in one.shapes}
+    for it in other.shapes:
+        known = shapes.get((it.shape, it.reason, it.is_reads))
+        its = it if known is None else replace(known, count=known.count + it.count)
+        shapes[(it.shape, it.reason, it.is_reads)] = its
+    return replace(other, **adds, **tables, shapes=tuple(shapes.values()))
+
+
+def _by_reason(one: Mapping[str, int], other: Mapping[str, int]) -> Mapping[str, int]:
+    return {name: one.get(name, 0) + other.get(name, 0) for name in {**one, **other}}

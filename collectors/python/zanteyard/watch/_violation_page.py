@@ -1,0 +1,143 @@
+"""The page of one violation: the picture, the statements that the application ran, and why no
+serial order is left. It is whole without scripting, and can be saved as one file."""
+
+from __future__ import annotations
+
+from html import escape
+from typing import Iterable, Iterator, Sequence
+
+from ..explain._anomalies import meaning_of
+from ..explain._html import BEFORE_YOU_ACCUSE, picture_part, reasons_part
+from ..core._version import VERSION
+from ._described import Described, Statement, clock
+from ._style import STYLE
+from ._text import counted, escaped, escaped_lines, visible
+from ._violations import Told, Violation
+from ._web import policy_for
+
+POLICY = policy_for(STYLE)
+MORE = (
+    "Statements of other transactions, and rows that weren’t seen, are left out here: what is "
+    "shown is violated by itself."
+)
+
+
+def violation_page(one: Violation, title: str, origin: str, is_file: bool = False) -> str:
+    """The whole page. `title` says which database it was, `origin` which auditor. As a file it has
+    no link to the page of the audit."""
+    heading = _capital(one.title)
+    back = "" if is_file else '<a href="/">The audit</a>'
+    return "\n".join(
+        [
+            "<!DOCTYPE html>",
+            '<html lang="en"><head><meta charset="utf-8">',
+            '<meta name="viewport" content="width=device-width, initial-scale=1">',
+            f"<title>{escaped(heading)}: {escaped(title)}</title>",
+            f"<style>{STYLE}</style></head><body>",
+            '<header class="top"><span><strong>zanteyard watch</strong> '
+            f"{escaped(title)}</span>{back}</header>",
+            *_head(one),
+            *picture_part(one.story),
+            *_ran(one.told),
+            *reasons_part(one.story),
+            *_again(one, is_file),
+            f"<footer><p>zanteyard {VERSION}. The verdict is that of the auditor "
+            f"({escaped(origin)}). What is said and drawn of it here is an aid.</p></footer>",
+            "</body></html>",
+            "",
+        ]
+    )
+
+
+def _capital(text: str) -> str:
+    return text[:1].upper() + text[1:]
+
+
+def _head(one: Violation) -> Iterator[str]:
+    meaning = meaning_of(one.title)
+    yield '<section class="state violated">'
+    yield f"<h1>{escaped(_capital(one.title))}</h1>"
+    if meaning:
+        yield f"<p>{escaped(_capital(meaning))}.</p>"
+    yield f"<p>{escaped(_capital(one.sentence), 600)}.</p>"
+    yield (
+        f'<p class="soft">Found at {clock(one.at)}, in round {one.round}, among '
+        f"{counted(sum(one.story.counts), 'transaction')}.</p></section>"
+    )
+
+
+def _ran(told: Sequence[Told]) -> Iterator[str]:
+    yield "<h2>What the application ran</h2>"
+    for one in told:
+        yield f'<details class="transaction" id="{escape(one.label)}" open>'
+        yield f"<summary>{escape(one.label)}: {_whose(one)}</summary>"
+        if one.its is None:
+            yield "<p>Nothing more is known of it.</p></details>"
+            continue
+        yield f'<p class="soft">{_facts(one, one.its)}</p>'
+        if one.its.statements:
+            yield '<div class="ran">'
+            for statement in one.its.statements:
+                yield from _statement(statement)
+            yield "</div>"
+        if one.its.statements_dropped:
+            its = counted(one.its.statements_dropped, "statement")
+            yield f"<p>The text of {its} more wasn’t kept.</p>"
+        yield "</details>"
+    yield f'<p class="soft">{MORE}</p>'
+
+
+def _whose(one: Told) -> str:
+    its = one.its
+    if its is None:
+        return f"transaction {one.id[0]}.{one.id[1]}"
+    return escaped(its.application, 80) or escaped(its.client, 200) or "an application"
+
+
+def _facts(one: Told, its: Described) -> str:
+    facts = [
+        f"from {escaped(its.address, 80)}" if its.address else "",
+        f"as {escaped(its.user, 80)}" if its.user else "",
+        escaped(its.level) if its.level not in ("", "unknown") else "",
+        f"began at {clock(its.began)}" if its.began else "",
+        f"ended at {clock(its.ended)}" if its.ended else "",
+        f"the server’s number {its.xid}" if its.xid else "",
+        f"the auditor’s {one.id[0]}.{one.id[1]}",
+    ]
+    return ", ".join(fact for fact in facts if fact)
+
+
+def _statement(one: Statement) -> Iterable[str]:
+    yield f'<span class="at">{clock(one.at)}</span><div>'
+    if one.origin:
+        yield f'<span class="origin">{escaped(one.origin, 300)}</span>'
+    values = f"\n-- {visible(one.values)}" if one.values else ""
+    yield f"<pre>{escaped_lines(one.plain)}{escape(values)}</pre>"
+    if one.unseen:
+        yield f'<span class="soft">Not seen: {escaped("; ".join(one.unseen), 300)}.</span>'
+    yield "</div>"
+
+
+def _again(one: Violation, is_file: bool) -> Iterator[str]:
+    name = f"violation-{one.number}.jsonl"
+    link = f'<a href="/violation/{one.number}.jsonl" download="{name}">{name}</a>'
+    yield "<h2>See it again</h2>"
+    yield (
+        f"<p>This is the same as a script: {name if is_file else link}. "
+        "<code>zanteyard check</code> reports the same violation, and <code>cobra_audit</code> "
+        "prints its refutation.</p>"
+    )
+    yield f"<pre>{escape(one.story.script)}</pre>"
+    yield "<h2>Before you accuse the application</h2><ul>"
+    yield "".join(f"<li>{line}</li>" for line in (*QUESTIONS, *BEFORE_YOU_ACCUSE[2:]))
+    yield "</ul>"
+
+
+QUESTIONS = (
+    "Is the isolation level what you meant? At read committed, PostgreSQL’s default, and at "
+    "repeatable read the server allows such violations: it keeps its promise, which is a weaker "
+    "one.",
+    "Does it matter here? An application may read something that it doesn’t rely on.",
+    "The usual remedies are: serializable for these transactions, with a retry; a lock "
+    "(<code>SELECT .. FOR UPDATE</code>); or one statement that reads and writes.",
+)

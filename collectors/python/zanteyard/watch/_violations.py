@@ -1,0 +1,279 @@
+"""Why a history of the proxy's is violated: from a round's refutation to the statements that the
+application ran."""
+
+from __future__ import annotations
+
+import re
+from dataclasses import dataclass, replace
+from typing import Any, Callable, Dict, Iterable, Iterator, List, Mapping, Sequence, Set
+from typing import Tuple
+
+from ..core._own_keys import FENCE
+from ..core._records import ABORTED, AuditId, History, Logged, Read, ShownId
+from ..explain._shrinking import audited, from_start, named, refuted, smaller
+from ..explain._report import Story, story_lines, story_of
+from ._described import Described, by_time, clock, lines_of
+from ._retained import Retained, Transaction
+from ._sql_anomalies import lost_update
+from ._sql_anomalies import named as named_story
+from ._text import visible
+
+EXPLAINING = 15.0  # seconds for making a violated history small, and as many for the reasons
+CLOSED_ENDS = re.compile(rb"(?:true|false)\],")  # in a reply to `show`, before the last writers
+
+
+@dataclass(frozen=True)
+class Row:
+    """Which row a key is: the table with its schema, and the values of its primary key."""
+
+    table: str
+    values: str  # as one text
+    columns: Tuple[str, ...] = ()  # their names, if they are known
+
+    def named(self, columns: Sequence[str] = ()) -> str:
+        """As accounts(id=7), or accounts(7) if nobody knows the columns' names."""
+        table = self.table[len(PUBLIC) :] if self.table.startswith(PUBLIC) else self.table
+        names = self.columns or columns
+        values = self.values.split(", ") if len(names) > 1 else [self.values]
+        if len(values) != len(names):
+            return f"{table}({self.values})"
+        return f"{table}({', '.join(map('='.join, zip(names, values)))})"
+
+
+@dataclass(frozen=True)
+class Answered:
+    """What the proxy said of transactions and of keys; what it doesn't know is missing."""
+
+    transactions: Mapping[AuditId, Described]
+    keys: Mapping[int, Row]
+
+
+NOTHING = Answered({}, {})
+PUBLIC = "public."
+Columns = Callable[[str], Sequence[str]]  # of a table the columns of its primary key, if known
+
+
+def unknown(_table: str) -> Sequence[str]:
+    """The columns of no table are known."""
+    return ()
+
+
+@dataclass(frozen=True)
+class Told:
+    """One transaction of a violation: its short name, its id in the auditor's lines, and what the
+    proxy knows of it, if anything."""
+
+    label: str
+    id: AuditId
+    its: Any  # a Described, or None
+
+
+@dataclass(frozen=True)
+class Violation:
+    """`at` is the time at which the round reported it, in seconds since 1970."""
+
+    number: int
+    round: int
+    at: float
+    story: Story
+    told: Tuple[Told, ...]
+
+    @property
+    def title(self) -> str:
+        anomaly = self.story.anomaly
+        return anomaly.name if anomaly is not None else "no serial order"
+
+    @property
+    def sentence(self) -> str:
+        anomaly = self.story.anomaly
+        if anomaly is not None:
+            return anomaly.sentence
+        return self.story.because[-1] if self.story.because else self.story.sentence
+
+    def lines(self) -> Iterator[str]:
+        """All of it as text."""
+        told = [*story_lines(replace(self.story, because=()))]
+        yield visible(told[0])
+        yield from (visible_line(line) for line in told[1:])
+        yield "what the application ran"
+        for one in self.told:
+            label = f"{one.label} ({one.id[0]}.{one.id[1]})"
+            yield from (f"    {line}" for line in lines_of(label, one.its))
+        yield "because"
+        yield from (f"    {visible(line)}" for line in self.story.because)
+
+
+def visible_line(line: str) -> str:
+    """Made safe, with the spaces that it begins with."""
+    body = line.lstrip(" ")
+    return " " * (len(line) - len(body)) + visible(body)
+
+
+def keys_of(certificate: Iterable[Sequence[Any]]) -> Set[int]:
+    """The keys that a refutation names."""
+    found: Set[int] = set()
+    for kind, *rest in certificate:
+        arcs: Sequence[Any] = ()
+        if kind in ("nowrite", "gone"):
+            found.add(rest[2])
+        elif kind in ("force", "split"):
+            found.add(rest[0][2])
+            arcs = rest[2] if kind == "force" else ()
+        elif kind == "cycle":
+            arcs = rest[0]
+        found.update(arc[1] for arc in arcs if arc[0] in ("read", "base"))
+    return found
+
+
+def last_writers(shown: bytes, keys: Iterable[int]) -> Dict[int, AuditId]:
+    """Of these keys the last writer that is forgotten, by the auditor's reply to `show`. The reply
+    may be many megabytes long, and isn't read as a whole."""
+    begins = CLOSED_ENDS.search(shown)
+    names = b"|".join(b"%d" % key for key in sorted(keys))
+    if begins is None or not names:
+        return {}
+    found = re.compile(rb"\[(" + names + rb"),(\d+),(\d+)\]").finditer(shown, begins.end())
+    return {int(its[1]): AuditId((int(its[2]), int(its[3]))) for its in found}
+
+
+class Held:
+    """What the auditor holds, but with the keys alone that its refutation names: whatever explains
+    all of it explains this. It is what `from_start` and `refuted` want of an auditor."""
+
+    def __init__(self, retained: Retained, keys: Set[int], last: Mapping[int, AuditId]):
+        self.marks = [*retained.marks]
+        self.base = {key_text(key): its for key, its in last.items() if key in keys}
+        self.history: History = [[] for _ in self.marks]
+        for (session, number), its in sorted(retained.transactions().items()):
+            gap = number - self.marks[session] - len(self.history[session])
+            self.history[session] += [Logged((), ())] * gap + [_logged(its, keys)]
+
+    def involved(self, certificate: Iterable[Any]) -> Set[AuditId]:
+        """The transactions that a refutation names, of those that remain."""
+        return {one for one in named(certificate) if one[1] >= self.marks[one[0]]}
+
+    @staticmethod
+    def called(one: AuditId) -> str:
+        return f"{one[0]}.{one[1]}"
+
+
+def _logged(its: Transaction, keys: Set[int]) -> Logged:
+    reads: List[Read] = []
+    for key, *source in its[0]:
+        if key in keys:
+            reads.append((key_text(key), "init" if source == ["init"] else tuple(source)))
+    writes = [key_text(key) for key in its[1] if key in keys]
+    if ABORTED in its:
+        return Logged((), (), ABORTED, tried_reads=reads, tried_writes=writes)
+    return Logged(reads, writes)
+
+
+def key_text(number: int) -> str:
+    """The key's name until the proxy has told a better one."""
+    return FENCE if number == 0 else f"key {number}"
+
+
+def explained(
+    number: int,
+    report: Sequence[Any],
+    held: Held,
+    answered: Answered,
+    program: str,
+    now: float,
+    columns: Columns = unknown,
+    seconds: float = EXPLAINING,
+) -> Violation:
+    """The violation that this report of a round tells of, with what the proxy said of it. Takes up
+    to twice so many seconds. Raises ProgramEndedError and the like."""
+    _, round_number, _, counts, certificate = report
+    history, names = from_start(held)
+    part = smaller(history, program, seconds, refuted(held, certificate))
+    part = lost_update(part, history, program) or part
+    real = {
+        there: absolute(there, held.marks)
+        for there in compact(part)[1].values()
+        if history[there[0]][there[1]].outcome != "forgotten"
+    }
+    ordered = by_time([*real.values()], answered.transactions)
+    labels = {one: f"T{at}" for at, one in enumerate(ordered, 1)}
+    small, places = compact(part, [one[0] for one in ordered])
+    ids = {one: real[there] for one, there in places.items() if there in real}
+    shown = {
+        key_text(key): visible(row.named(columns(row.table)), 200)
+        for key, row in answered.keys.items()
+    }
+
+    def called(one: ShownId) -> str:
+        return labels[ids[one]] if one in ids else names(places[one])
+
+    older: Mapping[str, str] = getattr(names, "older", {})
+    its = {shown.get(key, key): told for key, told in older.items()}
+    called.older = its  # type: ignore[attr-defined]  # what `version` looks for
+    script = audited(small, program)[1]
+    renamed = _with_keys(small, shown)
+    story = named_story(story_of(renamed, called, script, counts, seconds), renamed, called)
+    told = tuple(Told(labels[one], one, answered.transactions.get(one)) for one in ordered)
+    return Violation(number, round_number, now, _with_clocks(story, told), told)
+
+
+def compact(
+    history: History, order: Sequence[int] = ()
+) -> Tuple[History, Dict[ShownId, ShownId]]:
+    """The same without what did nothing and without empty sessions, under numbers without holes;
+    and for each transaction there which one it is here. One that is read from stays. The sessions
+    come in this order, then those that aren't in it."""
+    read = {source for txns in history for logged in txns for _, source in logged.did[0]}
+    kept = [
+        [ShownId((session, number)) for number, logged in enumerate(txns)
+         if any(logged.did) or (session, number) in read]
+        for session, txns in sorted(
+            enumerate(history),
+            key=lambda it: order.index(it[0]) if it[0] in order else len(order),
+        )
+    ]
+    kept = [ids for ids in kept if ids]
+    new = {
+        old: ShownId((at, number))
+        for at, ids in enumerate(kept)
+        for number, old in enumerate(ids)
+    }
+
+    def moved(reads: Iterable[Read]) -> List[Read]:
+        return [(key, new.get(source, source)) for key, source in reads]
+
+    def one(old: ShownId) -> Logged:
+        logged = history[old[0]][old[1]]
+        return logged._replace(
+            reads=moved(logged.reads), tried_reads=moved(logged.tried_reads), statements=()
+        )
+
+    return [[one(old) for old in ids] for ids in kept], {its: old for old, its in new.items()}
+
+
+def absolute(one: ShownId, marks: Sequence[int]) -> AuditId:
+    """The transaction that `from_start` has under this number."""
+    session, number = one
+    return AuditId((session, number - 1 + marks[session] if any(marks) else number))
+
+
+def _with_keys(history: History, names: Mapping[str, str]) -> History:
+    """The same, where the keys have the proxy's names."""
+
+    def renamed(key: str) -> str:
+        return names.get(key, key)
+
+    def one(logged: Logged) -> Logged:
+        return logged._replace(
+            reads=[(renamed(key), source) for key, source in logged.reads],
+            writes=[*map(renamed, logged.writes)],
+            tried_reads=[(renamed(key), source) for key, source in logged.tried_reads],
+            tried_writes=[*map(renamed, logged.tried_writes)],
+        )
+
+    return [[one(logged) for logged in transactions] for transactions in history]
+
+
+def _with_clocks(story: Story, told: Sequence[Told]) -> Story:
+    began = {one.label: clock(one.its.began) for one in told if one.its is not None}
+    steps = tuple(replace(step, clock=began.get(step.name, "")) for step in story.steps)
+    return replace(story, steps=steps)

@@ -1,0 +1,268 @@
+"""An audit that goes on: what the proxy writes is handed to the auditor, and what that answers is
+noted, and told to the proxy as far as it needs it."""
+
+from __future__ import annotations
+
+import json
+import logging
+import signal
+import threading
+import time
+from typing import Callable, Dict, List, Optional, Sequence
+
+from ..core.errors import JournalError, ProgramEndedError, RoundTooLongError, ZanteyardError
+from ._auditing import Auditing, refusal_of
+from ._board import Board
+from ._explaining import Explaining
+from ._feed import Event, Item, answered_of, command, text, whole
+from ._intake import Intake
+from ._pending import waiting_reads
+from ._redacting import without_values
+from ._retained import Retained
+from ._violations import Held, keys_of, last_writers
+
+OK, REPORT, CUT = b'["ok"]', b'["report",', b'["cut",'
+TRUNCATE, ROUND = b'["truncate"', b'["round"'
+SHOW = b'["show"]'
+GONE = "gone"  # an event of this program's own: the proxy has ended
+LOOKS = 0.2  # seconds between two looks at whether another audit is to begin
+PAUSES = (1.0, 2.0, 5.0, 15.0, 60.0)  # seconds before another audit begins, each time longer
+CALM = 300.0  # seconds after which an audit's end is the first one again
+PENDING = 5.0  # seconds between two looks at which reads wait
+TOLD = 60.0  # seconds between two lines of the log that say the same
+MOST_WARNINGS = 100  # that are known apart
+Tell = Callable[[bytes], object]
+logger = logging.getLogger("zanteyard")
+
+
+class RefusedLineError(ZanteyardError):
+    """The auditor refused a line of the proxy's."""
+
+
+class Watching:
+    """One thread asks the auditor. `tell` gives a command to the proxy of the moment. With
+    `redacts` no values of statements are kept."""
+
+    def __init__(
+        self,
+        auditing: Auditing,
+        board: Board,
+        intake: Intake,
+        tell: Tell,
+        explaining: Explaining,
+        redacts: bool = False,
+    ) -> None:
+        self.auditing, self.board, self.intake = auditing, board, intake
+        self.explaining, self.redacts = explaining, redacts
+        self.stopped = threading.Event()  # the proxy's last lines are audited
+        self.gone = 0  # proxies whose last lines were seen
+        self._tell = tell
+        self._retained = Retained()
+        self._received = 0  # transactions of the last round
+        self._violated: Optional[bytes] = None  # a report that hasn't been seen to
+        self._is_stopping = self._has_started = False
+        self._has_given_up = False  # the proxy ended its audit, and hasn't begun another one
+        self._restart_at: Optional[float] = None  # by the monotonic clock
+        self._ends = 0  # of audits, one soon after another
+        self._ended_at = float("-inf")
+        self._looked_at = self._logged_at = float("-inf")
+        self._logged_kind = ""
+        self._warned: Dict[str, float] = {}  # when each was in the log
+        self._thread = threading.Thread(target=self._run, daemon=True)
+
+    def start(self) -> None:
+        self._thread.start()
+
+    def stop(self) -> None:
+        """Asks for a last round; `stopped` is set once it was reported, or the audit is lost."""
+        self._is_stopping = True
+        if not self._tell(command("stop")) or self._has_given_up:
+            self.stopped.set()
+
+    def end(self) -> None:
+        """The auditor's program ends."""
+        self.intake.close()
+        self._thread.join()
+
+    def _run(self) -> None:
+        # A terminal's signals are for this program alone, and not for those that it starts.
+        signal.pthread_sigmask(signal.SIG_BLOCK, {signal.SIGINT})
+        try:
+            while True:
+                items = self.intake.take(LOOKS)
+                if items is None:
+                    break
+                self._take(items)
+                self._begin_anew_if_due()
+        except Exception:
+            logger.exception("the audit ends by a mistake of this program's own")
+            self.board.ended("of a mistake in this program, which the log tells")
+        finally:
+            self.stopped.set()
+            self.auditing.end()
+
+    def _take(self, items: Sequence[Item]) -> None:
+        lines: List[bytes] = []
+        for item in items:
+            if isinstance(item, bytes):
+                lines.append(item)
+            else:
+                self._give(lines)
+                lines = []
+                self._event(item)
+        self._give(lines)
+
+    # lines for the auditor
+
+    def _give(self, lines: Sequence[bytes]) -> None:
+        if not lines:
+            return
+        try:
+            for line, reply in self.auditing.give(lines):
+                self._answered(line, reply)
+            if self._violated is not None:
+                self._see_to_violation()
+        except RefusedLineError as error:
+            self._lose(str(error))
+        except (ProgramEndedError, JournalError, RoundTooLongError) as error:
+            self._lose(str(error).rstrip(": "))
+        self.board.restarted(self.auditing.restarts)
+
+    def _answered(self, line: bytes, reply: bytes) -> None:
+        if reply == OK:
+            self._retained.note(line)
+        elif reply.startswith(REPORT):
+            self._reported(reply)
+        elif line.startswith(TRUNCATE):
+            if reply.startswith(CUT):
+                self._cut(reply)
+            self._tell(command("cut", marks=self._retained.marks))
+        elif line.startswith(ROUND):
+            logger.warning("a round was refused: %s", refusal_of(reply))
+        else:
+            shown = line[:60].decode(errors="replace")
+            raise RefusedLineError(f"the auditor answered {refusal_of(reply)} to {shown}")
+
+    def _reported(self, reply: bytes) -> None:
+        _, number, kind, counts, *_ = json.loads(reply)
+        if self._violated is not None:
+            return  # what is violated stays so
+        self._received = sum(counts)
+        seen = self.board.round(kind, counts, self._remaining)
+        now = time.monotonic()
+        is_due = kind != self._logged_kind or now >= self._logged_at + TOLD
+        if is_due:
+            self._logged_kind, self._logged_at = kind, now
+        logger.log(
+            logging.INFO if is_due else logging.DEBUG,
+            "round %d: %s, of %d transactions, %d of them remembered; %.1f s behind",
+            number, kind, seen.taken, seen.remaining, seen.behind,
+        )
+        if kind == "violated":
+            self._violated = reply
+        elif kind == "pending" and now >= self._looked_at + PENDING:
+            self._looked_at = now
+            self.board.waits(*waiting_reads(self._retained.transactions(), counts))
+
+    def _cut(self, reply: bytes) -> None:
+        gone = json.loads(reply)[2]
+        self._retained.forget(gone)
+        self.board.cut(len(gone), self._remaining)
+
+    @property
+    def _remaining(self) -> int:
+        """Transactions of the last round that the auditor remembers."""
+        return self._received - sum(self._retained.marks)
+
+    def _see_to_violation(self) -> None:
+        assert self._violated is not None
+        report, self._violated = json.loads(self._violated), None
+        logger.error("VIOLATED: no serial order explains what was read; an explanation follows")
+        keys = keys_of(report[4])
+        held = Held(self._retained, keys, last_writers(self.auditing.ask(SHOW), keys))
+        self.explaining.begin(
+            report,
+            held,
+            lambda id, its: self._tell(command("describe", id=id, transactions=its)),
+        )
+        self._end_audit("a violation was found", is_lost=False)
+
+    # the audit's end, and another one
+
+    def _lose(self, reason: str) -> None:
+        logger.error("the audit has ended: %s; applications are served as before", reason)
+        self._end_audit(reason)
+
+    def _end_audit(self, reason: str, is_lost: bool = True) -> None:
+        self.auditing.end()
+        self._violated = None
+        self.board.ended(reason, is_lost)
+        now = time.monotonic()
+        self._ends = self._ends + 1 if now < self._ended_at + CALM else 1
+        self._ended_at = now
+        if self._is_stopping:
+            return
+        pause = PAUSES[min(self._ends, len(PAUSES)) - 1]
+        self._restart_at = now + pause
+
+    def _begin_anew_if_due(self) -> None:
+        if self._restart_at is not None and time.monotonic() >= self._restart_at:
+            self._restart_at = None
+            if not self._is_stopping:
+                self._tell(command("restart"))
+
+    def _begin_anew(self) -> None:
+        self._has_given_up = False
+        self.board.begins_anew()
+        logger.info("another audit begins, of what is done from now on")
+
+    # events
+
+    def _event(self, event: Event) -> None:
+        name = event["event"]
+        if name == "coverage":
+            self.board.coverage(event)
+        elif name == "meeting":
+            self.board.met(event)
+        elif name == "transactions":
+            answered = answered_of(event)
+            answered = without_values(answered) if self.redacts else answered
+            self.explaining.answered(whole(event.get("id")), answered)
+        elif name == "started":
+            if self._has_started:  # as by another proxy
+                self._begin_anew()
+            self._has_started, self._restart_at = True, None
+            self.board.started(event)
+            for told in event.get("warnings", ()):
+                logger.warning("%s", text(told))
+        elif name == "restarted":
+            self._begin_anew()
+        elif name == "warning":
+            self._warn(text(event.get("text")))
+        elif name == "ended":
+            if not self.stopped.is_set():  # else it was told to end
+                self._has_given_up = True
+                self._lose(text(event.get("reason")) or "the proxy gave it up")
+        elif name == "stopped":
+            self.stopped.set()
+        elif name == GONE:
+            self.gone += 1
+            self._has_given_up = False
+            self._lose(text(event.get("reason")))
+            self._restart_at = None  # the next one begins an audit by itself
+            if self._is_stopping:
+                self.stopped.set()
+
+    def _warn(self, told: str) -> None:
+        """In the log only if it hasn't said the same for a while."""
+        now = time.monotonic()
+        if now >= self._warned.get(told, float("-inf")) + TOLD:
+            if len(self._warned) >= MOST_WARNINGS:
+                self._warned.clear()
+            self._warned[told] = now
+            logger.warning("%s", told)
+        self.board.note(told)
+
+    def proxy_is_gone(self, reason: str) -> None:
+        """For any thread, once nothing more comes of a proxy that wasn't told to end."""
+        self.intake.put([{"event": GONE, "reason": reason}])
