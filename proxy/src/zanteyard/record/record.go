@@ -59,6 +59,7 @@ type Statement struct {
 type Unseen struct {
 	Shape  string
 	Reason string
+	Writes bool // it is writes that are left out, not reads
 }
 
 // Transaction is what the proxy saw of one transaction of one connection, told once it has ended.
@@ -110,16 +111,18 @@ type Write struct {
 type Commit struct {
 	Number  uint32 // 32 bits: what the slot tells
 	LSN     uint64 // of the commit record's end
+	Start   uint64 // of the commit record's beginning, 0 where the slot doesn't tell it
 	At      time.Time
 	Subs    []uint32   // its subtransactions, where they could be learned
 	Writes  []Write    // each row once; the last change decides Deleted
 	Fence   bool       // it wrote the fence table's row
 	Emptied []Relation // tables that it truncated
+	Names   uint64     // how often tables' names had changed their meaning as it was read
 }
 
 // Sink takes what the sessions of a proxy tell. Its calls don't wait longer than it takes to append to a buffer: where a
-// buffer is full the sink drops what comes, says so to whoever reads the feed, and the audit ends with that reason; an
-// application is never held up. Safe for use by many goroutines.
+// buffer is full the sink drops transactions and counts them, which leaves them out of the audit as if others than the
+// proxy had made them; an application is never held up. Safe for use by many goroutines.
 type Sink interface {
 	Connection(Connection)
 	Transaction(Transaction)

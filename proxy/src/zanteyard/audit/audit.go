@@ -1,0 +1,193 @@
+// Package audit runs an audit beside a proxy: it makes the slot, joins what it tells with what the sessions saw, and
+// talks with the parent. Whatever goes wrong in it ends the audit, and is told with its reason; the proxy goes on.
+package audit
+
+import (
+	"context"
+	"errors"
+	"fmt"
+	"io"
+	"os"
+	"time"
+
+	"zanteyard/feed"
+	"zanteyard/join"
+	"zanteyard/record"
+	"zanteyard/slot"
+)
+
+// Config says what to audit and how.
+type Config struct {
+	Slot   slot.Options
+	Join   join.Options
+	Meeter join.Meeter
+	// Held is how many bytes of what the sessions tell may wait for the joiner.
+	Held int
+	// Kept is how many bytes of its log the server may have to keep for the slot: beyond it the audit ends, so that it can't
+	// fill the server's disk.
+	Kept uint64
+	In   io.Reader // the parent's commands
+	Out  io.Writer // the feed
+}
+
+// Audit is a sink for the sessions' records from the moment it is made.
+type Audit struct {
+	config Config
+	inbox  *join.Inbox
+	writer *feed.Writer
+}
+
+// New makes an audit. Nothing is done before Run, and what the sessions tell by then is held.
+func New(config Config) *Audit {
+	if config.Held <= 0 {
+		config.Held = 64 << 20
+	}
+	if config.Kept == 0 {
+		config.Kept = 4 << 30
+	}
+	if config.Slot.Name == "" {
+		config.Slot.Name = fmt.Sprintf("zanteyard_%d_%d", os.Getpid(), time.Now().Unix())
+	}
+	return &Audit{config: config, inbox: join.NewInbox(config.Held), writer: feed.NewWriter(config.Out)}
+}
+
+// Sink takes what the sessions tell.
+func (a *Audit) Sink() record.Sink { return a.inbox }
+
+// beginning bounds how long the slot may take to begin: it waits for all transactions that are open.
+const beginning = 2 * time.Minute
+
+// Run audits until ctx ends, or the audit does. It tells the parent why, and returns it.
+func (a *Audit) Run(ctx context.Context) error {
+	written := make(chan struct{})
+	go func() {
+		defer close(written)
+		a.writer.Run() // the parent is gone, if that fails; reading its commands says so
+	}()
+	defer func() { <-written }()
+	defer a.writer.Close()
+	ctx, cancel := context.WithCancel(ctx)
+	defer cancel()
+	its, err := a.begin(ctx)
+	if err != nil {
+		a.inbox.Close()
+		a.writer.Event(join.Ended{Reason: err.Error()})
+		return err
+	}
+	defer its.close()
+	return its.run(ctx)
+}
+
+// running is an audit that has begun.
+type running struct {
+	audit   *Audit
+	control *slot.Control
+	tables  *slot.Tables
+	reader  *slot.Reader
+	joiner  *join.Joiner
+}
+
+func (a *Audit) begin(ctx context.Context) (*running, error) {
+	begin, cancel := context.WithTimeout(ctx, beginning)
+	defer cancel()
+	control, tables, err := slot.NewControl(begin, a.config.Slot)
+	if err != nil {
+		return nil, err
+	}
+	its := &running{audit: a, control: control, tables: tables}
+	if its.reader, err = slot.Open(begin, a.config.Slot, tables); err != nil {
+		if errors.Is(err, slot.ErrBlocked) {
+			err = fmt.Errorf("%w: %s", err, control.Open(ctx))
+		}
+		its.close()
+		return nil, err
+	}
+	schema, why := control.Inspects(begin)
+	// The table of tables has to be as new as the slot: what was created before it begins is never told as unknown.
+	if err := control.Load(begin); err != nil {
+		its.close()
+		return nil, err
+	}
+	its.joiner = join.New(a.config.Join, a.inbox, tables, control, schema != "" && its.reader.Plugin() == slot.Wal2json,
+		a.config.Meeter, a.writer)
+	started, err := control.Started(begin)
+	if err != nil {
+		its.close()
+		return nil, err
+	}
+	started.Slot, started.Plugin, started.Temporary = a.config.Slot.Name, string(its.reader.Plugin()), !a.config.Slot.Permanent
+	started.Subtransactions = "pg_walinspect"
+	if schema == "" {
+		started.Subtransactions = "returning"
+		started.Warnings = append(started.Warnings, "subtransactions can't be looked up: "+why)
+	}
+	its.joiner.Start(started)
+	return its, nil
+}
+
+func (r *running) close() {
+	end, cancel := context.WithTimeout(context.Background(), time.Second)
+	defer cancel()
+	r.control.Close(end)
+}
+
+func (r *running) run(ctx context.Context) error {
+	ctx, cancel := context.WithCancel(ctx)
+	defer cancel()
+	go func() {
+		if err := r.reader.Read(ctx, r.joiner); err != nil && ctx.Err() == nil {
+			r.joiner.End(err)
+		}
+	}()
+	go func() {
+		if err := feed.Read(r.audit.config.In, r.joiner); err != nil && ctx.Err() == nil {
+			r.joiner.End(fmt.Errorf("read the parent's commands: %w", err))
+		}
+	}()
+	go r.watch(ctx)
+	return r.joiner.Run(ctx)
+}
+
+// watch looks after the slot, and counts what it tells of tables that can't be audited.
+func (r *running) watch(ctx context.Context) {
+	often, seldom := time.NewTicker(time.Second), time.NewTicker(10*time.Second)
+	defer often.Stop()
+	defer seldom.Stop()
+	counted := map[string]uint64{}
+	for {
+		select {
+		case <-ctx.Done():
+			return
+		case <-often.C:
+			for table, n := range r.tables.Keyless() {
+				if n > counted[table] {
+					r.audit.inbox.UnseenMany("changes of "+table, "the table has no primary key", false, n-counted[table])
+					counted[table] = n
+				}
+			}
+		case <-seldom.C:
+			if err := r.health(ctx); err != nil {
+				r.joiner.End(err)
+				return
+			}
+		}
+	}
+}
+
+// health ends the audit before the slot makes the server keep too much of its log.
+func (r *running) health(ctx context.Context) error {
+	asking, cancel := context.WithTimeout(ctx, 10*time.Second)
+	defer cancel()
+	health, err := r.control.Health(asking, r.audit.config.Slot.Name)
+	switch {
+	case err != nil:
+		return nil // the joiner's own questions fail too, and say so
+	case health.Lost:
+		return slot.ErrBehind
+	case health.Kept > r.audit.config.Kept:
+		return fmt.Errorf("%w: %d bytes are kept for it", slot.ErrBehind, health.Kept)
+	case health.Kept > r.audit.config.Kept/2:
+		r.joiner.Warn("the slot is far behind: the audit ends when the server keeps twice as much of its log for it")
+	}
+	return nil
+}

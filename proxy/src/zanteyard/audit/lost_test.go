@@ -1,0 +1,129 @@
+package audit
+
+import (
+	"bufio"
+	"context"
+	"encoding/json"
+	"io"
+	"strings"
+	"testing"
+	"time"
+
+	"zanteyard/join"
+	"zanteyard/record"
+	"zanteyard/slot"
+)
+
+// start begins an audit of nothing, and gives its events as they come.
+func start(t *testing.T, s *server, options slot.Options) (a *Audit, events <-chan map[string]any, commands io.Writer, ended <-chan error) {
+	t.Helper()
+	options.Source, options.FenceSchema, options.FenceTable, options.Canonical = s.source(), "public", "zanteyard_fence", canonical
+	commandsOut, commandsIn := io.Pipe()
+	feedOut, feedIn := io.Pipe()
+	a = New(Config{Slot: options, Meeter: nobody{}, In: commandsOut, Out: feedIn, Join: join.Options{Between: 10 * time.Millisecond}})
+	ctx, cancel := context.WithCancel(context.Background())
+	t.Cleanup(cancel)
+	its, done := make(chan map[string]any, 1000), make(chan error, 1)
+	go func() {
+		lines := bufio.NewScanner(feedOut)
+		lines.Buffer(nil, 1<<20)
+		for lines.Scan() {
+			it := map[string]any{"event": lines.Text()}
+			if lines.Text()[0] == '{' {
+				json.Unmarshal(lines.Bytes(), &it)
+			}
+			its <- it
+		}
+	}()
+	go func() {
+		done <- a.Run(ctx)
+		feedIn.Close()
+	}()
+	return a, its, commandsIn, done
+}
+
+func await(t *testing.T, events <-chan map[string]any, event string) map[string]any {
+	t.Helper()
+	for {
+		select {
+		case it := <-events:
+			if strings.HasPrefix(it["event"].(string), event) {
+				return it
+			}
+		case <-time.After(time.Minute):
+			t.Fatalf("%s doesn't come", event)
+		}
+	}
+}
+
+const fenceTable = "CREATE TABLE zanteyard_fence (id integer PRIMARY KEY CHECK (id = 0), n bigint NOT NULL);" +
+	"INSERT INTO zanteyard_fence VALUES (0, 0); CREATE TABLE t (id int PRIMARY KEY); CREATE TABLE none (id int)"
+
+// A slot that is lost ends the audit with its reason; what the sessions tell after that is dropped.
+func TestLostSlot(t *testing.T) {
+	s := startServer(t)
+	conn := s.connect(t)
+	must(t, conn, fenceTable)
+	a, events, _, ended := start(t, s, slot.Options{})
+	await(t, events, "started")
+	await(t, events, `["open",64,4096,2]`)
+	must(t, conn, "SELECT pg_terminate_backend(pid) FROM pg_stat_replication")
+	if it := await(t, events, "ended"); !strings.Contains(it["reason"].(string), "slot") {
+		t.Errorf("the audit has ended: %v", it)
+	}
+	if err := <-ended; err == nil {
+		t.Error("the audit doesn't say that it has ended")
+	}
+	a.Sink().Transaction(record.Transaction{})
+	a.Sink().Connection(record.Connection{Number: 1})
+}
+
+// A server that can't be audited, and one that isn't there, are an end with its reason too.
+func TestNoAudit(t *testing.T) {
+	s := startServer(t, "wal_level=replica")
+	must(t, s.connect(t), fenceTable)
+	_, events, _, _ := start(t, s, slot.Options{})
+	if it := await(t, events, "ended"); !strings.Contains(it["reason"].(string), "wal_level") {
+		t.Errorf("the audit has ended: %v", it)
+	}
+	_, events, _, _ = start(t, &server{folder: s.folder + "/nowhere"}, slot.Options{})
+	await(t, events, "ended")
+}
+
+// Rounds, a new audit and the end, as the parent commands them; and tables without a key are counted.
+func TestParent(t *testing.T) {
+	s := startServer(t)
+	conn := s.connect(t)
+	must(t, conn, fenceTable)
+	_, events, commands, _ := start(t, s, slot.Options{Name: "kept", Permanent: true})
+	if it := await(t, events, "started"); it["temporary"] != false || !strings.Contains(toText(it["warnings"]), "max_slot_wal_keep_size") {
+		t.Errorf("the audit begins with %v", it)
+	}
+	await(t, events, `["open"`)
+	must(t, conn, "INSERT INTO none VALUES (1), (2)")
+	io.WriteString(commands, `{"command":"round"}`+"\n")
+	await(t, events, "meeting")
+	await(t, events, `["round"`)
+	await(t, events, `["truncate"]`)
+	io.WriteString(commands, `{"command":"describe","id":4,"transactions":[[0,0],[77,1]]}`+"\n"+`{"command":"dance"}`+"\n")
+	if it := await(t, events, "transactions"); it["id"] != 4.0 {
+		t.Errorf("described are %v", it)
+	}
+	await(t, events, "warning")
+	io.WriteString(commands, `{"command":"restart"}`+"\n")
+	await(t, events, "restarted")
+	await(t, events, `["open"`)
+	for {
+		if it := await(t, events, "coverage"); strings.Contains(toText(it["unseen"]), "changes of public.none") {
+			break
+		}
+	}
+	io.WriteString(commands, `{"command":"stop"}`+"\n")
+	await(t, events, `["truncate"]`)
+	await(t, events, "stopped")
+}
+
+func toText(it any) string {
+	text, _ := json.Marshal(it)
+	return string(text)
+}

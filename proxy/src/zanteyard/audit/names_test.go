@@ -1,0 +1,145 @@
+package audit
+
+import (
+	"context"
+	"errors"
+	"fmt"
+	"sort"
+	"testing"
+	"time"
+
+	"zanteyard/record"
+	"zanteyard/slot"
+)
+
+// heard takes what a slot tells, for one goroutine to read.
+type heard struct{ commits chan record.Commit }
+
+func (h heard) Commit(it record.Commit) error {
+	h.commits <- it
+	return nil
+}
+
+func (h heard) Advance(uint64) error { return nil }
+
+// next is the next commit that wrote something.
+func (h heard) next(t *testing.T) record.Commit {
+	t.Helper()
+	for {
+		select {
+		case it := <-h.commits:
+			if len(it.Writes)+len(it.Emptied) > 0 || it.Fence {
+				return it
+			}
+		case <-time.After(time.Minute):
+			t.Fatal("the slot doesn't tell of a commit")
+		}
+	}
+}
+
+func TestSlot(t *testing.T) {
+	for _, plugin := range []slot.Plugin{slot.Wal2json, slot.TestDecoding} {
+		t.Run(string(plugin), func(t *testing.T) { hearSlot(t, plugin) })
+	}
+}
+
+func hearSlot(t *testing.T, plugin slot.Plugin) {
+	s := startServer(t, "max_prepared_transactions=10")
+	conn := s.connect(t)
+	must(t, conn, "CREATE TABLE zanteyard_fence (id integer PRIMARY KEY CHECK (id = 0), n bigint NOT NULL);"+
+		"INSERT INTO zanteyard_fence VALUES (0, 0); CREATE TABLE a (id int PRIMARY KEY, v text); CREATE TABLE b (id int PRIMARY KEY, v text);"+
+		"CREATE TABLE none (id int); CREATE EXTENSION pg_walinspect; CREATE TABLE full_row (id int PRIMARY KEY, v text);"+
+		"ALTER TABLE full_row REPLICA IDENTITY FULL")
+	ctx, cancel := context.WithCancel(context.Background())
+	defer cancel()
+	options := slot.Options{Source: s.source(), Name: "names", Plugin: plugin, FenceSchema: "public", FenceTable: "zanteyard_fence", Canonical: canonical}
+	control, tables, err := slot.NewControl(ctx, options)
+	if err != nil {
+		t.Fatal(err)
+	}
+	defer control.Close(ctx)
+	reader, err := slot.Open(ctx, options, tables)
+	if errors.Is(err, slot.ErrNoPlugin) {
+		t.Skip("the plugin isn't installed")
+	}
+	if err != nil {
+		t.Fatal(err)
+	}
+	h := heard{make(chan record.Commit, 100)}
+	go reader.Read(ctx, h)
+	oid := func(table string) record.Relation {
+		var n uint32
+		fmt.Sscan(must(t, conn, "SELECT '"+table+"'::regclass::oid")[0][0], &n)
+		return record.Relation(n)
+	}
+	a, b := oid("a"), oid("b")
+	expect := func(sql string, want ...record.Write) record.Commit {
+		t.Helper()
+		must(t, conn, sql)
+		it := h.next(t)
+		if fmt.Sprint(it.Writes) != fmt.Sprint(want) {
+			t.Errorf("%s: %v, wanted %v", sql, it.Writes, want)
+		}
+		return it
+	}
+	expect("INSERT INTO a VALUES (1, 'x')", record.Write{Relation: a, Key: "1"})
+	expect("UPDATE a SET id = 2; ", record.Write{Relation: a, Key: "1", Deleted: true}, record.Write{Relation: a, Key: "2"})
+	expect("INSERT INTO full_row VALUES (1, 'x')", record.Write{Relation: oid("full_row"), Key: "1"})
+	expect("UPDATE full_row SET id = 3", record.Write{Relation: oid("full_row"), Key: "1", Deleted: true},
+		record.Write{Relation: oid("full_row"), Key: "3"})
+
+	it := expect("BEGIN; SAVEPOINT x; UPDATE a SET v = 'y'; RELEASE x; SAVEPOINT y; INSERT INTO b VALUES (7); COMMIT",
+		record.Write{Relation: a, Key: "2"}, record.Write{Relation: b, Key: "7"})
+	if plugin == slot.Wal2json {
+		hearSubtransactions(t, control, it)
+	}
+
+	must(t, conn, "BEGIN; UPDATE a SET v = 'prepared'; PREPARE TRANSACTION 'p'; INSERT INTO none VALUES (1)")
+	number := must(t, conn, "SELECT transaction FROM pg_prepared_xacts")[0][0]
+	if it := expect("COMMIT PREPARED 'p'", record.Write{Relation: a, Key: "2"}); fmt.Sprint(it.Number) != number {
+		t.Errorf("a prepared transaction is told with the number %d, and not %s", it.Number, number)
+	}
+	must(t, conn, "TRUNCATE a")
+	if it := h.next(t); len(it.Emptied) != 1 || it.Emptied[0] != a {
+		t.Errorf("a TRUNCATE is told as %+v", it)
+	}
+	if number, err := control.Fence(ctx); err != nil {
+		t.Error(err)
+	} else if it := h.next(t); !it.Fence || it.Number != uint32(number) {
+		t.Errorf("fence %d is told as %+v", number, it)
+	}
+	if keyless := tables.Keyless(); keyless["public.none"] != 1 {
+		t.Errorf("of tables without a key it was told %v", keyless)
+	}
+
+	before, err := control.Place(ctx)
+	if err != nil || len(before.Changed) != 0 {
+		t.Errorf("nothing has changed, and the place is %+v (%v)", before, err)
+	}
+	must(t, conn, "BEGIN; ALTER TABLE a RENAME TO c; ALTER TABLE b RENAME TO a; ALTER TABLE c RENAME TO b; COMMIT")
+	after, err := control.Place(ctx)
+	sort.Slice(after.Changed, func(i, j int) bool { return after.Changed[i] < after.Changed[j] })
+	if err != nil || after.Names <= before.Names || len(after.Changed) != 4 || after.Changed[0] != a || after.Changed[3] != b {
+		t.Errorf("two tables' names have changed, and the place is %+v (%v)", after, err)
+	}
+	if it := expect("INSERT INTO a VALUES (9)", record.Write{Relation: b, Key: "9"}); it.Names != after.Names || it.LSN <= after.At {
+		t.Errorf("what was written behind the change is told as %+v", it)
+	}
+	if kept, err := control.Health(ctx, "names"); err != nil || kept.Lost || kept.Kept > 1<<30 {
+		t.Errorf("the slot is %+v (%v)", kept, err)
+	}
+	if gone, err := control.Health(ctx, "another"); err != nil || !gone.Lost {
+		t.Errorf("a slot that isn't there is %+v (%v)", gone, err)
+	}
+}
+
+func hearSubtransactions(t *testing.T, control *slot.Control, it record.Commit) {
+	ctx := context.Background()
+	subs, err := control.Subtransactions(ctx, []uint64{it.Start})
+	if err != nil || len(subs) != 1 || len(subs[0]) != 2 || subs[0][0] != it.Number+1 {
+		t.Errorf("the subtransactions of %d are %v (%v)", it.Number, subs, err)
+	}
+	if subs, err := control.Subtransactions(ctx, []uint64{it.Start, 7, it.Start}); err != nil || len(subs[0]) != 2 || subs[1] != nil || len(subs[2]) != 2 {
+		t.Errorf("with a place that holds no record they are %v (%v)", subs, err)
+	}
+}

@@ -1,0 +1,352 @@
+package audit
+
+import (
+	"bufio"
+	"context"
+	"encoding/json"
+	"flag"
+	"fmt"
+	"io"
+	"math/rand"
+	"os"
+	"os/exec"
+	"strconv"
+	"sync"
+	"testing"
+	"time"
+
+	"github.com/jackc/pgconn"
+
+	"zanteyard/join"
+	"zanteyard/record"
+	"zanteyard/slot"
+)
+
+var (
+	auditor = flag.String("auditor", "", "the program cobra_audit, for tests that need it")
+	keep    = flag.String("keep", "", "a file for the script that the auditor is given")
+	soak    = flag.Duration("soak", 3*time.Second, "how long each of these tests runs")
+)
+
+// crowd are clients in goroutines of their own, as sessions of a proxy would see them.
+type crowd struct {
+	t       *testing.T
+	sink    record.Sink
+	members []*member
+	lock    sync.Mutex
+	meeting *sync.WaitGroup // not nil: all are asked to meet
+	done    int
+}
+
+// member is one client. Between two transactions it makes what fences are asked of it.
+type member struct {
+	conn   *pgconn.PgConn
+	number uint64
+	place  uint64
+	r      *rand.Rand
+	ask    chan chan struct{} // a fence is wanted; what is sent is closed when all have made theirs
+	made   chan struct{}
+}
+
+func (m *member) fence(sink record.Sink) error {
+	began := time.Now()
+	rows, err := rowsOf(m.conn, "UPDATE zanteyard_fence SET n = n + 1 WHERE id = 0 RETURNING pg_current_xact_id()")
+	if err != nil {
+		return err
+	}
+	number, _ := strconv.ParseUint(rows[0][0], 10, 64)
+	sink.Transaction(record.Transaction{
+		Connection: m.number, Place: m.place, Began: began, Ended: time.Now(), Number: number, Fence: true,
+		Level: record.ReadCommitted,
+	})
+	m.place++
+	return nil
+}
+
+// MeetAround implements join.Meeter.
+func (c *crowd) MeetAround(ctx context.Context, between func(context.Context)) (int, time.Duration, error) {
+	began := time.Now()
+	c.lock.Lock()
+	members := append([]*member(nil), c.members...)
+	c.lock.Unlock()
+	first := make(chan struct{})
+	for _, m := range members {
+		select {
+		case m.ask <- first:
+		case <-ctx.Done():
+			return 0, 0, ctx.Err()
+		}
+	}
+	for _, m := range members {
+		<-m.made
+	}
+	between(ctx)
+	close(first)
+	for _, m := range members {
+		<-m.made
+	}
+	return 2 * len(members), time.Since(began), nil
+}
+
+func (c *crowd) Fence(ctx context.Context, connection uint64) error { return nil }
+
+// run has a client work until ctx ends.
+func (c *crowd) run(ctx context.Context, m *member, work func(*member) record.Transaction) error {
+	for ctx.Err() == nil {
+		select {
+		case all := <-m.ask:
+			if err := m.fence(c.sink); err != nil {
+				return err
+			}
+			m.made <- struct{}{}
+			<-all
+			if err := m.fence(c.sink); err != nil {
+				return err
+			}
+			m.made <- struct{}{}
+			continue
+		default:
+		}
+		it := work(m)
+		time.Sleep(time.Duration(m.r.Intn(8)) * time.Millisecond)
+		it.Connection, it.Place, it.Ended = m.number, m.place, time.Now()
+		m.place++
+		c.sink.Transaction(it)
+		c.lock.Lock()
+		c.done++
+		c.lock.Unlock()
+	}
+	return nil
+}
+
+// withdraw reads two rows and writes one of them, at the level.
+func withdraw(level string, its record.Level, keys int) func(*member) record.Transaction {
+	return func(m *member) record.Transaction {
+		to := record.Transaction{Began: time.Now(), Level: its, Outcome: record.Aborted}
+		i, j := m.r.Intn(keys), m.r.Intn(keys)
+		rows, err := rowsOf(m.conn, fmt.Sprintf("BEGIN ISOLATION LEVEL %s; "+
+			"SELECT xmin, tableoid::oid, id FROM t WHERE id IN (%d, %d)", level, i, j))
+		if err == nil {
+			for _, row := range rows {
+				xmin, _ := strconv.ParseUint(row[0], 10, 32)
+				oid, _ := strconv.ParseUint(row[1], 10, 32)
+				to.Reads = append(to.Reads, record.Read{Relation: record.Relation(oid), Key: record.Key(row[2]), Version: uint32(xmin)})
+			}
+			rows, err = rowsOf(m.conn, fmt.Sprintf("UPDATE t SET tag = tag || 'x' WHERE id = %d; SELECT pg_current_xact_id()", i))
+		}
+		if err == nil {
+			to.Number, _ = strconv.ParseUint(rows[0][0], 10, 64)
+			_, err = rowsOf(m.conn, "COMMIT")
+		}
+		if err != nil {
+			rowsOf(m.conn, "ROLLBACK")
+			return to
+		}
+		to.Outcome = record.Committed
+		return to
+	}
+}
+
+// parent does what zanteyard watch does with the feed.
+type parent struct {
+	t        *testing.T
+	commands io.Writer
+	in       io.Writer
+	replies  *bufio.Scanner
+	marks    []uint64
+	verdicts map[string]int
+	cuts     int
+	coverage map[string]any
+	events   map[string]int
+	ended    string
+	keep     io.Writer // a copy of the script
+}
+
+func (p *parent) run(feed io.Reader, stopped chan<- struct{}) {
+	lines := bufio.NewScanner(feed)
+	lines.Buffer(nil, 16<<20)
+	for lines.Scan() {
+		line := lines.Text()
+		if line[0] == '[' {
+			p.give(line)
+			continue
+		}
+		var it map[string]any
+		if err := json.Unmarshal([]byte(line), &it); err != nil {
+			p.t.Errorf("event %s: %v", line, err)
+		}
+		p.events[it["event"].(string)]++
+		switch it["event"] {
+		case "coverage":
+			p.coverage = it
+		case "stopped":
+			close(stopped)
+		case "ended":
+			p.ended = it["reason"].(string)
+		case "warning":
+			p.t.Log(line)
+		}
+	}
+}
+
+func (p *parent) give(line string) {
+	if p.keep != nil {
+		fmt.Fprintln(p.keep, line)
+	}
+	fmt.Fprintln(p.in, line)
+	if !p.replies.Scan() {
+		p.t.Fatal("the auditor doesn't answer")
+	}
+	var it []any
+	json.Unmarshal(p.replies.Bytes(), &it)
+	switch it[0] {
+	case "report":
+		p.verdicts[it[2].(string)]++
+	case "no":
+		if it[2] != "NoCut" {
+			p.t.Errorf("%.200s is answered %s", line, p.replies.Text())
+		}
+	case "cut":
+		p.cuts++
+		for _, one := range it[2].([]any) {
+			id := one.([]any)
+			session, number := int(id[0].(float64)), uint64(id[1].(float64))
+			if p.marks[session] <= number {
+				p.marks[session] = number + 1
+			}
+		}
+	}
+	if line == `["truncate"]` {
+		text, _ := json.Marshal(map[string]any{"command": "cut", "marks": p.marks})
+		fmt.Fprintln(p.commands, string(text))
+	}
+}
+
+func TestSoak(t *testing.T) {
+	if *auditor == "" {
+		t.Skip("no auditor was given (-auditor)")
+	}
+	s := startServer(t)
+	must(t, s.connect(t), "CREATE TABLE zanteyard_fence (id integer PRIMARY KEY CHECK (id = 0), n bigint NOT NULL);"+
+		"INSERT INTO zanteyard_fence VALUES (0, 0); CREATE TABLE t (id int PRIMARY KEY, tag text NOT NULL);"+
+		"INSERT INTO t SELECT i, '' FROM generate_series(0, 999) i")
+	for _, one := range []struct {
+		name, level string
+		its         record.Level
+		keys        int
+		beside      bool
+		want        string
+	}{
+		{"serializable", "SERIALIZABLE", record.Serializable, 1000, false, "serial"},
+		{"serializable beside others", "SERIALIZABLE", record.Serializable, 100, true, "serial"},
+		{"lost updates", "READ COMMITTED", record.ReadCommitted, 10, false, "violated"},
+	} {
+		t.Run(one.name, func(t *testing.T) {
+			p, done := runSoak(t, s, withdraw(one.level, one.its, one.keys), one.beside)
+			t.Logf("%d transactions: verdicts %v, %d cuts, events %v, coverage %v", done, p.verdicts, p.cuts, p.events, p.coverage)
+			if p.verdicts[one.want] == 0 || p.verdicts["spent"] > 0 || one.want == "serial" && p.verdicts["violated"] > 0 {
+				t.Errorf("the verdicts are %v, and should be %s", p.verdicts, one.want)
+			}
+			if one.want == "serial" && p.cuts == 0 {
+				t.Error("there was no cut")
+			}
+		})
+	}
+}
+
+func runSoak(t *testing.T, s *server, work func(*member) record.Transaction, beside bool) (*parent, int) {
+	ctx, cancel := context.WithCancel(context.Background())
+	defer cancel()
+	program := exec.Command(*auditor)
+	in, _ := program.StdinPipe()
+	out, _ := program.StdoutPipe()
+	if err := program.Start(); err != nil {
+		t.Fatal(err)
+	}
+	defer program.Wait()
+	defer in.Close()
+	replies := bufio.NewScanner(out)
+	replies.Buffer(nil, 16<<20)
+	commandsOut, commandsIn := io.Pipe()
+	feedOut, feedIn := io.Pipe()
+	c := &crowd{t: t}
+	a := New(Config{
+		Slot: slot.Options{Source: s.source(), FenceSchema: "public", FenceTable: "zanteyard_fence", Canonical: canonical},
+		Join: join.Options{Every: 300, Between: 500 * time.Millisecond, Within: time.Second}, Meeter: c, In: commandsOut, Out: feedIn,
+	})
+	c.sink = a.Sink()
+	p := &parent{
+		t: t, commands: commandsIn, in: in, replies: replies, marks: make([]uint64, 64), verdicts: map[string]int{},
+		events: map[string]int{},
+	}
+	if *keep != "" {
+		file, err := os.Create(*keep)
+		if err != nil {
+			t.Fatal(err)
+		}
+		defer file.Close()
+		p.keep = file
+	}
+	stopped, read := make(chan struct{}), make(chan struct{})
+	go func() {
+		p.run(feedOut, stopped)
+		close(read)
+	}()
+	audited := make(chan struct{})
+	go func() {
+		a.Run(ctx)
+		feedIn.Close()
+		close(audited)
+	}()
+	working, stop := context.WithCancel(ctx)
+	var all sync.WaitGroup
+	start := func(number uint64, sink record.Sink) {
+		m := &member{conn: s.connect(t), number: number, r: rand.New(rand.NewSource(int64(number))), ask: make(chan chan struct{}),
+			made: make(chan struct{})}
+		if sink != nil {
+			sink.Connection(record.Connection{Number: number})
+			c.lock.Lock()
+			c.members = append(c.members, m)
+			c.lock.Unlock()
+		}
+		all.Add(1)
+		go func() {
+			defer all.Done()
+			if sink == nil {
+				for working.Err() == nil {
+					work(m)
+				}
+				return
+			}
+			if err := c.run(ctx, m, func(m *member) record.Transaction {
+				if working.Err() != nil {
+					time.Sleep(time.Millisecond) // idle, and yet there for the last meeting
+					return record.Transaction{Began: time.Now()}
+				}
+				return work(m)
+			}); err != nil && ctx.Err() == nil {
+				t.Error(err)
+			}
+		}()
+	}
+	for number := uint64(1); number <= 8; number++ {
+		start(number, c.sink)
+	}
+	if beside {
+		start(100, nil)
+		start(101, nil)
+	}
+	time.Sleep(*soak)
+	stop()
+	fmt.Fprintln(commandsIn, `{"command":"stop"}`)
+	select {
+	case <-stopped:
+	case <-time.After(2 * time.Minute):
+		t.Error("the audit doesn't stop")
+	}
+	cancel()
+	all.Wait()
+	<-audited
+	<-read
+	return p, c.done
+}

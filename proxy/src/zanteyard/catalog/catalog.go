@@ -1,0 +1,241 @@
+// Package catalog knows what the proxy has to know of a database's definitions: its tables with their keys, which tables
+// can be audited, and which functions read or write. A Catalog is a snapshot that is never changed: after DDL it is loaded
+// again.
+package catalog
+
+import (
+	"context"
+	"encoding/json"
+	"fmt"
+
+	"zanteyard/keys"
+)
+
+// Query runs one statement that returns rows, each value as text. No value is NULL.
+type Query func(sql string) ([][]string, error)
+
+// Column is a column of a table. Type is the type by which package keys knows its values: a domain's base type, keys.Enum
+// for every enumeration.
+type Column struct {
+	Name   string
+	Number int16
+	Type   uint32
+	// PerValue is how many rows have one value of the column, as the server estimates it; 0 where it doesn't.
+	PerValue float64
+}
+
+// Table is a relation that a FROM clause can name.
+type Table struct {
+	OID          uint32
+	Schema, Name string
+	Kind         byte   // pg_class.relkind: r, p (partitioned), v, m, f or S
+	Root         uint32 // the topmost partitioned table, or the table itself
+	Columns      []Column
+	Key          []Column // of the primary key, in its order
+	// Hidden says why the table's rows can't be seen by a hidden xmin and key; "" where they can.
+	Hidden string
+	// RowSecurity says that policies may hide rows from a role: no row returned doesn't mean that there is none.
+	RowSecurity bool
+	// Rules says that a rule rewrites what is written to the table: RETURNING may be refused.
+	Rules bool
+	// Triggers says that triggers of a user's may write when the table is written to.
+	Triggers bool
+	// Indexes are the sets of columns, by number, that one index alone can give.
+	Indexes [][]int16
+
+	system   system
+	children int // tables that inherit from it, partitions left out
+}
+
+// system is what decides whether a table can be audited.
+type system struct {
+	persistence, replica, method string
+	primary, identity            bool // there is a primary key; and its index is the replica identity
+}
+
+// Partitioned says that rows are kept in partitions: RETURNING can't give the xmin of what INSERT or UPDATE wrote.
+func (t *Table) Partitioned() bool { return t.Kind == 'p' }
+
+// Column finds a column by its name.
+func (t *Table) Column(name string) (Column, bool) {
+	for _, c := range t.Columns {
+		if c.Name == name {
+			return c, true
+		}
+	}
+	return Column{}, false
+}
+
+// Covered says whether some index alone holds all of the columns, given by number.
+func (t *Table) Covered(columns map[int16]bool) bool {
+	for _, index := range t.Indexes {
+		held := 0
+		for _, number := range index {
+			if columns[number] {
+				held++
+			}
+		}
+		if held == len(columns) {
+			return true
+		}
+	}
+	return false
+}
+
+// Catalog is a snapshot of one database's definitions.
+type Catalog struct {
+	// Path is the search path that unqualified names were resolved by.
+	Path []string
+	// Encoding is the server's encoding. The texts of a replication slot come in it.
+	Encoding string
+
+	tables    map[uint32]*Table
+	names     map[string]map[string]*Table // by schema and name
+	sole      map[string]*Table            // by name, nil where several schemas have it
+	functions map[string]*functions
+	operators map[string]bool // names of operators whose functions aren't pure
+}
+
+// Load reads a database's definitions. The connection that `query` uses should have the search path that the
+// application's connections have.
+func Load(ctx context.Context, query Query) (*Catalog, error) {
+	c := &Catalog{
+		tables:    map[uint32]*Table{},
+		names:     map[string]map[string]*Table{},
+		sole:      map[string]*Table{},
+		functions: map[string]*functions{},
+		operators: map[string]bool{},
+	}
+	types := types{}
+	for _, part := range []struct {
+		what string
+		sql  string
+		take func(row []string) error
+	}{
+		{"the search path", pathSQL, c.takePath},
+		{"types", typesSQL, types.take},
+		{"tables", tablesSQL, c.takeTable},
+		{"columns", columnsSQL, func(row []string) error { return c.takeColumn(types, row) }},
+		{"indexes", indexesSQL, c.takeIndex},
+		{"triggers", triggersSQL, c.takeTrigger},
+		{"functions", functionsSQL, c.takeFunction},
+		{"operators", operatorsSQL, c.takeOperator},
+	} {
+		if err := ctx.Err(); err != nil {
+			return nil, err
+		}
+		rows, err := query(part.sql)
+		if err != nil {
+			return nil, fmt.Errorf("reading %s of the catalog: %w", part.what, err)
+		}
+		for _, row := range rows {
+			if err := part.take(row); err != nil {
+				return nil, fmt.Errorf("reading %s of the catalog: %w", part.what, err)
+			}
+		}
+	}
+	c.judge()
+	return c, nil
+}
+
+// Table finds a relation by its object identifier.
+func (c *Catalog) Table(oid uint32) (*Table, bool) {
+	t, ok := c.tables[oid]
+	return t, ok
+}
+
+// Find finds a relation by its name: in the search path where no schema is given, or else in the one schema that has such
+// a relation, since the application's roles may have another search path.
+func (c *Catalog) Find(schema, name string) (*Table, bool) {
+	if schema != "" {
+		t, ok := c.names[schema][name]
+		return t, ok
+	}
+	for _, schema := range c.Path {
+		if t, ok := c.names[schema][name]; ok {
+			return t, true
+		}
+	}
+	t := c.sole[name]
+	return t, t != nil
+}
+
+// In is the same catalog under another search path, as PathSQL gives it.
+func (c *Catalog) In(path string) (*Catalog, error) {
+	view := *c
+	view.Path = nil
+	if err := json.Unmarshal([]byte(path), &view.Path); err != nil {
+		return nil, fmt.Errorf("reading a search path: %w", err)
+	}
+	return &view, nil
+}
+
+// Root is the topmost partitioned table of a partition, and any other table itself.
+func (c *Catalog) Root(oid uint32) uint32 {
+	if t, ok := c.tables[oid]; ok {
+		return t.Root
+	}
+	return oid
+}
+
+// Tables gives all relations, in no particular order.
+func (c *Catalog) Tables() []*Table {
+	all := make([]*Table, 0, len(c.tables))
+	for _, t := range c.tables {
+		all = append(all, t)
+	}
+	return all
+}
+
+// judge says of each table why it can't be audited, if it can't. A partitioned table needs all of its partitions.
+func (c *Catalog) judge() {
+	for _, t := range c.tables {
+		t.Hidden = t.reason()
+	}
+	for _, t := range c.tables {
+		root, ok := c.tables[t.Root]
+		if !ok || root == t {
+			continue
+		}
+		if t.Hidden != "" && root.Hidden == "" {
+			root.Hidden = "a partition can't be seen: " + t.Hidden
+		}
+		root.Triggers = root.Triggers || t.Triggers
+	}
+	for _, t := range c.tables { // a partition is written to by way of its parents, of which there may be several
+		if root, ok := c.tables[t.Root]; ok && t.Kind == 'p' && root != t {
+			t.Hidden, t.Triggers = root.Hidden, root.Triggers
+		}
+	}
+}
+
+func (t *Table) reason() string {
+	switch {
+	case t.Kind == 'v':
+		return "a view"
+	case t.Kind == 'm':
+		return "a materialized view"
+	case t.Kind == 'S':
+		return "a sequence"
+	case t.Kind == 'f':
+		return "a foreign table"
+	case t.system.persistence == "u":
+		return "an unlogged table"
+	case t.system.persistence == "t":
+		return "a temporary table"
+	case t.Kind == 'r' && t.system.method != "heap":
+		return "its storage isn't the heap"
+	case !t.system.primary:
+		return "no primary key"
+	case t.children > 0:
+		return "other tables inherit from it"
+	case t.Kind == 'r' && (t.system.replica == "n" || t.system.replica == "i" && !t.system.identity):
+		return "its replica identity leaves out the primary key"
+	}
+	for _, column := range t.Key {
+		if !keys.Known(column.Type) {
+			return "the type of key column " + column.Name + " has no canonical text"
+		}
+	}
+	return ""
+}

@@ -1,0 +1,113 @@
+package catalog
+
+import "strings"
+
+// Function is what calling a function may do, by its name: which of several functions of that name is called isn't known
+// before the server has resolved the arguments' types, so each is what any of them is.
+type Function struct {
+	Aggregate bool // or, without OVER, it makes one row of many
+	Window    bool
+	Set       bool // it returns any number of rows
+	Reads     bool // it may read tables
+	Writes    bool // it may write
+	Names     bool // it may change what names mean: SET search_path, SET ROLE, temporary tables
+}
+
+// functions are those of one name: the server's own, and those of other schemas.
+type functions struct {
+	own, other Function
+	isOwn      bool
+	isOther    bool
+}
+
+// Function tells what calling a function by this name may do. Of a name that isn't known anything may be expected.
+func (c *Catalog) Function(schema, name string) Function {
+	found, ok := c.functions[name]
+	if !ok || schema == "pg_catalog" && !found.isOwn || schema != "" && schema != "pg_catalog" && !found.isOther {
+		return Function{Reads: true, Writes: true, Names: true, Set: true}
+	}
+	switch schema {
+	case "pg_catalog":
+		return found.own
+	case "":
+		return Function{
+			Aggregate: found.own.Aggregate || found.other.Aggregate,
+			Window:    found.own.Window || found.other.Window,
+			Set:       found.own.Set || found.other.Set,
+			Reads:     found.own.Reads || found.other.Reads,
+			Writes:    found.own.Writes || found.other.Writes,
+			Names:     found.own.Names || found.other.Names,
+		}
+	}
+	return found.other
+}
+
+// PureOperator says that no operator of this name calls a function that may read or write tables.
+func (c *Catalog) PureOperator(name string) bool { return !c.operators[name] }
+
+func (c *Catalog) takeFunction(row []string) error {
+	if err := width(row, 7); err != nil {
+		return err
+	}
+	name, own := row[0], row[1] == "pg_catalog"
+	f := Function{Aggregate: row[2] == "true", Window: row[3] == "true", Set: row[4] == "true"}
+	pure := row[5] == "true"
+	if own {
+		f.Reads = readsTables(name)
+		f.Writes = !pure && !harmless(name) || f.Reads
+		f.Names = name == "set_config"
+	} else {
+		f.Reads, f.Writes, f.Names = !pure, !pure, row[6] == "true"
+	}
+	all, ok := c.functions[name]
+	if !ok {
+		all = &functions{}
+		c.functions[name] = all
+	}
+	if own {
+		all.own, all.isOwn = f, true
+		return nil
+	}
+	all.other.Aggregate = all.other.Aggregate || f.Aggregate
+	all.other.Window = all.other.Window || f.Window
+	all.other.Set = all.other.Set || f.Set
+	all.other.Reads = all.other.Reads || f.Reads
+	all.other.Writes = all.other.Writes || f.Writes
+	all.other.Names = all.other.Names || f.Names
+	all.isOther = true
+	return nil
+}
+
+func (c *Catalog) takeOperator(row []string) error {
+	if err := width(row, 1); err != nil {
+		return err
+	}
+	c.operators[row[0]] = true
+	return nil
+}
+
+// readsTables names the server's own functions that run a query they are given, or read a table they are given.
+func readsTables(name string) bool {
+	for _, part := range []string{"query_to_xml", "table_to_xml", "schema_to_xml", "database_to_xml", "cursor_to_xml"} {
+		if strings.HasPrefix(name, part) {
+			return true
+		}
+	}
+	return name == "ts_stat" || name == "ts_rewrite"
+}
+
+// harmless names the server's own functions that are volatile and write no row of a table.
+func harmless(name string) bool {
+	switch name {
+	case "random", "setseed", "clock_timestamp", "timeofday", "gen_random_uuid", "nextval", "currval", "lastval", "setval",
+		"pg_sleep", "pg_sleep_for", "pg_sleep_until", "pg_notify", "pg_export_snapshot", "set_config",
+		"pg_current_xact_id", "pg_current_xact_id_if_assigned", "txid_current", "txid_current_if_assigned",
+		"pg_cancel_backend", "pg_terminate_backend", "pg_reload_conf", "pg_is_in_recovery", "pg_current_wal_lsn",
+		"pg_current_wal_insert_lsn", "pg_relation_size", "pg_table_size", "pg_total_relation_size", "pg_indexes_size",
+		"pg_database_size", "pg_tablespace_size", "pg_lock_status", "pg_prepared_statement", "pg_cursor",
+		"pg_show_all_file_settings", "pg_stat_clear_snapshot", "pg_stat_force_next_flush", "pg_blocking_pids":
+		return true
+	}
+	return strings.HasPrefix(name, "pg_advisory_") || strings.HasPrefix(name, "pg_try_advisory_") ||
+		strings.HasPrefix(name, "pg_stat_get_")
+}

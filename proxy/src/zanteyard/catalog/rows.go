@@ -1,0 +1,199 @@
+package catalog
+
+import (
+	"fmt"
+	"strconv"
+	"strings"
+
+	"zanteyard/keys"
+)
+
+// types resolves domains to their base types.
+type types map[uint32]struct {
+	kind string
+	base uint32
+	name string
+}
+
+func (t types) take(row []string) error {
+	oid, err := number(row, 0)
+	if err != nil {
+		return err
+	}
+	base, err := number(row, 2)
+	if err != nil {
+		return err
+	}
+	t[oid] = struct {
+		kind string
+		base uint32
+		name string
+	}{row[1], base, row[3]}
+	return nil
+}
+
+// resolve is the type by which package keys knows values of a type.
+func (t types) resolve(oid uint32) uint32 {
+	for depth := 0; depth < 32; depth++ {
+		known, ok := t[oid]
+		switch {
+		case !ok:
+			return oid
+		case known.kind == "e":
+			return keys.Enum
+		case known.kind == "d":
+			oid = known.base
+		default: // citext: a row's own text, as any text's
+			return keys.Text
+		}
+	}
+	return oid
+}
+
+func number(row []string, at int) (uint32, error) {
+	if at >= len(row) {
+		return 0, fmt.Errorf("a row has %d values", len(row))
+	}
+	value, err := strconv.ParseUint(row[at], 10, 32)
+	if err != nil {
+		return 0, fmt.Errorf("object identifier %q: %w", row[at], err)
+	}
+	return uint32(value), nil
+}
+
+func width(row []string, want int) error {
+	if len(row) != want {
+		return fmt.Errorf("a row has %d values in place of %d", len(row), want)
+	}
+	return nil
+}
+
+func (c *Catalog) takePath(row []string) error {
+	if err := width(row, 2); err != nil {
+		return err
+	}
+	if row[0] == "encoding" {
+		c.Encoding = row[1]
+		return nil
+	}
+	c.Path = append(c.Path, row[1])
+	return nil
+}
+
+func (c *Catalog) takeTable(row []string) error {
+	if err := width(row, 11); err != nil {
+		return err
+	}
+	oid, err := number(row, 0)
+	if err != nil {
+		return err
+	}
+	root, err := number(row, 9)
+	if err != nil {
+		return err
+	}
+	children, err := strconv.Atoi(row[10])
+	if err != nil {
+		return err
+	}
+	t := &Table{
+		OID: oid, Schema: row[1], Name: row[2], Kind: row[3][0], Root: root, RowSecurity: row[7] == "true",
+		Rules: row[8] == "true", children: children,
+		system: system{persistence: row[4], method: row[5], replica: row[6]},
+	}
+	c.tables[oid] = t
+	if c.names[t.Schema] == nil {
+		c.names[t.Schema] = map[string]*Table{}
+	}
+	c.names[t.Schema][t.Name] = t
+	if _, several := c.sole[t.Name]; several {
+		c.sole[t.Name] = nil
+	} else {
+		c.sole[t.Name] = t
+	}
+	return nil
+}
+
+func (c *Catalog) takeColumn(known types, row []string) error {
+	if err := width(row, 5); err != nil {
+		return err
+	}
+	oid, err := number(row, 0)
+	if err != nil {
+		return err
+	}
+	perValue, err := strconv.ParseFloat(row[4], 64)
+	if err != nil {
+		return err
+	}
+	at, err := strconv.ParseInt(row[1], 10, 16)
+	if err != nil {
+		return err
+	}
+	typeOID, err := number(row, 3)
+	if err != nil {
+		return err
+	}
+	if t, ok := c.tables[oid]; ok {
+		t.Columns = append(t.Columns, Column{
+			Name: row[2], Number: int16(at), Type: known.resolve(typeOID), PerValue: perValue,
+		})
+	}
+	return nil
+}
+
+func (c *Catalog) takeIndex(row []string) error {
+	if err := width(row, 6); err != nil {
+		return err
+	}
+	oid, err := number(row, 0)
+	if err != nil {
+		return err
+	}
+	t, ok := c.tables[oid]
+	if !ok {
+		return nil
+	}
+	keyColumns, err := strconv.Atoi(row[3])
+	if err != nil {
+		return err
+	}
+	var columns []int16
+	for _, text := range strings.Fields(row[4]) {
+		at, err := strconv.ParseInt(text, 10, 16)
+		if err != nil {
+			return err
+		}
+		columns = append(columns, int16(at))
+	}
+	switch row[5] { // these can give back what was indexed
+	case "btree", "gist", "spgist":
+		t.Indexes = append(t.Indexes, columns)
+	}
+	if row[1] != "true" || keyColumns > len(columns) {
+		return nil
+	}
+	t.system.primary, t.system.identity = true, row[2] == "true"
+	for _, at := range columns[:keyColumns] {
+		for _, column := range t.Columns {
+			if column.Number == at {
+				t.Key = append(t.Key, column)
+			}
+		}
+	}
+	if len(t.Key) != keyColumns {
+		return fmt.Errorf("the primary key of %s.%s has columns that aren't known", t.Schema, t.Name)
+	}
+	return nil
+}
+
+func (c *Catalog) takeTrigger(row []string) error {
+	oid, err := number(row, 0)
+	if err != nil {
+		return err
+	}
+	if t, ok := c.tables[oid]; ok {
+		t.Triggers = true
+	}
+	return nil
+}

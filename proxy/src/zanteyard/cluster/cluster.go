@@ -1,0 +1,185 @@
+// Package cluster starts a PostgreSQL server of its own for tests and benchmarks, in a folder that is removed
+// afterwards.
+package cluster
+
+import (
+	"errors"
+	"fmt"
+	"net"
+	"os"
+	"os/exec"
+	"os/user"
+	"path/filepath"
+	"sort"
+	"strconv"
+	"strings"
+	"syscall"
+)
+
+// ErrMissing says that PostgreSQL's server isn't installed, or can't be run by this user.
+var ErrMissing = errors.New("cluster: no PostgreSQL server is installed here")
+
+// Cluster is a server that runs. It takes connections on 127.0.0.1 and in its folder, from every user without a
+// password.
+type Cluster struct {
+	Port int
+	Dir  string
+
+	bin  string
+	cred *syscall.Credential
+}
+
+// Start makes and starts a cluster. More lines for postgresql.conf and pg_hba.conf may be given.
+func Start(settings, hba []string) (*Cluster, error) {
+	bin, err := programs()
+	if err != nil {
+		return nil, err
+	}
+	c := &Cluster{bin: bin}
+	if os.Getuid() == 0 {
+		if c.cred, err = unprivileged(); err != nil {
+			return nil, err
+		}
+	}
+	if c.Dir, err = os.MkdirTemp("", "zanteyard-cluster"); err != nil {
+		return nil, err
+	}
+	if err := c.start(settings, hba); err != nil {
+		c.Stop()
+		return nil, err
+	}
+	return c, nil
+}
+
+// programs is the folder of the newest server that is installed.
+func programs() (string, error) {
+	found, _ := filepath.Glob("/usr/lib/postgresql/*/bin/initdb")
+	if path, err := exec.LookPath("initdb"); err == nil && len(found) == 0 {
+		found = []string{path}
+	}
+	if len(found) == 0 {
+		return "", ErrMissing
+	}
+	sort.Slice(found, func(i, j int) bool { return release(found[i]) < release(found[j]) })
+	return filepath.Dir(found[len(found)-1]), nil
+}
+
+func release(path string) int {
+	n, _ := strconv.Atoi(filepath.Base(filepath.Dir(filepath.Dir(path))))
+	return n
+}
+
+// unprivileged is a user that the server can run as: it refuses root.
+func unprivileged() (*syscall.Credential, error) {
+	for _, name := range []string{"postgres", "nobody"} {
+		u, err := user.Lookup(name)
+		if err != nil {
+			continue
+		}
+		uid, err1 := strconv.Atoi(u.Uid)
+		gid, err2 := strconv.Atoi(u.Gid)
+		if err1 == nil && err2 == nil {
+			return &syscall.Credential{Uid: uint32(uid), Gid: uint32(gid)}, nil
+		}
+	}
+	return nil, ErrMissing
+}
+
+func (c *Cluster) start(settings, hba []string) error {
+	if c.cred != nil {
+		if err := os.Chown(c.Dir, int(c.cred.Uid), int(c.cred.Gid)); err != nil {
+			return err
+		}
+	}
+	if err := c.run("initdb", "-D", c.data(), "-A", "trust", "-U", "postgres", "-E", "UTF8", "--locale=C",
+		"--no-sync"); err != nil {
+		return err
+	}
+	listener, err := net.Listen("tcp", "127.0.0.1:0")
+	if err != nil {
+		return err
+	}
+	c.Port = listener.Addr().(*net.TCPAddr).Port
+	listener.Close()
+	lines := append([]string{"listen_addresses='127.0.0.1'", "unix_socket_directories='" + c.Dir + "'",
+		"port=" + strconv.Itoa(c.Port), "wal_level=logical", "fsync=off", "max_connections=100",
+		"max_prepared_transactions=10", "shared_buffers=64MB", "max_wal_senders=10", "max_replication_slots=10"},
+		settings...)
+	if err := c.append("postgresql.conf", lines); err != nil {
+		return err
+	}
+	if len(hba) > 0 {
+		old, err := os.ReadFile(filepath.Join(c.data(), "pg_hba.conf"))
+		if err != nil {
+			return err
+		}
+		all := strings.Join(hba, "\n") + "\n" + string(old)
+		if err := c.Write("pg_hba.conf", []byte(all)); err != nil {
+			return err
+		}
+	}
+	return c.run("pg_ctl", "-D", c.data(), "-l", filepath.Join(c.Dir, "log"), "-w", "start")
+}
+
+func (c *Cluster) data() string { return filepath.Join(c.Dir, "data") }
+
+func (c *Cluster) append(name string, lines []string) error {
+	f, err := os.OpenFile(filepath.Join(c.data(), name), os.O_APPEND|os.O_WRONLY, 0)
+	if err != nil {
+		return err
+	}
+	defer f.Close()
+	_, err = f.WriteString(strings.Join(lines, "\n") + "\n")
+	return err
+}
+
+// Write writes a file into the folder of the server's data, as the server wants it.
+func (c *Cluster) Write(name string, content []byte) error {
+	path := filepath.Join(c.data(), name)
+	if err := os.WriteFile(path, content, 0o600); err != nil {
+		return err
+	}
+	if c.cred != nil {
+		return os.Chown(path, int(c.cred.Uid), int(c.cred.Gid))
+	}
+	return nil
+}
+
+// run runs one of PostgreSQL's programs as the server's user.
+func (c *Cluster) run(name string, args ...string) error {
+	cmd := exec.Command(filepath.Join(c.bin, name), args...)
+	cmd.Dir = c.Dir
+	cmd.Env = append(os.Environ(), "LC_ALL=C")
+	if c.cred != nil {
+		cmd.SysProcAttr = &syscall.SysProcAttr{Credential: c.cred}
+	}
+	out, err := cmd.CombinedOutput() // pg_ctl's server has its output in a file
+	if err != nil {
+		return fmt.Errorf("%s: %w: %s", name, err, out)
+	}
+	return nil
+}
+
+// Restart stops and starts the server; fast ends all connections, otherwise it is as if it had crashed.
+func (c *Cluster) Restart(fast bool) error {
+	mode := "immediate"
+	if fast {
+		mode = "fast"
+	}
+	if err := c.run("pg_ctl", "-D", c.data(), "-m", mode, "-w", "stop"); err != nil {
+		return err
+	}
+	return c.run("pg_ctl", "-D", c.data(), "-l", filepath.Join(c.Dir, "log"), "-w", "start")
+}
+
+// Log is what the server has logged.
+func (c *Cluster) Log() string {
+	b, _ := os.ReadFile(filepath.Join(c.Dir, "log"))
+	return string(b)
+}
+
+// Stop stops the server and removes its folder.
+func (c *Cluster) Stop() {
+	c.run("pg_ctl", "-D", c.data(), "-m", "immediate", "-w", "stop") // fails if it was never started
+	os.RemoveAll(c.Dir)
+}

@@ -1,0 +1,206 @@
+// Zanteyard-proxy stands between an application and its PostgreSQL server, and has what its transactions read and wrote
+// be audited. The application is given the proxy's address in place of the server's; nothing else of it changes.
+package main
+
+import (
+	"context"
+	"crypto/tls"
+	"errors"
+	"flag"
+	"fmt"
+	"io"
+	"log"
+	"net"
+	"os"
+	"os/signal"
+	"strings"
+	"sync/atomic"
+	"syscall"
+	"time"
+
+	"github.com/jackc/pgconn"
+
+	"zanteyard/audit"
+	"zanteyard/definitions"
+	"zanteyard/join"
+	"zanteyard/keys"
+	"zanteyard/meeting"
+	"zanteyard/server"
+	"zanteyard/session"
+	"zanteyard/slot"
+)
+
+// build is set by the linker: a commit and a date.
+var build = "unknown"
+
+type flags struct {
+	listen, server    string
+	certificate, key  string
+	fence             string
+	bound, look       time.Duration
+	reads             int
+	texts, parameters bool
+	slot              string
+	permanent         bool
+	kept, held        int64
+	join              join.Options
+	records           string
+	passing           bool
+	version           bool
+}
+
+func parse(args []string, errors io.Writer) (flags, error) {
+	var f flags
+	set := flag.NewFlagSet("zanteyard-proxy", flag.ContinueOnError)
+	set.SetOutput(errors)
+	set.StringVar(&f.listen, "listen", "127.0.0.1:6432", "`address` where clients connect; with a / it is a socket's path")
+	set.StringVar(&f.server, "server", "", "the server and database, as a `URL` or keywords, as libpq has them; "+
+		"user and password are for the audit's own connections")
+	set.StringVar(&f.certificate, "tls-cert", "", "`file` with the certificate for clients' TLS")
+	set.StringVar(&f.key, "tls-key", "", "`file` with its key")
+	set.StringVar(&f.fence, "fence-table", "public.zanteyard_fence", "`table` for fences, with its schema")
+	set.DurationVar(&f.bound, "hold", 50*time.Millisecond,
+		"the longest `time` for which a meeting holds what clients send")
+	set.DurationVar(&f.look, "look", time.Second, "`time` between two looks for changed definitions")
+	set.IntVar(&f.reads, "reads", 10000, "`number` of reads of a transaction that are kept")
+	set.BoolVar(&f.texts, "statements", true, "keep statements' texts for explanations")
+	set.BoolVar(&f.parameters, "parameters", false, "keep their parameters as well")
+	set.StringVar(&f.slot, "slot", "", "`name` of the replication slot; one of its own if it is left out")
+	set.BoolVar(&f.permanent, "permanent-slot", false, "the slot outlasts the proxy: it has to be dropped by hand")
+	set.Int64Var(&f.kept, "kept", 4<<30, "`bytes` of its log that the server may keep for the slot before the audit ends")
+	set.Int64Var(&f.held, "held", 64<<20, "`bytes` of what sessions saw that may wait for the audit")
+	set.IntVar(&f.join.Sessions, "sessions", 64, "`number` of the auditor's sessions")
+	set.IntVar(&f.join.Limit, "limit", 4096, "`number` of transactions that may remain at a time")
+	set.Float64Var(&f.join.Sample, "sample", 1, "the `part` of the connections that is audited")
+	set.DurationVar(&f.join.Between, "between", 2*time.Second, "the least `time` between two meetings")
+	set.StringVar(&f.records, "records", "", "write what sessions saw to this `file`, as JSON, and audit nothing")
+	set.BoolVar(&f.passing, "pass", false, "pass all on without looking, and audit nothing")
+	set.BoolVar(&f.version, "version", false, "print the version and end")
+	if err := set.Parse(args); err != nil {
+		return f, err
+	}
+	if set.NArg() > 0 {
+		return f, fmt.Errorf("unexpected argument %q", set.Arg(0))
+	}
+	if f.server == "" && !f.version {
+		return f, errNoServer
+	}
+	return f, nil
+}
+
+var errNoServer = errors.New("--server is missing")
+
+func main() {
+	f, err := parse(os.Args[1:], os.Stderr)
+	switch {
+	case errors.Is(err, flag.ErrHelp):
+		return
+	case err != nil:
+		fmt.Fprintln(os.Stderr, "zanteyard-proxy:", err)
+		os.Exit(2)
+	case f.version:
+		fmt.Println("zanteyard-proxy", build)
+		return
+	}
+	log.SetFlags(log.LstdFlags | log.Lmsgprefix)
+	log.SetPrefix("zanteyard-proxy: ")
+	ctx, stop := signal.NotifyContext(context.Background(), syscall.SIGINT, syscall.SIGTERM)
+	defer stop()
+	if err := run(ctx, f, os.Stdin, os.Stdout); err != nil {
+		log.Print(err)
+		os.Exit(1)
+	}
+}
+
+// run is the program: it passes traffic on until ctx ends, and talks with its parent by in and out.
+func run(ctx context.Context, f flags, in io.Reader, out io.Writer) error {
+	config, err := pgconn.ParseConfig(f.server)
+	if err != nil {
+		return fmt.Errorf("--server: %w", err)
+	}
+	var clientTLS *tls.Config
+	if f.certificate != "" || f.key != "" {
+		pair, err := tls.LoadX509KeyPair(f.certificate, f.key)
+		if err != nil {
+			return fmt.Errorf("--tls-cert and --tls-key: %w", err)
+		}
+		clientTLS = &tls.Config{Certificates: []tls.Certificate{pair}, MinVersion: tls.VersionTLS12}
+	}
+	listener, err := listen(f.listen)
+	if err != nil {
+		return err
+	}
+	options := &session.Options{
+		Policy:    session.Policy{Statements: f.texts, Parameters: f.parameters},
+		ReadLimit: f.reads,
+		Fence:     session.NewFence(f.fence, int(f.bound/time.Millisecond)),
+		Bound:     f.bound,
+		Log:       func(text string) { log.Print(text) },
+	}
+	room := meeting.NewRoom(f.bound)
+	end, err := look(ctx, f, config, options, room, in, out)
+	if err != nil {
+		return err
+	}
+	defer end()
+	s := server.New(server.Options{
+		Server:    config,
+		ClientTLS: clientTLS,
+		Database:  config.Database,
+		Session:   options,
+		Room:      room,
+		Log:       options.Log,
+	})
+	log.Printf("listening on %s", listener.Addr())
+	return s.Serve(ctx, listener)
+}
+
+// look fills in how sessions look at statements, and to whom they tell what they saw. What fails in it ends the audit,
+// not the proxy.
+func look(ctx context.Context, f flags, config *pgconn.Config, options *session.Options, room *meeting.Room,
+	in io.Reader, out io.Writer) (end func(), err error) {
+	var loaded atomic.Bool
+	options.Auditing = loaded.Load
+	options.Generation, options.Defined = func() uint64 { return 0 }, func() {}
+	if options.Sink, end, err = newRecords(f.records); err != nil || f.passing {
+		return end, err
+	}
+	d := definitions.New(config, f.look, options.Log)
+	options.Plans, options.Generation, options.Defined = d, d.Generation, d.Changed
+	go d.Run(ctx, func() { loaded.Store(true) })
+	if f.records != "" {
+		return end, nil
+	}
+	sink := newSwitched(options.Sink)
+	all := &audits{sink: sink, log: options.Log, config: audit.Config{Slot: slotOptions(f), Join: f.join, Meeter: room,
+		Held: int(f.held), Kept: uint64(f.kept), Out: out}}
+	options.Sink = sink
+	options.Auditing = func() bool { return loaded.Load() && all.running.Load() }
+	ended := make(chan struct{})
+	go func() {
+		defer close(ended)
+		all.run(ctx, in)
+	}()
+	return func() { <-ended }, nil
+}
+
+func slotOptions(f flags) slot.Options {
+	schema, table, qualified := strings.Cut(f.fence, ".")
+	if !qualified {
+		schema, table = "public", f.fence
+	}
+	return slot.Options{Source: f.server, Settings: keys.SlotSettings(), Name: f.slot, Permanent: f.permanent,
+		FenceSchema: schema, FenceTable: table, Canonical: keys.FromSlot, Show: keys.Show}
+}
+
+func listen(address string) (net.Listener, error) {
+	network := "tcp"
+	if strings.Contains(address, "/") {
+		network = "unix"
+	}
+	listener, err := net.Listen(network, address)
+	if err != nil {
+		return nil, fmt.Errorf("--listen: %w", err)
+	}
+	return listener, nil
+}

@@ -1,0 +1,226 @@
+package main
+
+import (
+	"bufio"
+	"context"
+	"encoding/json"
+	"errors"
+	"fmt"
+	"io"
+	"net"
+	"strings"
+	"testing"
+	"time"
+
+	"github.com/jackc/pgconn"
+
+	"zanteyard/cluster"
+)
+
+func TestFlags(t *testing.T) {
+	for _, x := range []struct {
+		args  string
+		fails bool
+	}{
+		{"--server host=a", false}, {"--version", false}, {"", true}, {"--server host=a more", true}, {"--nothing", true},
+		{"--server host=a --hold 10ms --reads 5 --sample 0.5 --parameters", false}, {"--hold 5", true},
+	} {
+		if _, err := parse(strings.Fields(x.args), io.Discard); x.fails != (err != nil) {
+			t.Errorf("%q: %v", x.args, err)
+		}
+	}
+}
+
+// program is the proxy with a parent.
+type program struct {
+	t      *testing.T
+	port   int
+	lines  chan string
+	say    io.Writer
+	cancel func()
+	ended  chan error
+}
+
+func begin(t *testing.T, c *cluster.Cluster, more ...string) *program {
+	t.Helper()
+	listener, err := net.Listen("tcp", "127.0.0.1:0")
+	if err != nil {
+		t.Fatal(err)
+	}
+	p := &program{t: t, port: listener.Addr().(*net.TCPAddr).Port, lines: make(chan string, 100000),
+		ended: make(chan error, 1)}
+	listener.Close()
+	f, err := parse(append([]string{"--listen", fmt.Sprintf("127.0.0.1:%d", p.port), "--look", "20ms",
+		"--server", fmt.Sprintf("host=127.0.0.1 port=%d user=postgres dbname=postgres sslmode=disable", c.Port)}, more...),
+		io.Discard)
+	if err != nil {
+		t.Fatal(err)
+	}
+	inFrom, inTo := io.Pipe()
+	outFrom, outTo := io.Pipe()
+	ctx, cancel := context.WithCancel(context.Background())
+	p.say, p.cancel = inTo, cancel
+	go func() {
+		defer close(p.lines)
+		for s := bufio.NewScanner(outFrom); s.Scan(); {
+			p.lines <- s.Text()
+		}
+	}()
+	go func() { p.ended <- run(ctx, f, inFrom, outTo) }()
+	t.Cleanup(func() {
+		cancel()
+		if err := <-p.ended; err != nil {
+			t.Error(err)
+		}
+		inTo.Close()
+		outTo.Close()
+	})
+	return p
+}
+
+// until gives the line that begins with a text, or the event of that name.
+func (p *program) until(what string) string {
+	p.t.Helper()
+	for end := time.After(2 * time.Minute); ; {
+		select {
+		case line, ok := <-p.lines:
+			var event struct{ Event string }
+			if strings.HasPrefix(line, what) || json.Unmarshal([]byte(line), &event) == nil && event.Event == what {
+				return line
+			}
+			if !ok {
+				p.t.Fatalf("the feed ended without %s", what)
+			}
+		case <-end:
+			p.t.Fatalf("no %s came", what)
+		}
+	}
+}
+
+func (p *program) connect() *pgconn.PgConn {
+	p.t.Helper()
+	var last error
+	for end := time.Now().Add(time.Minute); time.Now().Before(end); time.Sleep(5 * time.Millisecond) {
+		conn, err := pgconn.Connect(context.Background(),
+			fmt.Sprintf("host=127.0.0.1 port=%d user=postgres dbname=postgres sslmode=disable", p.port))
+		if err == nil {
+			p.t.Cleanup(func() { conn.Close(context.Background()) })
+			return conn
+		}
+		last = err
+	}
+	p.t.Fatal(last)
+	return nil
+}
+
+func sql(t *testing.T, conn *pgconn.PgConn, text string) string {
+	t.Helper()
+	results, err := conn.Exec(context.Background(), text).ReadAll()
+	if err != nil {
+		t.Fatalf("%s: %v", text, err)
+	}
+	if rows := results[len(results)-1].Rows; len(rows) > 0 {
+		return string(rows[0][0])
+	}
+	return ""
+}
+
+func start(t *testing.T, settings ...string) *cluster.Cluster {
+	t.Helper()
+	c, err := cluster.Start(settings, nil)
+	if errors.Is(err, cluster.ErrMissing) {
+		t.Skip(err)
+	}
+	if err != nil {
+		t.Fatal(err)
+	}
+	t.Cleanup(c.Stop)
+	conn, err := pgconn.Connect(context.Background(),
+		fmt.Sprintf("host=127.0.0.1 port=%d user=postgres dbname=postgres sslmode=disable", c.Port))
+	if err != nil {
+		t.Fatal(err)
+	}
+	defer conn.Close(context.Background())
+	sql(t, conn, `CREATE TABLE zanteyard_fence (id int PRIMARY KEY, n bigint); INSERT INTO zanteyard_fence VALUES (0, 0);
+		CREATE TABLE account (id int PRIMARY KEY, balance int); INSERT INTO account VALUES (1, 100), (2, 100)`)
+	return c
+}
+
+// TestAudit has two transactions each read what the other one writes: both reads are offered to the auditor.
+func TestAudit(t *testing.T) {
+	p := begin(t, start(t))
+	p.until(`["open"`)
+	a, b := p.connect(), p.connect()
+	read := "SELECT balance FROM account ORDER BY id"
+	for i := 0; i < 3; i++ { // so that the statements are tried; the read waits until the answer to the trial is there
+		for _, conn := range []*pgconn.PgConn{a, b} {
+			sql(t, conn, read)
+			sql(t, conn, "UPDATE account SET balance = 100 WHERE id = 1")
+			sql(t, conn, "UPDATE account SET balance = 100 WHERE id = 2")
+		}
+	}
+	sql(t, a, "BEGIN ISOLATION LEVEL REPEATABLE READ")
+	sql(t, b, "BEGIN ISOLATION LEVEL REPEATABLE READ")
+	sql(t, a, read)
+	sql(t, b, read)
+	sql(t, a, "UPDATE account SET balance = 0 WHERE id = 1")
+	sql(t, b, "UPDATE account SET balance = 0 WHERE id = 2")
+	sql(t, a, "COMMIT")
+	sql(t, b, "COMMIT")
+	fmt.Fprintln(p.say, `{"command":"stop"}`)
+	p.until(`["offer"`)
+	p.until(`["round"`)
+	p.until("stopped")
+	if v := sql(t, a, "SELECT sum(balance) FROM account"); v != "0" {
+		t.Errorf("traffic doesn't go on: %s", v)
+	}
+}
+
+// TestNoAudit: a server that no slot can be made on ends the audit, not the traffic.
+func TestNoAudit(t *testing.T) {
+	p := begin(t, start(t, "wal_level=replica"))
+	conn := p.connect()
+	line := p.until("ended")
+	if !strings.Contains(line, "wal_level") {
+		t.Errorf("the reason is %s", line)
+	}
+	fmt.Fprintln(p.say, `{"command":"restart"}`)
+	p.until("ended")
+	fmt.Fprintln(p.say, `{"command":"stop"}`)
+	p.until("stopped")
+	for i := 0; i < 3; i++ {
+		if v := sql(t, conn, "SELECT balance FROM account WHERE id = 1"); v != "100" {
+			t.Errorf("got %s", v)
+		}
+	}
+}
+
+// TestRestart: the server is restarted as after a crash. The audit ends, the proxy takes connections again, and the
+// parent may have another audit begin.
+func TestRestart(t *testing.T) {
+	c := start(t)
+	p := begin(t, c)
+	p.until(`["open"`)
+	conn := p.connect()
+	sql(t, conn, "SELECT balance FROM account WHERE id = 1")
+	if err := c.Restart(false); err != nil {
+		t.Fatal(err)
+	}
+	if _, err := conn.Exec(context.Background(), "SELECT 1").ReadAll(); err == nil {
+		t.Error("the connection outlasts its server")
+	}
+	p.until("ended")
+	conn = p.connect()
+	if v := sql(t, conn, "SELECT balance FROM account WHERE id = 1"); v != "100" {
+		t.Errorf("got %s", v)
+	}
+	fmt.Fprintln(p.say, `{"command":"restart"}`)
+	p.until("started")
+	p.until(`["open"`)
+	for i := 0; i < 5; i++ {
+		sql(t, conn, "UPDATE account SET balance = 100 WHERE id = 1")
+	}
+	fmt.Fprintln(p.say, `{"command":"stop"}`)
+	p.until(`["offer"`)
+	p.until("stopped")
+}

@@ -1,0 +1,36 @@
+package feed
+
+import (
+	"encoding/json"
+	"fmt"
+)
+
+type command struct {
+	Command      string      `json:"command"`
+	ID           int64       `json:"id"`
+	Marks        []uint64    `json:"marks"`
+	Transactions [][2]uint64 `json:"transactions"`
+}
+
+// obey does what one line says.
+func obey(line []byte, to Commands) error {
+	var it command
+	if err := json.Unmarshal(line, &it); err != nil {
+		return fmt.Errorf("a command isn't understood: %w", err)
+	}
+	switch it.Command {
+	case "cut":
+		to.Cut(it.Marks)
+	case "describe":
+		to.Describe(it.ID, it.Transactions)
+	case "round":
+		to.Round()
+	case "restart":
+		to.Restart()
+	case "stop":
+		to.Stop()
+	default:
+		return fmt.Errorf("there is no command %q", it.Command)
+	}
+	return nil
+}

@@ -1,0 +1,77 @@
+package feed
+
+import (
+	"net/url"
+	"strconv"
+	"strings"
+)
+
+// comment reads the last comment of a statement that has the form of sqlcommenter, /*key='value',key='value'*/, with
+// keys and values percent-encoded. It is empty where there is none.
+func comment(text string) map[string]string {
+	for end := len(text); ; {
+		end = strings.LastIndex(text[:end], "*/")
+		if end < 0 {
+			return nil
+		}
+		begin := strings.LastIndex(text[:end], "/*")
+		if begin < 0 {
+			return nil
+		}
+		if tags := tagsOf(text[begin+2 : end]); len(tags) > 0 {
+			return tags
+		}
+		end = begin
+	}
+}
+
+func tagsOf(text string) map[string]string {
+	tags := map[string]string{}
+	for rest := strings.TrimSpace(text); rest != ""; {
+		key, after, found := strings.Cut(rest, "='")
+		if !found {
+			return nil
+		}
+		value, more, found := untilQuote(after)
+		if !found {
+			return nil
+		}
+		name, err := url.PathUnescape(strings.TrimSpace(key))
+		if err != nil || name == "" || strings.ContainsAny(name, " '\"\n") {
+			return nil
+		}
+		plain, err := url.PathUnescape(value)
+		if err != nil {
+			return nil
+		}
+		tags[name] = plain
+		more = strings.TrimSpace(more)
+		if more != "" && !strings.HasPrefix(more, ",") {
+			return nil
+		}
+		rest = strings.TrimSpace(strings.TrimPrefix(more, ","))
+	}
+	return tags
+}
+
+// untilQuote is a value up to its quote; a quote in it has a backslash in front.
+func untilQuote(text string) (value, rest string, found bool) {
+	var to strings.Builder
+	for i := 0; i < len(text); i++ {
+		switch {
+		case text[i] == '\'':
+			return to.String(), text[i+1:], true
+		case text[i] == '\\' && i+1 < len(text):
+			i++
+			to.WriteByte(text[i])
+		default:
+			to.WriteByte(text[i])
+		}
+	}
+	return "", "", false
+}
+
+func wholeNumber(text string) (uint64, bool) {
+	number, err := strconv.ParseUint(text, 10, 31)
+	return number, err == nil
+}

@@ -1,0 +1,168 @@
+package feed
+
+import (
+	"bytes"
+	"encoding/json"
+	"fmt"
+	"time"
+
+	"zanteyard/join"
+	"zanteyard/record"
+)
+
+// encode writes an event as one JSON object without a line's end.
+func encode(it join.Event) ([]byte, error) {
+	switch it := it.(type) {
+	case join.Started:
+		return object("started", it.At, map[string]any{
+			"limit": it.Limit, "sessions": it.Sessions, "database": it.Database, "server": it.Server, "slot": it.Slot,
+			"plugin": it.Plugin, "temporary": it.Temporary, "subtransactions": it.Subtransactions, "warnings": texts(it.Warnings),
+		})
+	case join.Meeting:
+		return object("meeting", it.At, map[string]any{
+			"fences": it.Fences, "milliseconds": float64(it.Took.Microseconds()) / 1000,
+		})
+	case join.Warning:
+		return object("warning", it.At, map[string]any{"text": it.Text})
+	case join.Ended:
+		return object("ended", time.Now(), map[string]any{"reason": it.Reason})
+	case join.Restarted:
+		return object("restarted", it.At, nil)
+	case join.Stopped:
+		return object("stopped", it.At, nil)
+	case join.Coverage:
+		return object("coverage", it.At, coverage(it))
+	case join.Transactions:
+		its := make([]any, len(it.Given))
+		for i := range it.Given {
+			its[i] = transaction(&it.Given[i])
+		}
+		return object("transactions", it.At, map[string]any{"id": it.ID, "transactions": its})
+	}
+	return nil, fmt.Errorf("an event of the type %T", it)
+}
+
+// object puts the event's name first, by which people find it.
+func object(event string, at time.Time, fields map[string]any) ([]byte, error) {
+	if fields == nil {
+		fields = map[string]any{}
+	}
+	fields["at"] = seconds(at)
+	var text bytes.Buffer
+	text.WriteString(`{"event":"` + event + `",`)
+	encoder := json.NewEncoder(&text)
+	encoder.SetEscapeHTML(false)
+	start := text.Len()
+	if err := encoder.Encode(fields); err != nil {
+		return nil, err
+	}
+	its := text.Bytes()
+	copy(its[start:], its[start+1:]) // the fields' own brace
+	return its[:len(its)-2], nil     // and the line's end
+}
+
+// seconds since 1970, to a microsecond.
+func seconds(at time.Time) float64 {
+	if at.IsZero() {
+		return 0
+	}
+	return float64(at.UnixMicro()) / 1e6
+}
+
+func texts(its []string) []string {
+	if its == nil {
+		return []string{}
+	}
+	return its
+}
+
+func coverage(it join.Coverage) map[string]any {
+	unseen := make([]any, len(it.Unseen))
+	for i, one := range it.Unseen {
+		unseen[i] = map[string]any{
+			"shape": one.Shape, "reason": one.Reason, "reads": one.Reads, "count": one.Count, "first": seconds(one.First),
+		}
+	}
+	return map[string]any{
+		"committed": it.Committed, "offered": it.Offered, "fences": it.Fences, "aborted": it.Aborted, "empty": it.Empty,
+		"folded": it.Folded,
+		"reads":  map[string]any{"seen": it.Reads, "offered": it.ReadsOffered, "own": it.ReadsOwn, "left_out": it.ReadsLeft},
+		"writes": map[string]any{"seen": it.Writes, "offered": it.WritesOffered, "left_out": it.WritesLeft},
+		"unseen": unseen,
+		"connections": map[string]any{
+			"now": it.Connections, "audited": it.Audited, "waiting": it.Waiting, "ever": it.ConnectionsEver,
+		},
+		"sessions": map[string]any{"open": it.SessionsOpen, "closed": it.SessionsClosed},
+		"lag":      map[string]any{"bytes": it.LagBytes, "seconds": it.Lag.Seconds()},
+		"pending":  it.Pending, "remaining": it.Remaining, "rounds": it.Rounds, "keys": it.Rows,
+		"statements_dropped": it.StatementsDropped,
+	}
+}
+
+var levels = map[record.Level]string{
+	record.UnknownLevel: "unknown", record.ReadCommitted: "read committed", record.RepeatableRead: "repeatable read",
+	record.Serializable: "serializable",
+}
+
+func transaction(it *join.Description) map[string]any {
+	to := map[string]any{"session": it.Session, "number": it.Number, "known": it.Known}
+	if !it.Known {
+		return to
+	}
+	statements := make([]any, len(it.Its.Statements))
+	for i, one := range it.Its.Statements {
+		statements[i] = statement(one)
+	}
+	reads := make([]any, len(it.Reads))
+	for i, one := range it.Reads {
+		if one.Initial {
+			reads[i] = []any{one.Key, "init"}
+		} else {
+			reads[i] = []any{one.Key, one.Session, one.Number}
+		}
+	}
+	rows := make([]any, len(it.Rows))
+	for i, one := range it.Rows {
+		rows[i] = map[string]any{"key": one.Key, "table": one.Table, "row": one.Row}
+	}
+	writes := it.Writes
+	if writes == nil {
+		writes = []uint64{}
+	}
+	for field, value := range map[string]any{
+		"fence": it.Its.Fence, "connection": it.From.Number, "application_name": it.From.ApplicationName,
+		"address": it.From.Address, "user": it.From.User, "database": it.From.Database, "level": levels[it.Its.Level],
+		"began": seconds(it.Its.Began), "ended": seconds(it.Its.Ended), "xid": uint32(it.Its.Number),
+		"statements": statements, "statements_dropped": it.Dropped, "reads": reads, "writes": writes, "keys": rows,
+	} {
+		to[field] = value
+	}
+	return to
+}
+
+func statement(it record.Statement) map[string]any {
+	to := map[string]any{"text": it.Text, "parameters": it.Parameters, "at": seconds(it.At)}
+	if len(it.Unseen) > 0 {
+		reasons := make([]string, len(it.Unseen))
+		for i, one := range it.Unseen {
+			reasons[i] = one.Reason
+		}
+		to["unseen"] = reasons
+	}
+	tags := comment(it.Text)
+	if file, is := tags["file"]; is {
+		to["file"] = file
+		delete(tags, "file")
+	}
+	for _, key := range []string{"line", "lineno"} {
+		if number, is := wholeNumber(tags[key]); is {
+			to["line"] = number
+			delete(tags, key)
+			break
+		}
+	}
+	if len(tags) > 0 {
+		to["comment"] = tags
+	}
+	return to
+}

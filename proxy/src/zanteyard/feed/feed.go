@@ -1,0 +1,140 @@
+// Package feed talks with the program that started the proxy: lines for the auditor and events out, commands in, in the
+// form of docs/PROXY_FEED.md.
+package feed
+
+import (
+	"bufio"
+	"errors"
+	"io"
+	"sync"
+
+	"zanteyard/join"
+)
+
+// Writer implements join.Output on a stream. Its calls don't wait: a goroutine writes (Run). What it holds is bounded by
+// what the joiner gives: no more lines than the auditor's limit allows before a cut comes back, and coverage is left out
+// while much is waiting.
+type Writer struct {
+	to   io.Writer
+	wake chan struct{}
+
+	lock   sync.Mutex
+	held   []byte
+	closed bool
+}
+
+// enough is how much may wait before coverage is left out.
+const enough = 1 << 20
+
+// NewWriter makes one.
+func NewWriter(to io.Writer) *Writer {
+	return &Writer{to: to, wake: make(chan struct{}, 1)}
+}
+
+// Line writes a line for the auditor.
+func (w *Writer) Line(line []byte) { w.put(line) }
+
+// Event writes an event.
+func (w *Writer) Event(it join.Event) {
+	if _, is := it.(join.Coverage); is && w.waiting() > enough {
+		return
+	}
+	text, err := encode(it)
+	if err != nil { // no value of an event is one that JSON hasn't
+		text = []byte(`{"event":"warning","text":"an event could not be written"}`)
+	}
+	w.put(text)
+}
+
+func (w *Writer) waiting() int {
+	w.lock.Lock()
+	defer w.lock.Unlock()
+	return len(w.held)
+}
+
+func (w *Writer) put(line []byte) {
+	w.lock.Lock()
+	if !w.closed {
+		w.held = append(append(w.held, line...), '\n')
+	}
+	w.lock.Unlock()
+	w.signal()
+}
+
+func (w *Writer) signal() {
+	select {
+	case w.wake <- struct{}{}:
+	default:
+	}
+}
+
+// Run writes until Close was called and everything is written, or the stream fails.
+func (w *Writer) Run() error {
+	var spare []byte
+	for range w.wake {
+		w.lock.Lock()
+		text, closed := w.held, w.closed
+		w.held = spare[:0]
+		w.lock.Unlock()
+		if _, err := w.to.Write(text); err != nil {
+			w.Close()
+			return err
+		}
+		spare = text
+		if cap(spare) > enough {
+			spare = nil
+		}
+		if closed {
+			return nil
+		}
+	}
+	return nil
+}
+
+// Close has Run end when everything is written. What comes later is dropped.
+func (w *Writer) Close() {
+	w.lock.Lock()
+	w.closed = true
+	w.lock.Unlock()
+	w.signal()
+}
+
+// Commands is who the parent's commands are for.
+type Commands interface {
+	Cut(marks []uint64)
+	Describe(id int64, transactions [][2]uint64)
+	Round()
+	Restart()
+	Stop()
+	Warn(text string)
+}
+
+// mostOfCommand is how long a command may be.
+const mostOfCommand = 1 << 20
+
+// Read takes commands until the stream ends, which counts as stop. It returns what the stream ended with, nil at its end.
+func Read(from io.Reader, to Commands) error {
+	lines := bufio.NewReaderSize(from, mostOfCommand)
+	for {
+		line, err := lines.ReadSlice('\n')
+		if errors.Is(err, bufio.ErrBufferFull) {
+			to.Warn("a command is too long")
+			for errors.Is(err, bufio.ErrBufferFull) {
+				_, err = lines.ReadSlice('\n')
+			}
+			line = nil
+		}
+		if len(line) > 1 {
+			if wrong := obey(line, to); wrong != nil {
+				to.Warn(wrong.Error())
+			}
+		}
+		if err != nil {
+			to.Stop()
+			if errors.Is(err, io.EOF) {
+				return nil
+			}
+			return err
+		}
+	}
+}

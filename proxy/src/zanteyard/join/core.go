@@ -1,0 +1,268 @@
+package join
+
+import (
+	"time"
+
+	"zanteyard/record"
+)
+
+// core joins what is told with what the slot has, step by step, with no goroutine and no clock of its own. Its calls are
+// made by one goroutine (Joiner).
+//
+// What comes from sessions and from the slot may come in any order. A transaction waits, once it was told, until the slot
+// has passed the place at which the server's log then stood (batch): whatever it has read was committed by then, so what
+// the slot hasn't told by then it never tells. And it waits until it is known of each version that it has read or
+// overwritten, and of those before, whether they are offered: a version is, once a session has told of its transaction;
+// it isn't, if none has within a while of its commit.
+type core struct {
+	opt         Options
+	tables      Tables
+	out         func(line []byte) // takes a line for the auditor, without its end; it copies what it keeps
+	now         time.Time
+	connections map[uint64]*connection
+	queue       []*connection // that have no session
+	sessions    []*session
+	database    string // the slot's; empty, if any will do
+	held        []*entry
+	joining     []*connection // that got a closed session, and need a fence
+
+	rows     *rows
+	writers  map[uint32]*writer // that only the slot or only a session has told of
+	late     []*writer          // commits in the slot's order that may still be somebody else's
+	expected []expected
+	commits  uint64    // how many the slot has told: the place of the last one
+	fenced   uint64    // the place of the last fence that is gone
+	fences   []*writer // offered fences that may remain
+	used     uint64    // count of transactions in lines
+	inspects bool      // subtransactions can be asked for
+	unsub    []*writer // commits whose subtransactions are to be asked for
+	texts    int       // bytes of statements that are kept
+	base     uint32    // numbers before it were over as the audit began
+	newest   uint64    // how far the newest number that the slot has told is past the base
+	batch    uint64    // of what is told now
+	batched  bool      // something was told in it
+	asked    []batchAt // batches whose place in the log is known, and that the slot hasn't passed
+	passed   uint64    // the slot has passed this batch
+	progress uint64
+	since    int       // transactions named since the last meeting
+	oldest   time.Time // when the first of them was named
+	counts   counts
+}
+
+type batchAt struct {
+	batch uint64
+	place uint64
+	at    time.Time // when it was asked for
+}
+
+// newCore begins an audit at a server whose transactions below the base were over, and of which the slot tells every
+// commit that a snapshot of that time doesn't show.
+func newCore(opt Options, tables Tables, base uint32, out func([]byte), now time.Time) *core {
+	opt = opt.withDefaults()
+	c := &core{
+		opt: opt, tables: tables, out: out, now: now, base: base,
+		connections: map[uint64]*connection{},
+		rows:        newRows(opt.Rows),
+		writers:     map[uint32]*writer{},
+		batch:       1,
+		counts:      newCounts(),
+	}
+	for i := 0; i < opt.Sessions; i++ {
+		c.sessions = append(c.sessions, &session{index: i, fenced: true})
+	}
+	return c
+}
+
+// isOld says whether a row's xmin is of a transaction that was over as the audit began, so that the slot never tells of
+// it. Numbers have 32 bits here: one that could as well be newer counts as unknown, and so does one that no commit of
+// the slot comes near to yet (a subtransaction's may be above all of them).
+func (c *core) isOld(xmin uint32) bool {
+	const ahead = 1 << 30
+	if xmin < 3 {
+		return true // what was there before any transaction
+	}
+	return c.newest+ahead < 1<<32 && uint64(xmin-c.base) >= c.newest+ahead
+}
+
+// commit takes in what the slot told next.
+func (c *core) commit(it record.Commit) {
+	c.counts.committed++
+	c.commits++
+	if ahead := int32(it.Number - c.base - uint32(c.newest)); ahead > 0 {
+		c.newest += uint64(ahead)
+	}
+	w := c.writers[it.Number]
+	if w != nil && w.place != 0 {
+		w = nil // the same number once more, after it was used up
+	}
+	if w == nil {
+		w = &writer{number: it.Number}
+	}
+	w.place, w.start, w.seen = c.commits, it.Start, c.now
+	w.subs = append(w.subs, it.Subs...)
+	c.addVersions(w, it)
+	if w.fate == undecided {
+		c.writers[it.Number] = w
+		if !w.named {
+			c.late = append(c.late, w)
+		}
+		return
+	}
+	delete(c.writers, it.Number)
+	if w.fate == folded {
+		w.writes = nil
+	}
+}
+
+func (c *core) addVersions(w *writer, it record.Commit) {
+	if it.Fence {
+		w.fence = true
+		v := &version{writer: w, left: w.named && !w.fences}
+		c.rows.add(c.rows.fence, v)
+		if !v.left {
+			w.writes = append(w.writes, write{c.rows.fence, v})
+		}
+		return // a fence does nothing else; were it to, that is left out
+	}
+	for _, relation := range it.Emptied {
+		c.rows.emptied(c.tables.Root(relation), w)
+	}
+	for _, one := range it.Writes {
+		r := c.rows.get(rowID{c.tables.Root(one.Relation), one.Key})
+		if last := r.last; last != nil && last.writer == w && !last.left {
+			last.deleted = one.Deleted // two partitions' keys have become one row's
+			continue
+		}
+		v := &version{writer: w, deleted: one.Deleted, left: len(w.writes) >= mostOfEach}
+		c.rows.add(r, v)
+		if !v.left {
+			w.writes = append(w.writes, write{r, v})
+		} else {
+			c.counts.leftWrites["more than 256 writes of one transaction"]++
+		}
+	}
+	c.counts.writes += uint64(len(it.Writes))
+}
+
+// fold leaves the writer's versions out.
+func (c *core) fold(w *writer, reason string) {
+	w.fate = folded
+	w.writes = nil
+	if w.place != 0 {
+		delete(c.writers, w.number)
+	}
+}
+
+// advance takes in how far the slot is: every commit that stands before it in the log was told.
+func (c *core) advance(place uint64) {
+	if place > c.progress {
+		c.progress = place
+	}
+	for len(c.asked) > 0 && reached(c.progress, c.asked[0].place) {
+		c.passed = c.asked[0].batch
+		c.asked = c.asked[1:]
+	}
+}
+
+// reached says whether the slot has come to a place. Where a page of the log is full, the place at which the next record
+// is inserted stands behind the next page's header, which the slot reports only with that record.
+func reached(progress, place uint64) bool {
+	const page, header = 8192, 40
+	return progress >= place || progress%page == 0 && place-progress <= header
+}
+
+// wantsPlace says that something was told for which the log's place has to be asked. What is told from then on is in
+// the next batch.
+func (c *core) wantsPlace() (batch uint64, wanted bool) {
+	if !c.batched {
+		return 0, false
+	}
+	c.batched = false
+	c.batch++
+	return c.batch - 1, true
+}
+
+// placed takes in where the log stood when it was asked for a batch.
+func (c *core) placed(batch, place uint64, asked time.Time) {
+	c.asked = append(c.asked, batchAt{batch, place, asked})
+	c.advance(c.progress)
+}
+
+// lag is for how long the slot has been behind.
+func (c *core) lag() time.Duration {
+	if len(c.asked) == 0 {
+		return 0
+	}
+	return c.now.Sub(c.asked[0].at)
+}
+
+// step does whatever can be done by now.
+func (c *core) step(now time.Time) {
+	c.now = now
+	c.foldLate()
+	c.giveUpExpected()
+	for moved := true; moved; {
+		moved = c.decideHeld()
+		for _, s := range c.sessions {
+			moved = c.write(s) || moved
+		}
+	}
+	c.flush()
+}
+
+// foldLate counts commits as somebody else's that no session has told of for a while.
+func (c *core) foldLate() {
+	for len(c.late) > 0 {
+		w := c.late[0]
+		if w.fate == undecided && !w.named {
+			if c.now.Sub(w.seen) < c.opt.Late {
+				return
+			}
+			c.counts.fold(byOthers)
+			c.fold(w, byOthers)
+		}
+		c.late[0] = nil
+		c.late = c.late[1:]
+	}
+}
+
+// expected is a folded transaction of which the slot hasn't told.
+type expected struct {
+	batch  uint64
+	writer *writer
+}
+
+// giveUpExpected drops folded transactions of which the slot never tells.
+func (c *core) giveUpExpected() {
+	for len(c.expected) > 0 && c.expected[0].batch <= c.passed {
+		if w := c.expected[0].writer; w.place == 0 && c.writers[w.number] == w {
+			delete(c.writers, w.number)
+		}
+		c.expected[0].writer = nil
+		c.expected = c.expected[1:]
+	}
+}
+
+// forgetTable forgets a table's rows: their names or keys mean something else from now on.
+func (c *core) forgetTable(relation record.Relation) {
+	for id := range c.rows.by {
+		if id.relation == relation {
+			delete(c.rows.by, id)
+		}
+	}
+}
+
+// forget gives up versions that were overwritten long ago: nobody is expected to read them still.
+func (c *core) forget() {
+	before := c.now.Add(-c.opt.Stale)
+	c.rows.trim(func(v *version) bool {
+		return v.writer.fate != undecided && (v.writer.place <= c.fenced || v.writer.seen.Before(before))
+	})
+	least := c.used
+	for _, s := range c.sessions {
+		if len(s.kept) > 0 && s.kept[0].used < least {
+			least = s.kept[0].used
+		}
+	}
+	c.rows.forgetRead(least)
+}

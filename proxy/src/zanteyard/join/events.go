@@ -1,0 +1,186 @@
+package join
+
+import (
+	"time"
+
+	"zanteyard/record"
+)
+
+// Event is something that the feed tells. The feed's package knows how each is written.
+type Event interface{ event() }
+
+// Started tells that the audit begins.
+type Started struct {
+	At               time.Time
+	Limit, Sessions  int
+	Database, Server string
+	Slot, Plugin     string
+	Temporary        bool
+	Subtransactions  string
+	Warnings         []string
+}
+
+// Meeting tells that the sessions have met.
+type Meeting struct {
+	At     time.Time
+	Fences int
+	Took   time.Duration
+}
+
+// Warning tells what a person should know.
+type Warning struct {
+	At   time.Time
+	Text string
+}
+
+// Ended tells that the audit has ended; traffic goes on.
+type Ended struct{ Reason string }
+
+// Restarted tells that a new audit begins with the next line.
+type Restarted struct{ At time.Time }
+
+// Stopped tells that the last round was written.
+type Stopped struct{ At time.Time }
+
+// Coverage tells how much of what happened was offered, counted from the beginning of the audit.
+type Coverage struct {
+	At                                        time.Time
+	Committed, Offered, Fences                uint64
+	Aborted, Empty                            uint64
+	Folded                                    map[string]uint64
+	Reads, ReadsOffered, ReadsOwn             uint64
+	ReadsLeft                                 map[string]uint64
+	Writes, WritesOffered                     uint64
+	WritesLeft                                map[string]uint64
+	Unseen                                    []Unseen
+	Connections, Audited, Waiting             int
+	ConnectionsEver                           uint64
+	SessionsOpen, SessionsClosed              int
+	LagBytes                                  uint64
+	Lag                                       time.Duration
+	Pending, Remaining, Rows                  int
+	Rounds, StatementsDropped, Lost, SubsLost uint64
+}
+
+// Transactions answers a question for transactions.
+type Transactions struct {
+	At    time.Time
+	ID    int64
+	Given []Description
+}
+
+// Description is what is known of a transaction. If it is forgotten only the first two are.
+type Description struct {
+	Session, Number uint64
+	Known           bool
+	Its             record.Transaction
+	From            record.Connection
+	Reads           []KeyRead
+	Writes          []uint64
+	Rows            []Row
+	Dropped         int
+}
+
+// KeyRead is a read as it was offered.
+type KeyRead struct {
+	Key             uint64
+	Initial         bool
+	Session, Number uint64
+}
+
+// Row says in words what a key stands for.
+type Row struct {
+	Key        uint64
+	Table, Row string
+}
+
+func (Started) event()      {}
+func (Meeting) event()      {}
+func (Warning) event()      {}
+func (Ended) event()        {}
+func (Restarted) event()    {}
+func (Stopped) event()      {}
+func (Coverage) event()     {}
+func (Transactions) event() {}
+
+func (j *Joiner) coverageEvent() Coverage {
+	c := j.core
+	n := &c.counts
+	it := Coverage{
+		At: time.Now(), Committed: n.committed, Offered: n.offered, Fences: n.fences, Aborted: n.aborted, Empty: n.empty,
+		Folded: copyOf(n.folded), Reads: n.reads, ReadsOffered: n.readsOffered, ReadsOwn: n.own, ReadsLeft: copyOf(n.leftReads),
+		Writes: n.writes, WritesOffered: n.writesOffered, WritesLeft: copyOf(n.leftWrites),
+		Unseen: j.inbox.shapes(), Connections: len(c.connections), ConnectionsEver: n.ever,
+		Lag: c.lag(), Rows: len(c.rows.by), Rounds: n.rounds, StatementsDropped: n.dropped, Lost: n.lost, SubsLost: n.unread,
+		Remaining: c.remaining(),
+	}
+	if n.lost > 0 {
+		it.Folded["told faster than they could be taken in"] = n.lost
+	}
+	it.Waiting = len(c.queue)
+	for _, s := range c.sessions {
+		it.Pending += len(s.waiting)
+		if s.tenant != nil {
+			it.Audited++
+		}
+		if s.closed {
+			it.SessionsClosed++
+		} else {
+			it.SessionsOpen++
+		}
+	}
+	if len(c.asked) > 0 {
+		it.LagBytes = c.asked[len(c.asked)-1].place - c.progress
+	}
+	return it
+}
+
+func copyOf(its map[string]uint64) map[string]uint64 {
+	to := make(map[string]uint64, len(its))
+	for k, v := range its {
+		to[k] = v
+	}
+	return to
+}
+
+// describe says what is known of transactions.
+func (j *Joiner) describe(ids [][2]uint64) []Description {
+	its := make([]Description, len(ids))
+	for i, id := range ids {
+		its[i] = Description{Session: id[0], Number: id[1]}
+		if id[0] >= uint64(len(j.core.sessions)) {
+			continue
+		}
+		s := j.core.sessions[id[0]]
+		if id[1] < s.mark || id[1]-s.mark >= uint64(len(s.kept)) {
+			continue
+		}
+		j.core.describe(s.kept[id[1]-s.mark], &its[i])
+	}
+	return its
+}
+
+func (c *core) describe(one *told, to *Description) {
+	to.Known, to.Its, to.From, to.Dropped = true, one.its, one.from, one.dropped
+	seen := map[uint64]bool{0: true}
+	words := func(r *row) {
+		if seen[r.number] {
+			return
+		}
+		seen[r.number] = true
+		table, text := c.tables.Words(r.id.relation, r.id.key)
+		to.Rows = append(to.Rows, Row{r.number, table, text})
+	}
+	for _, it := range one.reads {
+		read := KeyRead{Key: it.row.number, Initial: it.from == initial}
+		if !read.Initial {
+			read.Session, read.Number = uint64(it.from.session()), it.from.number()
+		}
+		to.Reads = append(to.Reads, read)
+		words(it.row)
+	}
+	for _, it := range one.writes {
+		to.Writes = append(to.Writes, it.number)
+		words(it)
+	}
+}

@@ -1,0 +1,80 @@
+package join
+
+import "zanteyard/record"
+
+// gate holds back what the slot tells until it is known that tables' names still mean what the slot's reader took them
+// for: the slot names tables, as they were called when they were written, and a reader knows of a renamed table only
+// afterwards. A write that may have been taken for one of another table is dropped, which folds it.
+type gate struct {
+	queue    []fromSlot
+	verified uint64 // names are known to mean what they did up to this place
+	changed  map[record.Relation]change
+}
+
+type change struct{ names, place uint64 }
+
+// mostHeld is how much waits before the slot has to.
+const mostHeld = 20_000
+
+func (g *gate) put(it fromSlot) { g.queue = append(g.queue, it) }
+func (g *gate) isFull() bool    { return len(g.queue) >= mostHeld }
+func (g *gate) waits() bool     { return len(g.queue) > 0 }
+
+// verify takes in what names mean at a place, and lets go what stands before it.
+func (g *gate) verify(place Place, to *core) {
+	for _, relation := range place.Changed {
+		if g.changed == nil {
+			g.changed = map[record.Relation]change{}
+		}
+		g.changed[relation] = change{place.Names, place.At}
+		to.forgetTable(relation)
+	}
+	if place.At > g.verified {
+		g.verified = place.At
+	}
+	g.release(to)
+}
+
+// release lets go what is verified. The slot tells in the log's order: if its next commit stands behind a place, it has
+// told all that stands before.
+func (g *gate) release(to *core) {
+	n := 0
+	for ; n < len(g.queue); n++ {
+		it := g.queue[n]
+		if it.commit == nil {
+			if it.place > g.verified {
+				break
+			}
+			to.advance(it.place)
+			continue
+		}
+		if it.commit.LSN > g.verified {
+			break
+		}
+		to.commit(g.sure(*it.commit))
+		to.advance(it.commit.LSN)
+	}
+	if n < len(g.queue) {
+		to.advance(g.verified)
+	}
+	if n == len(g.queue) {
+		g.queue = g.queue[:0]
+		return
+	}
+	g.queue = append(g.queue[:0], g.queue[n:]...)
+}
+
+// sure is the commit without writes of tables that may be others.
+func (g *gate) sure(it record.Commit) record.Commit {
+	if len(g.changed) == 0 {
+		return it
+	}
+	kept := it.Writes[:0]
+	for _, one := range it.Writes {
+		if by, is := g.changed[one.Relation]; !is || it.Names >= by.names && it.LSN > by.place {
+			kept = append(kept, one)
+		}
+	}
+	it.Writes = kept
+	return it
+}

@@ -1,0 +1,142 @@
+package join
+
+import (
+	"sort"
+	"sync"
+	"time"
+
+	"zanteyard/record"
+)
+
+// Inbox takes what the sessions of a proxy tell, and holds it until the joiner takes it out. It is bounded: what comes
+// when it is full is dropped, which folds it. Connections aren't dropped: they are few. Safe for use by many goroutines.
+type Inbox struct {
+	wake chan struct{}
+	now  func() time.Time
+
+	lock    sync.Mutex
+	its     []message
+	bytes   int
+	most    int
+	closed  bool
+	lost    uint64
+	unseen  map[unseenKey]*Unseen
+	outside *Unseen // shapes beyond the most
+}
+
+type message struct {
+	connection  *record.Connection
+	transaction *record.Transaction
+}
+
+type unseenKey struct{ shape, reason string }
+
+// Unseen counts statements of one shape of which something was left out for one reason.
+type Unseen struct {
+	Shape, Reason string
+	Reads         bool
+	Count         uint64
+	First         time.Time
+}
+
+// mostShapes bounds the shapes that are told apart.
+const mostShapes = 500
+
+// NewInbox makes one that holds about so many bytes.
+func NewInbox(bytes int) *Inbox {
+	return &Inbox{wake: make(chan struct{}, 1), now: time.Now, most: bytes, unseen: map[unseenKey]*Unseen{}}
+}
+
+// Connection implements record.Sink.
+func (b *Inbox) Connection(it record.Connection) {
+	b.put(message{connection: &it}, 0)
+}
+
+// Transaction implements record.Sink.
+func (b *Inbox) Transaction(it record.Transaction) {
+	b.put(message{transaction: &it}, sizeOf(&it))
+}
+
+func (b *Inbox) put(it message, bytes int) {
+	b.lock.Lock()
+	switch {
+	case b.closed:
+	case bytes > 0 && b.bytes+bytes > b.most:
+		b.lost++
+	default:
+		b.its = append(b.its, it)
+		b.bytes += bytes
+	}
+	b.lock.Unlock()
+	select {
+	case b.wake <- struct{}{}:
+	default:
+	}
+}
+
+// sizeOf is about how much room a transaction takes.
+func sizeOf(it *record.Transaction) int {
+	n := 256 + 48*(len(it.Reads)+len(it.Absent)) + 4*len(it.Versions) + textsOf(it.Statements)
+	for _, one := range it.Reads {
+		n += len(one.Key)
+	}
+	return n
+}
+
+// Unseen implements record.Sink.
+func (b *Inbox) Unseen(shape, reason string, reads bool) { b.UnseenMany(shape, reason, reads, 1) }
+
+// UnseenMany counts so many at once.
+func (b *Inbox) UnseenMany(shape, reason string, reads bool, n uint64) {
+	b.lock.Lock()
+	defer b.lock.Unlock()
+	key := unseenKey{shape, reason}
+	it := b.unseen[key]
+	switch {
+	case it != nil:
+	case len(b.unseen) < mostShapes:
+		it = &Unseen{Shape: shape, Reason: reason, Reads: reads, First: b.now()}
+		b.unseen[key] = it
+	case b.outside == nil:
+		b.outside = &Unseen{Shape: "others", Reason: "more shapes than are told apart", Reads: reads, First: b.now()}
+		it = b.outside
+	default:
+		it = b.outside
+	}
+	it.Count += n
+}
+
+// take empties the inbox.
+func (b *Inbox) take() (its []message, lost uint64) {
+	b.lock.Lock()
+	defer b.lock.Unlock()
+	its, b.its, b.bytes = b.its, nil, 0
+	return its, b.lost
+}
+
+// Close has everything dropped from now on.
+func (b *Inbox) Close() {
+	b.lock.Lock()
+	defer b.lock.Unlock()
+	b.its, b.bytes, b.closed = nil, 0, true
+}
+
+// shapes are what was left out, the most frequent first.
+func (b *Inbox) shapes() []Unseen {
+	b.lock.Lock()
+	its := make([]Unseen, 0, len(b.unseen)+1)
+	for _, one := range b.unseen {
+		its = append(its, *one)
+	}
+	if b.outside != nil {
+		its = append(its, *b.outside)
+	}
+	b.lock.Unlock()
+	sort.Slice(its, func(i, j int) bool {
+		if its[i].Count != its[j].Count {
+			return its[i].Count > its[j].Count
+		}
+		return its[i].Shape+its[i].Reason < its[j].Shape+its[j].Reason
+	})
+	return its
+}

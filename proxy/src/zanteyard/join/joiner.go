@@ -1,0 +1,356 @@
+package join
+
+import (
+	"context"
+	"errors"
+	"fmt"
+	"sync"
+	"time"
+
+	"zanteyard/record"
+)
+
+// Server is what the joiner asks of the server, over a connection of its own, which it makes anew if it is lost. Safe for
+// use by many goroutines.
+type Server interface {
+	// Place is where the next record of the server's log is inserted, and whether tables' names mean what they meant when
+	// it was asked before.
+	Place(context.Context) (Place, error)
+	// Base is the number below which all transactions are over.
+	Base(context.Context) (uint32, error)
+	// Subtransactions are those of the commits whose records begin at these places; nil where one can't be read.
+	Subtransactions(context.Context, []uint64) ([][]uint32, error)
+	// Fence makes a fence, and returns the transaction's number.
+	Fence(context.Context) (uint64, error)
+}
+
+// Place is a place in the server's log.
+type Place struct {
+	At uint64
+	// Changed are the tables whose name, or key, isn't what it was at the place before. What is read from the slot from
+	// Names on (record.Commit) has them right, where it stands behind this place.
+	Changed []record.Relation
+	Names   uint64
+}
+
+// Meeter has the proxy's sessions make fences. They are told to the sink before these calls return.
+type Meeter interface {
+	// MeetAround has each session make one that is free in time, and a second one when these have made theirs. Between the
+	// two it calls between. It returns how many were made, and how long it took.
+	MeetAround(ctx context.Context, between func(context.Context)) (fences int, took time.Duration, err error)
+	// Fence has one connection make one.
+	Fence(ctx context.Context, connection uint64) error
+}
+
+// Output takes lines for the auditor and events, in order. Its calls don't wait.
+type Output interface {
+	Line([]byte)
+	Event(Event)
+}
+
+// Joiner runs an audit.
+type Joiner struct {
+	opt      Options
+	tables   Tables
+	server   Server
+	meeter   Meeter
+	output   Output
+	inbox    *Inbox
+	told     chan fromSlot
+	replies  chan func()
+	commands chan func()
+	done     chan struct{}
+	inspects bool
+	started  Started
+
+	gate       gate
+	core       *core
+	meeting    meeting
+	last       time.Time // when the last meeting was begun
+	wanted     bool      // a meeting is wanted at once
+	stopping   bool
+	again      bool // a new audit is wanted
+	failed     error
+	unanswered int  // rounds whose truncate wasn't answered by a cut
+	placing    bool // a question for the log's place is under way
+	placedAt   time.Time
+	failing    time.Time // since when that question fails
+	failure    error
+	asking     bool // a question for subtransactions is under way
+	warned     sync.Mutex
+	warnings   map[string]time.Time // when they were told last
+	coverage   time.Time
+	forgot     time.Time
+}
+
+// fromSlot is what the slot tells: a commit, or how far it is.
+type fromSlot struct {
+	commit *record.Commit
+	place  uint64
+}
+
+// errEnded is what the slot's reader gets once the audit has ended.
+var errEnded = errors.New("the audit has ended")
+
+// New makes a joiner, which begins with Run. Subtransactions are asked for if inspects is set.
+func New(opt Options, inbox *Inbox, tables Tables, server Server, inspects bool, meeter Meeter, output Output) *Joiner {
+	return &Joiner{
+		opt: opt.withDefaults(), tables: tables, server: server, meeter: meeter, output: output, inbox: inbox,
+		told: make(chan fromSlot, 4096), replies: make(chan func(), 16), commands: make(chan func(), 16),
+		done: make(chan struct{}), inspects: inspects,
+	}
+}
+
+// Commit takes what the slot tells next. It waits while the joiner is behind, which holds up the slot and nobody else.
+func (j *Joiner) Commit(it record.Commit) error { return j.give(fromSlot{commit: &it}) }
+
+// Advance takes how far the slot is.
+func (j *Joiner) Advance(place uint64) error { return j.give(fromSlot{place: place}) }
+
+func (j *Joiner) give(it fromSlot) error {
+	select {
+	case j.told <- it:
+		return nil
+	case <-j.done:
+		return errEnded
+	}
+}
+
+const (
+	step      = 5 * time.Millisecond
+	askPlace  = 20 * time.Millisecond
+	each      = time.Second
+	questions = 5 * time.Second // how long the server is waited for
+	patience  = time.Minute     // with a server that doesn't answer
+	mostSubs  = 200             // commits in one question
+)
+
+// Start says what the feed tells of the audit as it begins. To be called before Run.
+func (j *Joiner) Start(it Started) { j.started = it }
+
+// Run audits until the context ends, or something goes wrong: then it tells the reason as an event, and returns it. The
+// slot has to have been made before, since all that a snapshot taken now doesn't show has to come from it.
+func (j *Joiner) Run(ctx context.Context) error {
+	err := j.run(ctx)
+	close(j.done)
+	j.inbox.Close()
+	if j.core != nil {
+		j.output.Event(j.coverageEvent())
+	}
+	j.output.Event(Ended{Reason: err.Error()})
+	return err
+}
+
+func (j *Joiner) run(ctx context.Context) error {
+	j.started.At, j.started.Limit, j.started.Sessions = time.Now(), j.opt.Limit, j.opt.Sessions
+	j.output.Event(j.started)
+	if err := j.begin(ctx); err != nil {
+		return err
+	}
+	ticker := time.NewTicker(step)
+	defer ticker.Stop()
+	for {
+		select {
+		case <-ctx.Done():
+			return ctx.Err()
+		case it := <-j.slot():
+			j.gate.put(it)
+			for n := len(j.told); n > 0; n-- {
+				j.gate.put(<-j.told)
+			}
+			j.gate.release(j.core)
+		case <-j.inbox.wake:
+			j.empty()
+		case f := <-j.replies:
+			j.core.now = time.Now()
+			f()
+		case f := <-j.commands:
+			j.core.now = time.Now()
+			f()
+		case <-ticker.C:
+			if err := j.tick(ctx); err != nil {
+				return err
+			}
+		}
+	}
+}
+
+// begin starts an audit: what a snapshot shows by now is how it was at first.
+func (j *Joiner) begin(ctx context.Context) error {
+	asking, cancel := context.WithTimeout(ctx, questions)
+	defer cancel()
+	base, err := j.server.Base(asking)
+	if err != nil {
+		return fmt.Errorf("begin the audit: %w", err)
+	}
+	connections := j.connections()
+	j.core = newCore(j.opt, j.tables, base, j.output.Line, time.Now())
+	j.core.inspects, j.core.database = j.inspects, j.started.Database
+	j.meeting, j.last, j.unanswered = meeting{}, time.Now(), 0
+	j.core.open()
+	for _, one := range connections {
+		j.core.enter(one)
+	}
+	return nil
+}
+
+// connections are those that an audit before this one knew.
+func (j *Joiner) connections() []record.Connection {
+	if j.core == nil {
+		return nil
+	}
+	var its []record.Connection
+	for _, one := range j.core.connections {
+		its = append(its, one.its)
+	}
+	return its
+}
+
+// slot is what the slot tells, unless so much of it waits that the slot has to.
+func (j *Joiner) slot() <-chan fromSlot {
+	if j.gate.isFull() {
+		return nil
+	}
+	return j.told
+}
+
+func (j *Joiner) empty() {
+	its, lost := j.inbox.take()
+	j.core.now = time.Now()
+	for _, one := range its {
+		if one.connection != nil {
+			j.core.enter(*one.connection)
+		} else {
+			j.core.tell(*one.transaction)
+		}
+	}
+	j.core.counts.lost = lost
+}
+
+func (j *Joiner) tick(ctx context.Context) error {
+	now := time.Now()
+	j.empty()
+	if j.again {
+		j.again = false
+		j.output.Event(Restarted{At: now})
+		if err := j.begin(ctx); err != nil {
+			return err
+		}
+	}
+	j.core.step(now)
+	j.askPlace(ctx, now)
+	j.askSubs(ctx)
+	j.meet(ctx, now)
+	j.letJoin(ctx)
+	if now.Sub(j.forgot) >= each {
+		j.forgot = now
+		j.core.forget()
+		j.core.reseat()
+	}
+	if now.Sub(j.coverage) >= each {
+		j.coverage = now
+		j.output.Event(j.coverageEvent())
+	}
+	if j.failed != nil {
+		return j.failed
+	}
+	if !j.failing.IsZero() && now.Sub(j.failing) > patience {
+		return fmt.Errorf("ask the server how far its log is: %w", j.failure)
+	}
+	return nil
+}
+
+// askPlace asks where the log stands, for what was told up to now.
+func (j *Joiner) askPlace(ctx context.Context, now time.Time) {
+	if j.placing || now.Sub(j.placedAt) < askPlace {
+		return
+	}
+	batch, wanted := j.core.wantsPlace()
+	if !wanted && !j.gate.waits() {
+		return
+	}
+	j.placing, j.placedAt = true, now
+	core := j.core
+	j.ask(ctx, func(asking context.Context) func() {
+		place, err := j.server.Place(asking)
+		return func() {
+			j.placing = false
+			if err != nil { // it is asked again, with what is told by then
+				j.core.batched = true
+				if j.failing.IsZero() {
+					j.failing = now
+				}
+				j.failure = err
+				return
+			}
+			j.failing = time.Time{}
+			j.gate.verify(place, j.core)
+			if wanted && core == j.core {
+				core.placed(batch, place.At, now)
+			}
+		}
+	})
+}
+
+// do runs something in the joiner's loop, for a goroutine beside it, and waits for it. It is false where that can't be any
+// more, since the audit is over or another one has begun.
+func (j *Joiner) do(of *core, f func()) bool {
+	did := make(chan bool, 1)
+	select {
+	case j.replies <- func() {
+		if of == j.core {
+			j.empty()
+			f()
+		}
+		did <- of == j.core
+	}:
+	case <-j.done:
+		return false
+	}
+	select {
+	case is := <-did:
+		return is
+	case <-j.done:
+		return false
+	}
+}
+
+// ask runs a question beside the joiner's loop, and what comes of it in the loop.
+func (j *Joiner) ask(ctx context.Context, question func(context.Context) func()) {
+	go func() {
+		asking, cancel := context.WithTimeout(ctx, questions)
+		defer cancel()
+		answer := question(asking)
+		select {
+		case j.replies <- answer:
+		case <-j.done:
+		}
+	}()
+}
+
+func (j *Joiner) askSubs(ctx context.Context) {
+	if j.asking || len(j.core.unsub) == 0 {
+		return
+	}
+	writers := j.core.unsub
+	if len(writers) > mostSubs {
+		writers = writers[:mostSubs:mostSubs]
+	}
+	j.core.unsub = j.core.unsub[len(writers):]
+	places := make([]uint64, len(writers))
+	for i, w := range writers {
+		places[i] = w.start
+	}
+	j.asking = true
+	core := j.core
+	j.ask(ctx, func(asking context.Context) func() {
+		subs, err := j.server.Subtransactions(asking, places)
+		return func() {
+			j.asking = false
+			if err != nil {
+				core.counts.unread++
+			}
+			core.answered(writers, subs)
+		}
+	})
+}

@@ -1,0 +1,192 @@
+package join
+
+import (
+	"strconv"
+
+	"zanteyard/record"
+)
+
+// write puts the session's transactions that are resolved into its fragment, in their order, and says whether there were
+// any.
+func (c *core) write(s *session) bool {
+	moved := false
+	for len(s.waiting) > 0 {
+		e := s.waiting[0]
+		to, ok := c.resolve(e)
+		if !ok {
+			break
+		}
+		c.put(s, e, &to)
+		s.waiting[0] = nil
+		s.waiting = s.waiting[1:]
+		moved = true
+	}
+	if len(s.waiting) == 0 {
+		s.waiting = nil
+	}
+	return moved
+}
+
+func (c *core) put(s *session, e *entry, to *resolution) {
+	c.used++
+	c.settle(to)
+	c.counts.put(e, to)
+	if s.count == 0 {
+		s.first = e.name.number()
+	} else {
+		s.line = append(s.line, ',')
+	}
+	s.line = appendTransaction(s.line, to)
+	s.count++
+	s.written = e.name.number() + 1
+	c.keep(s, e, to)
+	if e.writer != nil {
+		e.writer.writes = nil
+		if e.writer.fence {
+			c.fences = append(c.fences, e.writer)
+		}
+	}
+	if s.count == mostInLine {
+		c.writeOffer(s)
+	}
+}
+
+// mostInLine is how many transactions the auditor takes at a time.
+const mostInLine = 256
+
+// appendTransaction appends [[read,..],[key,..]].
+func appendTransaction(to []byte, its *resolution) []byte {
+	to = append(to, '[', '[')
+	for i, one := range its.reads {
+		if i > 0 {
+			to = append(to, ',')
+		}
+		to = appendRead(to, one)
+	}
+	to = append(to, ']', ',', '[')
+	for i, one := range its.writes {
+		if i > 0 {
+			to = append(to, ',')
+		}
+		to = strconv.AppendUint(to, one.number, 10)
+	}
+	return append(to, ']', ']')
+}
+
+func appendRead(to []byte, one source) []byte {
+	to = append(to, '[')
+	to = strconv.AppendUint(to, one.row.number, 10)
+	to = append(to, ',')
+	to = one.from.appendSource(to)
+	return append(to, ']')
+}
+
+// writeOffer gives out the session's fragment.
+func (c *core) writeOffer(s *session) { c.writeFragment(s, "offer") }
+
+// writeJoin gives it out as the one by which the session comes back.
+func (c *core) writeJoin(s *session) { c.writeFragment(s, "join") }
+
+func (c *core) writeFragment(s *session, command string) {
+	if s.count == 0 {
+		return
+	}
+	line := make([]byte, 0, len(s.line)+40)
+	line = append(line, `["`...)
+	line = append(line, command...)
+	line = append(line, `",`...)
+	line = strconv.AppendInt(line, int64(s.index), 10)
+	line = append(line, ',')
+	line = strconv.AppendUint(line, s.first, 10)
+	line = append(line, `,[`...)
+	line = append(line, s.line...)
+	line = append(line, `]]`...)
+	s.line, s.count = s.line[:0], 0
+	c.out(line)
+}
+
+// flush gives out all fragments.
+func (c *core) flush() {
+	for _, s := range c.sessions {
+		c.writeOffer(s)
+	}
+}
+
+// open is the first line of an audit.
+func (c *core) open() {
+	c.out([]byte(`["open",` + strconv.Itoa(len(c.sessions)) + `,` + strconv.Itoa(c.opt.Limit) + `,2]`))
+}
+
+// close ends a session, until a fence joins it again.
+func (c *core) close(s *session) {
+	c.writeOffer(s)
+	s.closed = true
+	c.out([]byte(`["close",` + strconv.Itoa(s.index) + `]`))
+}
+
+// round has the auditor check all that was offered, and forget what is settled.
+func (c *core) round() {
+	c.flush()
+	c.counts.rounds++
+	c.out([]byte(`["round",` + strconv.Itoa(c.opt.Budget) + `,0,1]`))
+	c.out([]byte(`["truncate"]`))
+}
+
+// keep holds what people may ask of a transaction until it is gone.
+func (c *core) keep(s *session, e *entry, to *resolution) {
+	one := &told{its: e.its, reads: to.reads, writes: to.writes, used: c.used}
+	one.its.Reads, one.its.Absent, one.its.Versions = nil, nil, nil
+	if e.conn != nil {
+		one.from = e.conn.its
+	}
+	one.bytes = textsOf(e.its.Statements)
+	if c.texts+one.bytes > c.opt.Texts {
+		one.dropped, one.bytes, one.its.Statements = len(e.its.Statements), 0, nil
+		c.counts.dropped += uint64(one.dropped)
+	}
+	c.texts += one.bytes
+	s.kept = append(s.kept, one)
+}
+
+func textsOf(its []record.Statement) int {
+	n := 0
+	for _, one := range its {
+		n += len(one.Text) + 64
+		for _, it := range one.Parameters {
+			n += len(it) + 16
+		}
+	}
+	return n
+}
+
+// cut takes in how many transactions of each session are gone, and forgets them.
+func (c *core) cut(marks []uint64) bool {
+	if len(marks) != len(c.sessions) {
+		return false
+	}
+	for i, s := range c.sessions {
+		if marks[i] < s.mark || marks[i] > s.written {
+			return false
+		}
+	}
+	for i, s := range c.sessions {
+		gone := int(marks[i] - s.mark)
+		for j := range s.kept[:gone] {
+			c.texts -= s.kept[j].bytes
+			s.kept[j] = nil
+		}
+		s.kept, s.mark = s.kept[gone:], marks[i]
+	}
+	remain := c.fences[:0]
+	for _, w := range c.fences {
+		if w.name.number() >= c.sessions[w.name.session()].mark {
+			remain = append(remain, w)
+		} else if w.place > c.fenced {
+			c.fenced = w.place
+		}
+	}
+	c.fences = remain
+	c.forget()
+	c.place()
+	return true
+}

@@ -1,0 +1,133 @@
+package join
+
+import "time"
+
+// A meeting has every session make a fence, and a second one when all have made theirs; whatever was offered before
+// stands in front of the last of the first fences, and whatever comes later behind it. So the auditor can forget all that
+// is in front. The audit's own connection makes fences for those sessions whose connection doesn't: it has ended, or it is
+// in the midst of a transaction. The first of these is made while those that have come are held, so that it stands among
+// the first fences. Such a fence may stand in a session, since everything that was offered in it had ended before the
+// fence began, and what begins before the fence has ended isn't offered behind it (session.floor): the transaction that
+// ran across the meeting is folded.
+
+type phase uint8
+
+const (
+	apart    phase = iota
+	together       // fences are made
+	settling       // what was told before is on its way into lines
+)
+
+type meeting struct {
+	phase  phase
+	upTo   []uint64 // of each session, the numbers that have to stand in lines before the round
+	ended  time.Time
+	isLast bool // it was asked for by stop
+}
+
+// mostSettling is how long a round waits for what was told before its meeting.
+const mostSettling = 5 * time.Second
+
+// wantsMeeting says that it is time for one.
+func (c *core) wantsMeeting(last time.Time) bool {
+	if c.since == 0 {
+		return false
+	}
+	room := c.opt.Limit - c.opt.fenceRoom() - c.remaining()
+	passed := c.now.Sub(last)
+	switch {
+	case room <= c.opt.Limit/8: // nothing more is taken soon
+		return passed >= c.opt.Between/4
+	case c.since >= c.opt.Every, room <= c.opt.Limit/2:
+		return passed >= c.opt.Between
+	}
+	return passed >= c.opt.Between && c.now.Sub(c.oldest) >= c.opt.Within
+}
+
+// meet begins a meeting. It returns the sessions that need a fence before the others come together: nobody makes one
+// for them, and something stands behind their last.
+func (c *core) meet() []int {
+	var needs []int
+	for _, s := range c.sessions {
+		s.fences, s.half = 0, 0
+		if s.tenant == nil && !s.closed && !s.fenced {
+			needs = append(needs, s.index)
+		}
+	}
+	c.since = 0
+	return needs
+}
+
+// missing are the sessions that haven't come to the meeting, and have something behind their last fence.
+func (c *core) missing() []int {
+	var needs []int
+	for _, s := range c.sessions {
+		if s.tenant != nil && !s.closed && s.fences == 0 && !s.fenced {
+			needs = append(needs, s.index)
+		}
+	}
+	return needs
+}
+
+// halfway says that the first fences are made: what is made from now on stands behind them.
+func (c *core) halfway() {
+	for _, s := range c.sessions {
+		s.half = s.fences
+	}
+}
+
+// met says which sessions need a fence after the others have made their second ones: those that are open and haven't.
+// Of those without a connection only the reserve is kept open.
+func (c *core) met() []int {
+	var needs []int
+	reserve := c.opt.Reserve
+	for _, s := range c.sessions {
+		switch {
+		case s.closed || s.fences > s.half:
+		case s.tenant != nil:
+			needs = append(needs, s.index)
+		case reserve > 0:
+			reserve--
+			needs = append(needs, s.index)
+		}
+	}
+	return needs
+}
+
+// numbers are the sessions' next ones.
+func (c *core) numbers() []uint64 {
+	its := make([]uint64, len(c.sessions))
+	for i, s := range c.sessions {
+		its[i] = s.next
+	}
+	return its
+}
+
+// isWritten says that everything below these numbers stands in lines.
+func (c *core) isWritten(numbers []uint64) bool {
+	for i, s := range c.sessions {
+		if s.written < numbers[i] {
+			return false
+		}
+	}
+	return true
+}
+
+// closeVacant closes sessions that have no connection, beyond the reserve: one that is silent would keep all cuts away.
+// Before there is a fence none is closed, since none could join; and none that did something behind its last fence, since
+// nothing would say where that stands.
+func (c *core) closeVacant() {
+	if len(c.fences) == 0 && c.fenced == 0 {
+		return
+	}
+	reserve := c.opt.Reserve
+	for _, s := range c.sessions {
+		switch {
+		case s.closed || s.tenant != nil:
+		case reserve > 0:
+			reserve--
+		case s.fenced && len(s.waiting) == 0:
+			c.close(s)
+		}
+	}
+}

@@ -1,0 +1,47 @@
+package join
+
+import "strconv"
+
+// name is an offered transaction: its session in the upper 16 bits, its number in the lower 48, as the auditor has them.
+// The numbers are so ordered as ids are.
+type name uint64
+
+// initial is no transaction: a row as it was before all that was offered of it.
+const initial name = 1 << 63
+
+const (
+	numberBits = 48
+	lastNumber = 1<<numberBits - 2
+)
+
+func named(session int, number uint64) name { return name(uint64(session)<<numberBits | number) }
+
+func (n name) session() int   { return int(n >> numberBits) }
+func (n name) number() uint64 { return uint64(n) & (1<<numberBits - 1) }
+
+// appendSource appends how a read names the transaction.
+func (n name) appendSource(to []byte) []byte {
+	if n == initial {
+		return append(to, `"init"`...)
+	}
+	to = strconv.AppendUint(to, uint64(n.session()), 10)
+	to = append(to, ',')
+	return strconv.AppendUint(to, n.number(), 10)
+}
+
+// source is a read of a row from a transaction.
+type source struct {
+	row  *row
+	from name
+}
+
+// below orders reads as the auditor wants them: by key, then "init" before every transaction, then by id.
+func (s source) below(o source) bool {
+	if s.row.number != o.row.number {
+		return s.row.number < o.row.number
+	}
+	if s.from == initial || o.from == initial {
+		return s.from == initial && o.from != initial
+	}
+	return s.from < o.from
+}

@@ -1,0 +1,81 @@
+// Package join makes the auditor's transactions of what the sessions of a proxy saw and what a replication slot tells.
+//
+// Reads come from the sessions, with the version of each row that was returned; writes and the order of each row's
+// versions come from the slot. The package's argument, that it makes up no violation, is in docs/FOLDING.md; each place
+// that the argument needs says so. In short: whatever isn't known is left out, and leaving out is always right, if who
+// read a version that is left out is offered as a reader of the last offered version before it ("folding", versions.go).
+package join
+
+import (
+	"time"
+
+	"zanteyard/record"
+)
+
+// Options are the bounds of an audit. Zero values stand for the defaults.
+type Options struct {
+	Sessions int           // of the auditor: 1 to 64
+	Limit    int           // transactions that may remain at a time: at most 4,096
+	Every    int           // offered transactions after which the sessions should meet
+	Between  time.Duration // the least time between two meetings, unless the limit is near
+	Within   time.Duration // an offered transaction waits at most about this long for a round
+	Late     time.Duration // how long a commit waits for the session that made it, before it counts as somebody else's
+	Stale    time.Duration // versions that were overwritten longer ago are forgotten, also without a cut
+	Idle     time.Duration // a connection that is idle for so long gives its session to one that waits
+	Sample   float64       // the part of the connections that is audited: 0 to 1
+	Rows     int           // rows whose last versions are kept
+	Texts    int           // bytes of statements that are kept
+	Reserve  int           // sessions without a connection that are kept open for the next ones
+	Budget   int           // of a round: nodes of the search
+}
+
+func (o Options) withDefaults() Options {
+	number := func(at *int, least, otherwise, most int) {
+		if *at < least {
+			*at = otherwise
+		}
+		if *at > most {
+			*at = most
+		}
+	}
+	duration := func(at *time.Duration, otherwise time.Duration) {
+		if *at <= 0 {
+			*at = otherwise
+		}
+	}
+	number(&o.Sessions, 1, 64, 64)
+	number(&o.Limit, 1, 4096, 4096)
+	number(&o.Every, 1, 2560, 1<<30)
+	number(&o.Rows, 1, 250_000, 1<<30)
+	number(&o.Texts, 1, 32<<20, 1<<40)
+	number(&o.Reserve, 1, 4, o.Sessions)
+	number(&o.Budget, 1, 65536, 1<<32)
+	duration(&o.Between, 2*time.Second)
+	duration(&o.Within, 5*time.Second)
+	duration(&o.Late, time.Second)
+	duration(&o.Stale, 20*time.Second)
+	duration(&o.Idle, 5*time.Second)
+	if o.Sample <= 0 || o.Sample > 1 {
+		o.Sample = 1
+	}
+	return o
+}
+
+// fenceRoom is how many of the limit's places only fences may take: a meeting has up to four of them a session. A
+// transaction that took the last place would keep away the cut that makes room.
+func (o Options) fenceRoom() int {
+	room := 4 * o.Sessions
+	if room > o.Limit/2 {
+		room = o.Limit / 2
+	}
+	return room
+}
+
+// Tables tells which table a partition belongs to, and how a row is named to people. Safe for use by many goroutines.
+type Tables interface {
+	// Root is the table whose primary key a row of this table is found by: the topmost partitioned table that has one, or
+	// the table itself.
+	Root(record.Relation) record.Relation
+	// Words are the table's name and the row's key as a person reads them.
+	Words(record.Relation, record.Key) (table, row string)
+}

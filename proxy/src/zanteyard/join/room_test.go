@@ -1,0 +1,185 @@
+package join
+
+import (
+	"testing"
+	"time"
+
+	"zanteyard/record"
+)
+
+// At the limit transactions are folded, and fences are still taken, since a cut needs them.
+func TestLimit(t *testing.T) {
+	b := newBench(t, Options{Sessions: 2, Limit: 20})
+	b.connect(1)
+	for n := uint64(0); n < 30; n++ {
+		b.commit(uint32(1001+n), "a")
+		b.tell(1, n, record.Transaction{Number: 1001 + n})
+	}
+	if n := b.core.counts.folded[noRoom]; n != 18 {
+		t.Errorf("%d are folded for want of room", n)
+	}
+	for n := uint64(30); n < 40; n++ {
+		b.commitFence(uint32(1001 + n))
+		b.tell(1, n, record.Transaction{Number: 1001 + n, Fence: true})
+	}
+	b.settle()
+	if got := len(b.model.sessions[0].its); got != 20 {
+		t.Errorf("%d were offered, and not as many as the limit allows", got)
+	}
+	if !b.core.cut([]uint64{12, 0}) {
+		t.Error("right marks are refused")
+	}
+	b.commit(1100, "a")
+	b.tell(1, 50, record.Transaction{Number: 1100})
+	b.model.sessions[0].mark = 12
+	b.settle()
+	if got := len(b.model.sessions[0].its); got != 21 {
+		t.Errorf("after a cut there are %d", got)
+	}
+}
+
+func TestWrongMarks(t *testing.T) {
+	b := newBench(t, Options{Sessions: 2})
+	b.connect(1)
+	b.commit(1001, "a")
+	b.tell(1, 0, record.Transaction{Number: 1001})
+	b.settle()
+	for _, marks := range [][]uint64{nil, {0}, {0, 0, 0}, {2, 0}, {0, 1}} {
+		if b.core.cut(marks) {
+			t.Errorf("the marks %v are taken", marks)
+		}
+	}
+	if !b.core.cut([]uint64{1, 0}) || b.core.cut([]uint64{0, 0}) {
+		t.Error("marks go back")
+	}
+}
+
+// More connections than sessions: the others wait, and get the session of one that has ended or that is idle.
+func TestConnectionsBeyondTheSessions(t *testing.T) {
+	b := newBench(t, Options{Sessions: 1, Idle: time.Second})
+	b.connect(1, 2, 3)
+	run := func(connection, place, number uint64) {
+		b.commit(uint32(number), "a")
+		b.tell(connection, place, record.Transaction{Number: number})
+	}
+	run(1, 0, 1001)
+	run(2, 0, 1002)
+	b.core.enter(record.Connection{Number: 1, Ended: true})
+	run(2, 1, 1003)
+	b.later(2 * time.Second)
+	b.core.reseat()
+	for number := uint64(10); number < 20; number++ { // they come and go, and wait for nothing
+		b.connect(number)
+		b.core.enter(record.Connection{Number: number, Ended: true})
+	}
+	if len(b.core.queue) != 1 || len(b.core.connections) != 2 {
+		t.Errorf("%d wait, and %d are there", len(b.core.queue), len(b.core.connections))
+	}
+	run(3, 0, 1004)
+	run(2, 2, 1005)
+	b.settle()
+	if got, want := b.lines[1], `["offer",0,0,[[[[1,"init"]],[1]],[[[1,0,0]],[1]],[[[1,0,1]],[1]]]]`; got != want {
+		t.Errorf("offered %s, wanted %s", got, want)
+	}
+	if n := b.core.counts.folded[noSession]; n != 2 {
+		t.Errorf("%d are folded for want of a session", n)
+	}
+}
+
+// Another database's tables may have the same identifiers.
+func TestOtherDatabase(t *testing.T) {
+	b := newBench(t, Options{})
+	b.core.database = "shop"
+	b.core.enter(record.Connection{Number: 1, Database: "shop"})
+	b.core.enter(record.Connection{Number: 2, Database: "other"})
+	for connection := uint64(1); connection < 3; connection++ {
+		b.tell(connection, 0, record.Transaction{Reads: []record.Read{read("a", 5)}})
+	}
+	b.settle()
+	if n := b.core.counts; n.offered != 1 || n.folded[elsewhere] != 1 {
+		t.Errorf("offered %d, folded %v", n.offered, n.folded)
+	}
+}
+
+// A sample is of connections, and about as large as it was asked for.
+func TestSample(t *testing.T) {
+	b := newBench(t, Options{Sample: 0.25})
+	n := 0
+	for number := uint64(0); number < 10_000; number++ {
+		if b.core.sampled(number) {
+			n++
+		}
+	}
+	if n < 2300 || n > 2700 {
+		t.Errorf("%d of 10,000 are in a sample of a quarter", n)
+	}
+}
+
+// Numbers of 32 bits: which of them were used up before the audit began.
+func TestOldNumbers(t *testing.T) {
+	for _, one := range []struct {
+		base, newest uint32
+		xmin         uint32
+		want         bool
+	}{
+		{1000, 1000, 999, true},
+		{1000, 1000, 1000, false},
+		{1000, 1_000_000, 1_500_000, false}, // a subtransaction's may be above all commits
+		{1000, 1_000_000, 3_000_000_000, true},
+		{1000, 1000, 2, true},
+		{4_294_967_000, 500, 4_294_966_999, true}, // across the end of the numbers
+		{4_294_967_000, 500, 4_294_967_290, false},
+		{4_294_967_000, 500, 100, false},
+		{4_294_967_000, 500, 3_000_000_000, true},
+	} {
+		b := newBench(t, Options{})
+		b.core.base = one.base
+		b.core.commit(record.Commit{Number: one.newest})
+		if got := b.core.isOld(one.xmin); got != one.want {
+			t.Errorf("%+v: %v", one, got)
+		}
+	}
+	b := newBench(t, Options{})
+	for n := uint64(0); n < 3; n++ { // and when they have been used up nearly all, none can be told
+		b.core.commit(record.Commit{Number: uint32(base + (n+1)<<30)})
+	}
+	if b.core.isOld(999) {
+		t.Error("a number counts as old although it may be new")
+	}
+}
+
+// The inbox drops what it has no room for, and nothing of connections.
+func TestInbox(t *testing.T) {
+	b := NewInbox(2000)
+	for n := 0; n < 20; n++ {
+		b.Connection(record.Connection{Number: uint64(n)})
+		b.Transaction(record.Transaction{Place: uint64(n)})
+	}
+	its, lost := b.take()
+	connections := 0
+	for _, one := range its {
+		if one.connection != nil {
+			connections++
+		}
+	}
+	if connections != 20 || lost == 0 || uint64(len(its)-20)+lost != 20 {
+		t.Errorf("%d connections of %d messages, %d lost", connections, len(its), lost)
+	}
+	for n := 0; n < 2*mostShapes; n++ {
+		b.Unseen(string(rune('a'+n%7))+string(rune(n)), "a reason", true)
+		b.Unseen("the same", "a reason", true)
+	}
+	shapes := b.shapes()
+	total := uint64(0)
+	for _, one := range shapes {
+		total += one.Count
+	}
+	if len(shapes) != mostShapes+1 || shapes[0].Shape != "the same" || total != 4*mostShapes {
+		t.Errorf("%d shapes, the first %+v, %d in all", len(shapes), shapes[0], total)
+	}
+	b.Close()
+	b.Transaction(record.Transaction{})
+	if its, _ := b.take(); len(its) != 0 {
+		t.Error("a closed inbox takes something")
+	}
+}

@@ -1,0 +1,182 @@
+package join
+
+import (
+	"time"
+
+	"zanteyard/record"
+)
+
+// session is one of the auditor's sessions. What is offered in it are the transactions of one connection after another,
+// and fences. The order in it is claimed of the server, and PostgreSQL keeps it: each begins after the one before it was
+// answered, so its snapshot has what that one wrote. Transactions of one connection are so by themselves; every other
+// is compared with the time at which the last one ended (floor).
+type session struct {
+	index   int
+	next    uint64 // the number to give next
+	written uint64 // the numbers below it stand in lines
+	mark    uint64 // the numbers below it are gone
+	closed  bool
+	tenant  *connection
+	floor   time.Time
+	own     bool     // what stands last in it is the tenant's
+	place   uint64   // of that in its connection
+	fences  int      // since the meeting began
+	half    int      // of these, first ones
+	fenced  bool     // nothing stands behind its last fence
+	waiting []*entry // named, and not in a line yet
+	kept    []*told  // of numbers from mark on
+	line    []byte   // a fragment that is being made
+	first   uint64
+	count   int
+}
+
+// remains says how many of its transactions count for the limit.
+func (s *session) remains() int { return int(s.next - s.mark) }
+
+// isGone says that nothing of it is left: it may come back by a join.
+func (s *session) isGone() bool { return s.mark == s.next }
+
+// connection is a client's.
+type connection struct {
+	its     record.Connection
+	session *session
+	joins   bool // its session is closed: it waits for a fence, by which it comes back
+	ended   bool
+	active  time.Time
+	held    *entry // its outcome isn't known yet, or it is the fence of a join
+}
+
+// told is what is kept of an offered transaction until it is gone.
+type told struct {
+	its     record.Transaction // without reads
+	from    record.Connection
+	reads   []source
+	writes  []*row
+	bytes   int
+	used    uint64 // the count of transactions in lines
+	dropped int    // statements that were given up
+}
+
+// entry is a transaction on its way into a line.
+type entry struct {
+	its     record.Transaction
+	conn    *connection
+	session *session
+	name    name
+	writer  *writer // nil where it wrote nothing that is offered
+	batch   uint64  // what it needs of the slot stands before this batch's place
+	asked   bool    // subtransactions were asked for on its behalf
+}
+
+// enter takes in what a session said of a connection.
+func (c *core) enter(it record.Connection) {
+	if it.Ended {
+		if conn := c.connections[it.Number]; conn != nil {
+			conn.ended = true
+			delete(c.connections, it.Number)
+			c.unqueue(conn)
+			c.release(conn)
+		}
+		return
+	}
+	if conn := c.connections[it.Number]; conn != nil { // its name is told once more, as by SET application_name
+		conn.its = it
+		return
+	}
+	c.counts.ever++
+	conn := &connection{its: it, active: c.now}
+	c.connections[it.Number] = conn
+	if !c.sampled(it.Number) || c.isElsewhere(it) {
+		return
+	}
+	c.queue = append(c.queue, conn)
+	c.place()
+}
+
+// isElsewhere says that a connection is of another database than the slot: there the same identifiers are those of other
+// tables.
+func (c *core) isElsewhere(it record.Connection) bool {
+	return c.database != "" && it.Database != "" && it.Database != c.database
+}
+
+// unqueue takes a connection out of those that wait.
+func (c *core) unqueue(conn *connection) {
+	for i, one := range c.queue {
+		if one == conn {
+			c.queue = append(c.queue[:i], c.queue[i+1:]...)
+			return
+		}
+	}
+}
+
+// sampled says whether a connection is one of those to be audited. It depends on nothing that a client does.
+func (c *core) sampled(number uint64) bool {
+	if c.opt.Sample >= 1 {
+		return true
+	}
+	x := number + 0x9e3779b97f4a7c15
+	x = (x ^ x>>30) * 0xbf58476d1ce4e5b9
+	x = (x ^ x>>27) * 0x94d049bb133111eb
+	return float64((x^x>>31)>>11)/(1<<53) < c.opt.Sample
+}
+
+// release gives a connection's session back.
+func (c *core) release(conn *connection) {
+	if conn.held != nil {
+		return // once it is known
+	}
+	if s := conn.session; s != nil {
+		conn.session, s.tenant, s.own = nil, nil, false
+	}
+	conn.joins = false
+	c.place()
+}
+
+// place gives sessions to the connections that wait, in their order: open ones first.
+func (c *core) place() {
+	for len(c.queue) > 0 {
+		s, joins := c.vacant()
+		if s == nil {
+			return
+		}
+		conn := c.queue[0]
+		conn.session, conn.joins, conn.active = s, joins, c.now
+		s.tenant, s.own = conn, false
+		if joins {
+			c.joining = append(c.joining, conn)
+		}
+		c.queue[0] = nil
+		c.queue = c.queue[1:]
+	}
+}
+
+// vacant is a session without a connection, and whether it has to join.
+func (c *core) vacant() (*session, bool) {
+	var closed *session
+	for _, s := range c.sessions {
+		switch {
+		case s.tenant != nil:
+		case !s.closed:
+			return s, false
+		case closed == nil && s.isGone():
+			closed = s
+		}
+	}
+	return closed, true
+}
+
+// reseat takes the session from a connection that was idle for long, if another one waits.
+func (c *core) reseat() {
+	if len(c.queue) == 0 {
+		return
+	}
+	for _, s := range c.sessions {
+		conn := s.tenant
+		if conn == nil || conn.held != nil || c.now.Sub(conn.active) < c.opt.Idle {
+			continue
+		}
+		c.queue = append(c.queue, conn)
+		c.release(conn)
+		return
+	}
+}

@@ -1,0 +1,272 @@
+package join
+
+import (
+	"time"
+
+	"zanteyard/record"
+)
+
+// Why a transaction isn't offered, or its writes aren't.
+const (
+	byOthers      = "committed by others than the proxy, or told too late"
+	noConnection  = "its connection isn't known"
+	noSession     = "its connection has no session of the auditor"
+	noFence       = "its session waits for a fence"
+	acrossMeeting = "it ran across a meeting, or across the end of the one before it"
+	noRoom        = "the auditor's limit is reached"
+	isUnclear     = "its outcome isn't known"
+	elsewhere     = "its connection is of another database"
+	sampledOut    = "its connection isn't in the sample"
+	itAborted     = "it aborted"
+	notKept       = "a transaction read more than is kept of one: all of that counts once here"
+	noNumber      = "its number wasn't learned"
+)
+
+// tell takes in a transaction that has ended.
+func (c *core) tell(it record.Transaction) {
+	c.counts.reads += uint64(len(it.Reads) + len(it.Absent))
+	if it.Incomplete {
+		c.counts.leftReads[notKept]++
+	}
+	conn := c.connections[it.Connection]
+	if conn != nil {
+		conn.active = c.now
+	}
+	switch {
+	case it.Outcome == record.Aborted:
+		c.counts.aborted++
+		c.counts.leftReads[itAborted] += uint64(len(it.Reads) + len(it.Absent))
+	case conn == nil:
+		c.leave(it, noConnection)
+	case conn.session == nil && c.isElsewhere(conn.its):
+		c.leave(it, elsewhere)
+	case conn.session == nil && !c.sampled(it.Connection):
+		c.leave(it, sampledOut)
+	case conn.session == nil:
+		c.leave(it, noSession)
+	case conn.held != nil:
+		c.leave(it, noFence)
+	case it.Outcome == record.Unclear && it.Number == 0:
+		c.leave(it, isUnclear)
+	case isEmpty(it):
+		c.counts.empty++
+	case conn.joins && !it.Fence:
+		c.leave(it, noFence)
+	default:
+		c.take(it, conn)
+	}
+}
+
+// isEmpty says that a transaction has nothing to offer. It takes no number.
+func isEmpty(it record.Transaction) bool {
+	return it.Number == 0 && !it.MayHaveWritten && len(it.Reads) == 0 && len(it.Absent) == 0
+}
+
+// leave folds a whole transaction.
+func (c *core) leave(it record.Transaction, reason string) {
+	c.counts.fold(reason)
+	c.counts.leftReads[reason] += uint64(len(it.Reads) + len(it.Absent))
+	if it.Number == 0 {
+		return // what it may have written nobody tells of, and is folded as somebody else's
+	}
+	w := c.writer(it)
+	if w.fate == undecided {
+		c.leaveWriter(w, reason)
+	}
+}
+
+func (c *core) leaveWriter(w *writer, reason string) {
+	c.counts.leftWrites[reason] += uint64(len(w.writes))
+	c.fold(w, reason)
+	if w.place == 0 {
+		c.expected = append(c.expected, expected{c.batch, w})
+		c.batched = true
+	}
+}
+
+// writer is the one with the transaction's number.
+func (c *core) writer(it record.Transaction) *writer {
+	number := uint32(it.Number)
+	w := c.writers[number]
+	if w == nil {
+		w = &writer{number: number}
+		c.writers[number] = w
+	}
+	w.named, w.fences = true, it.Fence
+	for _, sub := range it.Versions {
+		if sub != number && !w.is(sub) {
+			w.subs = append(w.subs, sub)
+		}
+	}
+	return w
+}
+
+// take offers a transaction of a connection that has a session, unless it can't stand there.
+func (c *core) take(it record.Transaction, conn *connection) {
+	s := conn.session
+	e := &entry{its: it, conn: conn, session: s, batch: c.batch}
+	c.batched = true
+	if conn.joins || it.Outcome == record.Unclear {
+		if !it.Fence && it.Outcome != record.Unclear {
+			c.leave(it, noFence)
+			return
+		}
+		if it.Number == 0 {
+			c.leave(it, noNumber)
+			return
+		}
+		e.writer = c.writer(it)
+		conn.held = e
+		c.held = append(c.held, e)
+		return
+	}
+	c.name(e)
+}
+
+// name gives the transaction its number, if it stands behind the one before it in its session, and if there is room.
+func (c *core) name(e *entry) {
+	s, it := e.session, e.its
+	follows := s.own && e.conn != nil && s.tenant == e.conn && it.Place > s.place
+	switch {
+	case !follows && it.Began.Before(s.floor):
+		c.leave(it, acrossMeeting)
+		return
+	case it.Fence && it.Number == 0:
+		c.leave(it, noNumber)
+		return
+	case !c.hasRoom(it.Fence):
+		c.leave(it, noRoom)
+		return
+	}
+	if it.Number != 0 {
+		switch w := c.writer(it); {
+		case w.fate != undecided: // it came too late
+		case w.fence && !it.Fence: // the application wrote the fences' row
+			c.leaveWriter(w, byOthers)
+			e.writer = nil
+		default:
+			e.writer = w
+		}
+	}
+	e.name = named(s.index, s.next)
+	s.next++
+	if e.writer != nil {
+		e.writer.fate, e.writer.name = offered, e.name
+		if e.writer.place != 0 {
+			delete(c.writers, e.writer.number)
+		}
+	}
+	s.own, s.place = e.conn != nil && s.tenant == e.conn, it.Place
+	if it.Ended.After(s.floor) {
+		s.floor = it.Ended
+	}
+	s.fenced = it.Fence
+	if it.Fence {
+		s.fences++
+	}
+	if c.since == 0 {
+		c.oldest = c.now
+	}
+	if !it.Fence {
+		c.since++
+	}
+	s.waiting = append(s.waiting, e)
+}
+
+// hasRoom says whether one more may be named: what is named is offered, and what is offered remains until a cut.
+func (c *core) hasRoom(fence bool) bool {
+	room := c.opt.Limit - c.remaining()
+	if !fence {
+		room -= c.opt.fenceRoom()
+	}
+	return room > 0
+}
+
+func (c *core) remaining() int {
+	n := 0
+	for _, s := range c.sessions {
+		n += s.remains()
+	}
+	return n
+}
+
+// spare takes in a fence that the audit's own connection made for a session, because its connection has ended, or
+// couldn't make one.
+func (c *core) spare(session int, number uint64, began, ended time.Time) {
+	s := c.sessions[session]
+	it := record.Transaction{Began: began, Ended: ended, Level: record.ReadCommitted, Number: number, Fence: true}
+	if s.closed {
+		c.leave(it, acrossMeeting)
+		return
+	}
+	c.batched = true
+	c.name(&entry{its: it, session: s, batch: c.batch})
+}
+
+// decideHeld names what was held back: a transaction of which the connection didn't learn whether it was committed, once
+// the slot says so, and the fence of a join, once the fence before it stands in a line. It says whether there was any.
+func (c *core) decideHeld() bool {
+	kept := c.held[:0]
+	for _, e := range c.held {
+		if e.batch > c.passed || e.its.Fence && e.conn.joins && !c.join(e) {
+			kept = append(kept, e)
+			continue
+		}
+		e.conn.held = nil
+		if e.its.Outcome == record.Unclear {
+			c.decideUnclear(e)
+		}
+		if e.conn.ended {
+			c.release(e.conn)
+		}
+	}
+	for i := len(kept); i < len(c.held); i++ {
+		c.held[i] = nil
+	}
+	moved := len(kept) < len(c.held)
+	c.held = kept
+	return moved
+}
+
+// decideUnclear offers a transaction whose connection was lost, if the slot has told of it by now. It may have been
+// committed as late as that: nothing that began before is offered behind it.
+func (c *core) decideUnclear(e *entry) {
+	w := e.writer
+	if w.place == 0 || w.fate != undecided || e.conn.joins || e.its.Fence {
+		c.counts.fold(isUnclear)
+		if w.fate == undecided {
+			c.leaveWriter(w, isUnclear)
+		}
+		return
+	}
+	e.its.Ended = c.now
+	c.name(e)
+	e.session.own = false
+}
+
+// join brings a closed session back with its fence. It is false as long as that has to wait.
+func (c *core) join(e *entry) bool {
+	w, s := e.writer, e.session
+	if w.place == 0 || w.fate != undecided || !w.fence || e.its.Outcome != record.Committed ||
+		e.its.Began.Before(s.floor) || !c.hasRoom(true) || s.next > lastNumber {
+		if w.fate == undecided {
+			c.leaveWriter(w, noFence)
+		}
+		return true // its next fence may do
+	}
+	from, known := w.writes[0].version.predecessor()
+	if !known || from != initial && c.sessions[from.session()].written <= from.number() {
+		return false
+	}
+	if from == initial { // no fence of this audit stands before it
+		c.leaveWriter(w, noFence)
+		return true
+	}
+	e.conn.joins = false
+	c.name(e)
+	c.flush()
+	s.closed = false
+	c.write(s)
+	c.writeJoin(s)
+	return true
+}

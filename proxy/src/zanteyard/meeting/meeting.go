@@ -1,0 +1,201 @@
+// Package meeting has the sessions of a proxy meet: each makes a fence, a transaction of the proxy's own on a row
+// kept for that; when all have made theirs, each makes a second one. Nothing of a client runs between the two fences
+// of its session. So all that was done before the meeting is in front of the last of the first fences, and all that
+// is done later is behind it: there the auditor may forget.
+package meeting
+
+import (
+	"context"
+	"errors"
+	"fmt"
+	"sync"
+	"time"
+)
+
+// Member is a session that can be held between two messages of its client's, and make fences then.
+type Member interface {
+	Number() uint64
+	// Hold has what the client sends next wait once it has nothing under way; Release ends that.
+	Hold()
+	// Fence makes a fence as soon as the client has nothing under way; done is called once, by any goroutine, and must not
+	// wait.
+	Fence(done func(number uint64, err error))
+	// Try makes the fence that is due, if that is possible now.
+	Try()
+	Release()
+}
+
+// Errors of Meet. A meeting that failed has done no harm: the fences that were made are transactions like others.
+var (
+	ErrBusy    = errors.New("meeting: a session was in a transaction for too long")
+	ErrUnknown = errors.New("meeting: no such connection")
+)
+
+// Room knows the sessions that are there. Safe for use by many goroutines.
+type Room struct {
+	bound time.Duration
+
+	meets sync.Mutex // one meeting at a time
+
+	lock    sync.Mutex
+	members map[uint64]Member
+}
+
+// NewRoom makes a room whose meetings hold clients for at most the bound.
+func NewRoom(bound time.Duration) *Room {
+	return &Room{bound: bound, members: map[uint64]Member{}}
+}
+
+// Enter adds a session. It takes part from the next meeting on.
+func (r *Room) Enter(m Member) {
+	r.lock.Lock()
+	defer r.lock.Unlock()
+	r.members[m.Number()] = m
+}
+
+// Leave takes a session out.
+func (r *Room) Leave(m Member) {
+	r.lock.Lock()
+	defer r.lock.Unlock()
+	delete(r.members, m.Number())
+}
+
+func (r *Room) all() []Member {
+	r.lock.Lock()
+	defer r.lock.Unlock()
+	all := make([]Member, 0, len(r.members))
+	for _, m := range r.members {
+		all = append(all, m)
+	}
+	return all
+}
+
+func (r *Room) one(connection uint64) Member {
+	r.lock.Lock()
+	defer r.lock.Unlock()
+	return r.members[connection]
+}
+
+// made is the outcome of one fence.
+type made struct {
+	member Member
+	err    error
+}
+
+// Meet has all sessions meet. It returns how many fences were made and how long it took. Sessions that end meanwhile
+// don't count. A session that is busy for too long makes it fail.
+func (r *Room) Meet(ctx context.Context) (fences int, took time.Duration, err error) {
+	return r.meet(ctx, nil)
+}
+
+// MeetAround has the sessions meet without those that are busy for half of the bound. Between the first fences and the
+// second ones, while those that have come are held, it calls between, in which fences can be made for the others. If
+// none has come it is called all the same.
+func (r *Room) MeetAround(ctx context.Context, between func(context.Context)) (
+	fences int, took time.Duration, err error) {
+	return r.meet(ctx, between)
+}
+
+func (r *Room) meet(ctx context.Context, between func(context.Context)) (fences int, took time.Duration, err error) {
+	r.meets.Lock()
+	defer r.meets.Unlock()
+	began := time.Now()
+	ctx, cancel := context.WithTimeout(ctx, r.bound)
+	defer cancel()
+	members := r.all()
+	for _, m := range members {
+		m.Hold()
+	}
+	defer func() {
+		for _, m := range members {
+			m.Release()
+		}
+	}()
+	first, end := ctx, func() {}
+	if between != nil {
+		first, end = context.WithTimeout(ctx, r.bound/2)
+	}
+	there, fences, err := r.fences(first, members, false)
+	end()
+	if between != nil {
+		between(ctx)
+	} else if err != nil {
+		return fences, time.Since(began), err
+	}
+	for _, m := range members {
+		if !contains(there, m) {
+			m.Release() // it has ended, or is busy
+		}
+	}
+	members = there
+	_, n, err := r.fences(ctx, members, true)
+	if between != nil && errors.Is(err, ErrBusy) {
+		err = nil // the audit's own connection makes a fence for who didn't
+	}
+	return fences + n, time.Since(began), err
+}
+
+func contains(all []Member, m Member) bool {
+	for _, x := range all {
+		if x == m {
+			return true
+		}
+	}
+	return false
+}
+
+// fences has each member make one fence. It returns those that are still there.
+func (r *Room) fences(ctx context.Context, members []Member, release bool) (there []Member, n int, err error) {
+	results := make(chan made, len(members))
+	for _, m := range members {
+		m := m
+		m.Fence(func(_ uint64, err error) { results <- made{m, err} })
+	}
+	retry := time.NewTicker(time.Millisecond)
+	defer retry.Stop()
+	for left := len(members); left > 0; {
+		select {
+		case result := <-results:
+			left--
+			switch {
+			case result.err == nil:
+				n++
+				there = append(there, result.member)
+			case r.one(result.member.Number()) == nil:
+				// the connection has ended
+			case err == nil:
+				err = fmt.Errorf("connection %d: %w", result.member.Number(), result.err)
+			}
+			if release {
+				result.member.Release()
+			}
+		case <-retry.C:
+			for _, m := range members {
+				m.Try()
+			}
+		case <-ctx.Done():
+			if err == nil {
+				err = ErrBusy
+			}
+			return there, n, err
+		}
+	}
+	return there, n, err
+}
+
+// Fence has one session make a fence, for it to join an audit that goes on. It waits until the session has nothing
+// under way, at most until ctx ends; the client is held for the bound at most.
+func (r *Room) Fence(ctx context.Context, connection uint64) error {
+	r.meets.Lock()
+	defer r.meets.Unlock()
+	m := r.one(connection)
+	if m == nil {
+		return ErrUnknown
+	}
+	ctx, cancel := context.WithTimeout(ctx, r.bound)
+	defer cancel()
+	m.Hold()
+	defer m.Release()
+	_, _, err := r.fences(ctx, []Member{m}, true)
+	return err
+}

@@ -1,0 +1,204 @@
+package plan
+
+import (
+	"hash/maphash"
+	"strings"
+	"sync"
+	"sync/atomic"
+
+	"zanteyard/catalog"
+)
+
+const (
+	shards    = 16
+	maxAsked  = 4  // columns of a key that a statement may ask for
+	mostPaths = 64 // search paths that have plans of their own
+)
+
+// Bounds of each of a shard's two generations: entries, and bytes of keys and samples.
+const (
+	shardEntries = 256
+	shardBytes   = 1 << 20
+	pathEntries  = 64
+	pathBytes    = 64 << 10
+)
+
+// Cache holds plans by the texts of statements without their constants and comments. It is safe for use by many
+// goroutines.
+type Cache struct {
+	state    atomic.Pointer[cached]
+	scanners sync.Pool
+	seed     maphash.Seed
+}
+
+// cached is what is held for one catalog.
+type cached struct {
+	catalog    *catalog.Catalog
+	generation uint64
+	unknown    *Plan
+	entries    int
+	bytes      int
+	shards     [shards]shard
+
+	lock  sync.RWMutex
+	paths map[string]*cached // by search path
+}
+
+// shard keeps its plans in two generations: where the younger is full it becomes the older one, which is forgotten but
+// for plans that are used meanwhile.
+type shard struct {
+	lock       sync.RWMutex
+	young, old map[string]*Plan
+	size       int // of the younger generation's keys and samples
+}
+
+// NewCache makes a cache of plans for a catalog.
+func NewCache(c *catalog.Catalog) *Cache {
+	cache := &Cache{seed: maphash.MakeSeed()}
+	cache.scanners.New = func() any { return &scanner{} }
+	cache.Use(c)
+	return cache
+}
+
+// Use forgets all plans, and makes those to come for another catalog.
+func (c *Cache) Use(with *catalog.Catalog) {
+	next := &cached{
+		catalog: with, generation: 1, entries: shardEntries, bytes: shardBytes, paths: map[string]*cached{},
+	}
+	if before := c.state.Load(); before != nil {
+		next.generation = before.generation + 1
+	}
+	next.unknown = unknownPlan(next.generation)
+	c.state.Store(next)
+}
+
+// in is the part of the cache for a search path. Beyond some of them, names are resolved by the catalog's own: the trial
+// on a connection says whether that is right.
+func (s *cached) in(path string) *cached {
+	s.lock.RLock()
+	found, ok := s.paths[path]
+	s.lock.RUnlock()
+	if ok {
+		return found
+	}
+	s.lock.Lock()
+	defer s.lock.Unlock()
+	if found, ok := s.paths[path]; ok {
+		return found
+	}
+	view, err := s.catalog.In(path)
+	if err != nil || len(s.paths) >= mostPaths {
+		return s
+	}
+	if strings.Join(view.Path, "\x00") == strings.Join(s.catalog.Path, "\x00") {
+		s.paths[path] = s
+		return s
+	}
+	made := &cached{catalog: view, generation: s.generation, unknown: s.unknown, entries: pathEntries, bytes: pathBytes}
+	s.paths[path] = made
+	return made
+}
+
+// Generation counts the catalogs that the cache was given.
+func (c *Cache) Generation() uint64 { return c.state.Load().generation }
+
+// Catalog is the one that plans are made for now.
+func (c *Cache) Catalog() *catalog.Catalog { return c.state.Load().catalog }
+
+// Plan gives the plan of a statement's text, and where in this text its places are. It never fails: what can't be
+// understood has a plan that leaves it as it is.
+func (c *Cache) Plan(text string) (*Plan, Tokens) { return c.lookUp(c.state.Load(), text) }
+
+// PlanIn is Plan for a connection with another search path than the catalog was loaded with, as catalog.PathSQL gives it
+// there. For "" it is Plan.
+func (c *Cache) PlanIn(path, text string) (*Plan, Tokens) {
+	state := c.state.Load()
+	if path != "" {
+		state = state.in(path)
+	}
+	return c.lookUp(state, text)
+}
+
+func (c *Cache) lookUp(state *cached, text string) (*Plan, Tokens) {
+	s := c.scanners.Get().(*scanner)
+	defer c.giveBack(s)
+	if !s.scan(text) {
+		return state.unknown, Tokens{at: nowhere}
+	}
+	home := &state.shards[maphash.Bytes(c.seed, s.key)%shards]
+	p := home.find(state, s.key)
+	if p == nil {
+		p = c.make(state, s)
+		home.keep(state, string(s.key), p)
+	}
+	return c.locate(state, p, text, s.tokens)
+}
+
+func (c *Cache) giveBack(s *scanner) {
+	s.text = "" // it may be long
+	c.scanners.Put(s)
+}
+
+func (h *shard) find(state *cached, key []byte) *Plan {
+	h.lock.RLock()
+	p, ok := h.young[string(key)]
+	if !ok {
+		p = h.old[string(key)]
+	}
+	h.lock.RUnlock()
+	if !ok && p != nil { // it is in use: it stays
+		h.keep(state, string(key), p)
+	}
+	return p
+}
+
+func (h *shard) keep(state *cached, key string, p *Plan) {
+	size := 2*len(key) + len(p.sample) + 512
+	h.lock.Lock()
+	defer h.lock.Unlock()
+	if h.young == nil || len(h.young) >= state.entries || h.size+size > state.bytes {
+		h.old, h.young, h.size = h.young, make(map[string]*Plan, 16), 0
+	}
+	h.young[key] = p
+	h.size += size
+}
+
+// locate finds a plan's places in a text.
+func (c *Cache) locate(state *cached, p *Plan, text string, list []token) (*Plan, Tokens) {
+	for _, at := range p.positions {
+		if !within(text, list, at) {
+			p = p.misplaced
+			break
+		}
+	}
+	tokens := Tokens{at: nowhere}
+	if p.insertion.text != "" {
+		where := list[p.insertion.token]
+		if tokens.at = int(where.start); p.insertion.behind {
+			tokens.at = int(where.last)
+		}
+	}
+	for i, part := range p.asked {
+		if part.token >= 0 {
+			at := list[part.token]
+			tokens.constants[i] = span{at.start, at.end}
+		}
+	}
+	if p.Kind == Several {
+		tokens.parts = c.parts(state, p, text, list)
+	}
+	return p, tokens
+}
+
+// within says that a constant means one of the statement's own columns, or nothing that is a column.
+func within(text string, tokens []token, at position) bool {
+	t := tokens[at.token]
+	place := 0
+	for _, c := range text[t.start:t.end] {
+		if c < '0' || c > '9' || place > at.columns {
+			return false
+		}
+		place = 10*place + int(c-'0')
+	}
+	return place >= 1 && place <= at.columns
+}

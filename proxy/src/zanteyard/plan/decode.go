@@ -1,0 +1,114 @@
+package plan
+
+import (
+	"encoding/binary"
+	"fmt"
+	"strconv"
+
+	"zanteyard/keys"
+	"zanteyard/record"
+)
+
+// Decode gives the rows that one row of a result was made of, from its hidden columns, all of them in one format. A group
+// that an outer join left NULL gives none.
+func (p *Plan) Decode(values [][]byte, binary bool) ([]record.Read, error) {
+	return p.AppendReads(nil, values, binary)
+}
+
+// AppendReads is Decode into memory that is there.
+func (p *Plan) AppendReads(to []record.Read, values [][]byte, binary bool) ([]record.Read, error) {
+	if len(values) != p.Hidden() {
+		return to, fmt.Errorf("a row has %d hidden columns in place of %d", len(values), p.Hidden())
+	}
+	at := 0
+	if p.TellsNumber {
+		at++
+	}
+	if p.TellsVersion {
+		at++
+	}
+	var failed error
+	for i := range p.Sources {
+		source := &p.Sources[i]
+		group := values[at : at+source.Hidden()]
+		at += source.Hidden()
+		if group[0] == nil {
+			continue
+		}
+		read, err := source.decode(group, binary)
+		if err != nil {
+			failed = err
+			continue
+		}
+		to = append(to, read)
+	}
+	return to, failed
+}
+
+func (s *Source) decode(group [][]byte, binary bool) (record.Read, error) {
+	version, ok := number32(group[0], binary)
+	relation, ok2 := number32(group[1], binary)
+	if !ok || !ok2 {
+		return record.Read{}, fmt.Errorf("xmin or tableoid of relation %d can't be read", s.Relation)
+	}
+	var key string
+	for i, typeOID := range s.Types {
+		value := group[2+i]
+		if value == nil {
+			return record.Read{}, fmt.Errorf("a key column of relation %d is NULL", relation)
+		}
+		canonical, ok := keys.FromHidden(typeOID, value, binary)
+		switch {
+		case !ok:
+			return record.Read{}, fmt.Errorf("a key column of relation %d of type %d can't be read", relation, typeOID)
+		case i == 0:
+			key = canonical
+		default:
+			key += "\x00" + canonical
+		}
+	}
+	return record.Read{Relation: record.Relation(relation), Key: record.Key(key), Version: version}, nil
+}
+
+// Number is the transaction's number, from a row's hidden columns, where the plan tells it.
+func (p *Plan) Number(values [][]byte, isBinary bool) (uint64, bool) {
+	if !p.TellsNumber || len(values) == 0 || values[0] == nil {
+		return 0, false
+	}
+	if isBinary {
+		if len(values[0]) != 8 {
+			return 0, false
+		}
+		return binary.BigEndian.Uint64(values[0]), true
+	}
+	number, err := strconv.ParseUint(string(values[0]), 10, 64)
+	return number, err == nil
+}
+
+// Version is the number of the transaction or subtransaction that the row was written by, where the plan tells it.
+func (p *Plan) Version(values [][]byte, binary bool) (uint32, bool) {
+	if !p.TellsVersion || len(values) < 2 || values[1] == nil {
+		return 0, false
+	}
+	return number32(values[1], binary)
+}
+
+func number32(value []byte, isBinary bool) (uint32, bool) {
+	if isBinary {
+		if len(value) != 4 {
+			return 0, false
+		}
+		return binary.BigEndian.Uint32(value), true
+	}
+	if len(value) == 0 || len(value) > 10 {
+		return 0, false
+	}
+	number := uint64(0)
+	for _, c := range value {
+		if c < '0' || c > '9' {
+			return 0, false
+		}
+		number = 10*number + uint64(c-'0')
+	}
+	return uint32(number), number>>32 == 0
+}

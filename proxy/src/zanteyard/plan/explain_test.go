@@ -1,0 +1,76 @@
+package plan
+
+import (
+	"math/rand"
+	"regexp"
+	"strconv"
+	"strings"
+	"testing"
+
+	"github.com/jackc/pgconn"
+)
+
+// many makes the tables of nasty large enough for the server to use their indexes, and says so.
+const many = `
+INSERT INTO a SELECT i, i % 100, 's' || i FROM generate_series(10, 3000) i;
+INSERT INTO "A" SELECT * FROM a ON CONFLICT DO NOTHING;
+INSERT INTO link SELECT i, i % 7 FROM generate_series(10, 3000) i;
+INSERT INTO "select" SELECT i, i % 100 FROM generate_series(10, 3000) i;
+INSERT INTO "returning" SELECT i, i FROM generate_series(10, 3000) i;
+INSERT INTO parts SELECT i, i % 6 FROM generate_series(10, 3000) i;
+CREATE INDEX ON "select" (n)`
+
+// TestPlansOfTheServer explains random statements: rewritten they read no table more, and none that an index gave alone,
+// but for a few rows.
+func TestPlansOfTheServer(t *testing.T) {
+	connection := connect(t, "explained", nasty)
+	for _, sql := range []string{many, "VACUUM ANALYZE", "SET enable_seqscan TO off; SET enable_bitmapscan TO off"} {
+		run(t, connection, sql)
+	}
+	cache := NewCache(load(t, connection))
+	explained := 0
+	for seed := 0; seed < wanted(600); seed++ {
+		w := &writer{Rand: rand.New(rand.NewSource(int64(seed)))}
+		text := w.query()
+		p, tokens := cache.Plan(text)
+		if p.insertion.text == "" || strings.Contains(text, "$1") {
+			continue
+		}
+		plain, ok := explain(connection, text)
+		if !ok {
+			continue
+		}
+		explained++
+		rewritten, _, _ := p.Rewrite(text, tokens)
+		hidden, ok := explain(connection, rewritten)
+		if !ok || alone(hidden) < alone(plain) || strings.Count(hidden, "Scan") > strings.Count(plain, "Scan") {
+			t.Errorf("statement %d: %s\n%s\n%s", seed, rewritten, plain, hidden)
+		}
+	}
+	if explained < 50 {
+		t.Errorf("%d statements were explained", explained)
+	}
+}
+
+func explain(connection *pgconn.PgConn, text string) (string, bool) {
+	results, err := connection.Exec(ctx(), "EXPLAIN "+strings.TrimLeft(text, " ;")).ReadAll()
+	if err != nil {
+		return "", false
+	}
+	var lines []string
+	for _, row := range results[0].Rows {
+		lines = append(lines, string(row[0]))
+	}
+	return strings.Join(lines, "\n"), true
+}
+
+// alone counts the scans of an index alone that give more than a few rows.
+func alone(plan string) int {
+	count := 0
+	for _, found := range regexp.MustCompile(`Index Only Scan.* rows=(\d+)`).FindAllStringSubmatch(plan, -1) {
+		if rows, err := strconv.Atoi(found[1]); err == nil && rows > fewRows {
+			count++
+		}
+	}
+	return count
+}

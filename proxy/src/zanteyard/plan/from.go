@@ -1,0 +1,215 @@
+package plan
+
+import (
+	"strings"
+
+	"zanteyard/catalog"
+	"zanteyard/keys"
+	"zanteyard/record"
+)
+
+// fromClause is what stands behind FROM or USING of a statement.
+type fromClause struct {
+	maker *maker
+	plan  *Plan
+	with  map[string]bool
+	found []*item
+	items int // of all kinds
+	joins int
+	refs  []reference
+	where any
+	locks bool
+	taken string // the name of the table that is written to
+	group []any  // of GROUP BY
+}
+
+// item is a table of a FROM clause.
+type item struct {
+	table    *catalog.Table
+	name     string // by which the statement knows it
+	written  string // the table's name as the statement has it, quoted
+	nullable bool
+	only     bool
+	sampled  bool
+	optional int // the join that the server may leave out if nothing else uses the table, 0 where it may not
+	natural  bool
+}
+
+// read takes a statement's FROM clause and what it mentions elsewhere.
+func (f *fromClause) read(body node, field string) {
+	for _, entry := range body.list(field) {
+		f.walk(entry, place{})
+	}
+	for name, value := range body {
+		if name != field && name != "withClause" { // whose queries don't know the FROM clause
+			f.collect(value, 0)
+		}
+	}
+	f.locks, f.where, f.group = body.has("lockingClause"), body["whereClause"], body.list("groupClause")
+}
+
+// place is what the joins around an item say of it.
+type place struct {
+	nullable, natural bool
+	optional          int
+}
+
+func (f *fromClause) walk(entry any, at place) {
+	kind, body := only(entry)
+	switch kind {
+	case "JoinExpr":
+		f.join(body, at)
+	case "RangeVar":
+		f.items++
+		f.table(body, at, false)
+	case "RangeTableSample":
+		f.items++
+		f.table(body.as("relation", "RangeVar"), at, true)
+		f.collect(body["args"], 0)
+	case "RangeSubselect":
+		f.items++
+		if !body.node("subquery").node("SelectStmt").has("valuesLists") { // VALUES reads no table
+			f.plan.leaveOut("a subquery in FROM")
+		}
+		f.collect(entry, 0)
+	default: // a function, whose reads are counted as those of all functions
+		f.items++
+		f.collect(entry, 0)
+	}
+}
+
+func (f *fromClause) join(body node, at place) {
+	f.joins++
+	id := f.joins
+	if body.has("alias") { // it hides the names of its tables
+		f.items++
+		f.plan.leaveOut("a join with a name of its own")
+		f.collect(body, 0)
+		return
+	}
+	left, right := at, at
+	left.natural = at.natural || body.flag("isNatural")
+	right.natural = left.natural
+	left.optional, right.optional = 0, 0
+	switch body.text("jointype") {
+	case "JOIN_LEFT":
+		right.nullable, right.optional = true, id
+	case "JOIN_RIGHT":
+		left.nullable, left.optional = true, id
+	case "JOIN_FULL":
+		left.nullable, right.nullable = true, true
+	}
+	f.walk(body["larg"], left)
+	f.walk(body["rarg"], right)
+	for _, column := range names(body.list("usingClause")) {
+		f.refs = append(f.refs, reference{fields: []string{column}, join: id})
+	}
+	f.collect(body["quals"], id)
+}
+
+func (f *fromClause) table(r node, at place, sampled bool) {
+	schema, name := r.text("schemaname"), r.text("relname")
+	if schema == "" && f.with[name] {
+		return // counted as WITH
+	}
+	reason := ""
+	t, ok := f.maker.catalog.Find(schema, name)
+	switch {
+	case r.has("catalogname"):
+		reason = "a table with the name of its database"
+	case !ok && (schema == "pg_catalog" || schema == "information_schema" || schema == "" && strings.HasPrefix(name, "pg_")):
+		return // the server's own tables have no versions that are audited
+	case ok && t.Kind == 'S':
+		return // nor have sequences
+	case !ok:
+		reason = "the table isn't known"
+	case t.Hidden != "":
+		reason = t.Hidden
+	case r.node("alias").has("colnames"):
+		reason = "a table with other names for its columns"
+	}
+	if reason != "" {
+		f.plan.leaveOut(reason)
+		return
+	}
+	f.found = append(f.found, newItem(r, t, at, sampled))
+}
+
+func newItem(r node, t *catalog.Table, at place, sampled bool) *item {
+	it := &item{
+		table: t, name: r.text("relname"), written: quote(r.text("relname")), nullable: at.nullable,
+		only: !r.flag("inh"), sampled: sampled, optional: at.optional, natural: at.natural,
+	}
+	if schema := r.text("schemaname"); schema != "" {
+		it.written = quote(schema) + "." + it.written
+	}
+	if name := r.node("alias").text("aliasname"); name != "" {
+		it.name = name
+	}
+	return it
+}
+
+// groups gives the SQL of the hidden columns of all tables that are seen, and counts those that aren't.
+func (f *fromClause) groups() (string, []*item) {
+	named := map[string]int{}
+	for _, it := range f.found {
+		named[it.name]++
+	}
+	var out strings.Builder
+	var seen []*item
+	for _, it := range f.found {
+		switch {
+		case named[it.name] > 1, it.name == f.taken:
+			f.plan.leaveOut("two tables of one name")
+		case len(f.group) > 0 && !f.grouped(it):
+			f.plan.leaveOut("GROUP BY")
+		case f.removable(it):
+			f.plan.leaveOut("a join that the server may leave out")
+		case f.indexOnly(it):
+			f.plan.leaveOut("an index may answer alone")
+		default:
+			it.write(&out)
+			seen = append(seen, it)
+		}
+	}
+	return out.String(), seen
+}
+
+// grouped says that GROUP BY names a table's whole key: each group is of one row of it, and SQL lets its other columns be
+// selected.
+func (f *fromClause) grouped(it *item) bool {
+	named := map[string]bool{}
+	for _, entry := range f.group {
+		kind, body := only(entry)
+		fields := names(body.list("fields"))
+		if kind == "ColumnRef" && (len(fields) == 1 && f.items == 1 || len(fields) > 1 && fields[len(fields)-2] == it.name) {
+			named[fields[len(fields)-1]] = true
+		}
+	}
+	for _, column := range it.table.Key {
+		if !named[column.Name] {
+			return false
+		}
+	}
+	return true
+}
+
+func (it *item) write(out *strings.Builder) {
+	table := quote(it.name)
+	out.WriteString(", " + table + ".xmin AS " + alias + ", " + table + ".tableoid AS " + alias)
+	for _, column := range it.table.Key {
+		out.WriteString(", " + keys.Expression(column.Type, table+"."+quote(column.Name)) + " AS " + alias)
+	}
+}
+
+func (it *item) source() Source {
+	types := make([]uint32, len(it.table.Key))
+	for i, column := range it.table.Key {
+		types[i] = column.Type
+	}
+	return Source{Relation: record.Relation(it.table.OID), Types: types, Nullable: it.nullable}
+}
+
+func (it *item) relation() relation {
+	return relation{name: it.written, oid: it.table.OID, columns: keyNumbers(it.table)}
+}

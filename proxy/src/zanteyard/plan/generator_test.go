@@ -1,0 +1,331 @@
+package plan
+
+import (
+	"fmt"
+	"math/rand"
+	"strings"
+)
+
+var nastyTables = []string{"a", `"A"`, `"select"`, `"a ""q"" b"`, `"Ünï-çödé"`, `"returning"`, `"x.y"."t'k\b"`, "link",
+	"parts", "typed", "bare", "look", "public.a", `public."select"`, "parts_low", "A"}
+
+// writer makes random statements. Each word is followed by a random space or comment.
+type writer struct {
+	*rand.Rand
+	words []string
+	names []string // of the tables in FROM, as they are referred to
+}
+
+func (w *writer) say(words ...string) {
+	w.words = append(w.words, words...)
+}
+
+func (w *writer) pick(words ...string) string { return words[w.Intn(len(words))] }
+func (w *writer) once(in int) bool            { return w.Intn(in) == 0 }
+
+// text joins the words.
+func (w *writer) text() string {
+	var out strings.Builder
+	if w.once(4) {
+		out.WriteString(w.pick("/* SELECT 'x FROM y */", "-- RETURNING\n", "\t"))
+	}
+	for i, word := range w.words {
+		if w.once(6) && strings.ToUpper(word) == word && !strings.ContainsAny(word, `"'$`) {
+			word = strings.ToLower(word)
+		}
+		out.WriteString(word)
+		switch {
+		case i == len(w.words)-1:
+		case w.once(12):
+			out.WriteString(w.pick("\n", "\t ", " -- , FROM 'x' $$\n", "/* , * */", " /* /* ; */ */ ", "  ", "\r\n"))
+		default:
+			out.WriteString(" ")
+		}
+	}
+	out.WriteString(w.pick("", "", ";", " -- end", "/* x='y' */", " ;; "))
+	return out.String()
+}
+
+// column refers to a column of the tables in FROM.
+func (w *writer) column() []string {
+	if len(w.names) == 0 {
+		return []string{"1"}
+	}
+	column := w.pick("id", "n", "id", "n", "ID", `"id"`)
+	if len(w.names) == 1 && w.once(3) {
+		return []string{column}
+	}
+	return []string{w.pick(w.names...), ".", column}
+}
+
+func (w *writer) number() string {
+	return w.pick("0", "1", "2", "3", "4", "5", "6", "'3'", "-1", "2.5", "$$4$$::int", "1::int8", "$1::int")
+}
+
+func (w *writer) expression(depth int) {
+	if depth <= 0 {
+		if w.once(3) {
+			w.say(w.number())
+		} else {
+			w.say(w.column()...)
+		}
+		return
+	}
+	switch w.Intn(12) {
+	case 0:
+		w.say("(")
+		w.expression(depth - 1)
+		w.say(w.pick("+", "-", "*"))
+		w.expression(depth - 1)
+		w.say(")")
+	case 1:
+		w.say("coalesce", "(")
+		w.expression(depth - 1)
+		w.say(",", w.number(), ")")
+	case 2:
+		w.say("CASE", "WHEN")
+		w.condition(depth - 1)
+		w.say("THEN")
+		w.expression(depth - 1)
+		w.say("ELSE", "0", "END")
+	case 3:
+		w.say("substring", "(", w.pick("'from'", "E'a\\'b'", `U&'\0041'`), "from", "1", "for", "2", ")", "::", "text", "=", "'f'")
+	case 4:
+		w.say("(", "SELECT", w.pick("count(*)", "max(id)", "min(n)"), "FROM", w.pick(nastyTables[:8]...), "q", "WHERE", "q", ".", "id", "=")
+		w.expression(0)
+		w.say(")")
+	case 5:
+		w.say("extract", "(", "year", "FROM", "timestamp", "'2020-01-01'", ")")
+	case 6:
+		w.say("rank", "(", ")", "OVER", "(", "ORDER", "BY")
+		w.expression(0)
+		w.say(",", "1", ")")
+	default:
+		w.expression(0)
+	}
+}
+
+func (w *writer) condition(depth int) {
+	if depth <= 0 {
+		w.expression(0)
+		w.say(w.pick("=", "<", ">=", "<>", "IS DISTINCT FROM", "IS NOT DISTINCT FROM", "="))
+		w.expression(0)
+		return
+	}
+	switch w.Intn(8) {
+	case 0:
+		w.condition(depth - 1)
+		w.say(w.pick("AND", "OR"))
+		w.condition(depth - 1)
+	case 1:
+		w.say("NOT", "(")
+		w.condition(depth - 1)
+		w.say(")")
+	case 2:
+		w.expression(0)
+		w.say("IN", "(", w.number(), ",", w.number(), ",", "NULL", ")")
+	case 3:
+		w.say("EXISTS", "(", "SELECT", "1", "FROM", w.pick(nastyTables...), "e", "WHERE", "e", ".", "id", "=")
+		w.expression(0)
+		w.say(")")
+	case 4:
+		w.expression(0)
+		w.say("BETWEEN", "1", "AND", "4")
+	default:
+		w.condition(0)
+	}
+}
+
+// table says a table of FROM, and its name.
+func (w *writer) table() {
+	if w.once(12) {
+		w.say(w.pick("LATERAL", ""), "(", "SELECT", "id", ",", "n", "FROM", w.pick(nastyTables...), "ORDER BY", "id", ",", "n",
+			"LIMIT", "3", ")")
+		w.alias()
+		return
+	}
+	if w.once(25) {
+		w.say("(", "VALUES", "(", "1", ",", "2", ")", ",", "(", "3", ",", "4", ")", ")", "AS", fmt.Sprintf("v%d", len(w.names)),
+			"(", "id", ",", "n", ")")
+		w.names = append(w.names, fmt.Sprintf("v%d", len(w.names)))
+		return
+	}
+	table := w.pick(nastyTables...)
+	if w.once(10) {
+		w.say("ONLY")
+	}
+	w.say(table)
+	if w.once(3) {
+		name := strings.TrimPrefix(strings.TrimPrefix(table, `"x.y".`), "public.")
+		w.names = append(w.names, name)
+		return
+	}
+	w.alias()
+}
+
+func (w *writer) alias() {
+	name := w.pick("x", `"X"`, `"from"`, `"a ""b"`, `"ü"`, "é") + ""
+	if n := len(w.names); n > 0 && w.Intn(8) > 0 {
+		name = w.pick("y", `"Y z"`, `"1"`) + ""
+		if n > 1 {
+			name = fmt.Sprintf("z%d", n)
+		}
+	}
+	w.say(w.pick("AS", ""), name)
+	w.names = append(w.names, name)
+}
+
+func (w *writer) from() {
+	w.say("FROM")
+	w.table()
+	for n := w.Intn(5) - 2; n > 0; n-- {
+		switch w.Intn(8) {
+		case 0:
+			w.say(",")
+			w.table()
+		case 1:
+			w.say("CROSS", "JOIN")
+			w.table()
+		case 2:
+			w.say("NATURAL", w.pick("", "LEFT"), "JOIN")
+			w.table()
+		case 3:
+			w.say(w.pick("", "LEFT", "FULL"), "JOIN")
+			w.table()
+			w.say("USING", "(", w.pick("id", "n"), ")")
+		default:
+			w.say(w.pick("", "INNER", "LEFT", "LEFT OUTER", "RIGHT", "FULL"), "JOIN")
+			left := w.pick(w.names...)
+			w.table()
+			w.say("ON", left, ".", w.pick("id", "n"), "=", w.names[len(w.names)-1], ".", w.pick("id", "n"))
+		}
+	}
+}
+
+func (w *writer) query() string {
+	if w.once(15) {
+		w.say("WITH", "x", "AS", "(", "SELECT", "id", ",", "n", "FROM", w.pick(nastyTables...), ")")
+	}
+	distinct := w.pick("", "", "", "", "", "", "", "ALL", "DISTINCT", "DISTINCT ON (1)", "DISTINCT ON (2)")
+	w.say("SELECT", distinct)
+	head := w.words
+	w.words = nil
+	w.from()
+	from := w.words
+	w.words = head
+	targets := w.Intn(4) + 1
+	for i := 0; i < targets; i++ {
+		if i > 0 {
+			w.say(",")
+		}
+		switch w.Intn(8) {
+		case 0:
+			w.say("*")
+		case 1:
+			w.say(w.pick(w.names...), ".", "*")
+		case 2:
+			w.say(w.pick(w.names...))
+		case 3:
+			w.say(w.pick("count(*)", "max(1)", "generate_series(1, 2)", "'x'", "NULL"))
+		default:
+			w.expression(w.Intn(3))
+			w.say(w.pick("", "", "AS from", `AS "x y"`, "label", "AS order", "AS distinct"))
+		}
+	}
+	w.say(from...)
+	if w.once(2) {
+		w.say("WHERE")
+		w.condition(w.Intn(3))
+	}
+	if w.once(20) {
+		w.say("GROUP", "BY", "1")
+	} else if w.once(10) {
+		for i, name := range w.names {
+			if i > 0 {
+				w.say(",")
+			} else {
+				w.say("GROUP", "BY")
+			}
+			w.say(name, ".", "id", ",", name, ".", "n")
+		}
+		w.say(w.pick("", "", ", 1", ", 2"))
+	}
+	if w.once(12) {
+		w.say(w.pick("UNION", "UNION ALL", "EXCEPT"), "SELECT", "1", "FROM", w.pick(nastyTables...))
+	}
+	limit := w.pick("", "", "", "LIMIT 2", "OFFSET 1", "LIMIT 3 OFFSET 1", "FETCH FIRST 2 ROWS ONLY", "FETCH NEXT ROW WITH TIES")
+	total := limit != "" || strings.HasPrefix(distinct, "DISTINCT ON") // which rows these are has to be certain
+	if w.once(2) || total {
+		w.say("ORDER", "BY", w.pick("1", "2", "1 DESC, 2", "3", "label", "1 NULLS FIRST"))
+		if w.once(2) {
+			w.say(",")
+			w.expression(0)
+		}
+	}
+	if total {
+		for _, name := range w.names {
+			w.say(",", name, "::", "text")
+		}
+	}
+	w.say(limit)
+	w.say(w.pick("", "", "", "", "FOR UPDATE", "FOR NO KEY UPDATE", "FOR SHARE SKIP LOCKED", "FOR UPDATE OF "+w.pick(w.names...)))
+	return w.text()
+}
+
+func (w *writer) returning() {
+	if w.once(2) {
+		w.say("RETURNING", w.pick("id", "n AS from", "id + n, 'x'", "n -- x\n", w.names[0]+".*"))
+	}
+}
+
+func (w *writer) insert() string {
+	table := w.pick(nastyTables...)
+	w.names = []string{"x"}
+	w.say("INSERT", "INTO", table, "AS", "x", "(", "id", ",", "n", ")")
+	switch w.Intn(4) {
+	case 0:
+		w.say("SELECT", "id", "+", "100", ",", "n", "FROM", w.pick(nastyTables...))
+	default:
+		w.say("VALUES")
+		for i := w.Intn(4); i >= 0; i-- {
+			w.say("(", w.pick("100", "200", "1", "id"), "+", fmt.Sprint(i), ",", w.pick("DEFAULT", "1", "7"), ")")
+			if i > 0 {
+				w.say(",")
+			}
+		}
+	}
+	w.say(w.pick("", "", "ON CONFLICT DO NOTHING", "ON CONFLICT (id) DO UPDATE SET n = excluded.n + x.n"))
+	w.returning()
+	return w.text()
+}
+
+func (w *writer) change() string {
+	update := w.once(2)
+	if update {
+		w.say("UPDATE")
+	} else {
+		w.say("DELETE", "FROM")
+	}
+	w.table()
+	target := w.names[0]
+	if update {
+		w.say("SET", "n", "=", w.pick("n + 1", "DEFAULT", "5", target+".id"))
+	}
+	if w.once(3) {
+		if w.say("USING"); update {
+			w.words[len(w.words)-1] = "FROM"
+		}
+		w.table()
+	}
+	w.say("WHERE")
+	switch w.Intn(3) {
+	case 0:
+		w.say(target, ".", "id", "=", w.number())
+	case 1:
+		w.say(target, ".", "id", "=", w.number(), "AND", target, ".", "n", "=", w.number())
+	default:
+		w.condition(w.Intn(3))
+	}
+	w.returning()
+	return w.text()
+}

@@ -1,0 +1,235 @@
+package plan
+
+import (
+	"strings"
+
+	"zanteyard/record"
+)
+
+// plan says what a statement is, and sees through those that read or write rows.
+func (m *maker) plan(stmt statement) *Plan {
+	name, body := only(stmt.tree)
+	p := &Plan{Shape: m.shape}
+	switch name {
+	case "SelectStmt", "InsertStmt", "UpdateStmt", "DeleteStmt", "MergeStmt":
+		return m.query(stmt, name, body, stmt.from)
+	case "DeclareCursorStmt":
+		return m.wrapped(p, stmt, Declare, body.text("portalname"), body, "FOR")
+	case "PrepareStmt":
+		return m.wrapped(p, stmt, Prepare, body.text("name"), body, "AS")
+	case "TransactionStmt":
+		transaction(p, body)
+	case "VariableSetStmt":
+		setting(p, body)
+	case "DiscardStmt":
+		switch body.text("target") {
+		case "DISCARD_ALL":
+			p.Kind, p.ChangesNames = DiscardAll, true
+		case "DISCARD_TEMP":
+			p.Kind, p.ChangesNames = Definition, true
+		}
+	case "DeallocateStmt":
+		p.Kind, p.Name = Deallocate, body.text("name")
+		if p.Name == "" {
+			p.Kind = DiscardAll
+		}
+	case "FetchStmt":
+		p.Kind, p.Name = Fetch, body.text("portalname")
+	case "ClosePortalStmt":
+		p.Kind, p.Name = CloseCursor, body.text("portalname")
+		p.All = p.Name == ""
+	case "ExecuteStmt":
+		p.Kind, p.Name = Execute, body.text("name")
+		m.calls(p, body)
+	case "CopyStmt":
+		m.copies(p, body)
+	default:
+		m.other(p, name, body)
+	}
+	return p
+}
+
+// other is for statements that the proxy never changes.
+func (m *maker) other(p *Plan, name string, body node) {
+	switch name {
+	case "VariableShowStmt", "LockStmt", "NotifyStmt", "ListenStmt", "UnlistenStmt", "CheckPointStmt", "VacuumStmt",
+		"ConstraintsSetStmt", "ClusterStmt", "ReindexStmt":
+	case "ExplainStmt":
+		m.explain(p, body)
+	case "TruncateStmt":
+		p.Kind, p.MayWriteUnseen = Write, true
+	case "CallStmt":
+		p.MayWriteUnseen = true
+		p.leaveOut("a procedure")
+		m.calls(p, node{"FuncCall": body["funccall"]})
+	case "DoStmt":
+		p.MayWriteUnseen, p.ChangesNames = true, true
+		p.leaveOut("DO")
+	default:
+		p.Kind, p.MayWriteUnseen, p.ChangesNames = Definition, true, true
+		if name == "CreateTableAsStmt" {
+			p.leaveOut("a table made of a query")
+		}
+	}
+}
+
+// explain runs its query if it is asked to analyze it.
+func (m *maker) explain(p *Plan, body node) {
+	analyze := false
+	for _, option := range body.list("options") {
+		_, o := only(option)
+		analyze = analyze || strings.EqualFold(o.text("defname"), "analyze")
+	}
+	if !analyze {
+		return
+	}
+	p.leaveOut("EXPLAIN ANALYZE")
+	if kind, _ := only(body["query"]); kind != "SelectStmt" {
+		p.MayWriteUnseen = true
+	}
+	m.calls(p, body)
+	p.MayWriteUnseen = p.MayWriteUnseen || writesWithin(body)
+}
+
+func (m *maker) copies(p *Plan, body node) {
+	p.Kind = Copy
+	if body.flag("is_from") {
+		p.MayWriteUnseen = true
+		return
+	}
+	p.leaveOut("COPY TO")
+	m.calls(p, body)
+	p.MayWriteUnseen = p.MayWriteUnseen || writesWithin(body)
+}
+
+func transaction(p *Plan, body node) {
+	p.Chain = body.flag("chain")
+	switch body.text("kind") {
+	case "TRANS_STMT_BEGIN", "TRANS_STMT_START":
+		p.Kind, p.Level = Begin, levelOf(body.list("options"))
+	case "TRANS_STMT_COMMIT":
+		p.Kind = Commit
+	case "TRANS_STMT_ROLLBACK":
+		p.Kind = Rollback
+	case "TRANS_STMT_PREPARE":
+		p.Kind = PrepareTransaction // whose name is a constant, which isn't the plan's
+	case "TRANS_STMT_SAVEPOINT":
+		p.Kind, p.Name = Savepoint, body.text("savepoint_name")
+	case "TRANS_STMT_ROLLBACK_TO":
+		p.Kind, p.Name = RollbackTo, body.text("savepoint_name")
+	case "TRANS_STMT_RELEASE":
+		p.Kind, p.Name = Release, body.text("savepoint_name")
+	}
+}
+
+func levelOf(options []any) record.Level {
+	for _, option := range options {
+		_, o := only(option)
+		if o.text("defname") != "transaction_isolation" {
+			continue
+		}
+		switch o.as("arg", "A_Const").node("sval").text("sval") {
+		case "serializable":
+			return record.Serializable
+		case "repeatable read":
+			return record.RepeatableRead
+		case "read committed", "read uncommitted":
+			return record.ReadCommitted
+		}
+	}
+	return record.UnknownLevel
+}
+
+// setting is SET and RESET. What names and rights depend on is search_path and the role.
+func setting(p *Plan, body node) {
+	switch name := strings.ToLower(body.text("name")); name {
+	case "transaction":
+		p.Level = levelOf(body.list("args"))
+	case "search_path", "role", "session_authorization":
+		p.Kind, p.ChangesNames = Set, true
+	default:
+		if body.text("kind") == "VAR_RESET_ALL" {
+			p.Kind, p.ChangesNames = Set, true
+		}
+	}
+}
+
+// wrapped is a statement around a query, which begins behind a keyword.
+func (m *maker) wrapped(p *Plan, stmt statement, kind Kind, name string, body node, keyword string) *Plan {
+	p.Kind, p.Name = kind, name
+	inner, query := only(body["query"])
+	start := -1
+	for i := stmt.from; i < stmt.to; i++ {
+		if m.depths[i] == 0 && m.is(i, keyword) {
+			start = i + 1
+			break
+		}
+	}
+	if start < 0 || query == nil {
+		return p
+	}
+	switch inner {
+	case "SelectStmt", "InsertStmt", "UpdateStmt", "DeleteStmt", "MergeStmt":
+	default:
+		p.Inner = &Plan{Shape: m.shape}
+		m.other(p.Inner, inner, query)
+		return p
+	}
+	p.Inner = m.query(stmt, inner, query, start)
+	p.insertion, p.Inner.insertion = p.Inner.insertion, insertion{}
+	p.positions, p.Inner.positions = p.Inner.positions, nil
+	p.sample, p.relations = p.Inner.sample, p.Inner.relations
+	p.Inner.sample, p.Inner.relations = "", nil
+	p.Inner.Asked, p.Inner.asked = false, nil // its parameters come later
+	if p.Inner.misplaced != nil {
+		p.misplaced = &Plan{Kind: p.Kind, Shape: p.Shape, Name: p.Name, Inner: p.Inner.misplaced}
+		p.Inner.misplaced = nil
+	}
+	return p
+}
+
+// writesWithin says whether something in a statement writes: a part of WITH.
+func writesWithin(value any) bool {
+	found := false
+	visit(value, func(kind string, _ node) bool {
+		switch kind {
+		case "InsertStmt", "UpdateStmt", "DeleteStmt", "MergeStmt":
+			found = true
+		}
+		return !found
+	})
+	return found
+}
+
+// calls looks at what a statement's functions and operators may do.
+func (m *maker) calls(p *Plan, value any) {
+	visit(value, func(kind string, body node) bool {
+		switch kind {
+		case "FuncCall":
+			name := names(body.list("funcname"))
+			schema := ""
+			if len(name) > 1 {
+				schema = name[len(name)-2]
+			}
+			if len(name) == 0 {
+				break
+			}
+			f := m.catalog.Function(schema, name[len(name)-1])
+			if f.Reads {
+				p.leaveOut("what a function reads")
+			}
+			p.MayWriteUnseen = p.MayWriteUnseen || f.Writes
+			p.ChangesNames = p.ChangesNames || f.Names
+			if name[len(name)-1] == "set_config" && p.Kind == Select {
+				p.Kind = Set
+			}
+		case "A_Expr":
+			name := names(body.list("name"))
+			if len(name) > 0 && !m.catalog.PureOperator(name[len(name)-1]) {
+				p.leaveOut("what a function reads")
+				p.MayWriteUnseen = true
+			}
+		}
+		return true
+	})
+}

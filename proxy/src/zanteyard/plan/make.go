@@ -1,0 +1,184 @@
+package plan
+
+import (
+	"sort"
+	"strings"
+
+	"zanteyard/catalog"
+)
+
+// maker makes the plan of one statement. It parses the statement without its comments and without what the scanner left
+// out of lists, one token a line, so that a place in this text says which token it is.
+type maker struct {
+	catalog *catalog.Catalog
+	text    string
+	tokens  []token
+	joined  string
+	offsets []int // of the tokens in the joined text
+	depths  []int // in how many parentheses each stands; a parenthesis itself stands outside
+	shape   string
+	many    bool // VALUES has more rows than are returned
+}
+
+func newMaker(c *catalog.Catalog, s *scanner) *maker {
+	m := &maker{catalog: c, text: s.text, tokens: append([]token(nil), s.tokens...), many: s.values.many}
+	var joined strings.Builder
+	depth := 0
+	for i := range m.tokens {
+		word := m.word(i)
+		if word == ")" || word == "]" {
+			depth--
+		}
+		m.depths = append(m.depths, depth)
+		if word == "(" || word == "[" {
+			depth++
+		}
+		m.offsets = append(m.offsets, joined.Len())
+		joined.WriteString(word)
+		joined.WriteByte('\n')
+	}
+	m.joined = joined.String()
+	m.shape = m.shorten()
+	return m
+}
+
+func (m *maker) word(i int) string { return m.text[m.tokens[i].start:m.tokens[i].end] }
+
+// is says whether a token is this keyword.
+func (m *maker) is(i int, keyword string) bool {
+	return i >= 0 && i < len(m.tokens) && m.tokens[i].kind == wordToken && strings.EqualFold(m.word(i), keyword)
+}
+
+// tokenAt gives the token that begins at a place of the joined text, -1 where none does.
+func (m *maker) tokenAt(location int) int {
+	i := sort.SearchInts(m.offsets, location)
+	if i < len(m.offsets) && m.offsets[i] == location {
+		return i
+	}
+	return -1
+}
+
+// statement is a parsed statement with the tokens that are its own, without a semicolon.
+type statement struct {
+	tree     node
+	from, to int
+}
+
+func (m *maker) parse() ([]statement, error) {
+	stmts, err := parse(m.joined)
+	if err != nil {
+		return nil, err
+	}
+	all := make([]statement, len(stmts))
+	for i, stmt := range stmts {
+		location, length := stmt.number("stmt_location"), stmt.number("stmt_len")
+		if length == 0 {
+			length = len(m.joined) - location
+		}
+		all[i] = statement{
+			tree: stmt.node("stmt"),
+			from: sort.SearchInts(m.offsets, location),
+			to:   sort.SearchInts(m.offsets, location+length),
+		}
+	}
+	return all, nil
+}
+
+// make plans a text that the cache doesn't know, from the scanner's tokens.
+func (c *Cache) make(state *cached, s *scanner) *Plan {
+	m := newMaker(state.catalog, s)
+	stmts, err := m.parse()
+	var p *Plan
+	switch {
+	case err != nil:
+		p = &Plan{Kind: Other, Shape: m.shape, Unknown: true, MayWriteUnseen: true, ChangesNames: true}
+		p.leaveOut("it couldn't be parsed")
+	case len(stmts) == 0:
+		p = &Plan{Kind: Empty}
+	case len(stmts) > 1:
+		p = c.several(state, m, stmts)
+	default:
+		p = m.plan(stmts[0])
+	}
+	p.stamp(state.generation)
+	return p
+}
+
+func (p *Plan) stamp(generation uint64) {
+	p.Generation = generation
+	for _, part := range []*Plan{p.Inner, p.misplaced} {
+		if part != nil {
+			part.stamp(generation)
+		}
+	}
+}
+
+// unknownPlan is for texts that aren't parsed at all.
+func unknownPlan(generation uint64) *Plan {
+	p := &Plan{
+		Shape: "(a very long or unfinished text)", Generation: generation,
+		Unknown: true, MayWriteUnseen: true, ChangesNames: true,
+	}
+	p.leaveOut("a very long or unfinished text")
+	return p
+}
+
+// several plans each statement of a text by itself, so that it is known where it comes alone, too.
+func (c *Cache) several(state *cached, m *maker, stmts []statement) *Plan {
+	p := &Plan{Kind: Several, Shape: m.shape}
+	for _, stmt := range stmts {
+		from, to := m.tokens[stmt.from].start, m.tokens[stmt.to-1].last
+		part, _ := c.lookUp(state, m.text[from:to])
+		p.Parts = append(p.Parts, part)
+		p.ranges = append(p.ranges, tokenRange{stmt.from, stmt.to})
+		p.MayWriteUnseen = p.MayWriteUnseen || part.MayWriteUnseen
+		p.ChangesNames = p.ChangesNames || part.ChangesNames
+	}
+	return p
+}
+
+// parts plans each statement of a text of several statements.
+func (c *Cache) parts(state *cached, p *Plan, text string, tokens []token) []Part {
+	parts := make([]Part, len(p.ranges))
+	for i, r := range p.ranges {
+		part := Part{From: int(tokens[r.from].start), To: int(tokens[r.to-1].last)}
+		part.Plan, part.Tokens = c.lookUp(state, text[part.From:part.To])
+		parts[i] = part
+	}
+	return parts
+}
+
+// shorten writes the statement as people read it, without constants, and not longer than a line or two.
+func (m *maker) shorten() string {
+	const most = 200
+	var out strings.Builder
+	glued := true
+	for i, t := range m.tokens {
+		word := m.word(i)
+		if t.kind == stringToken || t.kind == numberToken {
+			word = "?"
+		}
+		closes := t.kind == symbolToken && strings.Contains(",);].::", word)
+		called := word == "(" && i > 0 && m.tokens[i-1].kind == wordToken && !spaced(m.word(i-1))
+		if !glued && !closes && !called {
+			out.WriteByte(' ')
+		}
+		out.WriteString(word)
+		glued = t.kind == symbolToken && strings.Contains("([.::", word)
+		if out.Len() > most {
+			cut := strings.ToValidUTF8(out.String()[:most], "")
+			return cut + " .."
+		}
+	}
+	return out.String()
+}
+
+// spaced names the keywords that a parenthesis behind stands apart from.
+func spaced(word string) bool {
+	switch strings.ToLower(word) {
+	case "in", "values", "as", "and", "or", "not", "where", "from", "join", "on", "using", "select", "exists", "any",
+		"all", "some", "over", "returning", "set", "when", "then", "else", "with", "by", "limit", "offset", "array":
+		return true
+	}
+	return false
+}

@@ -1,0 +1,149 @@
+package plan
+
+/*
+#cgo LDFLAGS: -lpg_query
+#include <stdlib.h>
+#include <pg_query.h>
+*/
+import "C"
+
+import (
+	"encoding/json"
+	"errors"
+	"fmt"
+	"unsafe"
+)
+
+// node is a node of PostgreSQL's parse tree: its fields by name, as pg_query.proto lists them. A field that has the value
+// zero isn't there.
+type node map[string]any
+
+// parse gives the statements of a text.
+func parse(text string) ([]node, error) {
+	c := C.CString(text)
+	defer C.free(unsafe.Pointer(c))
+	result := C.pg_query_parse(c)
+	defer C.pg_query_free_parse_result(result)
+	if result.error != nil {
+		return nil, errors.New(C.GoString(result.error.message))
+	}
+	var tree struct{ Stmts []node }
+	if err := json.Unmarshal([]byte(C.GoString(result.parse_tree)), &tree); err != nil {
+		return nil, fmt.Errorf("reading the parse tree: %w", err)
+	}
+	return tree.Stmts, nil
+}
+
+// asNode takes a value as encoding/json gives it.
+func asNode(value any) node {
+	switch v := value.(type) {
+	case node:
+		return v
+	case map[string]any:
+		return v
+	}
+	return nil
+}
+
+// only opens a node that has one field, which says what it is: {"RangeVar": {..}}.
+func only(value any) (string, node) {
+	for name, body := range asNode(value) {
+		return name, asNode(body)
+	}
+	return "", nil
+}
+
+func (n node) node(name string) node  { return asNode(n[name]) }
+func (n node) list(name string) []any { l, _ := n[name].([]any); return l }
+func (n node) text(name string) string {
+	s, _ := n[name].(string)
+	return s
+}
+func (n node) flag(name string) bool { b, _ := n[name].(bool); return b }
+func (n node) number(name string) int {
+	f, _ := n[name].(float64)
+	return int(f)
+}
+func (n node) has(name string) bool { _, ok := n[name]; return ok }
+
+// as gives what a field holds, if it is a node of the kind.
+func (n node) as(field, kind string) node {
+	name, body := only(n[field])
+	if name != kind {
+		return nil
+	}
+	return body
+}
+
+// names are the strings of a list of String nodes; a star is "*".
+func names(list []any) []string {
+	all := make([]string, 0, len(list))
+	for _, item := range list {
+		switch kind, body := only(item); kind {
+		case "String":
+			all = append(all, body.text("sval"))
+		case "A_Star":
+			all = append(all, "*")
+		}
+	}
+	return all
+}
+
+// visit calls f with each node under a value, from above; it goes below a node where f says so.
+func visit(value any, f func(kind string, body node) bool) {
+	switch v := value.(type) {
+	case node:
+		visit(map[string]any(v), f)
+	case map[string]any:
+		for name, below := range v {
+			if body, ok := below.(map[string]any); ok && name[0] >= 'A' && name[0] <= 'Z' && !f(name, body) {
+				continue
+			}
+			visit(below, f)
+		}
+	case []any:
+		for _, below := range v {
+			visit(below, f)
+		}
+	}
+}
+
+// alike compares two trees, apart from where in the text things stand.
+func alike(one, other any) bool {
+	switch a := one.(type) {
+	case node:
+		return alike(map[string]any(a), other)
+	case map[string]any:
+		b := asNode(other)
+		if b == nil {
+			return false
+		}
+		for name, value := range a {
+			if !isPlace(name) && !alike(value, b[name]) {
+				return false
+			}
+		}
+		for name := range b {
+			if _, ok := a[name]; !ok && !isPlace(name) {
+				return false
+			}
+		}
+		return true
+	case []any:
+		b, ok := other.([]any)
+		if !ok || len(a) != len(b) {
+			return false
+		}
+		for i := range a {
+			if !alike(a[i], b[i]) {
+				return false
+			}
+		}
+		return true
+	}
+	return one == other
+}
+
+func isPlace(name string) bool {
+	return name == "location" || name == "stmt_location" || name == "stmt_len"
+}

@@ -1,0 +1,198 @@
+package plan
+
+import "zanteyard/catalog"
+
+// What a statement mentions of its tables decides whether the server may leave a table out, or an index may stand for it.
+// Then hidden columns would make the statement slower, and the table isn't seen.
+
+// reference is a column that a statement mentions, and the join whose condition it stands in, 0 where it stands elsewhere.
+type reference struct {
+	fields []string
+	join   int
+}
+
+// inner is what a subquery's own FROM clause has: names that aren't those of the statement around it.
+type inner struct {
+	names  map[string]bool
+	tables []*catalog.Table
+}
+
+// has says whether a column is one of a subquery's own.
+func (in *inner) has(fields []string) bool {
+	if in == nil || len(fields) == 0 {
+		return false
+	}
+	if len(fields) > 1 {
+		return in.names[fields[len(fields)-2]]
+	}
+	for _, t := range in.tables {
+		if _, ok := t.Column(fields[0]); ok {
+			return true
+		}
+	}
+	return fields[0] == "*" || in.names[fields[0]]
+}
+
+// collect notes the columns that a part of a statement mentions.
+func (f *fromClause) collect(value any, join int) { f.collectWithin(value, join, nil) }
+
+func (f *fromClause) collectWithin(value any, join int, in *inner) {
+	switch v := value.(type) {
+	case node:
+		f.collectWithin(map[string]any(v), join, in)
+	case []any:
+		for _, below := range v {
+			f.collectWithin(below, join, in)
+		}
+	case map[string]any:
+		for name, below := range v {
+			switch body := asNode(below); {
+			case name == "ColumnRef":
+				if fields := names(body.list("fields")); !in.has(fields) {
+					f.refs = append(f.refs, reference{fields: fields, join: join})
+				}
+			case name == "SelectStmt" && body != nil:
+				f.collectWithin(below, join, f.inside(body, in))
+			default:
+				f.collectWithin(below, join, in)
+			}
+		}
+	}
+}
+
+// inside adds the tables of a subquery to those of the subqueries around it.
+func (f *fromClause) inside(query node, around *inner) *inner {
+	in := &inner{names: map[string]bool{}}
+	if around != nil {
+		in.tables = append(in.tables, around.tables...)
+		for name := range around.names {
+			in.names[name] = true
+		}
+	}
+	visit(query["fromClause"], func(kind string, body node) bool {
+		if name := body.node("alias").text("aliasname"); name != "" {
+			in.names[name] = true
+		} else if kind == "RangeVar" {
+			in.names[body.text("relname")] = true
+		}
+		if t, ok := f.maker.catalog.Find(body.text("schemaname"), body.text("relname")); ok && kind == "RangeVar" {
+			in.tables = append(in.tables, t)
+		}
+		return true
+	})
+	return in
+}
+
+// removable says that nothing but its own join's condition mentions a table on the inner side of an outer join: the
+// server doesn't read it if there is at most one such row.
+func (f *fromClause) removable(it *item) bool {
+	if it.optional == 0 || f.locks {
+		return false
+	}
+	for _, ref := range f.refs {
+		if _, all, hit := f.column(ref, it); ref.join != it.optional && (all || hit) {
+			return false
+		}
+	}
+	return true
+}
+
+// fewRows is how many rows of a table are read by a hidden xmin though an index has all that is asked for.
+const fewRows = 10
+
+// indexOnly says that all that is read of a table is in one index: the server may answer without the table, which a
+// hidden xmin would forbid. Where conditions leave a few rows these are read nevertheless: that costs as many pages.
+func (f *fromClause) indexOnly(it *item) bool {
+	if f.locks {
+		return false
+	}
+	columns := map[int16]bool{}
+	for _, other := range f.found {
+		if (it.natural || other.natural) && other != it {
+			common(columns, it.table, other.table)
+		}
+	}
+	for _, ref := range f.refs {
+		number, all, hit := f.column(ref, it)
+		switch {
+		case all && ref.fields[len(ref.fields)-1] == "*":
+			common(columns, it.table, it.table)
+		case all:
+			return false
+		case hit:
+			columns[number] = true
+		}
+	}
+	return it.table.Covered(columns) && !f.few(it)
+}
+
+// common adds the columns of a table that have a name which another one has, too: NATURAL compares these.
+func common(columns map[int16]bool, of, with *catalog.Table) {
+	for _, column := range of.Columns {
+		if _, ok := with.Column(column.Name); ok {
+			columns[column.Number] = true
+		}
+	}
+}
+
+// few says that conditions compare each of a table's key columns with a constant or parameter, or a column that has few
+// rows of one value.
+func (f *fromClause) few(it *item) bool {
+	sole := f.items == 1
+	if key, _ := wholeKey(f.where, it, sole); key != nil {
+		return true
+	}
+	for _, part := range conjuncts(f.where) {
+		name, _ := equality(part, it, sole)
+		if column, ok := it.table.Column(name); ok && column.PerValue > 0 && column.PerValue <= fewRows {
+			return true
+		}
+	}
+	return false
+}
+
+// width says how many columns a target list has at least: a star is counted as the columns of one table.
+func (f *fromClause) width(targets []any) int {
+	columns := 0
+	for _, target := range targets {
+		_, body := only(target)
+		fields := names(body.as("val", "ColumnRef").list("fields"))
+		star := 1
+		if len(fields) > 0 && fields[len(fields)-1] == "*" {
+			for _, it := range f.found {
+				if n := len(it.table.Columns); n > star && (len(fields) == 1 || fields[len(fields)-2] == it.name) {
+					star = n
+				}
+			}
+		}
+		columns += star
+	}
+	return columns
+}
+
+// column says which of a table's columns a reference may mean, or that it means all of them or a system column.
+func (f *fromClause) column(r reference, it *item) (number int16, all, hit bool) {
+	if len(r.fields) == 0 {
+		return 0, false, false
+	}
+	last := r.fields[len(r.fields)-1]
+	if len(r.fields) > 1 && r.fields[len(r.fields)-2] != it.name {
+		return 0, false, false
+	}
+	if column, ok := it.table.Column(last); ok {
+		return column.Number, false, true
+	}
+	switch last {
+	case "*", "ctid", "xmin", "xmax", "cmin", "cmax", "tableoid":
+		return 0, true, true
+	}
+	if len(r.fields) > 1 || last != it.name {
+		return 0, false, false
+	}
+	for _, other := range f.found {
+		if _, ok := other.table.Column(last); ok { // a column goes before a whole row
+			return 0, false, false
+		}
+	}
+	return 0, true, false
+}

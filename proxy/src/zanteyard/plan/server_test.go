@@ -1,0 +1,82 @@
+package plan
+
+import (
+	"context"
+	"errors"
+	"fmt"
+	"os"
+	"testing"
+
+	"github.com/jackc/pgconn"
+
+	"zanteyard/catalog"
+	"zanteyard/pgtest"
+)
+
+// server is the one that this package's tests share; nil where PostgreSQL isn't installed.
+var server *pgtest.Server
+
+func TestMain(m *testing.M) {
+	started, err := pgtest.Start()
+	if err != nil && !errors.Is(err, pgtest.ErrMissing) {
+		fmt.Fprintln(os.Stderr, err)
+		os.Exit(1)
+	}
+	server = started
+	status := m.Run()
+	if server != nil {
+		server.Stop()
+	}
+	os.Exit(status)
+}
+
+// connect gives a connection to a new database with a schema.
+func connect(t testing.TB, database, schema string) *pgconn.PgConn {
+	t.Helper()
+	if server == nil {
+		t.Skip(pgtest.ErrMissing)
+	}
+	ctx := context.Background()
+	first, err := server.Connect(ctx)
+	if err != nil {
+		t.Fatal(err)
+	}
+	run(t, first, "CREATE DATABASE "+database)
+	first.Close(ctx)
+	connection := again(t, "postgres", database)
+	run(t, connection, schema)
+	return connection
+}
+
+// again gives one more connection to a database.
+func again(t testing.TB, user, database string) *pgconn.PgConn {
+	t.Helper()
+	ctx := context.Background()
+	connection, err := pgconn.Connect(ctx, server.DSN(user, database))
+	if err != nil {
+		t.Fatal(err)
+	}
+	t.Cleanup(func() { connection.Close(ctx) })
+	return connection
+}
+
+func run(t testing.TB, connection *pgconn.PgConn, sql string) []*pgconn.Result {
+	t.Helper()
+	results, err := connection.Exec(context.Background(), sql).ReadAll()
+	if err != nil {
+		t.Fatalf("%s: %v", sql, err)
+	}
+	return results
+}
+
+func load(t testing.TB, connection *pgconn.PgConn) *catalog.Catalog {
+	t.Helper()
+	ctx := context.Background()
+	c, err := catalog.Load(ctx, pgtest.Query(ctx, connection))
+	if err != nil {
+		t.Fatal(err)
+	}
+	return c
+}
+
+func ctx() context.Context { return context.Background() }

@@ -1,0 +1,123 @@
+package plan
+
+import "strings"
+
+// Writes are asked for the number of their transaction by RETURNING, where that returns few rows or the client asked for
+// rows itself. A statement that may write any number of rows is asked for it at COMMIT.
+
+const numberColumn = "pg_catalog.pg_current_xact_id_if_assigned() AS " + alias
+
+func (m *maker) inserts(p *Plan, body node, end int) {
+	target := m.target(p, body.node("relation"))
+	selected := body.node("selectStmt").node("SelectStmt")
+	if selected.has("fromClause") || selected.has("op") && selected.text("op") != "SETOP_NONE" {
+		p.leaveOut("what INSERT selects")
+	}
+	conflict := body.node("onConflictClause")
+	if conflict != nil && (conflict.text("action") == "ONCONFLICT_NOTHING" || conflict.has("whereClause")) {
+		p.leaveOut("a row that is in conflict and isn't written")
+	}
+	if target == nil {
+		return
+	}
+	one := !selected.has("fromClause") && !selected.has("valuesLists") && !m.setReturning(selected["targetList"]) &&
+		(!selected.has("op") || selected.text("op") == "SETOP_NONE")
+	few := one || selected.has("valuesLists") && !m.many
+	if !m.mayReturn(p, body, target, few) {
+		return
+	}
+	m.returns(p, body, target, !target.table.Partitioned(), nil, "", end)
+}
+
+// changes plans UPDATE and DELETE, whose other tables stand in a field.
+func (m *maker) changes(p *Plan, body node, end int, others string) {
+	target := m.target(p, body.node("relation"))
+	if target == nil {
+		if body.has(others) {
+			p.leaveOut("tables of an UPDATE or DELETE that isn't changed")
+		}
+		return
+	}
+	key, _ := wholeKey(body["whereClause"], target, !body.has(others))
+	current, _ := only(body["whereClause"])
+	if !m.mayReturn(p, body, target, key != nil || current == "CurrentOfExpr") {
+		if body.has(others) {
+			p.leaveOut("tables of an UPDATE or DELETE that isn't changed")
+		}
+		return
+	}
+	f := &fromClause{maker: m, plan: p, with: withNames(body), taken: target.name}
+	f.read(body, others)
+	groups, found := f.groups()
+	m.returns(p, body, target, others == "fromClause" && !target.table.Partitioned(), found, groups, end)
+}
+
+// target finds the table that is written to. It is nil where nothing can be asked of it.
+func (m *maker) target(p *Plan, r node) *item {
+	t, ok := m.catalog.Find(r.text("schemaname"), r.text("relname"))
+	reason := ""
+	switch {
+	case !ok:
+		reason = "the table isn't known"
+	case t.Hidden != "":
+		reason = t.Hidden
+	}
+	if reason != "" {
+		p.unseen(reason, true)
+	}
+	if reason != "" || t.Rules || r.has("catalogname") {
+		p.MayWriteUnseen = true
+		return nil
+	}
+	return newItem(r, t, place{}, false)
+}
+
+// mayReturn says whether RETURNING may be added, or added to. With row security it isn't added: it would make the server
+// look at more policies.
+func (m *maker) mayReturn(p *Plan, body node, target *item, few bool) bool {
+	own := body.has("returningList")
+	if target.table.Triggers {
+		p.MayWriteUnseen = true // also where no row is returned
+	}
+	if !own && (!few || target.table.RowSecurity) {
+		p.MayWriteUnseen = true
+		return false
+	}
+	return true
+}
+
+// returns adds what RETURNING is to tell: the number, the version that was written, and the rows that were read: those of
+// other tables, and the one that a DELETE took away.
+func (m *maker) returns(p *Plan, body node, target *item, version bool, found []*item, groups string, end int) {
+	var out strings.Builder
+	p.AddsReturning = !body.has("returningList")
+	if p.AddsReturning {
+		out.WriteString(" RETURNING ")
+	} else {
+		out.WriteString(", ")
+	}
+	out.WriteString(numberColumn)
+	p.TellsNumber, p.TellsVersion = true, version
+	if version {
+		out.WriteString(", " + quote(target.name) + ".xmin AS " + alias)
+	}
+	deleted := !version && m.deletes(body)
+	wanted := relation{name: target.written, oid: target.table.OID}
+	if deleted {
+		target.write(&out)
+		p.Sources = append(p.Sources, target.source())
+		wanted.columns = keyNumbers(target.table)
+	}
+	p.relations = append(p.relations, wanted)
+	for _, it := range found {
+		p.Sources = append(p.Sources, it.source())
+		p.relations = append(p.relations, it.relation())
+	}
+	out.WriteString(groups)
+	p.insertion = insertion{text: out.String(), token: end - 1, behind: true}
+}
+
+// deletes tells DELETE from the others: it has no list of columns, values or rows.
+func (m *maker) deletes(body node) bool {
+	return !body.has("targetList") && !body.has("selectStmt") && !body.has("override") && !body.has("cols")
+}

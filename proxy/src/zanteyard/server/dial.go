@@ -1,0 +1,90 @@
+package server
+
+import (
+	"context"
+	"crypto/tls"
+	"encoding/binary"
+	"errors"
+	"fmt"
+	"io"
+	"net"
+	"time"
+
+	"github.com/jackc/pgconn"
+)
+
+// target is one way to the server: libpq's sslmode gives one or two of them.
+type target struct {
+	network, address string
+	tls              *tls.Config // nil: none
+}
+
+// targets are the ways to the server that a connection string describes, the preferred one first, as libpq has it: for
+// sslmode=prefer, which is the default, TLS without a look at the certificate, then none; for allow the other way
+// round.
+func targets(config *pgconn.Config) []target {
+	network, address := pgconn.NetworkAddress(config.Host, config.Port)
+	all := []target{{network, address, config.TLSConfig}}
+	for _, f := range config.Fallbacks {
+		network, address := pgconn.NetworkAddress(f.Host, f.Port)
+		all = append(all, target{network, address, f.TLSConfig})
+	}
+	return all
+}
+
+var errNoTLS = errors.New("the server has no TLS")
+
+// dial connects to the server in the first way that works. The startup message isn't sent.
+func (s *Server) dial(ctx context.Context) (net.Conn, error) {
+	var first error
+	for _, t := range s.targets {
+		c, err := t.dial(ctx)
+		if err == nil {
+			return c, nil
+		}
+		if first == nil {
+			first = err
+		}
+	}
+	return nil, first
+}
+
+func (t target) dial(ctx context.Context) (net.Conn, error) {
+	var dialer net.Dialer
+	c, err := dialer.DialContext(ctx, t.network, t.address)
+	if err != nil {
+		return nil, err
+	}
+	if t.tls == nil || t.network == "unix" {
+		return c, nil
+	}
+	if deadline, ok := ctx.Deadline(); ok {
+		c.SetDeadline(deadline)
+	}
+	secure, err := t.secure(c)
+	if err != nil {
+		c.Close()
+		return nil, fmt.Errorf("TLS with the server at %s: %w", t.address, err)
+	}
+	c.SetDeadline(time.Time{})
+	return secure, nil
+}
+
+// secure asks the server for TLS. Exactly one byte answers: what came behind it in the clear would be somebody else's.
+func (t target) secure(c net.Conn) (net.Conn, error) {
+	var request [8]byte
+	binary.BigEndian.PutUint32(request[:], 8)
+	binary.BigEndian.PutUint32(request[4:], sslCode)
+	if _, err := c.Write(request[:]); err != nil {
+		return nil, err
+	}
+	var answer [1]byte
+	if _, err := io.ReadFull(c, answer[:]); err != nil {
+		return nil, err
+	}
+	if answer[0] != 'S' {
+		return nil, errNoTLS
+	}
+	secure := tls.Client(c, t.tls)
+	return secure, secure.Handshake()
+}

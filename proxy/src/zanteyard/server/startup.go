@@ -1,0 +1,127 @@
+package server
+
+import (
+	"bytes"
+	"crypto/tls"
+	"encoding/binary"
+	"errors"
+	"fmt"
+	"io"
+	"net"
+
+	"zanteyard/wire"
+)
+
+// The codes that stand where a startup message has the protocol's version.
+const (
+	cancelCode = 80877102
+	sslCode    = 80877103
+	gssCode    = 80877104
+)
+
+// longestStartup is PostgreSQL's own bound (MAX_STARTUP_PACKET_LENGTH).
+const longestStartup = 10000
+
+var errStartup = errors.New("server: no startup message of PostgreSQL's protocol")
+
+// packet is a message without a type, as a connection begins with: a startup message, or a request for something else.
+type packet []byte
+
+func (p packet) code() uint32 { return binary.BigEndian.Uint32(p[4:]) }
+
+// readPacket reads one, and no byte that comes behind it: what comes behind a request for TLS has to be part of that.
+func readPacket(from io.Reader) (packet, error) {
+	head := make([]byte, 8)
+	if _, err := io.ReadFull(from, head); err != nil {
+		return nil, err
+	}
+	n := int(binary.BigEndian.Uint32(head))
+	if n < 8 || n > longestStartup {
+		return nil, errStartup
+	}
+	p := append(head, make([]byte, n-8)...)
+	if _, err := io.ReadFull(from, p[8:]); err != nil {
+		return nil, err
+	}
+	return p, nil
+}
+
+// startup is what the proxy looks at of a startup message. The message itself is passed on as it is.
+type startup struct {
+	user, database, application string
+	replication                 bool
+}
+
+func (p packet) startup() startup {
+	var s startup
+	rest := []byte(p[8:])
+	for len(rest) > 0 && rest[0] != 0 {
+		name, next, ok := wire.Text(rest)
+		if !ok {
+			break
+		}
+		value, next, ok := wire.Text(next)
+		if !ok {
+			break
+		}
+		switch string(name) {
+		case "user":
+			s.user = string(value)
+		case "database":
+			s.database = string(value)
+		case "application_name":
+			s.application = string(value)
+		case "replication":
+			s.replication = !no(value)
+		}
+		rest = next
+	}
+	if s.database == "" {
+		s.database = s.user
+	}
+	return s
+}
+
+// no says that a setting is off.
+func no(value []byte) bool {
+	switch string(bytes.ToLower(value)) {
+	case "false", "off", "no", "0", "f", "n":
+		return true
+	}
+	return false
+}
+
+// greet answers what a client asks for before its startup message: TLS, which it gets if the proxy has a certificate,
+// and encryption by GSSAPI, which it doesn't get. It returns the first packet that is something else.
+func (s *Server) greet(client net.Conn) (net.Conn, packet, error) {
+	secure := false
+	for {
+		p, err := readPacket(client)
+		if err != nil {
+			return client, nil, err
+		}
+		switch p.code() {
+		case sslCode:
+			if s.options.ClientTLS == nil || secure {
+				if _, err := client.Write([]byte{'N'}); err != nil {
+					return client, nil, err
+				}
+				continue
+			}
+			if _, err := client.Write([]byte{'S'}); err != nil {
+				return client, nil, err
+			}
+			tlsClient := tls.Server(client, s.options.ClientTLS)
+			if err := tlsClient.Handshake(); err != nil {
+				return client, nil, fmt.Errorf("TLS with a client: %w", err)
+			}
+			client, secure = tlsClient, true
+		case gssCode:
+			if _, err := client.Write([]byte{'N'}); err != nil {
+				return client, nil, err
+			}
+		default:
+			return client, p, nil
+		}
+	}
+}

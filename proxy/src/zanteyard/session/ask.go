@@ -1,0 +1,99 @@
+package session
+
+import (
+	"encoding/hex"
+	"strconv"
+	"strings"
+
+	"zanteyard/plan"
+	"zanteyard/record"
+	"zanteyard/wire"
+)
+
+// ask puts the proxy's own question in front of a COMMIT (or PREPARE TRANSACTION): the transaction's number, if it may
+// have written and didn't tell it, and its snapshot, if a row wasn't there. It goes in the same write, so it costs no
+// round trip. It has a Sync of its own, since otherwise its error would have the server skip the COMMIT; that is only
+// possible in a block (T) and with nothing under way. Behind other messages of a pipeline it isn't asked.
+func (s *Session) ask(o *output, p *plan.Plan) {
+	if p.Kind != plan.Commit && p.Kind != plan.PrepareTransaction {
+		return
+	}
+	t := &s.tx
+	known := t.Number != 0 || !t.wrote && !t.MayHaveWritten
+	if t.asked || known && len(t.Absent) == 0 || s.status != 'T' || s.open || !s.queue.empty() {
+		return
+	}
+	if !s.trust.asks || s.trust.doubt {
+		s.trust.wanted = true
+		return
+	}
+	o.buf = append(append(o.own(), askRun...), syncMessage...)
+	s.queue.again(expectation{kind: askRow})
+	s.queue.push(expectation{kind: askEnd, message: 'S'})
+}
+
+// askFailed is called for an error in the question, as by a cancel request that the client meant for its COMMIT. The
+// transaction is aborted by it, and the server will answer the COMMIT with ROLLBACK, which many a driver takes for
+// success. So the client gets the error in place of that.
+func (s *Session) askFailed(m []byte) {
+	s.failure = append(s.failure[:0], m...)
+	s.trust.doubtful()
+}
+
+// settingOf is the level by the text of a setting.
+func settingOf(v []byte) record.Level { return levelNamed(string(v)) }
+
+// mentions says whether a text has a word, in letters of any case.
+func mentions(text, word string) bool {
+	return strings.Contains(strings.ToLower(text), word)
+}
+
+func twinName(n int) string { return prefix + strconv.Itoa(n) }
+
+const (
+	mostText      = 8 << 10
+	mostParameter = 256
+	mostAgain     = 64 << 10
+)
+
+// texts gives parameters as texts, long ones shortened. Binary ones whose type isn't a whole number are in hexadecimal.
+func texts(b *wire.Bind, types []byte) []string {
+	all := make([]string, len(b.Parameters))
+	for i, v := range b.Parameters {
+		isBinary := false
+		switch len(b.Formats) / 2 {
+		case 0:
+		case 1:
+			isBinary = b.Formats[1] == 1
+		default:
+			isBinary = 2*i+1 < len(b.Formats) && b.Formats[2*i+1] == 1
+		}
+		kind := 0
+		if len(types) >= 6+4*i {
+			kind = wire.Int32(types[2+4*i:])
+		}
+		all[i] = textOf(v, isBinary, kind)
+	}
+	return all
+}
+
+func textOf(v []byte, isBinary bool, kind int) string {
+	switch {
+	case v == nil:
+		return "NULL"
+	case isBinary && len(v) == 2 && (kind == 21 || kind == 0):
+		return strconv.Itoa(int(int16(wire.Int16(v))))
+	case isBinary && len(v) == 4 && (kind == 23 || kind == 0):
+		return strconv.Itoa(wire.Int32(v))
+	case isBinary && len(v) == 8 && (kind == 20 || kind == 0):
+		return strconv.FormatInt(int64(wire.Int32(v))<<32|int64(uint32(wire.Int32(v[4:]))), 10)
+	}
+	cut := v
+	if len(cut) > mostParameter {
+		cut = cut[:mostParameter]
+	}
+	if isBinary && kind != 25 && kind != 1043 {
+		return `\x` + hex.EncodeToString(cut)
+	}
+	return strings.ToValidUTF8(string(cut), "?")
+}

@@ -1,0 +1,395 @@
+package session
+
+import (
+	"zanteyard/plan"
+	"zanteyard/record"
+	"zanteyard/wire"
+)
+
+// fromClient takes whole messages of the client's, and says what is sent to the server. Called with writes and state
+// locked.
+func (s *Session) fromClient(o *output, batch []byte) []byte {
+	o.begin(batch)
+	for at := 0; at < len(batch); {
+		end := at + wire.Length(batch[at:])
+		m := batch[at:end]
+		if s.skipping && m[0] != 'S' {
+			o.pass(at, end)
+			at = end
+			continue
+		}
+		switch m[0] {
+		case 'Q':
+			s.query(o, m, at, end)
+		case 'P':
+			s.parse(o, m, at, end)
+		case 'B':
+			s.bind(o, m, at, end)
+		case 'D':
+			s.describe(o, m, at, end)
+		case 'E':
+			s.execute(o, m, at, end)
+		case 'C':
+			s.close(o, m, at, end)
+		case 'S':
+			o.pass(at, end)
+			s.queue.push(expectation{message: 'S'})
+			s.open, s.skipping = false, false
+		case 'F':
+			o.pass(at, end)
+			s.trust.doubtful()
+			s.begin()
+			s.queue.push(expectation{message: 'F', on: opaque})
+		case 'c', 'f':
+			o.pass(at, end)
+			if !s.queue.empty() {
+				s.queue.push(expectation{message: 'c'})
+			}
+		default: // passwords, data of a COPY, Flush, Terminate
+			o.pass(at, end)
+		}
+		at = end
+	}
+	return o.all()
+}
+
+// opaque stands for what wasn't looked at.
+var opaque = &statement{}
+
+// look makes a statement of a text.
+func (s *Session) look(name string, text []byte) *statement {
+	if !s.looking() {
+		return &statement{name: name}
+	}
+	st := &statement{name: name, text: string(text), looked: s.trust.plans}
+	st.plan, st.tokens = s.options.Plans.PlanIn(s.trust.path, st.text)
+	if st.plan != nil {
+		st.use = s.trust.of(st.plan)
+	}
+	return st
+}
+
+// looking says whether statements are looked at.
+func (s *Session) looking() bool {
+	return s.plain && s.options.Auditing()
+}
+
+// fresh renews what is known of a statement's plan if the catalog or the search path has changed since.
+func (s *Session) fresh(st *statement) {
+	if st.text == "" || !s.looking() {
+		return
+	}
+	st.looked = s.trust.plans
+	p, tokens := s.options.Plans.PlanIn(s.trust.path, st.text)
+	if p == st.plan {
+		return
+	}
+	if !st.altered { // what is on the server stays what it is
+		st.plan, st.tokens = p, tokens
+		st.use = nil
+		if p != nil {
+			st.use = s.trust.of(p)
+		}
+	}
+}
+
+// usable says whether a statement may be rewritten now.
+func (s *Session) usable(st *statement) bool {
+	return st.use != nil && s.looking() && rewritable(st) && !s.replay.plain && s.trust.usable(st.use, st)
+}
+
+// rewritable leaves cursors alone whose rows don't come in their own transaction, or not in the format that was asked
+// for.
+func rewritable(st *statement) bool {
+	return st.plan.Kind != plan.Prepare && (st.plan.Kind != plan.Declare || !mentions(st.text, "hold") &&
+		!mentions(st.text, "binary"))
+}
+
+func (s *Session) query(o *output, m []byte, start, end int) {
+	s.begin()
+	text, _, ok := wire.Text(m[wire.Header:])
+	if !ok {
+		text = nil
+	}
+	st := s.look("", text)
+	e := expectation{message: 'Q', on: st, use: st.use}
+	if st.plan != nil {
+		s.ask(o, st.plan)
+	}
+	if st.kind() == plan.Several {
+		s.several(o, st, &e, start, end)
+	} else if st.kind() == plan.Execute {
+		if s.before(st.plan); !s.executes(o, st, &e) {
+			o.pass(start, end)
+		}
+	} else if s.before(st.plan); s.usable(st) {
+		rewritten, _, _ := st.plan.Rewrite(st.text, st.tokens)
+		st.altered, e.changed = true, true
+		to := o.own()
+		begin := len(to)
+		o.buf = wire.End(wire.AppendText(wire.Begin(to, 'Q'), rewritten), begin)
+		if st.plan.Kind != plan.Declare {
+			e.hides, e.hidden = st.plan, st.use.hidden
+		}
+		if st.plan.Asked && s.wantsAbsent() {
+			st.asked.key, st.asked.known = st.plan.AskedKey(st.text, st.tokens, nil, nil, nil)
+		}
+	} else {
+		o.pass(start, end)
+	}
+	e.undo, e.previous = undoStatement, s.names.statements[""]
+	s.names.setStatement("", nil) // a Query drops the unnamed statement
+	s.open = false
+	s.queue.push(e)
+}
+
+// wantsAbsent says whether it is of use to know which row wasn't there: only if the snapshot is that of the whole
+// transaction.
+func (s *Session) wantsAbsent() bool {
+	level := s.tx.Level
+	if level == record.UnknownLevel {
+		level = s.level
+	}
+	return level != record.ReadCommitted && s.status == 'T'
+}
+
+func (s *Session) parse(o *output, m []byte, start, end int) {
+	s.begin()
+	name, rest, ok := wire.Text(m[wire.Header:])
+	text, types, ok2 := wire.Text(rest)
+	if !ok || !ok2 {
+		o.pass(start, end)
+		s.queue.push(expectation{message: 'P'})
+		return
+	}
+	st := s.look(string(name), text)
+	st.types = append([]byte(nil), types...)
+	if st.plan != nil && (st.plan.Kind == plan.Commit || st.plan.Kind == plan.PrepareTransaction) {
+		s.ask(o, st.plan)
+	}
+	e := expectation{message: 'P', on: st, name: st.name}
+	e.undo, e.previous = undoStatement, s.names.statements[st.name]
+	if st.name == "" {
+		e.cleared = true
+		if s.usable(st) {
+			rewritten, _, _ := st.plan.Rewrite(st.text, st.tokens)
+			st.altered, e.changed = true, true
+			o.buf = appendParse(o.own(), "", rewritten, types)
+		} else {
+			o.pass(start, end)
+		}
+	} else {
+		s.replay.valid = false // an error doesn't undo it
+		if st.use != nil && rewritable(st) {
+			s.trust.usable(st.use, st) // to be tried: it is likely to be run again
+		}
+		o.pass(start, end)
+	}
+	s.names.setStatement(st.name, st)
+	s.open = true
+	s.queue.push(e)
+}
+
+func appendParse(to []byte, name, text string, types []byte) []byte {
+	start := len(to)
+	to = wire.AppendText(wire.AppendText(wire.Begin(to, 'P'), name), text)
+	return wire.End(append(to, types...), start)
+}
+
+func (s *Session) bind(o *output, m []byte, start, end int) {
+	s.begin()
+	b := &s.bound
+	ok := b.Parse(m)
+	if !ok {
+		o.pass(start, end)
+		s.open = true
+		s.queue.push(expectation{message: 'B'})
+		return
+	}
+	st := s.names.statements[string(b.Statement)]
+	p := &portal{on: st}
+	if len(b.Portal) > 0 {
+		p.name = string(b.Portal)
+	}
+	if st == nil {
+		o.pass(start, end)
+		s.bindTo(p)
+		return
+	}
+	if k := st.kind(); k == plan.Commit || k == plan.PrepareTransaction {
+		s.ask(o, st.plan)
+	}
+	if s.trust.plans != st.looked {
+		s.fresh(st)
+	}
+	may := s.usable(st)
+	if n := len(b.Results) / 2; may && n > 1 && n != st.use.own {
+		may = st.plan.AddsReturning // otherwise the server refuses it, and says how many columns there are
+	}
+	switch {
+	case st.altered && !may:
+		// Prepared rewritten, and since then something has changed: the client's own text is prepared in its place.
+		s.original(o, st)
+		o.pass(start, end)
+	case st.altered || may:
+		s.bindHidden(o, b, st, p)
+	case st.kind() == plan.Fetch && s.names.cursors[st.plan.Name] != nil:
+		p.binary = b.Binary()
+		o.buf = b.Append(o.own(), st.name, hiddenColumns(s.names.cursors[st.plan.Name]))
+	default:
+		o.pass(start, end)
+	}
+	if s.options.Policy.Parameters && st.text != "" {
+		p.parameters = texts(b, st.types)
+	}
+	s.bindTo(p)
+}
+
+// bindTo takes a portal that was bound.
+func (s *Session) bindTo(p *portal) {
+	s.open = true
+	s.queue.push(expectation{message: 'B', undo: undoPortal, name: p.name, before: s.names.portals[p.name], on: p.on,
+		changed: p.changed})
+	s.names.setPortal(p.name, p)
+}
+
+// bindHidden binds to what has hidden columns: the unnamed statement, or a named one's twin.
+func (s *Session) bindHidden(o *output, b *wire.Bind, st *statement, p *portal) {
+	name := st.name
+	if name != "" {
+		name = s.twin(o, st)
+	}
+	p.binary, p.changed = b.Binary(), true
+	if st.plan.Kind != plan.Declare {
+		p.hides, p.hidden = st.plan, st.use.hidden
+	}
+	if st.plan.AddsReturning {
+		b.Results, p.binary = nil, false // the client's formats are of no columns
+	}
+	o.buf = b.Append(o.own(), name, p.hidden)
+	if st.plan.Asked && s.wantsAbsent() {
+		p.asked.key, p.asked.known = st.plan.AskedKey(st.text, st.tokens, b.Parameters, s.formats(b), declared(st.types))
+	}
+}
+
+// formats are the formats of a Bind's parameters.
+func (s *Session) formats(b *wire.Bind) []int16 {
+	to := s.int16s[:0]
+	for i := 0; i+1 < len(b.Formats); i += 2 {
+		to = append(to, int16(b.Formats[i+1]))
+	}
+	s.int16s = to
+	return to
+}
+
+// declared are the types of parameters by the end of a Parse.
+func declared(types []byte) []uint32 {
+	var all []uint32
+	for i := 2; i+4 <= len(types); i += 4 {
+		all = append(all, uint32(wire.Int32(types[i:])))
+	}
+	return all
+}
+
+// twin gives the name of a named statement's rewritten twin. It is made when it is first used.
+func (s *Session) twin(o *output, st *statement) string {
+	if st.twin != "" && st.twinOf == st.plan && st.twinIn == s.trust.generation {
+		return st.twin
+	}
+	to := o.own()
+	if st.twin != "" {
+		to = appendClose(to, st.twin)
+		s.queue.push(expectation{kind: silent, message: 'C'})
+	}
+	s.names.twins++
+	st.twin, st.twinOf, st.twinIn = twinName(s.names.twins), st.plan, s.trust.generation
+	text, _, _ := st.plan.Rewrite(st.text, st.tokens)
+	o.buf = appendParse(to, st.twin, text, st.types)
+	s.queue.push(expectation{kind: twin, message: 'P', on: st, changed: true, undo: undoTwin, name: st.twin})
+	return st.twin
+}
+
+func appendClose(to []byte, name string) []byte {
+	start := len(to)
+	return wire.End(wire.AppendText(append(wire.Begin(to, 'C'), 'S'), name), start)
+}
+
+// original prepares the client's own text as the unnamed statement again.
+func (s *Session) original(o *output, st *statement) {
+	o.buf = appendParse(o.own(), "", st.text, st.types)
+	s.queue.push(expectation{kind: reparse, message: 'P', on: st, undo: undoAltered})
+	st.altered = false
+}
+
+func (s *Session) describe(o *output, m []byte, start, end int) {
+	o.pass(start, end)
+	s.open = true
+	e := expectation{message: 'D'}
+	if len(m) > wire.Header {
+		name, _, _ := wire.Text(m[wire.Header+1:])
+		if m[wire.Header] == 'S' {
+			st := s.names.statements[string(name)]
+			e.on = st
+			if st != nil && st.altered && st.kind() != plan.Declare {
+				e.hides, e.hidden = st.plan, st.use.hidden
+			}
+		} else if p := s.names.portals[string(name)]; p != nil {
+			e.on, e.hides, e.hidden = p.on, p.hides, p.hidden
+		}
+	}
+	s.queue.push(e)
+}
+
+func (s *Session) execute(o *output, m []byte, start, end int) {
+	s.open = true
+	name, _, _ := wire.Text(m[wire.Header:])
+	p := s.names.portals[string(name)]
+	e := expectation{message: 'E', on: opaque}
+	if p != nil {
+		e.at, e.on, e.hides, e.hidden, e.binary, e.changed = p, p.on, p.hides, p.hidden, p.binary, p.changed
+		if p.on != nil {
+			e.use = p.on.use
+			s.before(p.on.plan)
+		}
+	}
+	if e.on == nil {
+		e.on = opaque
+		s.trust.doubtful()
+	}
+	if e.hides != nil && e.hides.AddsReturning && len(m) >= wire.Header+5 {
+		// The client asked for no rows, so its limit meant nothing; with rows it would mean PortalSuspended.
+		to := append(o.own(), m[:len(m)-4]...)
+		o.buf = append(to, 0, 0, 0, 0)
+	} else {
+		o.pass(start, end)
+	}
+	s.queue.push(e)
+}
+
+func (s *Session) close(o *output, m []byte, start, end int) {
+	o.pass(start, end)
+	s.open = true
+	e := expectation{message: 'C'}
+	if len(m) <= wire.Header {
+		s.queue.push(e)
+		return
+	}
+	name, _, _ := wire.Text(m[wire.Header+1:])
+	var gone *statement
+	if m[wire.Header] == 'S' {
+		s.replay.valid = false
+		if gone = s.names.statements[string(name)]; gone != nil {
+			e.undo, e.name, e.previous = undoStatement, gone.name, gone
+			s.names.setStatement(gone.name, nil)
+		}
+	} else if p := s.names.portals[string(name)]; p != nil {
+		e.undo, e.name, e.before = undoPortal, p.name, p
+		s.names.setPortal(p.name, nil)
+	}
+	s.queue.push(e)
+	if gone != nil && gone.twin != "" {
+		o.buf = appendClose(o.own(), gone.twin)
+		s.queue.push(expectation{kind: silent, message: 'C'})
+		gone.twin = ""
+	}
+}

@@ -1,0 +1,98 @@
+package session
+
+import (
+	"flag"
+	"math/rand"
+	"strings"
+	"testing"
+	"time"
+
+	"github.com/jackc/pgproto3/v2"
+
+	"zanteyard/wire"
+)
+
+var theSeed = flag.Int64("seed", 0, "of the random programs and messages; 0: by the clock")
+
+// TestNonsense sends messages that are well-formed but for some bytes, in any order. Direct and by way of a session,
+// the server may refuse them or end the connection; the session must not fail by itself, and others are to be
+// answered.
+func TestNonsense(t *testing.T) {
+	needServer(t)
+	sql(t, fill)
+	seed := *theSeed
+	if seed == 0 {
+		seed = time.Now().UnixNano()
+	}
+	t.Logf("seed %d", seed)
+	r := rand.New(rand.NewSource(seed))
+	kinds := []pgproto3.FrontendMessage{
+		&pgproto3.Query{String: "SELECT v FROM t WHERE id = 1"},
+		&pgproto3.Query{String: "BEGIN; SELECT v FROM t WHERE id = 2; COMMIT"},
+		&pgproto3.Parse{Query: "SELECT v FROM t WHERE id = $1"}, &pgproto3.Parse{Name: "a",
+			Query: "UPDATE t SET v = 1 WHERE id = 3"},
+		&pgproto3.Bind{Parameters: [][]byte{[]byte("1")}}, &pgproto3.Bind{DestinationPortal: "p", PreparedStatement: "a",
+			ResultFormatCodes: []int16{1}},
+		&pgproto3.Describe{ObjectType: 'P'}, &pgproto3.Describe{ObjectType: 'S', Name: "a"}, &pgproto3.Execute{},
+		&pgproto3.Execute{Portal: "p", MaxRows: 1},
+		&pgproto3.Close{ObjectType: 'S', Name: "a"}, &pgproto3.Close{ObjectType: 'P', Name: "p"}, &pgproto3.Sync{},
+		&pgproto3.Flush{},
+		&pgproto3.CopyData{Data: []byte("1\t2\n")}, &pgproto3.CopyDone{}, &pgproto3.CopyFail{Message: "no"},
+		&pgproto3.Query{String: ""},
+		&pgproto3.Query{String: "BEGIN"}, &pgproto3.Query{String: "ROLLBACK"},
+		// Messages in the midst of a COPY make it fail, and which of them are lost then nobody can know.
+		&pgproto3.Query{String: "COPY t FROM STDIN"}, &pgproto3.Parse{Query: "COPY t FROM STDIN"},
+	}
+	for round := 0; round < 60; round++ {
+		kinds := kinds
+		var change func(*Options)
+		if round%2 == 0 {
+			kinds = kinds[:len(kinds)-2]
+			change = func(o *Options) { o.Log = func(text string) { t.Errorf("round %d: %s", round, text) } }
+		}
+		p := through(t, "postgres", change)
+		p.warm("SELECT v FROM t WHERE id = 1", "UPDATE t SET v = 1 WHERE id = 3")
+		var all []byte
+		for n := 0; n < 30; n++ {
+			m := kinds[r.Intn(len(kinds))].Encode(nil)
+			if r.Intn(8) == 0 && len(m) > wire.Header {
+				switch r.Intn(3) {
+				case 0: // shorter
+					m = wire.End(m[:wire.Header+r.Intn(len(m)-wire.Header)], 0)
+				case 1: // another byte
+					m[wire.Header+r.Intn(len(m)-wire.Header)] = byte(r.Intn(256))
+				case 2: // longer
+					m = wire.End(append(m, byte(r.Intn(256))), 0)
+				}
+			}
+			all = append(all, m...)
+			if r.Intn(3) == 0 {
+				all = append(all, encoded(&pgproto3.Sync{})...)
+			}
+		}
+		go func() { // what comes back isn't looked at
+			b := make([]byte, 4096)
+			for {
+				if _, err := p.conn.Read(b); err != nil {
+					return
+				}
+			}
+		}()
+		for len(all) > 0 {
+			n := 1 + r.Intn(len(all))
+			if _, err := p.conn.Write(all[:n]); err != nil {
+				break // the server has ended it
+			}
+			all = all[n:]
+		}
+		p.conn.Write(encoded(&pgproto3.CopyFail{Message: "end"}, &pgproto3.Sync{}, &pgproto3.Terminate{}))
+		select {
+		case err := <-p.ended:
+			if err != nil && strings.Contains(err.Error(), "fault") {
+				t.Fatal(err)
+			}
+		case <-time.After(time.Minute):
+			t.Fatal("the session doesn't end")
+		}
+	}
+}

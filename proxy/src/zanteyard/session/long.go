@@ -1,0 +1,47 @@
+package session
+
+import (
+	"zanteyard/wire"
+)
+
+// long takes the beginning of a message that is too long to be looked at whole, and says what is sent for it: the rest
+// follows as it comes. Called with writes and state locked.
+func (s *Session) long(begin []byte) []byte {
+	o := &s.toServer
+	o.begin(begin)
+	kind := begin[0]
+	if s.skipping {
+		kind = 0
+	}
+	switch kind {
+	case 'Q':
+		s.begin()
+		s.before(nil)
+		s.queue.push(expectation{message: 'Q', on: opaque, undo: undoStatement, previous: s.names.statements[""]})
+		s.names.setStatement("", nil)
+		s.open = false
+		s.options.Sink.Unseen("a statement of more than a megabyte", "too long to be looked at", true)
+	case 'P':
+		s.begin()
+		name, _, _ := wire.Text(begin[wire.Header:])
+		st := &statement{name: string(name)}
+		s.queue.push(expectation{message: 'P', on: st, name: st.name, undo: undoStatement,
+			previous: s.names.statements[st.name], cleared: st.name == ""})
+		s.names.setStatement(st.name, st)
+		s.open = true
+	case 'B':
+		s.begin()
+		portalName, name, _, _ := wire.Names(begin)
+		st := s.names.statements[string(name)]
+		if st != nil && st.altered {
+			s.original(o, st) // the formats of its columns come last, and the length, which counts them, first
+		}
+		s.bindTo(&portal{name: string(portalName), on: st})
+	case 'F':
+		s.begin()
+		s.trust.doubtful()
+		s.queue.push(expectation{message: 'F', on: opaque})
+	}
+	o.pass(0, len(begin))
+	return o.all()
+}

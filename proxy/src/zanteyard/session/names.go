@@ -1,0 +1,114 @@
+package session
+
+import (
+	"zanteyard/plan"
+)
+
+// statement is what a client prepared, or a text that it sent as a Query.
+type statement struct {
+	name   string
+	text   string // "" if it was too long to look at
+	tokens plan.Tokens
+	plan   *plan.Plan // nil if it wasn't looked at
+	types  []byte     // the end of its Parse: how many types of parameters, and these
+	use    *use
+	// altered says that the server's statement of this name has hidden columns. Only unnamed ones are altered: a named
+	// one is left as it is, and a rewritten twin of it is made.
+	altered            bool
+	rewritten          string // the text of several statements with what was inserted
+	renamed, renamedAt int    // an EXECUTE whose name is longer by so many characters, from one of them on
+	asked              asked
+	// A named statement's rewritten twin: its name, the plan that it was made by, and the generation of trust then.
+	twin   string
+	twinOf *plan.Plan
+	twinIn uint64
+	looked uint64 // trust.plans when the plan was made
+}
+
+// kind is what the statement does, as far as that is known.
+func (s *statement) kind() plan.Kind {
+	if s == nil || s.plan == nil {
+		return plan.Other
+	}
+	return s.plan.Kind
+}
+
+// portal is a statement bound to parameters.
+type portal struct {
+	name       string
+	on         *statement
+	changed    bool       // it is of a rewritten statement
+	hides      *plan.Plan // nil if it has no hidden columns
+	hidden     int
+	binary     bool
+	asked      asked
+	parameters []string
+}
+
+// names is what the names of a connection stand for. What the server didn't get to is put back (queue.skipped).
+type names struct {
+	statements map[string]*statement
+	portals    map[string]*portal
+	// cursors are those whose query was rewritten: of DECLARE. prepared are the statements of SQL's PREPARE.
+	cursors  map[string]*plan.Plan
+	prepared map[string]*statement
+	twins    int // made so far
+}
+
+func newNames() names {
+	return names{map[string]*statement{}, map[string]*portal{}, map[string]*plan.Plan{},
+		map[string]*statement{}, 0}
+}
+
+func (n *names) setStatement(name string, s *statement) {
+	if s == nil {
+		delete(n.statements, name)
+	} else {
+		n.statements[name] = s
+	}
+}
+
+func (n *names) setPortal(name string, p *portal) {
+	if p == nil {
+		delete(n.portals, name)
+	} else {
+		n.portals[name] = p
+	}
+}
+
+// back puts back what a message had changed that the server didn't run.
+func (n *names) back(e *expectation) {
+	switch e.undo {
+	case undoStatement:
+		n.setStatement(e.name, e.previous)
+	case undoPortal:
+		n.setPortal(e.name, e.before)
+	case undoTwin:
+		if e.on.twin == e.name {
+			e.on.twin = ""
+		}
+	case undoAltered:
+		e.on.altered = true
+	}
+}
+
+// ended forgets what ends with a transaction: all portals of the protocol, and cursors (those WITH HOLD aren't
+// rewritten).
+func (n *names) ended() {
+	for k := range n.portals {
+		delete(n.portals, k)
+	}
+	for k := range n.cursors {
+		delete(n.cursors, k)
+	}
+}
+
+// discarded forgets all named statements; the unnamed one stays.
+func (n *names) discarded() {
+	n.prepared = map[string]*statement{}
+	for k := range n.statements {
+		if k != "" {
+			delete(n.statements, k)
+		}
+	}
+}

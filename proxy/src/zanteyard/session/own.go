@@ -1,0 +1,132 @@
+package session
+
+import (
+	"fmt"
+	"strings"
+
+	"github.com/jackc/pgproto3/v2"
+
+	"zanteyard/catalog"
+)
+
+// The names of the proxy's own statements and portals begin with this. They are named, as the unnamed ones are the
+// client's: a simple Query, too, would drop those.
+const prefix = "zanteyard."
+
+const (
+	askName = prefix + "ask"
+	// The transaction's number and snapshot and its level: asked in front of COMMIT.
+	askText = "SELECT pg_catalog.pg_current_xact_id_if_assigned(), pg_catalog.pg_current_snapshot(), " +
+		"pg_catalog.current_setting('transaction_isolation')"
+
+	signatureName = prefix + "signature"
+	// All that decides what a name means on a connection and what its user may do, in one text: if it is the same as
+	// before, then so is the meaning of what was tried. The second column is the level that transactions begin at, the
+	// third the search path (catalog.PathSQL).
+	signatureText = "SELECT pg_catalog.concat_ws('|', pg_catalog.current_setting('search_path'), current_user, " +
+		"session_user, pg_catalog.current_setting('role'), pg_catalog.current_setting('row_security'), " +
+		"CASE WHEN pg_catalog.pg_my_temp_schema() OPERATOR(pg_catalog.=) 0::pg_catalog.oid THEN '' ELSE (" +
+		"SELECT pg_catalog.string_agg(oid::pg_catalog.text, ',' ORDER BY oid) FROM pg_catalog.pg_class " +
+		"WHERE relnamespace OPERATOR(pg_catalog.=) pg_catalog.pg_my_temp_schema()) END), " +
+		"pg_catalog.current_setting('default_transaction_isolation'), (" + catalog.PathSQL + ")"
+
+	// A trial that would wait for a lock fails instead, so that no client waits for it: the setting ends with the
+	// transaction, which is that of the trial's messages up to their Sync.
+	impatientName = prefix + "impatient"
+	impatientText = "SELECT pg_catalog.set_config('lock_timeout', '20ms', true)"
+
+	trialName     = prefix + "trial"
+	privilegeName = prefix + "privilege"
+	prepareName   = prefix + "prepare"
+)
+
+func encoded(messages ...pgproto3.FrontendMessage) []byte {
+	var b []byte
+	for _, m := range messages {
+		b = m.Encode(b)
+	}
+	return b
+}
+
+// again is the messages that run a statement that was prepared under its own name.
+func again(name string) []byte {
+	return encoded(&pgproto3.Bind{DestinationPortal: name, PreparedStatement: name}, &pgproto3.Execute{Portal: name},
+		&pgproto3.Close{ObjectType: 'P', Name: name})
+}
+
+// once is the messages that prepare a statement, run it and forget it. It is there from before if that failed.
+func once(name, text string) []byte {
+	forget := encoded(&pgproto3.Close{ObjectType: 'S', Name: name})
+	b := append(forget, encoded(&pgproto3.Parse{Name: name, Query: text})...)
+	return append(append(b, again(name)...), forget...)
+}
+
+var (
+	syncMessage = encoded(&pgproto3.Sync{})
+	askPrepare  = encoded(&pgproto3.Parse{Name: askName, Query: askText})
+	askRun      = again(askName)
+	signature   = once(signatureName, signatureText)
+	impatient   = once(impatientName, impatientText)
+	closeAsk    = encoded(&pgproto3.Close{ObjectType: 'S', Name: askName})
+
+	describeTrial = encoded(&pgproto3.Describe{ObjectType: 'S', Name: trialName})
+	closeTrial    = encoded(&pgproto3.Close{ObjectType: 'S', Name: trialName})
+)
+
+// step appends the expectation of a message of which only the failure matters.
+func (q *queue) step(message byte, u *use) {
+	q.push(expectation{kind: silent, message: message, use: u})
+}
+
+// again appends the expectations of again's messages.
+func (q *queue) again(row expectation) {
+	q.step('B', row.use)
+	row.message = 'E'
+	q.push(row)
+	q.step('C', row.use)
+}
+
+// once appends those of once's.
+func (q *queue) once(row expectation) {
+	q.step('C', row.use)
+	q.step('P', row.use)
+	q.again(row)
+	q.step('C', row.use)
+}
+
+// Fence is the transaction that a session makes at a meeting, as messages that are made once.
+type Fence struct{ first, second []byte }
+
+// NewFence makes the fence on a table, whose name may have a schema in front. Its transaction is at read committed,
+// since fences of all sessions write the same row; it waits for no disk; and it gives up when it has waited for the row
+// for some milliseconds, so that a session whose server hangs holds nobody up.
+func NewFence(table string, wait int) *Fence {
+	name := func(i int) string { return fmt.Sprintf("%sfence%d", prefix, i) }
+	settings := fmt.Sprintf("SELECT pg_catalog.set_config('synchronous_commit', 'off', true), "+
+		"pg_catalog.set_config('lock_timeout', '%dms', true)", wait)
+	update := fmt.Sprintf("UPDATE %s SET n = n OPERATOR(pg_catalog.+) 1 WHERE id OPERATOR(pg_catalog.=) 0 "+
+		"RETURNING pg_catalog.pg_current_xact_id_if_assigned()", quoted(table))
+	first := once(name(1), "BEGIN ISOLATION LEVEL READ COMMITTED READ WRITE")
+	first = append(first, once(name(2), settings)...)
+	first = append(first, once(name(3), update)...)
+	return &Fence{append(first, syncMessage...), append(once(name(4), "COMMIT"), syncMessage...)}
+}
+
+// quoted makes an SQL name of a name whose parts are separated by dots.
+func quoted(name string) string {
+	parts := strings.Split(name, ".")
+	for i, p := range parts {
+		parts[i] = `"` + strings.ReplaceAll(p, `"`, `""`) + `"`
+	}
+	return strings.Join(parts, ".")
+}
+
+// expected appends the expectations of a fence's messages.
+func (f *Fence) expected(q *queue) {
+	q.once(expectation{kind: silent})
+	q.once(expectation{kind: silent})
+	q.once(expectation{kind: fenceRow})
+	q.push(expectation{kind: fenceHalf, message: 'S'})
+	q.once(expectation{kind: silent})
+	q.push(expectation{kind: fenceEnd, message: 'S'})
+}

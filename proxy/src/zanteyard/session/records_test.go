@@ -1,0 +1,238 @@
+package session
+
+import (
+	"reflect"
+	"strconv"
+	"testing"
+
+	"github.com/jackc/pgproto3/v2"
+
+	"zanteyard/record"
+)
+
+// warm runs statements until they are tried, and forgets what was told.
+func (p *proxied) warm(texts ...string) {
+	p.t.Helper()
+	for i := 0; i < 2; i++ {
+		for _, text := range texts {
+			p.query(text)
+		}
+		p.settle()
+	}
+	p.sink.take()
+}
+
+func keysOf(reads []record.Read) []string {
+	var all []string
+	for _, r := range reads {
+		all = append(all, string(r.Key))
+	}
+	return all
+}
+
+// TestRecords runs transactions whose statements were tried, and compares what is told of them.
+func TestRecords(t *testing.T) {
+	needServer(t)
+	type want struct {
+		reads    []string
+		wrote    bool // it has a number
+		may      bool
+		level    record.Level
+		outcome  record.Outcome
+		versions int
+		absent   []string
+		snapshot bool
+	}
+	rc, rr, ser := record.ReadCommitted, record.RepeatableRead, record.Serializable
+	for _, x := range []struct {
+		name  string
+		texts []string
+		wants []want
+	}{
+		{"one select", []string{"SELECT v FROM t WHERE id = 1"}, []want{{reads: []string{"1"}, level: rc}}},
+		{"each read once", []string{"BEGIN", "SELECT v FROM t WHERE id = 1", "SELECT v FROM t WHERE id < 3 ORDER BY id",
+			"COMMIT"},
+			[]want{{reads: []string{"1", "2"}, level: rc}}},
+		{"an update tells its number", []string{"UPDATE t SET v = 1 WHERE id = 1"}, []want{{wrote: true, level: rc,
+			versions: 1}}},
+		{"an update that is asked at COMMIT", []string{"BEGIN", "UPDATE t SET v = 1 WHERE v > 20", "COMMIT"},
+			[]want{{wrote: true, level: rc}}},
+		{"an update of many rows by itself", []string{"UPDATE t SET v = 1 WHERE v > 20"}, []want{{may: true}}},
+		{"a function that writes", []string{"BEGIN ISOLATION LEVEL REPEATABLE READ", "SELECT bump(2)", "COMMIT"},
+			[]want{{wrote: true, level: rr}}},
+		{"a function that wrote nothing", []string{"BEGIN", "SELECT bump(2000)", "SELECT v FROM t WHERE id = 1", "COMMIT"},
+			[]want{{reads: []string{"1"}, level: rc}}},
+		{"an abort", []string{"BEGIN", "SELECT v FROM t WHERE id = 1", "UPDATE t SET v = 1 WHERE id = 1", "ROLLBACK"},
+			[]want{{reads: []string{"1"}, wrote: true, level: rc, outcome: record.Aborted, versions: 1}}},
+		{"an error", []string{"BEGIN", "SELECT v FROM t WHERE id = 1", "SELECT 1 / 0", "COMMIT"},
+			[]want{{reads: []string{"1"}, level: rc, outcome: record.Aborted}}},
+		{"savepoints", []string{"BEGIN", "UPDATE t SET v = 1 WHERE id = 1", "SAVEPOINT a",
+			"UPDATE t SET v = 2 WHERE id = 1", "SELECT v FROM t WHERE id = 1", "COMMIT"},
+			[]want{{reads: []string{"1"}, wrote: true, level: rc, versions: 2}}},
+		{"a row that isn't there", []string{"BEGIN ISOLATION LEVEL SERIALIZABLE", "SELECT v FROM t WHERE id = 1000",
+			"SELECT v FROM u WHERE a = 1 AND b = 'none'", "COMMIT"},
+			[]want{{level: ser, absent: []string{"1000", "1\x00none"}, snapshot: true}}},
+		{"a row that isn't there, at read committed", []string{"BEGIN", "SELECT v FROM t WHERE id = 1000", "COMMIT"}, nil},
+		{"chains", []string{"BEGIN", "UPDATE t SET v = 1 WHERE id = 1", "COMMIT AND CHAIN", "SELECT v FROM t WHERE id = 2",
+			"ROLLBACK"},
+			[]want{{wrote: true, level: rc, versions: 1}, {reads: []string{"2"}, level: rc, outcome: record.Aborted}}},
+		{"several statements", []string{"BEGIN; SELECT v FROM t WHERE id = 1; COMMIT; UPDATE t SET v = 1 WHERE id = 1"},
+			[]want{{reads: []string{"1"}, level: rc}, {wrote: true, level: rc, versions: 1}}},
+		{"several statements with a cursor",
+			[]string{"BEGIN; DECLARE c CURSOR FOR SELECT v, w FROM t ORDER BY id; FETCH 2 FROM c",
+				"FETCH 1 FROM c; SELECT v FROM t WHERE id = 9; COMMIT"}, []want{{reads: []string{"1", "2", "3", "9"}, level: rc}}},
+		{"EXECUTE", []string{"PREPARE p AS SELECT v FROM t WHERE id = 7", "SELECT v FROM t WHERE id = 1", "EXECUTE p",
+			"DEALLOCATE p"}, []want{{reads: []string{"1"}, level: rc}, {reads: []string{"7"}, level: rc}}},
+		{"a level that is set", []string{"BEGIN", "SET TRANSACTION ISOLATION LEVEL SERIALIZABLE",
+			"SELECT v FROM t WHERE id = 2", "COMMIT"}, []want{{reads: []string{"2"}, level: ser}}},
+		{"an outer join",
+			[]string{"SELECT t.v, u.v FROM t LEFT JOIN u ON t.id = u.a AND u.b = 'b1' WHERE t.id < 3 ORDER BY t.id"},
+			[]want{{reads: []string{"1", "1\x00b1", "2"}, level: rc}}},
+		{"a cursor", []string{"BEGIN", "DECLARE c CURSOR FOR SELECT v, w FROM t ORDER BY id", "FETCH 2 FROM c",
+			"MOVE 1 FROM c", "FETCH 1 FROM c", "COMMIT"},
+			[]want{{reads: []string{"1", "2", "4"}, level: rc}}},
+		{"a transaction to be prepared", []string{"BEGIN", "UPDATE t SET v = 1 WHERE v = 10", "PREPARE TRANSACTION 'p'",
+			"ROLLBACK PREPARED 'p'"},
+			[]want{{wrote: true, level: rc, outcome: record.Unclear}}},
+		{"DELETE", []string{"DELETE FROM t WHERE id = 20"}, []want{{reads: []string{"20"}, wrote: true, level: rc}}},
+		{"COPY", []string{"BEGIN", "COPY (SELECT 1) TO STDOUT", "COMMIT"}, nil},
+		{"nothing of a table", []string{"SELECT 1", "BEGIN", "COMMIT", "SET application_name TO 'x'"}, nil},
+	} {
+		x := x
+		t.Run(x.name, func(t *testing.T) {
+			sql(t, fill)
+			p := through(t, "postgres", nil)
+			p.warm(x.texts...)
+			sql(t, fill)
+			place := p.session.place
+			for _, text := range x.texts {
+				p.query(text)
+			}
+			p.settle()
+			got := p.sink.take()
+			if len(got) != len(x.wants) {
+				t.Fatalf("%d transactions were told: %+v", len(got), got)
+			}
+			for i, w := range x.wants {
+				g := got[i]
+				is := want{keysOf(g.Reads), g.Number != 0, g.MayHaveWritten, g.Level, g.Outcome, len(g.Versions), nil,
+					g.Snapshot != ""}
+				for _, a := range g.Absent {
+					is.absent = append(is.absent, string(a.Key))
+				}
+				if !reflect.DeepEqual(is, w) {
+					t.Errorf("transaction %d is told as\n%+v, not as\n%+v\nleft out: %q", i, is, w, p.sink.unseen)
+				}
+				if g.Place != place+uint64(i) || g.Connection != p.session.number {
+					t.Errorf("transaction %d is told at place %d", i, g.Place)
+				}
+			}
+		})
+	}
+}
+
+// TestVersions compares the versions that are told with what the server says.
+func TestVersions(t *testing.T) {
+	needServer(t)
+	sql(t, fill)
+	p := through(t, "postgres", nil)
+	texts := []string{"SELECT v FROM t WHERE id = 3", "UPDATE t SET v = v + 1 WHERE id = 3",
+		"SELECT v FROM part WHERE id = 120"}
+	p.warm(texts...)
+	for i := 0; i < 3; i++ {
+		before := sql(t,
+			"SELECT xmin, 't'::regclass::oid FROM t WHERE id = 3; "+
+				"SELECT xmin, 'part_high'::regclass::oid FROM part WHERE id = 120")
+		for _, text := range texts {
+			p.query(text)
+		}
+		after := sql(t, "SELECT xmin FROM t WHERE id = 3")[0][0]
+		got := p.sink.take()
+		if len(got) != 3 {
+			t.Fatalf("%d transactions were told", len(got))
+		}
+		for n, at := range []int{0, 2} {
+			r := got[at].Reads[0]
+			if is := []string{strconv.Itoa(int(r.Version)), strconv.Itoa(int(r.Relation))}; !reflect.DeepEqual(is, before[n]) {
+				t.Errorf("read %v, told as %v", before[n], is)
+			}
+		}
+		if is := strconv.Itoa(int(got[1].Versions[0])); is != after || strconv.Itoa(int(uint32(got[1].Number))) != after {
+			t.Errorf("written by %s, told as %s", after, is)
+		}
+	}
+}
+
+// TestReadLimit: more reads than the limit are dropped, and that is told.
+func TestReadLimit(t *testing.T) {
+	needServer(t)
+	sql(t, fill)
+	p := through(t, "postgres", func(o *Options) { o.ReadLimit = 18 })
+	p.warm("SELECT v, w FROM t")
+	p.query("SELECT v, w FROM t")
+	got := p.sink.take()
+	if len(got) != 1 || len(got[0].Reads) != 18 || !got[0].Incomplete {
+		t.Errorf("told: %+v", got)
+	}
+}
+
+// TestPolicy: texts and parameters are kept as the policy allows.
+func TestPolicy(t *testing.T) {
+	needServer(t)
+	for _, x := range []struct {
+		policy Policy
+		text   bool
+		values []string
+	}{
+		{Policy{true, true}, true, []string{"3"}},
+		{Policy{true, false}, true, nil},
+		{Policy{false, true}, false, nil},
+	} {
+		sql(t, fill)
+		p := through(t, "postgres", func(o *Options) { o.Policy = x.policy })
+		select_ := extended("SELECT v FROM t WHERE id = $1", nil, "3")
+		p.do(select_)
+		p.settle()
+		p.sink.take()
+		p.do(select_)
+		got := p.sink.take()
+		if len(got) != 1 {
+			t.Fatalf("%d transactions were told", len(got))
+		}
+		st := got[0].Statements
+		if !x.text && len(st) != 0 || x.text && (len(st) != 1 || st[0].Text != "SELECT v FROM t WHERE id = $1" ||
+			!reflect.DeepEqual(st[0].Parameters, x.values)) {
+			t.Errorf("%+v: told %+v", x.policy, st)
+		}
+	}
+}
+
+// TestUnclear: the connection is lost while COMMIT is on its way.
+func TestUnclear(t *testing.T) {
+	needServer(t)
+	sql(t, fill)
+	p := through(t, "postgres", nil)
+	p.warm("BEGIN", "UPDATE t SET v = 1 WHERE id = 1", "COMMIT")
+	p.query("BEGIN")
+	p.query("UPDATE t SET v = 1 WHERE id = 1")
+	p.session.state.Lock() // what the server answers isn't looked at yet
+	p.session.queue.push(expectation{message: 'Q', on: opaque})
+	p.session.state.Unlock()
+	p.conn.Close()
+	if err := <-p.ended; err != nil {
+		t.Log(err)
+	}
+	got := p.sink.take()
+	if len(got) != 1 || got[0].Outcome != record.Unclear || got[0].Number == 0 {
+		t.Errorf("told: %+v", got)
+	}
+	p = through(t, "postgres", nil)
+	p.warm("BEGIN", "UPDATE t SET v = 1 WHERE id = 1", "COMMIT")
+	p.query("BEGIN")
+	p.query("UPDATE t SET v = 1 WHERE id = 1")
+	p.send(encoded(&pgproto3.Terminate{}))
+	<-p.ended
+	if got := p.sink.take(); len(got) != 1 || got[0].Outcome != record.Aborted {
+		t.Errorf("told: %+v", got)
+	}
+}

@@ -1,0 +1,384 @@
+package session
+
+import (
+	"bytes"
+
+	"zanteyard/plan"
+	"zanteyard/wire"
+)
+
+// fromServer takes whole messages of the server's, and says what is passed on to the client. Called with state locked.
+func (s *Session) fromServer(batch []byte) []byte {
+	o := &s.toClient
+	o.begin(batch)
+	for at := 0; at < len(batch); {
+		end := at + wire.Length(batch[at:])
+		s.answer(o, batch[at:end], at, end)
+		at = end
+	}
+	return o.all()
+}
+
+// answer takes one message.
+func (s *Session) answer(o *output, m []byte, start, end int) {
+	s.queue.copied()
+	e := s.queue.first()
+	if e == nil || s.status == 0 {
+		s.unasked(o, m, start, end)
+		return
+	}
+	pass := e.kind == clients && !e.mute && len(s.failure) == 0
+	switch m[0] {
+	case 'A', 'S':
+		s.unasked(o, m, start, end)
+		return
+	case 'N':
+		if pass && e.altered() {
+			s.replay.given = true
+			o.buf = wire.AppendMoved(o.own(), m, e.moved())
+		} else if pass || wire.Field(m, 'C') != nil && bytes.HasPrefix(wire.Field(m, 'C'), []byte("57")) {
+			o.pass(start, end)
+		}
+		return
+	case '1', '2', '3', 'n':
+		if e.message != completes(m[0]) {
+			s.lost(m[0], e.message)
+			break
+		}
+		s.queue.pop()
+	case 'T':
+		s.description(o, e, m, start, end, pass)
+		return
+	case 'D':
+		s.row(o, e, m, start, end, pass)
+		return
+	case 'C', 's', 'I':
+		s.replay.given = s.replay.given || pass
+		s.complete(e, m)
+	case 'E':
+		s.failed(o, e, m, start, end, pass)
+		return
+	case 'Z':
+		if e = s.synced(); e != nil && len(m) > wire.Header {
+			s.ready(o, e, m, start, end)
+			return
+		}
+	case 'G':
+		s.copying = true
+		s.queue.copies()
+	case 'W':
+		s.blind.Store(true)
+	}
+	if pass && (m[0] == 'C' || m[0] == 's' || m[0] == 'I' || s.replay.pass()) {
+		o.pass(start, end)
+	}
+}
+
+// synced gives the expectation that a ReadyForQuery answers. What is in front of it was skipped, without an error that
+// was known to have it skipped: one for a malformed Flush.
+func (s *Session) synced() *expectation {
+	e := s.queue.first()
+	for ; e != nil && e.message != 'S' && e.message != 'Q' && e.message != 'F'; e = s.queue.first() {
+		s.names.back(e)
+		s.queue.pop()
+	}
+	return e
+}
+
+// unasked takes what comes without having been asked for: parameters, notifications, notices between transactions.
+func (s *Session) unasked(o *output, m []byte, start, end int) {
+	switch m[0] {
+	case 'R':
+		if b := withoutBinding(m); b != nil {
+			o.buf = append(o.own(), b...)
+			return
+		}
+	case 'S':
+		s.parameter(m)
+	case 'E':
+		s.skipping = s.open && !wire.Fatal(m) // for a Flush, which is owed nothing else
+	case 'Z': // the first one: startup is over
+		if len(m) > wire.Header {
+			s.status = m[wire.Header]
+		}
+	}
+	o.pass(start, end)
+}
+
+// parameter takes a ParameterStatus.
+func (s *Session) parameter(m []byte) {
+	name, rest, _ := wire.Text(m[wire.Header:])
+	value, _, ok := wire.Text(rest)
+	if !ok {
+		return
+	}
+	switch string(name) {
+	case "client_encoding":
+		s.encoding = plain(string(value))
+	case "standard_conforming_strings":
+		s.standard = string(value) == "on"
+	case "application_name", "TimeZone", "DateStyle", "IntervalStyle":
+		return
+	default:
+		if s.status != 0 {
+			s.trust.doubtful()
+		}
+	}
+	s.plain = s.encoding && s.standard
+}
+
+// description takes a RowDescription.
+func (s *Session) description(o *output, e *expectation, m []byte, start, end int, pass bool) {
+	alone := e.message == 'D'
+	s.fetched(e)
+	switch {
+	case e.kind == trialColumns:
+		e.use.described(m, s)
+	case e.hidden > 0:
+		columns, ends, ok := wire.Columns(m, s.columns[:0], s.ends[:0])
+		s.columns, s.ends = columns, ends
+		keep := len(columns) - e.hidden
+		switch {
+		case !ok || keep < 0:
+			o.pass(start, end)
+		case e.hides.AddsReturning:
+			if alone && pass && s.replay.pass() { // in place of NoData
+				o.buf = wire.End(wire.Begin(o.own(), 'n'), len(o.buf))
+			}
+		default:
+			e.binary = columns[keep].Format == 1
+			last := wire.Header + 2
+			if keep > 0 {
+				last = ends[keep-1]
+			}
+			if pass && s.replay.pass() {
+				o.buf = wire.AppendDescription(o.own(), m, keep, last)
+			}
+		}
+	case pass && s.replay.pass():
+		o.pass(start, end)
+	}
+	if alone {
+		s.queue.pop()
+	}
+}
+
+// fetched finds out whether rows are those of a rewritten cursor: only now is it sure which cursor a name stands for.
+func (s *Session) fetched(e *expectation) {
+	fetch := e.current()
+	if e.hides != nil || fetch == nil || fetch.Kind != plan.Fetch {
+		return
+	}
+	if p := s.names.cursors[fetch.Name]; p != nil {
+		e.hides, e.hidden = p, hiddenColumns(p)
+	}
+}
+
+// row takes a DataRow: the proxy's own, or one of which the hidden columns are cut off.
+func (s *Session) row(o *output, e *expectation, m []byte, start, end int, pass bool) {
+	if e.kind != clients {
+		s.ownRow(e, m)
+		return
+	}
+	e.rows++
+	if e.rows == 1 {
+		s.fetched(e)
+	}
+	if e.hidden == 0 {
+		if pass {
+			o.pass(start, end)
+			s.replay.given = true
+		}
+		return
+	}
+	visible, columns, values, ok := wire.Row(m, e.hidden, s.values[:0])
+	s.values = values
+	if !ok {
+		o.pass(start, end)
+		return
+	}
+	p := e.hides
+	s.hidden(p, values, e.binary)
+	if !p.AddsReturning && pass {
+		o.pass(start, start+wire.CutRow(m, columns, visible))
+		s.replay.given = true
+	}
+}
+
+// hidden takes the hidden columns of a row.
+func (s *Session) hidden(p *plan.Plan, values [][]byte, isBinary bool) {
+	if n, ok := p.Number(values, isBinary); ok {
+		s.tx.Number = n
+	}
+	if n, ok := p.Version(values, isBinary); ok {
+		s.tx.version(n)
+	}
+	reads, err := p.AppendReads(s.reads[:0], values, isBinary)
+	s.reads = reads
+	s.tx.read(reads, s.options.ReadLimit)
+	if err != nil {
+		s.options.Sink.Unseen(p.Shape, "hidden columns that can't be read", true)
+	}
+}
+
+// ownRow takes a row that the proxy asked for.
+func (s *Session) ownRow(e *expectation, m []byte) {
+	n := wire.Int16(m[wire.Header:])
+	if n < 0 {
+		return
+	}
+	_, _, values, ok := wire.Row(m, n, s.values[:0])
+	s.values = values
+	if !ok || n == 0 {
+		return
+	}
+	switch e.kind {
+	case askRow:
+		s.takeAsk(values)
+	case signatureRow:
+		if s.trial != nil && n == 3 {
+			s.trial.path = string(values[2])
+			s.trial.signature = append(make([]byte, 0, len(values[0])), values[0]...)
+			s.level = settingOf(values[1])
+		}
+	case privilegeRow:
+		e.use.allowed = len(values[0]) == 1 && (values[0][0] == 't' || values[0][0] == 1)
+	case fenceRow:
+		s.tx.Number = number(values[0])
+	}
+}
+
+// complete takes the end of a statement that went well.
+func (s *Session) complete(e *expectation, m []byte) {
+	if e.kind == clients {
+		s.copying = false
+		if m[0] == 'C' {
+			tag, _, _ := wire.Text(m[wire.Header:])
+			s.ran(e, tag)
+		}
+		e.rows = 0
+	}
+	if e.message == 'E' {
+		s.queue.pop()
+	}
+}
+
+// failed takes an error.
+func (s *Session) failed(o *output, e *expectation, m []byte, start, end int, pass bool) {
+	s.copying = false
+	if wire.Fatal(m) {
+		o.pass(start, end)
+		return
+	}
+	s.tx.failed = true
+	switch e.kind {
+	case clients, reparse, twin:
+		pass = len(s.failure) == 0 && !s.again(e, m)
+		s.replay.skip = 0
+	case askRow, silent:
+		if !s.ownFailed(m) && s.trial != nil {
+			s.tx.failed = false
+			s.tryError(e, m)
+		}
+	default:
+		if s.trial != nil {
+			s.tx.failed = false
+			s.tryError(e, m)
+		}
+	}
+	if pass {
+		if e.altered() {
+			o.buf = wire.AppendMoved(o.own(), m, e.moved())
+		} else {
+			o.pass(start, end)
+		}
+	}
+	if e.message == 'Q' || e.message == 'F' {
+		return // ReadyForQuery comes without a Sync
+	}
+	cleared := e.cleared
+	s.queue.skipped(s.names.back)
+	s.skipping = s.queue.empty()
+	if cleared {
+		s.names.setStatement("", nil)
+	}
+}
+
+// owner is the next Sync that is expected.
+func (s *Session) owner() *expectation {
+	for i := s.queue.head; i < len(s.queue.list); i++ {
+		if s.queue.list[i].message == 'S' {
+			return &s.queue.list[i]
+		}
+	}
+	return nil
+}
+
+// ownFailed takes an error in the proxy's own messages in front of a client's: the question in front of COMMIT, or the
+// twin of what SQL's PREPARE made. It says whether it was one of these.
+func (s *Session) ownFailed(m []byte) bool {
+	sync := s.owner()
+	if sync == nil || sync.kind != askEnd && sync.kind != prepareEnd {
+		return false
+	}
+	if sync.kind == prepareEnd {
+		sync.on.twin = ""
+	}
+	if s.status == 'T' {
+		s.askFailed(m)
+	} else {
+		s.tx.failed = false // EXECUTE will find no twin, and is sent again as it was
+	}
+	return true
+}
+
+// ready takes a ReadyForQuery.
+func (s *Session) ready(o *output, e *expectation, m []byte, start, end int) {
+	s.status = m[wire.Header]
+	kind := e.kind
+	s.copying = false
+	s.queue.pop()
+	switch kind {
+	case clients:
+		s.failure = s.failure[:0]
+		s.replay.skip = 0
+		if r := &s.replay; r.running && s.status == 'I' {
+			s.tx = transaction{seen: s.tx.seen}
+			r.due = true
+			return
+		} else if r.running {
+			r.running = false
+			s.waiting.Broadcast()
+			o.buf = append(o.own(), r.failure...)
+		}
+		if s.status == 'I' {
+			s.ended()
+		} else if s.status == 'T' {
+			s.tx.failed = false // it was rolled back to a savepoint
+		}
+		o.pass(start, end)
+	case askEnd, prepareEnd:
+		if len(s.failure) > 0 {
+			// It is told now; all that is answered up to the client's own Sync or Query is left out.
+			o.buf = append(o.own(), s.failure...)
+		}
+	case trialEnd:
+		s.tryEnd()
+	case fenceHalf:
+	case fenceEnd:
+		s.fenceDone()
+	}
+}
+
+// completes is the type of the message that another completes.
+func completes(kind byte) byte {
+	switch kind {
+	case '1':
+		return 'P'
+	case '2':
+		return 'B'
+	case '3':
+		return 'C'
+	}
+	return 'D'
+}

@@ -1,0 +1,352 @@
+// Package session is one connection of a client's to its server by way of the proxy. Two goroutines pass messages on,
+// one a direction. What each message is owed in answer stands in a queue, so it is known which rows are whose, in
+// pipelines too. Statements are rewritten by their plans where these were tried on the connection; hidden columns are
+// cut off, and told as a record of each transaction.
+//
+// The client gets what it would get without the proxy. What isn't understood is passed on as it is.
+package session
+
+import (
+	"errors"
+	"fmt"
+	"io"
+	"net"
+	"runtime/debug"
+	"sync"
+	"sync/atomic"
+	"time"
+
+	"zanteyard/plan"
+	"zanteyard/record"
+	"zanteyard/wire"
+)
+
+// Planner gives the plan of a statement's text on a connection with a search path, as catalog.PathSQL gives it; ""
+// stands for the catalog's own. The plan is nil if there is no catalog.
+type Planner interface {
+	PlanIn(path, text string) (*plan.Plan, plan.Tokens)
+	// Own says that a search path is the catalog's own.
+	Own(path string) bool
+}
+
+// Policy says what is kept of statements for people who read an explanation.
+type Policy struct {
+	Statements bool // their texts
+	Parameters bool // and the parameters of prepared ones
+}
+
+// Options are the same for all sessions of a proxy. Its functions may be called by many goroutines at once.
+type Options struct {
+	Plans      Planner
+	Sink       record.Sink
+	Policy     Policy
+	ReadLimit  int           // reads of a transaction that are kept
+	Fence      *Fence        // nil: no fences
+	Auditing   func() bool   // whether statements are looked at
+	Generation func() uint64 // the catalog's, which rises with each change
+	Defined    func()        // a session is about to change a definition
+	Log        func(string)  // for people who run the proxy
+	Bound      time.Duration // for how long a meeting holds what clients send
+}
+
+// Session is one connection. Its methods are safe for use by several goroutines.
+type Session struct {
+	number         uint64
+	options        *Options
+	client, server net.Conn
+
+	// writes is held over what is written to the server and the expectations for it, in one order. Who holds it may take
+	// state; never the other way round.
+	writes   sync.Mutex
+	toServer output
+	sent     time.Time
+	bound    wire.Bind
+	int16s   []int16
+
+	// blind: all is passed on without looking, as on a replication connection.
+	blind atomic.Bool
+	hold  atomic.Pointer[hold]
+	// missed: an idle moment couldn't be used, since writes was held.
+	missed atomic.Bool
+
+	state    sync.Mutex // over all below
+	waiting  sync.Cond  // for a replay to have been sent
+	queue    queue
+	status   byte // of the last ReadyForQuery: I, T or E; 0 before the first
+	open     bool // messages of the extended protocol were sent since the last Sync
+	skipping bool // the server leaves out what it gets up to the next Sync, after an error, which hasn't been sent yet
+	partial  bool // the server has a part of a message
+	copying  bool
+	replay   replay
+	failure  []byte // the error that the client got in place of the answer to its COMMIT
+	encoding bool   // texts can be looked at: the client's encoding, and its settings
+	standard bool
+	plain    bool
+	level    record.Level // that transactions begin at, if it is known
+	names    names
+	trust    trust
+	trial    *trial
+	tx       transaction
+	place    uint64
+	defines  bool // the transaction changes definitions
+	now      time.Time
+	fenced   func(number uint64, err error)
+	toClient output
+	columns  []wire.Column
+	ends     []int
+	values   [][]byte
+	reads    []record.Read
+}
+
+// New makes a session of two connections, after the startup message was passed on. Its number has to be its own.
+func New(number uint64, client, server net.Conn, options *Options) *Session {
+	s := &Session{number: number, options: options, client: client, server: server, names: newNames()}
+	s.waiting.L = &s.state
+	s.encoding, s.standard, s.plain = true, true, true
+	s.trust.uses = map[*plan.Plan]*use{}
+	s.trust.doubtful()
+	s.trust.generation = 1
+	return s
+}
+
+// Number is the session's number.
+func (s *Session) Number() uint64 { return s.number }
+
+// Blind has all be passed on without looking, as a connection for replication needs it. To be called before Run.
+func (s *Session) Blind() { s.blind.Store(true) }
+
+// Run passes messages on until one of the connections ends, and closes both.
+func (s *Session) Run() error {
+	ended := make(chan error, 1)
+	go func() {
+		err := s.guarded(s.back)
+		s.client.Close()
+		s.server.Close()
+		ended <- err
+	}()
+	err := s.guarded(s.forth)
+	// The server may still have answers for what was sent: it closes the connection after Terminate, or when it finds the
+	// client gone.
+	if half, ok := s.server.(interface{ CloseWrite() error }); ok && errors.Is(err, io.EOF) {
+		half.CloseWrite()
+	} else {
+		s.server.Close()
+	}
+	back := <-ended
+	s.over()
+	if err == nil || errors.Is(err, io.EOF) {
+		err = back
+	}
+	if errors.Is(err, io.EOF) || errors.Is(err, net.ErrClosed) {
+		return nil
+	}
+	return err
+}
+
+// guarded has a fault of the proxy's own end this connection, not those of everybody.
+func (s *Session) guarded(f func() error) (err error) {
+	defer func() {
+		if fault := recover(); fault != nil {
+			err = fmt.Errorf("a fault of the proxy's: %v\n%s", fault, debug.Stack())
+		}
+	}()
+	return f()
+}
+
+// over tells what the connection's end leaves: a transaction whose COMMIT, or whose only statement, wasn't answered.
+func (s *Session) over() {
+	s.state.Lock()
+	defer s.state.Unlock()
+	outcome := record.Aborted
+	for i := s.queue.head; i < len(s.queue.list); i++ {
+		if e := &s.queue.list[i]; e.kind == clients && e.message != 'c' {
+			outcome = record.Unclear
+			s.begin()
+		}
+	}
+	s.now = clock()
+	s.finish(outcome)
+	s.fenceLost()
+	if h := s.hold.Load(); h != nil {
+		h.release()
+	}
+}
+
+// forth passes on what the client sends.
+func (s *Session) forth() error {
+	in := wire.NewReader(s.client)
+	for {
+		batch, more, err := in.Whole()
+		if err != nil {
+			return err
+		}
+		if err := s.send(in, batch, more); err != nil {
+			return err
+		}
+		if s.blind.Load() {
+			return s.unseen(s.server, s.client, in)
+		}
+	}
+}
+
+// send passes on some messages, or the beginning of a long one and then the rest of it.
+func (s *Session) send(in *wire.Reader, batch []byte, more int) error {
+	s.writes.Lock()
+	if h := s.hold.Load(); h != nil {
+		s.wait(h)
+	}
+	out := s.looked(batch, more)
+	_, err := s.server.Write(out)
+	s.toServer.release()
+	s.writes.Unlock()
+	if s.missed.Load() {
+		s.rest()
+	}
+	for err == nil && more > 0 {
+		var part []byte
+		if part, more, err = in.Chunk(); err == nil {
+			_, err = s.server.Write(part)
+		}
+		if more == 0 {
+			s.state.Lock()
+			s.partial = false
+			s.state.Unlock()
+		}
+	}
+	return err
+}
+
+// looked says what is sent for a batch of messages. Called with writes locked.
+func (s *Session) looked(batch []byte, more int) []byte {
+	s.state.Lock()
+	defer s.state.Unlock()
+	for s.replay.running {
+		s.waiting.Wait()
+	}
+	s.sent = clock()
+	if s.blind.Load() || s.status == 0 {
+		s.partial = more > 0
+		return batch
+	}
+	if g := s.options.Generation(); g != s.trust.catalog {
+		s.trust.catalog = g
+		s.trust.planAnew()
+	}
+	s.replay.sent(batch, more > 0, s.between())
+	if more > 0 {
+		s.partial = true
+		return s.long(batch)
+	}
+	return s.fromClient(&s.toServer, batch)
+}
+
+// back passes on what the server sends.
+func (s *Session) back() error {
+	in := wire.NewReader(s.server)
+	for {
+		batch, more, err := in.Whole()
+		if err != nil {
+			return err
+		}
+		if more > 0 {
+			err = s.backLong(in, batch, more)
+		} else {
+			err = s.pass(batch)
+		}
+		if err != nil {
+			return err
+		}
+		if s.blind.Load() {
+			return s.unseen(s.client, s.server, in)
+		}
+	}
+}
+
+// pass passes on some messages of the server's.
+func (s *Session) pass(batch []byte) error {
+	out, again, rest := s.answered(batch)
+	if again {
+		if err := s.sendAgain(); err != nil {
+			return err
+		}
+	}
+	if rest {
+		s.rest()
+	}
+	var err error
+	if len(out) > 0 {
+		_, err = s.client.Write(out)
+	}
+	s.toClient.release()
+	return err
+}
+
+// answered says what is passed on of some messages, and what else is to be done: to send the client's own messages
+// again, or to use an idle moment.
+func (s *Session) answered(batch []byte) (out []byte, again, rest bool) {
+	s.state.Lock()
+	defer s.state.Unlock()
+	s.now = clock()
+	if s.blind.Load() {
+		return batch, false, false
+	}
+	out = s.fromServer(batch)
+	s.queue.copied()
+	return out, s.replay.due, s.idle() && (s.trust.work() || s.due())
+}
+
+// backLong passes on a long message of the server's.
+func (s *Session) backLong(in *wire.Reader, begin []byte, more int) error {
+	s.state.Lock()
+	e := s.queue.first()
+	plain := e == nil || e.kind == clients && len(s.failure) == 0 && s.status != 0
+	if e != nil && plain && begin[0] == 'D' {
+		s.fetched(e)
+		plain = e.hidden == 0
+	}
+	plain = plain && (begin[0] == 'D' || begin[0] == 'd' || begin[0] == 'V' || begin[0] == 'A')
+	if plain && e != nil {
+		s.replay.given = true
+		e.rows++
+	}
+	s.state.Unlock()
+	if !plain {
+		// A row whose hidden columns are to be cut off: its length is in front, and what they take is known at its end.
+		// So it is held whole, as the server holds it.
+		all, err := in.Rest(begin)
+		if err != nil {
+			return err
+		}
+		return s.pass(all)
+	}
+	_, err := s.client.Write(begin)
+	for err == nil && more > 0 {
+		var part []byte
+		if part, more, err = in.Chunk(); err == nil {
+			_, err = s.client.Write(part)
+		}
+	}
+	return err
+}
+
+// unseen passes all on that comes from here on.
+func (s *Session) unseen(to, from net.Conn, in *wire.Reader) error {
+	if b := in.Buffered(); len(b) > 0 {
+		if _, err := to.Write(b); err != nil {
+			return err
+		}
+	}
+	_, err := io.Copy(to, from)
+	if err == nil {
+		err = io.EOF
+	}
+	return err
+}
+
+// lost says that an answer wasn't one that was expected: a fault of the proxy's. It goes on without rewriting.
+func (s *Session) lost(answer, message byte) {
+	s.options.Log("connection " + itoa(s.number) + ": an answer of type " + string(rune(answer)) +
+		" to a message of type " + string(rune(message)) + "; it is passed on without looking from here on")
+	s.trust.broken = true
+	s.plain, s.encoding = false, false
+}

@@ -1,0 +1,114 @@
+package session
+
+import (
+	"zanteyard/plan"
+	"zanteyard/wire"
+)
+
+// piece is one of several statements in one Query.
+type piece struct {
+	plan       *plan.Plan
+	use        *use
+	changed    bool
+	at, length int // of what was inserted, in the rewritten text of all
+}
+
+// pieces rewrites those of several statements that may be. What one of them may change isn't relied on for those behind
+// it.
+func (s *Session) pieces(st *statement) (string, []piece) {
+	var to []byte
+	var all []piece
+	last := 0
+	for _, part := range st.tokens.Parts() {
+		p := part.Plan
+		one := &statement{text: st.text[part.From:part.To], plan: p, tokens: part.Tokens, looked: s.trust.plans,
+			use: s.trust.of(p)}
+		it := piece{plan: p, use: one.use}
+		to = append(to, st.text[last:part.From]...)
+		if s.usable(one) {
+			rewritten, at, length := p.Rewrite(one.text, part.Tokens)
+			it.changed, it.at, it.length = true, len(to)+at, length
+			to = append(to, rewritten...)
+		} else {
+			to = append(to, one.text...)
+		}
+		s.before(p)
+		last = part.To
+		all = append(all, it)
+	}
+	return string(append(to, st.text[last:]...)), all
+}
+
+// several takes a Query of several statements.
+func (s *Session) several(o *output, st *statement, e *expectation, start, end int) {
+	text, pieces := s.pieces(st)
+	e.pieces = pieces
+	if text == st.text {
+		o.pass(start, end)
+	} else {
+		st.altered, st.rewritten = true, text
+		to := o.own()
+		begin := len(to)
+		o.buf = wire.End(wire.AppendText(wire.Begin(to, 'Q'), text), begin)
+	}
+	e.piece(0)
+}
+
+// piece goes on with one of the statements.
+func (e *expectation) piece(i int) {
+	e.part = i
+	e.hides, e.hidden, e.changed, e.use, e.rows = nil, 0, false, nil, 0
+	if i >= len(e.pieces) {
+		return
+	}
+	it := &e.pieces[i]
+	e.use, e.changed = it.use, it.changed
+	if it.changed && it.plan.Kind != plan.Declare {
+		e.hides, e.hidden = it.plan, it.use.hidden
+	}
+}
+
+// current is the plan of the statement that is answered, nil if it isn't known.
+func (e *expectation) current() *plan.Plan {
+	switch {
+	case e.part < len(e.pieces):
+		return e.pieces[e.part].plan
+	case e.on == nil:
+		return nil
+	}
+	return e.on.plan
+}
+
+// altered says that the text which an error is about was rewritten.
+func (e *expectation) altered() bool {
+	return e.changed || len(e.pieces) > 0 && e.on.altered
+}
+
+// moved gives the position of an error in a rewritten text as one in the client's own.
+func (e *expectation) moved() func(position int) int {
+	st := e.on
+	if len(e.pieces) > 0 {
+		return func(position int) int {
+			text := st.rewritten
+			for i := len(e.pieces) - 1; i >= 0; i-- { // what is inserted in front is still there
+				it := e.pieces[i]
+				position = plan.MoveBack(text, it.at, it.length, position)
+				text = text[:it.at] + text[it.at+it.length:]
+			}
+			return position
+		}
+	}
+	if at, more := st.renamedAt, st.renamed; st.plan.Kind == plan.Execute {
+		return func(position int) int {
+			if position > at+1 {
+				position -= more
+			}
+			if position <= at {
+				return at + 1
+			}
+			return position
+		}
+	}
+	text, at, length := st.plan.Rewrite(st.text, st.tokens)
+	return func(position int) int { return plan.MoveBack(text, at, length, position) }
+}

@@ -1,0 +1,315 @@
+package session
+
+import (
+	"bytes"
+
+	"zanteyard/plan"
+	"zanteyard/wire"
+)
+
+// state is how far a plan has come on a connection.
+type state uint8
+
+const (
+	untried state = iota
+	waiting       // for the next idle moment
+	trying        // its trial was sent
+	tried         // it may be used
+	failed        // it isn't used here before something changes
+)
+
+// use is what a connection knows of a plan.
+type use struct {
+	plan       *plan.Plan
+	state      state
+	generation uint64 // of trust, in which state was reached
+	hidden     int    // columns that the plan adds
+	sample     *statement
+	columns    bool // the trial's description had the columns that the plan adds
+	own        int  // columns that the statement returns without these
+	allowed    bool // the trial's query of privileges said yes
+	delays     int  // trials that ended for want of a lock
+	reason     string
+}
+
+// trust is which plans may be used on a connection: those that were tried there since anything happened that may change
+// what a name means or what its user may do.
+type trust struct {
+	generation uint64 // what was tried in an older one is forgotten
+	catalog    uint64 // the catalog's generation, as last looked at
+	path       string // the search path that names are resolved by, "" for the catalog's own
+	plans      uint64 // counts the changes of these two: plans from before aren't made any more
+	uses       map[*plan.Plan]*use
+	queue      []*use // that wait for a trial
+	// doubt says that something happened which may have changed names or rights. Nothing is used until the signature was
+	// compared; doubts counts, so that an answer isn't taken for a later doubt's.
+	doubt     bool
+	doubts    uint64
+	signature []byte
+	asks      bool     // the ask was prepared and has run in this generation
+	wanted    bool     // the ask is worth preparing
+	broken    bool     // not even the proxy's own questions work here
+	orphans   []string // twins whose statements are gone
+}
+
+// trial is one series of messages that was sent at an idle moment.
+type trial struct {
+	generation, doubts uint64
+	uses               []*use
+	signature          []byte
+	path               string
+	asked              bool // the ask ran
+	failed             bool
+}
+
+const (
+	trialsAtOnce = 8
+	mostUses     = 4096
+	mostDelays   = 20
+	mostOrphans  = 16
+)
+
+// forget has everything be tried anew.
+func (t *trust) forget() {
+	t.generation++
+	t.queue = t.queue[:0]
+	t.broken = false
+	t.signature = nil
+	t.doubtful()
+	if len(t.uses) > mostUses {
+		t.uses = map[*plan.Plan]*use{}
+	}
+}
+
+// planAnew has all statements be planned anew, and tried.
+func (t *trust) planAnew() {
+	t.plans++
+	t.forget()
+	t.uses = map[*plan.Plan]*use{}
+}
+
+func (t *trust) doubtful() {
+	t.doubt = true
+	t.asks = false // a function may have dropped it
+	t.doubts++
+}
+
+// of gives what is known of a plan; nil if the plan adds nothing.
+func (t *trust) of(p *plan.Plan) *use {
+	u := t.uses[p]
+	if u == nil {
+		n := hiddenColumns(p)
+		if n == 0 {
+			return nil
+		}
+		if len(t.uses) >= mostUses {
+			t.forget()
+			t.uses = map[*plan.Plan]*use{}
+		}
+		u = &use{plan: p, hidden: n}
+		t.uses[p] = u
+	}
+	return u
+}
+
+// usable says whether a plan may be used now. If it wasn't tried it is put in the queue, with a text to try.
+func (t *trust) usable(u *use, sample *statement) bool {
+	if u == nil {
+		return false
+	}
+	if u.generation != t.generation || u.state == untried {
+		u.state, u.generation, u.sample, u.delays = waiting, t.generation, sample, 0
+		t.queue = append(t.queue, u)
+		return false
+	}
+	if u.state != tried {
+		return false
+	}
+	sure := !t.doubt && t.asks
+	t.wanted = t.wanted || !sure
+	return sure
+}
+
+// why says why a plan isn't used.
+func (t *trust) why(u *use) string {
+	switch {
+	case t.broken:
+		return "the connection's user can't ask what the proxy has to ask"
+	case u.state == failed:
+		return u.reason
+	case u.state == tried:
+		return "something may have changed what names mean"
+	}
+	return "not tried on its connection yet"
+}
+
+// work says whether there is something to try at an idle moment.
+func (t *trust) work() bool {
+	return !t.broken && (len(t.queue) > 0 || t.wanted && (t.doubt || !t.asks) || len(t.orphans) > mostOrphans)
+}
+
+// hiddenColumns is how many columns a plan adds to what its statement returns, or the rows of its cursor.
+func hiddenColumns(p *plan.Plan) int { return rows(p).Hidden() }
+
+// rows is the plan of the query whose rows have the hidden columns.
+func rows(p *plan.Plan) *plan.Plan {
+	if (p.Kind == plan.Declare || p.Kind == plan.Prepare) && p.Inner != nil {
+		return p.Inner
+	}
+	return p
+}
+
+// try appends the messages of a trial and what is expected for them.
+func (s *Session) try(out []byte) []byte {
+	t := &s.trust
+	w := &trial{generation: t.generation, doubts: t.doubts}
+	s.trial = w
+	for _, name := range t.orphans {
+		out = appendClose(out, name)
+		s.queue.step('C', nil)
+	}
+	t.orphans = t.orphans[:0]
+	out = append(out, impatient...)
+	s.queue.once(expectation{kind: silent})
+	out = append(out, signature...)
+	s.queue.once(expectation{kind: signatureRow})
+	if !t.asks {
+		// An ask that fails in a transaction would abort it: so it has to run here first.
+		out = append(append(out, closeAsk...), askPrepare...)
+		s.queue.step('C', nil)
+		s.queue.step('P', nil)
+		out = append(out, askRun...)
+		s.queue.again(expectation{kind: silent})
+		w.asked = true
+	}
+	for len(t.queue) > 0 && len(w.uses) < trialsAtOnce {
+		u := t.queue[0]
+		t.queue = t.queue[:copy(t.queue, t.queue[1:])]
+		if u.generation != t.generation || u.state != waiting {
+			continue
+		}
+		u.state, u.columns, u.allowed = trying, false, false
+		w.uses = append(w.uses, u)
+		out = s.tryOne(out, u)
+	}
+	s.queue.push(expectation{kind: trialEnd, message: 'S'})
+	return append(out, syncMessage...)
+}
+
+// tryOne appends the trial of one plan: its privileges first, so that a missing one is seldom an error in the server's
+// log, then a Parse and Describe of a rewritten text.
+func (s *Session) tryOne(out []byte, u *use) []byte {
+	want := u.plan.Trial()
+	if want.Privileges != "" {
+		out = append(out, once(privilegeName, want.Privileges)...)
+		s.queue.once(expectation{kind: privilegeRow, use: u})
+	} else {
+		u.allowed = true
+	}
+	texts, types := want.Statements, []byte{0, 0}
+	if st := u.sample; st != nil && st.text != "" && st.plan == u.plan && rows(u.plan) == u.plan {
+		text, _, _ := u.plan.Rewrite(st.text, st.tokens)
+		texts = []string{text}
+		if st.types != nil {
+			types = st.types
+		}
+	}
+	u.sample = nil
+	for _, text := range texts {
+		out = append(out, closeTrial...)
+		out = appendParse(out, trialName, text, types)
+		out = append(out, describeTrial...)
+		out = append(out, closeTrial...)
+		s.queue.step('C', u)
+		s.queue.step('P', u)
+		s.queue.push(expectation{kind: trialColumns, message: 'D', use: u})
+		s.queue.step('C', u)
+	}
+	return out
+}
+
+// described looks at what a trial's statement returns: the last columns have to be those that the plan adds.
+func (u *use) described(m []byte, s *Session) {
+	columns, ends, ok := wire.Columns(m, s.columns[:0], s.ends[:0])
+	s.columns, s.ends = columns, ends
+	p := rows(u.plan)
+	n := len(columns) - u.hidden
+	u.columns, u.own = ok && n >= 0 && (n == 0 || !p.AddsReturning), n
+	if !u.columns {
+		return
+	}
+	for i, kind := range p.HiddenTypes() {
+		u.columns = u.columns && columns[n+i].Type == kind
+	}
+}
+
+// tryError says what an error in a trial means. The messages up to its Sync are skipped.
+func (s *Session) tryError(e *expectation, m []byte) {
+	w := s.trial
+	if w == nil {
+		return
+	}
+	w.failed = true
+	if e.use == nil {
+		if !passing(m) {
+			s.trust.broken = true
+		}
+		return
+	}
+	if passing(m) && e.use.delays < mostDelays {
+		e.use.delays++
+		return // it waits for another idle moment
+	}
+	e.use.state = failed
+	e.use.reason = "what the audit needs can't be asked for on its connection: " + string(wire.Field(m, 'C'))
+}
+
+// passing says that an error came from what others do at the moment: a lock, a cancel, a limit of time or memory.
+func passing(m []byte) bool {
+	class := wire.Field(m, 'C')
+	return bytes.HasPrefix(class, []byte("55")) || bytes.HasPrefix(class, []byte("57")) ||
+		bytes.HasPrefix(class, []byte("53")) || bytes.HasPrefix(class, []byte("40"))
+}
+
+// tryEnd is called when a trial's messages are all answered.
+func (s *Session) tryEnd() {
+	t, w := &s.trust, s.trial
+	s.trial = nil
+	if w == nil || w.generation != t.generation {
+		return // something changed meanwhile; all is tried anew when it is used
+	}
+	if w.signature != nil && w.doubts == t.doubts {
+		changed := t.signature != nil && !bytes.Equal(t.signature, w.signature)
+		if s.options.Plans.Own(w.path) {
+			w.path = ""
+		}
+		switch {
+		case w.path != t.path:
+			t.path, changed = w.path, true
+			t.planAnew()
+		case changed:
+			t.forget()
+		}
+		t.signature, t.doubt = w.signature, false
+		if changed {
+			return
+		}
+	}
+	if w.asked && !w.failed {
+		t.asks = true
+	}
+	for _, u := range w.uses {
+		switch {
+		case u.state != trying:
+		case u.allowed && u.columns && !w.failed:
+			u.state = tried
+		case w.failed:
+			u.state = waiting
+			t.queue = append(t.queue, u)
+		case !u.allowed:
+			u.state, u.reason = failed, "the connection's user may not read what the audit needs"
+		default:
+			u.state, u.reason = failed, "on its connection the names mean something else"
+		}
+	}
+}

@@ -1,0 +1,293 @@
+package slot
+
+import (
+	"bufio"
+	"context"
+	"encoding/binary"
+	"errors"
+	"fmt"
+	"io"
+	"net"
+	"strings"
+	"sync"
+	"sync/atomic"
+	"time"
+
+	"github.com/jackc/pgconn"
+
+	"zanteyard/record"
+)
+
+// Reader reads a slot over a replication connection of its own.
+type Reader struct {
+	options Options
+	plugin  Plugin
+	tables  *Tables
+	conn    *pgconn.PgConn
+	from    string // where the slot begins
+
+	raw      net.Conn
+	writing  sync.Mutex
+	received uint64 // atomic: the place up to which all is received
+	pings    chan struct{}
+}
+
+// decoder makes commits of a plugin's messages.
+type decoder interface {
+	decode(text []byte, end uint64) (record.Commit, bool, error)
+}
+
+// Open connects and makes the slot. It waits for transactions that are open, as the server does; when ctx ends before,
+// the error is ErrBlocked. What Tables say is read anew by Control.Load.
+func Open(ctx context.Context, options Options, tables *Tables) (*Reader, error) {
+	conn, err := connect(ctx, options, true)
+	if err != nil {
+		return nil, fmt.Errorf("connect for the replication slot: %w", err)
+	}
+	r := &Reader{options: options, tables: tables, conn: conn, pings: make(chan struct{}, 1)}
+	if err := r.create(ctx); err != nil {
+		end, cancel := context.WithTimeout(context.Background(), time.Second)
+		defer cancel()
+		conn.Close(end)
+		return nil, err
+	}
+	return r, nil
+}
+
+func connect(ctx context.Context, options Options, replication bool) (*pgconn.PgConn, error) {
+	config, err := pgconn.ParseConfig(options.Source)
+	if err != nil {
+		return nil, err
+	}
+	for name, value := range options.Settings {
+		config.RuntimeParams[name] = value
+	}
+	config.RuntimeParams["application_name"] = "zanteyard"
+	if replication {
+		config.RuntimeParams["replication"] = "database"
+	} else {
+		config.RuntimeParams["synchronous_commit"] = "off"
+		config.RuntimeParams["default_transaction_isolation"] = "read committed"
+		config.RuntimeParams["default_transaction_read_only"] = "off"
+		config.RuntimeParams["search_path"] = "pg_catalog"
+	}
+	return pgconn.ConnectConfig(ctx, config)
+}
+
+// create makes the slot with the first plugin that is there.
+func (r *Reader) create(ctx context.Context) error {
+	kind := "TEMPORARY "
+	if r.options.Permanent {
+		kind = ""
+	}
+	plugins := []Plugin{Wal2json, TestDecoding}
+	if r.options.Plugin != "" {
+		plugins = []Plugin{r.options.Plugin}
+	}
+	for _, plugin := range plugins {
+		rows, err := query(ctx, r.conn, fmt.Sprintf(`CREATE_REPLICATION_SLOT %s %sLOGICAL %s NOEXPORT_SNAPSHOT`,
+			quoted(r.options.Name), kind, plugin))
+		switch {
+		case err == nil && len(rows) == 1 && len(rows[0]) >= 2:
+			r.plugin, r.from = plugin, rows[0][1]
+			return nil
+		case err == nil:
+			return errForm
+		case ctx.Err() != nil:
+			return fmt.Errorf("%w (%v)", ErrBlocked, err)
+		case r.options.Permanent && hasCode(err, "42710"): // it is there from an earlier run: what it tells first is old
+			r.plugin, r.from = plugin, "0/0"
+			return r.known(ctx)
+		case !isMissing(err):
+			return fmt.Errorf("make the replication slot: %w", err)
+		}
+	}
+	return ErrNoPlugin
+}
+
+// known finds the plugin of a slot that is there, and whether it can be read.
+func (r *Reader) known(ctx context.Context) error {
+	rows, err := query(ctx, r.conn, "SELECT plugin, database = current_database(), active FROM pg_replication_slots "+
+		"WHERE slot_name = '"+strings.ReplaceAll(r.options.Name, "'", "''")+"'")
+	switch {
+	case err != nil:
+		return fmt.Errorf("look at the replication slot: %w", err)
+	case len(rows) != 1 || rows[0][1] != "t":
+		return fmt.Errorf("the replication slot %s is another database's", r.options.Name)
+	case rows[0][2] == "t":
+		return fmt.Errorf("the replication slot %s is in use", r.options.Name)
+	}
+	r.plugin = Plugin(rows[0][0])
+	if r.plugin != Wal2json && r.plugin != TestDecoding {
+		return fmt.Errorf("the replication slot %s has the plugin %s", r.options.Name, r.plugin)
+	}
+	return nil
+}
+
+// isMissing says that a plugin's file isn't there.
+func isMissing(err error) bool { return hasCode(err, "58P01") || hasCode(err, "42704") }
+
+func hasCode(err error, code string) bool {
+	var told *pgconn.PgError
+	return errors.As(err, &told) && told.Code == code
+}
+
+func quoted(name string) string { return `"` + strings.ReplaceAll(name, `"`, `""`) + `"` }
+
+// Plugin is the one that the slot has.
+func (r *Reader) Plugin() Plugin { return r.plugin }
+
+// Read gives the receiver what the slot tells, until ctx ends, the receiver or the server ends it, or the connection is
+// lost.
+func (r *Reader) Read(ctx context.Context, to Receiver) error {
+	var its decoder
+	options := wal2jsonOptions
+	if r.plugin == Wal2json {
+		its = &wal2json{tables: r.tables, canonical: r.options.Canonical}
+	} else {
+		its, options = &testDecoding{tables: r.tables, canonical: r.options.Canonical}, testDecodingOptions
+	}
+	hijacked, err := r.conn.Hijack()
+	if err != nil {
+		return err
+	}
+	r.raw = hijacked.Conn
+	ctx, cancel := context.WithCancel(ctx)
+	defer cancel()
+	go func() { // has a read that waits return
+		<-ctx.Done()
+		r.raw.Close()
+	}()
+	command := fmt.Sprintf("START_REPLICATION SLOT %s LOGICAL %s (%s)", quoted(r.options.Name), r.from, options)
+	message := append([]byte{'Q'}, binary.BigEndian.AppendUint32(nil, uint32(len(command)+5))...)
+	message = append(append(message, command...), 0)
+	if _, err := r.raw.Write(message); err != nil {
+		return fmt.Errorf("begin the replication: %w", err)
+	}
+	go r.report(ctx)
+	err = r.receive(its, to)
+	if ctx.Err() != nil {
+		return ctx.Err()
+	}
+	return err
+}
+
+// receive takes message after message.
+func (r *Reader) receive(its decoder, to Receiver) error {
+	frames := bufio.NewReaderSize(r.raw, 1<<16)
+	var header [5]byte
+	var body []byte
+	for {
+		if _, err := io.ReadFull(frames, header[:]); err != nil {
+			return fmt.Errorf("the replication slot's connection was lost: %w", err)
+		}
+		n := int(binary.BigEndian.Uint32(header[1:])) - 4
+		if n < 0 {
+			return errForm
+		}
+		if cap(body) < n || cap(body) > large && n < large {
+			body = make([]byte, n+n/4)
+		}
+		body = body[:n]
+		if _, err := io.ReadFull(frames, body); err != nil {
+			return fmt.Errorf("the replication slot's connection was lost: %w", err)
+		}
+		switch header[0] {
+		case 'd':
+			if err := r.data(body, its, to); err != nil {
+				return err
+			}
+		case 'E':
+			return fmt.Errorf("%w: %s", ErrEnded, errorText(body))
+		case 'c', 'C', 'Z': // the server shuts down
+			return ErrEnded
+		}
+	}
+}
+
+// large is how much room for one message is kept.
+const large = 1 << 20
+
+// data takes a CopyData's inside: what the plugin wrote, or how far the server is.
+func (r *Reader) data(body []byte, its decoder, to Receiver) error {
+	switch {
+	case len(body) >= 25 && body[0] == 'w':
+		end := binary.BigEndian.Uint64(body[1:])
+		commit, is, err := its.decode(body[25:], end)
+		if err != nil || !is {
+			return err
+		}
+		commit.At = timeOf(binary.BigEndian.Uint64(body[17:]))
+		r.note(commit.LSN)
+		return to.Commit(commit)
+	case len(body) >= 18 && body[0] == 'k':
+		place := binary.BigEndian.Uint64(body[1:])
+		r.note(place)
+		if body[17] == 1 {
+			r.Ping()
+		}
+		return to.Advance(place)
+	}
+	return errForm
+}
+
+func (r *Reader) note(place uint64) {
+	if place > atomic.LoadUint64(&r.received) {
+		atomic.StoreUint64(&r.received, place)
+	}
+}
+
+// report tells the server what is received, so that it keeps no log for it: each second, and when asked.
+func (r *Reader) report(ctx context.Context) {
+	ticker := time.NewTicker(time.Second)
+	defer ticker.Stop()
+	for {
+		select {
+		case <-ctx.Done():
+			return
+		case <-ticker.C:
+		case <-r.pings:
+		}
+		message := make([]byte, 0, 39)
+		message = append(message, 'd', 0, 0, 0, 38, 'r')
+		place := atomic.LoadUint64(&r.received)
+		for i := 0; i < 3; i++ { // written, flushed, applied
+			message = binary.BigEndian.AppendUint64(message, place)
+		}
+		message = binary.BigEndian.AppendUint64(message, uint64(time.Since(epoch).Microseconds()))
+		message = append(message, 1) // and the server says how far it is
+		r.writing.Lock()
+		_, err := r.raw.Write(message)
+		r.writing.Unlock()
+		if err != nil {
+			return // the reading side says so
+		}
+	}
+}
+
+// Ping has the server say how far it is.
+func (r *Reader) Ping() {
+	select {
+	case r.pings <- struct{}{}:
+	default:
+	}
+}
+
+// epoch is PostgreSQL's.
+var epoch = time.Date(2000, 1, 1, 0, 0, 0, 0, time.UTC)
+
+func timeOf(microseconds uint64) time.Time {
+	return epoch.Add(time.Duration(microseconds) * time.Microsecond)
+}
+
+// errorText is an ErrorResponse's message.
+func errorText(body []byte) string {
+	for len(body) > 1 {
+		field, rest, _ := strings.Cut(string(body[1:]), "\x00")
+		if body[0] == 'M' {
+			return field
+		}
+		body = []byte(rest)
+	}
+	return "no reason was given"
+}

@@ -1,0 +1,229 @@
+package slot
+
+import (
+	"sort"
+	"strconv"
+	"strings"
+	"sync"
+	"sync/atomic"
+
+	"zanteyard/record"
+)
+
+// Table is a table, or a partition, with its primary key.
+type Table struct {
+	Relation     record.Relation
+	Root         record.Relation // the topmost partitioned table, if that has a primary key; else the table itself
+	Schema, Name string
+	Key          []Column // in the key's order; none where there is no primary key
+	fence        bool
+	stamp        string // is another one where its name or key is
+	used         uint32 // atomic: the slot has told of it
+}
+
+// Column is a column of a key. Type is what Canonical knows: a domain's base type.
+type Column struct {
+	Name string
+	Type uint32
+}
+
+func (t *Table) hasKey(name []byte) bool {
+	for _, part := range t.Key {
+		if part.Name == string(name) {
+			return true
+		}
+	}
+	return false
+}
+
+// sameKey says whether the key has just these columns: if it hasn't, the table was altered since.
+func (t *Table) sameKey(names [][]byte) bool {
+	if len(names) != len(t.Key) {
+		return false
+	}
+	for _, name := range names {
+		if !t.hasKey(name) {
+			return false
+		}
+	}
+	return true
+}
+
+// Tables are what is known of a database's tables, by name and by identifier. Safe for use by many goroutines.
+type Tables struct {
+	show func(uint32, string) string
+
+	lock     sync.RWMutex
+	by       map[record.Relation]*Table
+	byName   map[string]map[string]*Table // by schema and name
+	names    uint64                       // how often they were read
+	oids     string                       // of the tables that are used, as an array's text
+	stamp    string                       // theirs
+	missing  bool                         // a name came that isn't known: they are to be read anew
+	without  map[string]uint64            // changes of tables without a key, by the table's name
+	unlisted uint64
+}
+
+func newTables(show func(uint32, string) string) *Tables {
+	return &Tables{show: show, without: map[string]uint64{}}
+}
+
+// set takes in all tables, and gives those that aren't what they were.
+func (t *Tables) set(all []*Table) (changed []record.Relation) {
+	by, names := make(map[record.Relation]*Table, len(all)), map[string]map[string]*Table{}
+	for _, one := range all {
+		by[one.Relation] = one
+		if names[one.Schema] == nil {
+			names[one.Schema] = map[string]*Table{}
+		}
+		names[one.Schema][one.Name] = one
+	}
+	t.lock.Lock()
+	defer t.lock.Unlock()
+	for relation, was := range t.by {
+		is := by[relation]
+		if is == nil || is.stamp != was.stamp || is.Root != was.Root {
+			changed = append(changed, relation, was.Root)
+		}
+		if is != nil {
+			is.used = atomic.LoadUint32(&was.used)
+		}
+	}
+	for relation, is := range by {
+		if t.by != nil && t.by[relation] == nil {
+			changed = append(changed, relation, is.Root)
+		}
+	}
+	t.by, t.byName, t.missing = by, names, false
+	t.names++
+	t.stampOf()
+	return changed
+}
+
+// stampOf puts together what is expected of the tables that are used. Called with lock held.
+func (t *Tables) stampOf() {
+	var its []*Table
+	for _, one := range t.by {
+		if atomic.LoadUint32(&one.used) == 1 {
+			its = append(its, one)
+		}
+	}
+	sort.Slice(its, func(i, j int) bool { return its[i].Relation < its[j].Relation })
+	oids, stamps := make([]string, len(its)), make([]string, len(its))
+	for i, one := range its {
+		oids[i], stamps[i] = strconv.FormatUint(uint64(one.Relation), 10), one.stamp
+	}
+	t.oids, t.stamp = "{"+strings.Join(oids, ",")+"}", strings.Join(stamps, "; ")
+}
+
+// usedText are the used tables as an array's text, and usedStamp what is expected of them.
+func (t *Tables) usedText() string {
+	t.lock.Lock()
+	defer t.lock.Unlock()
+	t.stampOf()
+	return t.oids
+}
+
+func (t *Tables) usedStamp() string {
+	t.lock.RLock()
+	defer t.lock.RUnlock()
+	return t.stamp
+}
+
+// Names counts how often names were read: what is decoded has the meaning of that time.
+func (t *Tables) Names() uint64 {
+	t.lock.RLock()
+	defer t.lock.RUnlock()
+	return t.names
+}
+
+// named is the table of that name, nil if none is known. From then on it counts as used.
+func (t *Tables) named(schema, table []byte) *Table {
+	t.lock.RLock()
+	its := t.byName[string(schema)][string(table)]
+	t.lock.RUnlock()
+	if its != nil && atomic.LoadUint32(&its.used) == 0 {
+		atomic.StoreUint32(&its.used, 1)
+	}
+	return its
+}
+
+// list is all of them, by their names.
+func (t *Tables) list() []*Table {
+	t.lock.RLock()
+	defer t.lock.RUnlock()
+	its := make([]*Table, 0, len(t.by))
+	for _, one := range t.by {
+		its = append(its, one)
+	}
+	sort.Slice(its, func(i, j int) bool {
+		return its[i].Schema < its[j].Schema || its[i].Schema == its[j].Schema && its[i].Name < its[j].Name
+	})
+	return its
+}
+
+// unknown notes that a name isn't known, or means something else than it did.
+func (t *Tables) unknown(schema, table []byte) {
+	t.lock.Lock()
+	t.missing = true
+	t.unlisted++
+	t.lock.Unlock()
+}
+
+// mostNames bounds the tables without a key that are counted one by one.
+const mostNames = 100
+
+func (t *Tables) keyless(table *Table) {
+	name := table.Schema + "." + table.Name
+	t.lock.Lock()
+	defer t.lock.Unlock()
+	if _, is := t.without[name]; !is && len(t.without) >= mostNames {
+		name = "others"
+	}
+	t.without[name]++
+}
+
+// Keyless counts changes of tables without a primary key, by the table's name.
+func (t *Tables) Keyless() map[string]uint64 {
+	t.lock.RLock()
+	defer t.lock.RUnlock()
+	to := make(map[string]uint64, len(t.without))
+	for name, n := range t.without {
+		to[name] = n
+	}
+	return to
+}
+
+// Missing says that names came which aren't known: Control.Load reads the catalog anew.
+func (t *Tables) Missing() bool {
+	t.lock.RLock()
+	defer t.lock.RUnlock()
+	return t.missing
+}
+
+// Root implements join.Tables.
+func (t *Tables) Root(relation record.Relation) record.Relation {
+	t.lock.RLock()
+	defer t.lock.RUnlock()
+	if it := t.by[relation]; it != nil {
+		return it.Root
+	}
+	return relation
+}
+
+// Words implements join.Tables.
+func (t *Tables) Words(relation record.Relation, key record.Key) (table, row string) {
+	t.lock.RLock()
+	it := t.by[relation]
+	t.lock.RUnlock()
+	parts := strings.Split(string(key), "\x00")
+	if it == nil {
+		return "a table that is gone", strings.Join(parts, ", ")
+	}
+	if t.show != nil && len(parts) == len(it.Key) {
+		for i := range parts {
+			parts[i] = t.show(it.Key[i].Type, parts[i])
+		}
+	}
+	return it.Schema + "." + it.Name, strings.Join(parts, ", ")
+}

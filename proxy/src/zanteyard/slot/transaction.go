@@ -1,0 +1,81 @@
+package slot
+
+import "zanteyard/record"
+
+// mostWrites bounds what is kept of one transaction. What is beyond is left out, as nobody's: who reads it isn't
+// resolved.
+const mostWrites = 1 << 16
+
+// transaction gathers what one transaction wrote: each row once, with its last change.
+type transaction struct {
+	number  uint32
+	start   uint64
+	names   uint64
+	writes  []record.Write
+	at      map[place]int // of a row in writes, where there are many
+	fence   bool
+	emptied []record.Relation
+	dropped uint64
+}
+
+type place struct {
+	relation record.Relation
+	key      record.Key
+}
+
+// few is how many rows are looked through one by one.
+const few = 8
+
+func (t *transaction) begin(number uint32, start, names uint64) {
+	*t = transaction{number: number, start: start, names: names, dropped: t.dropped}
+}
+
+func (t *transaction) write(relation record.Relation, key record.Key, deleted bool) {
+	if i, found := t.find(relation, key); found {
+		t.writes[i].Deleted = deleted
+		return
+	}
+	if len(t.writes) >= mostWrites {
+		t.dropped++
+		return
+	}
+	if t.at != nil {
+		t.at[place{relation, key}] = len(t.writes)
+	}
+	t.writes = append(t.writes, record.Write{Relation: relation, Key: key, Deleted: deleted})
+}
+
+func (t *transaction) find(relation record.Relation, key record.Key) (int, bool) {
+	if len(t.writes) < few {
+		for i := range t.writes {
+			if t.writes[i].Relation == relation && t.writes[i].Key == key {
+				return i, true
+			}
+		}
+		return 0, false
+	}
+	if t.at == nil {
+		t.at = make(map[place]int, 4*few)
+		for i, one := range t.writes {
+			t.at[place{one.Relation, one.Key}] = i
+		}
+	}
+	i, found := t.at[place{relation, key}]
+	return i, found
+}
+
+// empty says that a table's rows went, without naming them: also those that this transaction wrote before.
+func (t *transaction) empty(relation record.Relation) {
+	for i := range t.writes {
+		if t.writes[i].Relation == relation {
+			t.writes[i].Deleted = true
+		}
+	}
+	t.emptied = append(t.emptied, relation)
+}
+
+func (t *transaction) commit(end uint64) record.Commit {
+	return record.Commit{
+		Number: t.number, LSN: end, Start: t.start, Writes: t.writes, Fence: t.fence, Emptied: t.emptied, Names: t.names,
+	}
+}

@@ -1,0 +1,260 @@
+package slot
+
+import (
+	"fmt"
+	"strconv"
+
+	"zanteyard/record"
+)
+
+// wal2json reads messages of wal2json's second format: one JSON object for a transaction's begin, each of its changes,
+// and its commit.
+type wal2json struct {
+	tables    *Tables
+	canonical func(uint32, string) (string, bool)
+	open      transaction
+	scan      scanner
+	message   message
+}
+
+// wal2jsonOptions are what START_REPLICATION is given. Values come without types: the catalog has those.
+const wal2jsonOptions = `"format-version" '2', "include-xids" '1', "include-lsn" '1', "include-pk" '1', ` +
+	`"include-types" '0', "include-timestamp" '0', "include-transaction" '1'`
+
+// message is what is needed of one.
+type message struct {
+	action        byte
+	number        uint64
+	lsn, next     []byte
+	schema, table []byte
+	columns       []column // those of the key, of the row as it is
+	identity      []column // of the row as it was
+	pk            [][]byte
+	named         *Table
+}
+
+type column struct {
+	name, value []byte
+	null        bool
+}
+
+// decode takes one message. It returns a commit where the message is one.
+func (w *wal2json) decode(text []byte, _ uint64) (record.Commit, bool, error) {
+	m := &w.message
+	*m = message{columns: m.columns[:0], identity: m.identity[:0], pk: m.pk[:0]}
+	w.scan = scanner{text: text}
+	if err := w.read(m); err != nil {
+		return record.Commit{}, false, err
+	}
+	switch m.action {
+	case 'B':
+		start, ok := parsePlace(string(m.lsn))
+		if !ok {
+			return record.Commit{}, false, errForm
+		}
+		w.open.begin(uint32(m.number), start, w.tables.Names())
+	case 'C':
+		end, ok := parsePlace(string(m.next))
+		if !ok {
+			return record.Commit{}, false, errForm
+		}
+		return w.open.commit(end), true, nil
+	case 'I', 'U', 'D', 'T':
+		w.change(m)
+	case 'M': // a message that an application left in the log
+	default:
+		return record.Commit{}, false, fmt.Errorf("%w: action %q", errForm, m.action)
+	}
+	return record.Commit{}, false, nil
+}
+
+func (w *wal2json) read(m *message) error {
+	s := &w.scan
+	if !s.is('{') {
+		return errForm
+	}
+	for !s.is('}') {
+		s.is(',')
+		name, err := s.name()
+		if err != nil {
+			return err
+		}
+		if !s.is(':') {
+			return errForm
+		}
+		if err := w.field(m, name); err != nil {
+			return err
+		}
+	}
+	return nil
+}
+
+func (w *wal2json) field(m *message, name []byte) error {
+	s := &w.scan
+	var err error
+	switch string(name) {
+	case "action":
+		var text []byte
+		if text, err = s.name(); err == nil && len(text) == 1 {
+			m.action = text[0]
+		}
+	case "xid":
+		var text []byte
+		if text, _, err = s.scalar(); err == nil {
+			m.number, err = strconv.ParseUint(string(text), 10, 32)
+		}
+	case "lsn":
+		m.lsn, err = s.name()
+	case "nextlsn":
+		m.next, err = s.name()
+	case "schema":
+		m.schema, err = s.name()
+	case "table":
+		if m.table, err = s.name(); err == nil {
+			m.named = w.tables.named(m.schema, m.table)
+		}
+	case "columns":
+		m.columns, err = w.columns(m.columns, m.named)
+	case "identity":
+		m.identity, err = w.columns(m.identity, m.named)
+	case "pk":
+		m.pk, err = w.names(m.pk)
+	default:
+		err = s.skip()
+	}
+	return err
+}
+
+// columns reads [{"name":..,"value":..},..], and keeps those of the table's key.
+func (w *wal2json) columns(to []column, table *Table) ([]column, error) {
+	s := &w.scan
+	if table == nil || len(table.Key) == 0 {
+		return to, s.skip()
+	}
+	if !s.is('[') {
+		return to, errForm
+	}
+	for !s.is(']') {
+		s.is(',')
+		if !s.is('{') {
+			return to, errForm
+		}
+		var one column
+		wanted := false
+		for !s.is('}') {
+			s.is(',')
+			field, err := s.name()
+			if err != nil || !s.is(':') {
+				return to, errForm
+			}
+			switch {
+			case string(field) == "name":
+				if one.name, err = s.name(); err == nil {
+					wanted = table.hasKey(one.name)
+				}
+			case string(field) == "value" && wanted:
+				one.value, one.null, err = s.scalar()
+			default:
+				err = s.skip()
+			}
+			if err != nil {
+				return to, err
+			}
+		}
+		if wanted {
+			to = append(to, one)
+		}
+	}
+	return to, nil
+}
+
+// names reads [{"name":..},..].
+func (w *wal2json) names(to [][]byte) ([][]byte, error) {
+	s := &w.scan
+	if !s.is('[') {
+		return to, errForm
+	}
+	for !s.is(']') {
+		s.is(',')
+		if !s.is('{') {
+			return to, errForm
+		}
+		for !s.is('}') {
+			s.is(',')
+			field, err := s.name()
+			if err != nil || !s.is(':') {
+				return to, errForm
+			}
+			if string(field) != "name" {
+				if err := s.skip(); err != nil {
+					return to, err
+				}
+				continue
+			}
+			name, err := s.name()
+			if err != nil {
+				return to, err
+			}
+			to = append(to, name)
+		}
+	}
+	return to, nil
+}
+
+// change takes what a message says of a row. Where its key can't be told, as of a table without one or with a replica
+// identity that leaves it out, the change is left out.
+func (w *wal2json) change(m *message) {
+	t := m.named
+	switch {
+	case t == nil:
+		w.tables.unknown(m.schema, m.table)
+		return
+	case m.action == 'T':
+		w.open.empty(t.Root)
+		return
+	case t.fence:
+		w.open.fence = true
+		return
+	case len(t.Key) == 0:
+		w.tables.keyless(t)
+		return
+	case !t.sameKey(m.pk):
+		w.tables.unknown(m.schema, m.table)
+		return
+	}
+	now, hasNow := w.key(t, m.columns)
+	was, hasWas := w.key(t, m.identity)
+	if m.action != 'I' && hasWas && (m.action == 'D' || hasNow && was != now) {
+		w.open.write(t.Root, was, true)
+	}
+	if m.action != 'D' && hasNow {
+		w.open.write(t.Root, now, false)
+	}
+}
+
+// key is the row's key in one text.
+func (w *wal2json) key(t *Table, its []column) (record.Key, bool) {
+	var room [64]byte
+	to := room[:0]
+	for i, part := range t.Key {
+		found := false
+		for _, one := range its {
+			if string(one.name) != part.Name || one.null {
+				continue
+			}
+			text, ok := w.canonical(part.Type, string(one.value))
+			if !ok {
+				return "", false
+			}
+			if i > 0 {
+				to = append(to, 0)
+			}
+			to, found = append(to, text...), true
+			break
+		}
+		if !found {
+			return "", false
+		}
+	}
+	return record.Key(to), true
+}

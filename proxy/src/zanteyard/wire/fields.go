@@ -1,0 +1,185 @@
+package wire
+
+import (
+	"bytes"
+	"encoding/binary"
+	"strconv"
+)
+
+// Text takes a text that ends in NUL from the beginning of b. ok is false if no NUL is there.
+func Text(b []byte) (text, rest []byte, ok bool) {
+	i := bytes.IndexByte(b, 0)
+	if i < 0 {
+		return nil, nil, false
+	}
+	return b[:i], b[i+1:], true
+}
+
+// Int16 reads an integer of 16 bits at the beginning of b; -1 if b is too short.
+func Int16(b []byte) int {
+	if len(b) < 2 {
+		return -1
+	}
+	return int(binary.BigEndian.Uint16(b))
+}
+
+// Int32 reads a signed integer of 32 bits at the beginning of b; -2 if b is too short (-1 is the length of NULL).
+func Int32(b []byte) int {
+	if len(b) < 4 {
+		return -2
+	}
+	return int(int32(binary.BigEndian.Uint32(b)))
+}
+
+// Begin appends a message's type and room for its length, which End fills in.
+func Begin(to []byte, kind byte) []byte { return append(to, kind, 0, 0, 0, 0) }
+
+// End fills in the length of the message that begins at start.
+func End(to []byte, start int) []byte {
+	binary.BigEndian.PutUint32(to[start+1:], uint32(len(to)-start-1))
+	return to
+}
+
+// AppendInt16 appends an integer of 16 bits.
+func AppendInt16(to []byte, n int) []byte { return append(to, byte(n>>8), byte(n)) }
+
+// AppendText appends a text and the NUL that ends it.
+func AppendText(to []byte, s string) []byte { return append(append(to, s...), 0) }
+
+// Row takes a DataRow apart. values has the last hidden columns; visible is the part of the message's body in front of
+// them, without the number of columns; columns is how many those are. ok is false if the row has too few columns or
+// isn't well-formed.
+func Row(m []byte, hidden int, values [][]byte) (visible []byte, columns int, hid [][]byte, ok bool) {
+	all := Int16(m[Header:])
+	columns = all - hidden
+	if columns < 0 {
+		return nil, 0, values, false
+	}
+	at := Header + 2
+	for i := 0; i < columns; i++ {
+		l := Int32(m[min(at, len(m)):])
+		if l < -1 {
+			return nil, 0, values, false
+		}
+		at += 4
+		if l > 0 {
+			at += l
+		}
+	}
+	if at > len(m) {
+		return nil, 0, values, false
+	}
+	visible = m[Header+2 : at]
+	for i := 0; i < hidden; i++ {
+		l := Int32(m[min(at, len(m)):])
+		at += 4
+		switch {
+		case l == -1:
+			values = append(values, nil)
+			continue
+		case l < 0 || at+l > len(m):
+			return nil, 0, values, false
+		}
+		values = append(values, m[at:at+l:at+l])
+		at += l
+	}
+	return visible, columns, values, true
+}
+
+func min(a, b int) int {
+	if a < b {
+		return a
+	}
+	return b
+}
+
+// CutRow makes a DataRow one of its first columns alone, in the memory that it is in, and returns its length. visible
+// is what Row gave.
+func CutRow(m []byte, columns int, visible []byte) int {
+	n := Header + 2 + len(visible)
+	binary.BigEndian.PutUint32(m[1:], uint32(n-1))
+	binary.BigEndian.PutUint16(m[Header:], uint16(columns))
+	return n
+}
+
+// Column is one column of a RowDescription.
+type Column struct {
+	Type   uint32
+	Format int // 0 text, 1 binary
+}
+
+// Columns takes a RowDescription apart: each column's type and format, and where in the message it ends.
+func Columns(m []byte, columns []Column, ends []int) ([]Column, []int, bool) {
+	at, n := Header+2, Int16(m[Header:])
+	if n < 0 {
+		return columns, ends, false
+	}
+	for ; n > 0; n-- {
+		name := bytes.IndexByte(m[min(at, len(m)):], 0)
+		if name < 0 || at+name+19 > len(m) {
+			return columns, ends, false
+		}
+		at += name + 19
+		columns = append(columns, Column{binary.BigEndian.Uint32(m[at-12:]), Int16(m[at-2:])})
+		ends = append(ends, at)
+	}
+	return columns, ends, true
+}
+
+// AppendDescription appends a RowDescription of the first columns of m, which end at end.
+func AppendDescription(to, m []byte, columns, end int) []byte {
+	start := len(to)
+	to = AppendInt16(Begin(to, 'T'), columns)
+	return End(append(to, m[Header+2:end]...), start)
+}
+
+// Field gives a field of an ErrorResponse or NoticeResponse, nil if it has none.
+func Field(m []byte, kind byte) []byte {
+	rest := m[Header:]
+	for len(rest) > 0 && rest[0] != 0 {
+		text, next, ok := Text(rest[1:])
+		if !ok {
+			return nil
+		}
+		if rest[0] == kind {
+			return text
+		}
+		rest = next
+	}
+	return nil
+}
+
+// Fatal says that an ErrorResponse ends the connection.
+func Fatal(m []byte) bool {
+	severity := Field(m, 'V')
+	if severity == nil {
+		severity = Field(m, 'S')
+	}
+	return string(severity) == "FATAL" || string(severity) == "PANIC"
+}
+
+// AppendMoved appends an ErrorResponse or NoticeResponse with its position, if it has one, moved.
+func AppendMoved(to, m []byte, moved func(position int) int) []byte {
+	position, err := strconv.Atoi(string(Field(m, 'P')))
+	if err != nil {
+		return append(to, m...)
+	}
+	start := len(to)
+	to = Begin(to, m[0])
+	rest := m[Header:]
+	for len(rest) > 0 && rest[0] != 0 {
+		text, next, ok := Text(rest[1:])
+		if !ok {
+			break
+		}
+		to = append(to, rest[0])
+		if rest[0] == 'P' {
+			to = strconv.AppendInt(to, int64(moved(position)), 10)
+		} else {
+			to = append(to, text...)
+		}
+		to = append(to, 0)
+		rest = next
+	}
+	return End(append(to, 0), start)
+}

@@ -1,0 +1,21 @@
+#!/bin/sh
+# Checks and tests the proxy. Tests that need a PostgreSQL server start their own, or are skipped if none is installed.
+set -eu
+cd "$(dirname "$0")"
+if ! command -v go >/dev/null; then
+    echo "proxy: skipped, Go isn't installed (golang-go)"
+    exit 0
+fi
+if [ ! -e /usr/include/pg_query.h ]; then
+    echo "proxy: skipped, libpg_query isn't installed (libpg-query-dev)"
+    exit 0
+fi
+. ./env.sh
+unformatted=$(gofmt -l src)
+if [ -n "$unformatted" ]; then
+    echo "not formatted (gofmt -w): $unformatted" >&2
+    exit 1
+fi
+go vet zanteyard/...
+go test -race "$@" zanteyard/...
+./build.sh
