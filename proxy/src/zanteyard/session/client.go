@@ -301,10 +301,18 @@ func (s *Session) twin(o *output, st *statement) string {
 		to = appendClose(to, st.twin)
 		s.queue.push(expectation{kind: silent, message: 'C'})
 	}
+	// What the client prepared may not be run any more if definitions have changed since: then this says so, as its Bind
+	// would. The twin is new, and would be run.
+	to = appendDescribe(to, st.name)
+	s.queue.push(expectation{kind: twin, message: 'D', on: st})
 	s.names.twins++
 	st.twin, st.twinOf, st.twinIn = twinName(s.names.twins), st.plan, s.trust.generation
 	text, _, _ := st.plan.Rewrite(st.text, st.tokens)
-	o.buf = appendParse(to, st.twin, text, st.types)
+	types := st.types
+	if st.parameters != nil {
+		types = st.parameters
+	}
+	o.buf = appendParse(to, st.twin, text, types)
 	s.queue.push(expectation{kind: twin, message: 'P', on: st, changed: true, undo: undoTwin, name: st.twin})
 	return st.twin
 }
@@ -312,6 +320,11 @@ func (s *Session) twin(o *output, st *statement) string {
 func appendClose(to []byte, name string) []byte {
 	start := len(to)
 	return wire.End(wire.AppendText(append(wire.Begin(to, 'C'), 'S'), name), start)
+}
+
+func appendDescribe(to []byte, name string) []byte {
+	start := len(to)
+	return wire.End(wire.AppendText(append(wire.Begin(to, 'D'), 'S'), name), start)
 }
 
 // original prepares the client's own text as the unnamed statement again.

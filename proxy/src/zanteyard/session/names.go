@@ -11,7 +11,10 @@ type statement struct {
 	tokens plan.Tokens
 	plan   *plan.Plan // nil if it wasn't looked at
 	types  []byte     // the end of its Parse: how many types of parameters, and these
-	use    *use
+	// parameters are the types that the server has found, in the same form, nil if it wasn't asked: they stay what they
+	// were when the statement was prepared.
+	parameters []byte
+	use        *use
 	// altered says that the server's statement of this name has hidden columns. Only unnamed ones are altered: a named
 	// one is left as it is, and a rewritten twin of it is made.
 	altered            bool

@@ -46,6 +46,10 @@ func (s *Session) answer(o *output, m []byte, start, end int) {
 			break
 		}
 		s.queue.pop()
+	case 't':
+		if e.message == 'D' && e.on != nil && e.on.name != "" {
+			e.on.parameters = append([]byte(nil), m[wire.Header:]...)
+		}
 	case 'T':
 		s.description(o, e, m, start, end, pass)
 		return
