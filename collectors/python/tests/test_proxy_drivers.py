@@ -74,7 +74,7 @@ class TestDrivers(unittest.TestCase):
         if not (shutil.which("javac") and shutil.which("java") and os.path.exists(driver)):
             self.skipTest("Java or its driver isn't installed")
         classes = os.path.join(PAIR.folder, "classes")
-        call = ["javac", "-d", classes, os.path.join(DRIVERS, "Jdbc.java")]
+        call = ["javac", "-cp", driver, "-d", classes, os.path.join(DRIVERS, "Jdbc.java")]
         subprocess.run(call, check=True, timeout=LIMIT)
         self.same("jdbc", ["java", "-Xshare:auto", "-cp", f"{classes}:{driver}", "Jdbc"], 100)
 
