@@ -105,20 +105,20 @@ public class Jdbc {
     }
 
     public static void main(String[] arguments) throws Exception {
-        for (String mode : new String[] {"extended", "extendedForPrepared", "simple", "extendedCacheEverything"}) {
-            for (String threshold : new String[] {"5", "1", "0", "-1"}) {
-                try (Connection c = connect("preferQueryMode", mode, "prepareThreshold", threshold)) {
-                    System.out.println(mode + " " + threshold);
+        String[][] modes = {{"extended", "5"}, {"extended", "1"}, {"extended", "-1"}, {"extendedForPrepared", "2"}, {"simple", "5"},
+            {"extendedCacheEverything", "1"}};
+        for (String[] mode : modes) {
+            try (Connection c = connect("preferQueryMode", mode[0], "prepareThreshold", mode[1])) {
+                System.out.println(mode[0] + " " + mode[1]);
+                usual(c);
+                c.setAutoCommit(false);
+                for (int level : new int[] {Connection.TRANSACTION_READ_COMMITTED, Connection.TRANSACTION_REPEATABLE_READ, Connection.TRANSACTION_SERIALIZABLE}) {
+                    c.setTransactionIsolation(level);
                     usual(c);
-                    c.setAutoCommit(false);
-                    for (int level : new int[] {Connection.TRANSACTION_READ_COMMITTED, Connection.TRANSACTION_REPEATABLE_READ, Connection.TRANSACTION_SERIALIZABLE}) {
-                        c.setTransactionIsolation(level);
-                        usual(c);
-                    }
-                    batches(c);
-                    several(c);
-                    c.commit();
                 }
+                batches(c);
+                several(c);
+                c.commit();
             }
         }
         try (Connection c = connect(); Connection other = connect()) {

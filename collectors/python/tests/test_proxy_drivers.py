@@ -10,7 +10,7 @@ import subprocess
 import sys
 import unittest
 
-from tests.proxy_pair import DRIVERS, LIMIT, Pair, postgres_program, proxy_program
+from tests.proxy_pair import DRIVERS, LIMIT, TOP, Pair, postgres_program, proxy_program
 
 PAIR = Pair()
 READERS = set()  # users of whose programs reads have to be seen
@@ -84,7 +84,7 @@ class TestDrivers(unittest.TestCase):
             self.skipTest(f"Go or {package} isn't installed")
         program = os.path.join(PAIR.folder, name)
         settings = dict(os.environ, GO111MODULE="off", GOPATH="/usr/share/gocode", GOFLAGS="")
-        settings.setdefault("GOCACHE", os.path.join(PAIR.folder, "cache"))
+        settings.setdefault("GOCACHE", os.path.join(TOP, "proxy/out/cache"))
         call = ["go", "build", "-o", program, os.path.join(DRIVERS, f"{name}_calls.go")]
         subprocess.run(call, check=True, timeout=LIMIT, env=settings)
         self.same(name, [program], 100)
