@@ -12,6 +12,7 @@ SELECT id, balance FROM account WHERE id = 4 \gset its_
 SELECT id, number % 2 AS odd, amount FROM entry WHERE account < 3 ORDER BY 1, 2 \crosstabview
 SELECT account, number, amount FROM entry WHERE account < 4 ORDER BY 1, 2 \crosstabview
 SELECT format('SELECT owner FROM account WHERE id = %s', i) FROM generate_series(1, 5) i \gexec
+SELECT format('SELECT balance, id FROM account WHERE id = %s', i) FROM generate_series(1, 60) i \gexec
 \pset format unaligned
 SELECT * FROM account WHERE id IN (3, 4) ORDER BY id;
 \pset format csv

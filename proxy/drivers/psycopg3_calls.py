@@ -1,11 +1,13 @@
 """Usual calls of psycopg 3, with results as text and as binary. Prints each answer."""
 import asyncio
+import logging
 import threading
 
 import psycopg
 from psycopg import rows
 
 SAY = lambda *what: print(*(repr(each) for each in what))
+logging.disable(logging.WARNING)  # whether a pipeline's end is warned of depends on when its error was read
 
 
 def told(error):

@@ -83,12 +83,15 @@ class Server:
         self.run("pg_ctl", "-D", self.data, "-l", log, "-o", options, "-w", "start")
 
     def stop(self) -> None:
-        self.run("pg_ctl", "-D", self.data, "-m", "immediate", "-w", "stop")
+        try:
+            self.run("pg_ctl", "-D", self.data, "-m", "immediate", "-w", "stop")
+        except subprocess.SubprocessError:
+            pass  # it wasn't started
 
     def sql(self, user: str, text: str) -> None:
         """Runs statements without the proxy."""
-        call = ["psql", "-X", "-q", "-v", "ON_ERROR_STOP=1", "-h", "127.0.0.1", "-p", str(self.port)]
-        call += ["-U", user, "-d", "postgres"]
+        call = ["psql", "-X", "-q", "-v", "ON_ERROR_STOP=1", "-h", "127.0.0.1"]
+        call += ["-p", str(self.port), "-U", user, "-d", "postgres"]
         done = subprocess.run(call, input=text, capture_output=True, text=True, timeout=LIMIT)
         if done.returncode:
             raise AssertionError(done.stderr)
@@ -184,18 +187,21 @@ class Pair:
     """The two servers and the proxy. `program` is the proxy's."""
 
     def __init__(self) -> None:
-        self.folder = tempfile.mkdtemp(prefix="zanteyard-pair-")
-        os.chmod(self.folder, 0o711)
+        self.folder = ""
         self.proxy: Optional[Proxy] = None
         self.servers: List[Server] = []
+
+    def make_folder(self) -> None:
+        self.folder = tempfile.mkdtemp(prefix="zanteyard-pair-")
+        os.chmod(self.folder, 0o711)
 
     def start(self, program: str) -> None:
         direct, behind = (Server(os.path.join(self.folder, each)) for each in ("direct", "behind"))
         direct.initialize()
         behind.copy(direct)
         for each in (direct, behind):
-            each.start()
             self.servers.append(each)
+            each.start()
         self.sql(
             "postgres",
             "CREATE TABLE public.zanteyard_fence (id int PRIMARY KEY, n bigint);"
@@ -210,7 +216,8 @@ class Pair:
 
     def prepare(self, user: str) -> None:
         """A user with a schema, and the tables of setup.sql in it."""
-        as_postgres = f"CREATE ROLE {user} LOGIN CREATEROLE; CREATE SCHEMA {user} AUTHORIZATION {user};"
+        as_postgres = f"CREATE ROLE {user} LOGIN CREATEROLE;"
+        as_postgres += f"CREATE SCHEMA {user} AUTHORIZATION {user};"
         with open(os.path.join(DRIVERS, "setup.sql"), encoding="utf-8") as file:
             setup = file.read()
         self.sql("postgres", as_postgres + f"GRANT CREATE ON DATABASE postgres TO {user};")
@@ -253,4 +260,5 @@ class Pair:
             self.proxy.stop()
         for each in self.servers:
             each.stop()
-        shutil.rmtree(self.folder, ignore_errors=True)
+        if self.folder:
+            shutil.rmtree(self.folder, ignore_errors=True)

@@ -37,6 +37,7 @@ CREATE TABLE keyless (a int, b int);
 CREATE TABLE part (id int PRIMARY KEY, v int) PARTITION BY RANGE (id);
 CREATE TABLE part_low PARTITION OF part FOR VALUES FROM (0) TO (100);
 CREATE TABLE part_high PARTITION OF part FOR VALUES FROM (100) TO (1000);
+CREATE TABLE changing (id int PRIMARY KEY, v int, w int);
 CREATE TABLE serials (id serial PRIMARY KEY, v int);
 CREATE TABLE child (id int PRIMARY KEY, parent int REFERENCES t ON DELETE CASCADE);
 CREATE VIEW seen AS SELECT id, v FROM t WHERE v > 0;

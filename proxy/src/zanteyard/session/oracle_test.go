@@ -52,6 +52,12 @@ func bound(name string, formats []int16, parameters ...string) step {
 		&pgproto3.Describe{ObjectType: 'P'}, &pgproto3.Execute{}, &pgproto3.Sync{})
 }
 
+// binaryBound has an int for a parameter, as binary.
+func binaryBound(name string, parameter byte) step {
+	return messages('Z', &pgproto3.Bind{PreparedStatement: name, ParameterFormatCodes: []int16{1},
+		Parameters: [][]byte{{0, 0, 0, parameter}}}, &pgproto3.Execute{}, &pgproto3.Sync{})
+}
+
 func closed(name string) step {
 	return messages('Z', &pgproto3.Close{ObjectType: 'S', Name: name}, &pgproto3.Sync{})
 }
@@ -334,6 +340,16 @@ func extendedExchanges() []exchange {
 			[]step{bound("p1", nil, "1")})},
 		{name: "named, run by SQL", steps: join([]step{named("p1", "SELECT v FROM t WHERE id = $1", 23), bound("p1", nil,
 			"1")}, queries("EXECUTE p1 (2)", "EXECUTE p1 (2)"), []step{closed("p1")})},
+		{name: "named, definitions change", sees: 1, steps: join(queries("INSERT INTO changing VALUES (1, 1, 1), (2, 2, 2)"),
+			[]step{named("p1", "SELECT v + 0 FROM changing WHERE id = $1"), named("p2", "SELECT 'one' FROM changing WHERE w = $1"),
+				bound("p1", nil, "1"), bound("p2", nil, "1"), bound("p1", binary, "1"), binaryBound("p2", 1)},
+			queries("ALTER TABLE changing ADD x int"), []step{bound("p1", nil, "1"), bound("p2", nil, "1"), bound("p1", nil, "1")},
+			queries("ALTER TABLE changing ALTER w TYPE bigint"), []step{bound("p1", nil, "1"), binaryBound("p2", 1),
+				bound("p2", nil, "2"), binaryBound("p2", 2)}, queries("ALTER TABLE changing ALTER v TYPE bigint"),
+			[]step{bound("p1", nil, "1"), bound("p2", nil, "1"), bound("p1", binary, "1"), binaryBound("p2", 1), closed("p1"),
+				named("p1", "SELECT v + 0 FROM changing WHERE id = $1"), bound("p1", nil, "1"), bound("p1", binary, "1"),
+				closed("p1"), closed("p2")}, queries("ALTER TABLE changing ALTER v TYPE int, ALTER w TYPE int, DROP x",
+				"DELETE FROM changing"))},
 		{name: "prepared by SQL, bound", steps: join(queries("PREPARE p2 (int) AS SELECT v FROM t WHERE id = $1"),
 			[]step{bound("p2", nil, "1"), bound("p2", binary, "1")}, queries("DEALLOCATE p2"))},
 		{name: "unnamed stays", sees: 2, steps: []step{
