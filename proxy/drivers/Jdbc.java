@@ -177,8 +177,21 @@ public class Jdbc {
             other.createStatement().execute("NOTIFY jdbc_channel, 'hello'");
             System.out.println(pg.getNotifications(60000)[0].getParameter());
             Statement slow = c.createStatement();
-            slow.setQueryTimeout(1);
+            Thread cancels = new Thread(() -> {
+                try {
+                    for (int n = 0; n == 0;) {
+                        ResultSet one = other.createStatement().executeQuery("SELECT count(*) FROM pg_stat_activity WHERE wait_event = 'PgSleep' AND usename = current_user");
+                        one.next();
+                        n = one.getInt(1);
+                    }
+                    slow.cancel();
+                } catch (SQLException error) {
+                    told(error);
+                }
+            });
+            cancels.start();
             tried(c, () -> slow.execute("SELECT pg_sleep(100)"));
+            cancels.join();
             CallableStatement call = c.prepareCall("{? = call upper(?)}");
             call.registerOutParameter(1, Types.VARCHAR); call.setString(2, "called"); call.execute(); System.out.println(call.getString(1));
             DatabaseMetaData meta = c.getMetaData();

@@ -161,7 +161,7 @@ func main() {
 		}
 		short, cancel := context.WithTimeout(ctx, 300*time.Millisecond)
 		_, err = db.ExecContext(short, "SELECT pg_sleep(100)")
-		told(err)
+		fmt.Println(err != nil)
 		cancel()
 		rows(db.Query("SELECT owner FROM account WHERE id = $1", 3))
 		must(db.Close())

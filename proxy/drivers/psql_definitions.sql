@@ -162,7 +162,6 @@ DELETE FROM entry WHERE account = 1 AND number = 10 RETURNING note;
 DELETE FROM account WHERE id = 2;
 SELECT * FROM trace ORDER BY id;
 \d entry
-ALTER TABLE entry DISABLE TRIGGER ALL;
 ALTER TABLE entry DISABLE TRIGGER USER;
 CREATE FUNCTION owners(int) RETURNS TABLE (its int, name text) LANGUAGE sql STABLE AS 'SELECT id, owner FROM account WHERE id < $1 ORDER BY id';
 CREATE FUNCTION one(int) RETURNS account LANGUAGE sql AS 'SELECT * FROM account WHERE id = $1';

@@ -9,6 +9,7 @@ import shutil
 import subprocess
 import sys
 import unittest
+from concurrent.futures import ThreadPoolExecutor
 
 from tests.proxy_pair import DRIVERS, LIMIT, TOP, Pair, postgres_program, proxy_program
 
@@ -16,7 +17,16 @@ PAIR = Pair()
 READERS = set()  # users of whose programs reads have to be seen
 JDBC = "/usr/share/java/postgresql.jar"
 GO = {"pgx": "jackc/pgx/v4", "pq": "lib/pq"}
+PYTHON = {
+    "psycopg2": ["psycopg2"],
+    "psycopg3": ["psycopg"],
+    "asyncpg": ["asyncpg"],
+    "sqlalchemy": ["sqlalchemy", "psycopg2"],
+    "django": ["django", "psycopg2"],
+}
+SLOW = ("jdbc", "django", "sqlalchemy")  # these begin first
 BUILDS = {}  # processes that build what the tests run
+RUNS = {}  # what the programs print, once they have ended
 
 
 def setUpModule():
@@ -31,6 +41,7 @@ def setUpModule():
         raise unittest.SkipTest("Go or libpg_query isn't installed: the proxy can't be built")
     begin_builds()
     PAIR.start(program)
+    begin_runs()
 
 
 def begin_builds():
@@ -63,15 +74,49 @@ def difference(direct, proxied):
     return "\n".join(each[:300] for each in list(lines)[:80])
 
 
+def both(user, call, environment):
+    """What a program prints, direct and proxied. Programs run beside each other: each has a schema
+    of its own."""
+    if user in BUILDS and BUILDS[user].wait(LIMIT):
+        raise AssertionError(f"{user} wasn't built")
+    PAIR.prepare(user)
+    texts = PAIR.run(user, call, **environment)
+    if keep := os.environ.get("ZANTEYARD_KEEP"):
+        for name, text in zip(("direct", "proxied"), texts):
+            with open(os.path.join(keep, f"{user}.{name}"), "w", encoding="utf-8") as file:
+                file.write(text)
+    return texts
+
+
+def begin_runs():
+    calls = {"jdbc": ["java", "-cp", f"{PAIR.folder}:{JDBC}", "Jdbc"]}
+    for name in GO:
+        calls[name] = [os.path.join(PAIR.folder, name)]
+    calls = {name: call for name, call in calls.items() if name in BUILDS}
+    for name, modules in PYTHON.items():
+        if all(importlib.util.find_spec(each) for each in modules):
+            calls[name] = [sys.executable, os.path.join(DRIVERS, f"{name}_calls.py")]
+    path = {"NODE_PATH": f"{os.environ.get('NODE_PATH', '')}:/usr/share/nodejs"}
+    asked = ["node", "-e", "require('pg'); require('pg-cursor')"]
+    settings = dict(os.environ, **path)
+    if shutil.which("node") and not subprocess.run(
+        asked, env=settings, capture_output=True, timeout=LIMIT
+    ).returncode:
+        calls["node_postgres"] = ["node", os.path.join(DRIVERS, "node_postgres_calls.js")]
+    for name in ("psql_queries", "psql_definitions", "psql_errors"):
+        calls[name] = ["psql", "-X", "-a", "-f", os.path.join(DRIVERS, f"{name}.sql")]
+    pool = ThreadPoolExecutor(4)
+    unittest.addModuleCleanup(pool.shutdown)
+    for name in sorted(calls, key=lambda name: name not in SLOW):
+        RUNS[name] = pool.submit(both, name, calls[name], path)
+
+
 class TestDrivers(unittest.TestCase):
-    def same(self, user, call, lines, reads=True, **environment):
-        """Runs the program both ways. It has to print at least so many lines."""
-        PAIR.prepare(user)
-        direct, proxied = PAIR.run(user, call, **environment)
-        if keep := os.environ.get("ZANTEYARD_KEEP"):
-            for name, text in (("direct", direct), ("proxied", proxied)):
-                with open(os.path.join(keep, f"{user}.{name}"), "w", encoding="utf-8") as file:
-                    file.write(text)
+    def same(self, user, lines, reads=True):
+        """What was printed is the same, and at least so many lines."""
+        if user not in RUNS:
+            self.skipTest(f"what {user} needs isn't installed")
+        direct, proxied = RUNS[user].result(3 * LIMIT)
         self.assertEqual(difference(direct, proxied), "")
         self.assertEqual(direct, proxied)
         self.assertTrue(direct.endswith("\nstatus 0\n"), direct[-3000:])
@@ -79,66 +124,41 @@ class TestDrivers(unittest.TestCase):
         if reads:
             READERS.add(user)
 
-    def python(self, name, lines, *modules):
-        for each in modules or (name,):
-            if importlib.util.find_spec(each) is None:
-                self.skipTest(f"{each} isn't installed")
-        self.same(name, [sys.executable, os.path.join(DRIVERS, f"{name}_calls.py")], lines)
-
     def test_psycopg2(self):
-        self.python("psycopg2", 150)
+        self.same("psycopg2", 200)
 
     def test_psycopg3(self):
-        self.python("psycopg3", 150, "psycopg")
+        self.same("psycopg3", 400)
 
     def test_asyncpg(self):
-        self.python("asyncpg", 150)
+        self.same("asyncpg", 300)
 
     def test_sqlalchemy(self):
-        self.python("sqlalchemy", 50, "sqlalchemy", "psycopg2")
+        self.same("sqlalchemy", 400)
 
     def test_django(self):
-        self.python("django", 50, "django", "psycopg2")
-
-    def built(self, name):
-        if name not in BUILDS:
-            self.skipTest(f"what {name} needs isn't installed")
-        self.assertEqual(BUILDS[name].wait(LIMIT), 0)
-        return os.path.join(PAIR.folder, name)
+        self.same("django", 100)
 
     def test_jdbc(self):
-        self.built("jdbc")
-        self.same("jdbc", ["java", "-cp", f"{PAIR.folder}:{JDBC}", "Jdbc"], 100)
+        self.same("jdbc", 2000)
 
     def test_pgx(self):
-        self.same("pgx", [self.built("pgx")], 100)
+        self.same("pgx", 300)
 
     def test_pq(self):
-        self.same("pq", [self.built("pq")], 100)
+        self.same("pq", 1000)
 
     def test_node_postgres(self):
-        path = f"{os.environ.get('NODE_PATH', '')}:/usr/share/nodejs"
-        if not shutil.which("node"):
-            self.skipTest("node isn't installed")
-        asked = ["node", "-e", "require('pg'); require('pg-cursor')"]
-        environment = dict(os.environ, NODE_PATH=path)
-        if subprocess.run(asked, env=environment, capture_output=True, timeout=LIMIT).returncode:
-            self.skipTest("node-pg isn't installed")
-        call = ["node", os.path.join(DRIVERS, "node_postgres_calls.js")]
-        self.same("node_postgres", call, 100, NODE_PATH=path)
-
-    def psql(self, name, lines, reads=True):
-        script = os.path.join(DRIVERS, f"{name}.sql")
-        self.same(name, ["psql", "-X", "-a", "-f", script], lines, reads)
+        self.same("node_postgres", 600)
 
     def test_psql_queries(self):
-        self.psql("psql_queries", 200)
+        self.same("psql_queries", 1500)
 
     def test_psql_definitions(self):
-        self.psql("psql_definitions", 200)
+        self.same("psql_definitions", 1500)
 
     def test_psql_errors(self):
-        self.psql("psql_errors", 200, reads=False)
+        self.same("psql_errors", 3000, reads=False)
 
     def test_zz_reads_were_seen(self):
         """The last one, by its name: ends the audit. Statements are tried while a connection is
