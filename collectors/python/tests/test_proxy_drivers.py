@@ -155,7 +155,7 @@ class TestDrivers(unittest.TestCase):
         self.same("psql_queries", 1500)
 
     def test_psql_definitions(self):
-        self.same("psql_definitions", 1500)
+        self.same("psql_definitions", 1500, reads=False)
 
     def test_psql_errors(self):
         self.same("psql_errors", 3000, reads=False)
