@@ -33,7 +33,7 @@ LONG = [
     for each in (
         *("machines", "stores", "killed", "journal_kills", "streams", "sql_killed", "faults"),
         *("restarting", "postgres_live", "sql_bank", "shrinking", "examples", "live", "no_harm"),
-        "running",
+        *("running", "proxy_drivers", "watch_whole"),
     )
 ]
 ENDING = 10.0  # seconds for a process to tell where its threads stand
