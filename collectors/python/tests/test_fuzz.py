@@ -237,8 +237,8 @@ def without_no_text(line):
 # Of each lie: what of the generators shows it, what the program is given in place of a line, and
 # what is told in place of the reply.
 LIES = {
-    "another refusal": ("bytes", same, replaced(b'6,"Repeat"', b'5,"Gap"')),
-    "another number": ("bytes", same, replaced(b'["no",6', b'["no",5')),
+    "another refusal": ("scripts", same, replaced(b'6,"Repeat"', b'5,"Gap"')),
+    "another number": ("scripts", same, replaced(b'["no",6', b'["no",5')),
     "another name": ("bytes", same, replaced(b'"BadLine"', b'"Badline"')),
     "white space in a reply": ("bytes", same, replaced(b'"ok"]', b'"ok" ]')),
     "a reply dropped": ("scripts", same, every(50, lambda _: [])),
