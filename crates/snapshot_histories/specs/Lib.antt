@@ -1,0 +1,4 @@
+pub mod Events
+pub mod Halves
+pub mod Snapshot
+pub mod Split
