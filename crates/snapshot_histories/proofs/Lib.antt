@@ -1,1 +1,10 @@
-
+mod Arrivals
+mod CommitReads
+mod EventHalves
+mod EventPlaces
+mod FromOrder
+mod Isolation
+mod Lookups
+mod Pending
+mod Places
+mod ToOrder

@@ -1,5 +1,5 @@
 -- The two transactions that stand in a split history for the begin and the commit of one.
-use Rattle.std.specs.Prelude.{ℕ, ◌+◌, ◌*◌, ◌/◌, ◌%◌, cond, nat_eq}
+use Rattle.std.specs.Prelude.{◌+◌, ◌*◌, ◌/◌, ◌%◌, cond, nat_eq}
 use Rattle.txn.specs.declared.transactions.TxnId.{TxnId}
 use Rattle.snapshot_histories.specs.declared.events.Event.{Event}
 use Rattle.snapshot_histories.specs.declared.events.Event.TheVariants.{Begin, Commit}

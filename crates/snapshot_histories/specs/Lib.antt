@@ -1,4 +1,5 @@
 pub mod Events
 pub mod Halves
+pub mod Laws
 pub mod Snapshot
 pub mod Split

@@ -1,12 +1,12 @@
 -- Histories and fragments split: two transactions for each, of which the first reads what it reads, and the second writes what it writes.
-use Rattle.std.specs.Prelude.{◌≡◌, ℕ, ◌+◌, ◌*◌, ◌<◌, ◌≤◌, ◌^◌, ⊤, cond, nat_eq, List, [], ◌∷◌, length, Some, All, map}
+use Rattle.std.specs.Prelude.{◌≡◌, ℕ, ◌+◌, ◌*◌, ◌<◌, ◌^◌, cond, nat_eq, List, [], ◌∷◌, length, Some, All, map}
 use Rattle.txn.specs.declared.transactions.TxnId.{TxnId}
 use Rattle.txn.specs.declared.transactions.Source.{Source}
 use Rattle.txn.specs.declared.transactions.Source.TheVariants.{Init, By}
 use Rattle.txn.specs.declared.transactions.Txn.{Txn}
 use Rattle.txn.specs.declared.transactions.Fragment.{Fragment}
-use Rattle.txn.specs.Transactions.{KeepsEpoch, IsWellFormedFragment}
-use Rattle.txn.specs.History.{History, txn_at}
+use Rattle.txn.specs.Transactions.{KeepsEpoch}
+use Rattle.txn.specs.History.{History, session_of, txn_at}
 use Rattle.order_check.specs.StandsFor.{Arrival, More, Joins, Returns}
 use Rattle.snapshot_histories.specs.Halves.{begin_half, commit_half}
 
@@ -61,3 +61,9 @@ pub record CanBeSplit (txn : Txn) : Type 0 where
 -- each transaction of the history can be split
 abbrev pub HistoryCanBeSplit : History → Type 0
 HistoryCanBeSplit history = (id : TxnId) (txn : Txn) → txn_at history id ≡ Some txn → CanBeSplit txn
+
+-- it goes on where its session ends, or is the first of the next new session
+abbrev pub IsNextArrival : History → Arrival → Type 0
+IsNextArrival history (More fragment) = (fragment.session < length history) × (fragment.first ≡ length (session_of history fragment.session))
+IsNextArrival history (Joins fragment) = (fragment.session ≡ length history) × (fragment.first ≡ 0)
+IsNextArrival history (Returns fragment) = (fragment.session < length history) × (fragment.first ≡ length (session_of history fragment.session))

@@ -18,5 +18,9 @@ pub fn event_of(half: TxnId) -> Event
         session: half.session,
         number: half.number / 2,
     };
-    if half.number % 2 == 0 { Event::Begin(id) } else { Event::Commit(id) }
+    if half.number % 2 == 0 {
+        Event::Begin(id)
+    } else {
+        Event::Commit(id)
+    }
 }

@@ -3,5 +3,10 @@
 #![tactic(auto)]
 
 mod events;
+mod laws;
 
 pub use events::{Event, event_of};
+pub use laws::{
+    orders_isolate, split_goes_with_arrivals, split_keeps_isolation, split_keeps_pending,
+    split_keeps_verdict,
+};

@@ -1,0 +1,26 @@
+ghost use Rattle.snapshot_histories.specs.Laws.{SplitKeepsIsolation, OrdersIsolate, SplitKeepsPending, SplitKeepsVerdict, SplitGoesWithArrivals};
+
+/// A history keeps snapshot isolation exactly where some order explains its split history.
+pub fn split_keeps_isolation()
+    ensures { SplitKeepsIsolation }
+{}
+
+/// An order that explains a split history, read as begins and commits, is snapshot isolation.
+pub fn orders_isolate()
+    ensures { OrdersIsolate }
+{}
+
+/// A read is pending in a history exactly where one is in its split history.
+pub fn split_keeps_pending()
+    ensures { SplitKeepsPending }
+{}
+
+/// The verdict by snapshot isolation is the split history's verdict by some order.
+pub fn split_keeps_verdict()
+    ensures { SplitKeepsVerdict }
+{}
+
+/// A history with an arrival is split into the split history with the split arrival.
+pub fn split_goes_with_arrivals()
+    ensures { SplitGoesWithArrivals }
+{}
