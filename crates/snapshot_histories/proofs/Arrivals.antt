@@ -9,7 +9,7 @@ use Rattle.snapshot_histories.specs.Split.{begin_txn, commit_txn, split_txns, sp
 use Rattle.snapshot_histories.proofs.Lookups.{session_split}
 
 -- transactions at the end of others
-split_append : (s number : ℕ) (front back : List Txn) → split_txns s number (front ++ back) ≡ split_txns s number front ++ split_txns s (number + length front) back
+pub split_append : (s number : ℕ) (front back : List Txn) → split_txns s number (front ++ back) ≡ split_txns s number front ++ split_txns s (number + length front) back
 split_append s number [] back = rw add-zero refl
 split_append s number (txn ∷ front) back =
     let moved : number + 1 + length front ≡ number + suc (length front) = omega arith in

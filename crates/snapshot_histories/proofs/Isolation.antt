@@ -18,7 +18,7 @@ use Rattle.snapshot_histories.specs.declared.events.Event.TheVariants.{Begin, Co
 use Rattle.snapshot_histories.specs.Events.{event_in_session, events_from}
 use Rattle.snapshot_histories.specs.Halves.{begin_half, commit_half, half_of, event_at}
 use Rattle.snapshot_histories.specs.Snapshot.{IsSnapshotOrder, KeepsSnapshotIsolation}
-use Rattle.snapshot_histories.specs.Split.{star, split_source, begin_txn, commit_txn, split_history, HistoryCanBeSplit}
+use Rattle.snapshot_histories.specs.Split.{begin_read_of, commit_read_of, star, split_source, begin_txn, commit_txn, split_history, HistoryCanBeSplit}
 use Rattle.snapshot_histories.proofs.CommitReads.{WritesLow}
 use Rattle.snapshot_histories.proofs.EventHalves.{filter_halves, split_ids, parted, halves_of_events, half_of_event, events_of_halves}
 use Rattle.snapshot_histories.proofs.EventPlaces.{AreEvents}
@@ -55,14 +55,6 @@ pub sessions_whole : (history : History) (events : List Event) → ((s : ℕ) �
 sessions_whole history events are s =
     let halves : map half_of (filter (event_in_session s) events) ≡ map half_of (events_from s 0 (session_of history s)) = sym (filter_halves s events) ∙ are s ∙ ap (ids_from s 0) (session_split history s) ∙ split_ids s 0 (session_of history s) in
     sym (events_of_halves (filter (event_in_session s) events)) ∙ ap (map event_at) halves ∙ events_of_halves (events_from s 0 (session_of history s))
-
--- how a read of a transaction is read by the half that begins it
-abbrev pub begin_read_of : ℕ × Source → ℕ × Source
-begin_read_of read = (read.0, split_source read.1)
-
--- how a key that a transaction writes is read by the half that commits it
-abbrev pub commit_read_of : TxnId → ℕ → ℕ × Source
-commit_read_of id key = (star key, By (begin_half id))
 
 -- what stands for an event is met by what stands for those in front
 reads_met : (history : History) (events front back : List Event) (event : Event) (txn : Txn) → HistoryCanBeSplit history → IsSnapshotOrder history events → events ≡ front ++ event ∷ back → txn_at (split_history history) (half_of event) ≡ Some txn → All (λ read. MeetsWhole (split_history history) (map half_of front) read.0 read.1) txn.reads

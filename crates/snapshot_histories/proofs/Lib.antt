@@ -7,4 +7,5 @@ mod Isolation
 mod Lookups
 mod Pending
 mod Places
+mod SplitSteps
 mod ToOrder

@@ -14,10 +14,10 @@ use Rattle.snapshot_histories.specs.declared.events.Event.{Event}
 use Rattle.snapshot_histories.specs.declared.events.Event.TheVariants.{Begin, Commit}
 use Rattle.snapshot_histories.specs.Halves.{begin_half, commit_half, half_of, event_at}
 use Rattle.snapshot_histories.specs.Snapshot.{IsSnapshotVerdict}
-use Rattle.snapshot_histories.specs.Split.{begin_txn, commit_txn, split_history, HistoryCanBeSplit}
+use Rattle.snapshot_histories.specs.Split.{begin_read_of, commit_read_of, begin_txn, commit_txn, split_history, HistoryCanBeSplit}
 use Rattle.snapshot_histories.proofs.EventHalves.{half_of_event}
 use Rattle.snapshot_histories.proofs.FromOrder.{commit_received, begin_received}
-use Rattle.snapshot_histories.proofs.Isolation.{begin_read_of, commit_read_of, kept_as_explained}
+use Rattle.snapshot_histories.proofs.Isolation.{kept_as_explained}
 use Rattle.snapshot_histories.proofs.Lookups.{at_begin, at_commit}
 use Rattle.snapshot_histories.proofs.ToOrder.{received_commit}
 

@@ -3,3 +3,4 @@ pub mod Halves
 pub mod Laws
 pub mod Snapshot
 pub mod Split
+pub mod Splittable

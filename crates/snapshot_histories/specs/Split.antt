@@ -20,13 +20,21 @@ abbrev pub split_source : Source → Source
 split_source Init = Init
 split_source (By writer) = By (commit_half writer)
 
+-- a read in the first half
+abbrev pub begin_read_of : ℕ × Source → ℕ × Source
+begin_read_of read = (read.0, split_source read.1)
+
+-- a key that is written, read in the second half from the first
+abbrev pub commit_read_of : TxnId → ℕ → ℕ × Source
+commit_read_of id key = (star key, By (begin_half id))
+
 -- the first half reads what the transaction reads, and writes the star of each key that it writes
 abbrev pub begin_txn : Txn → Txn
-begin_txn txn = record { reads = map (λ read. (read.0, split_source read.1)) txn.reads; writes = map star txn.writes }
+begin_txn txn = record { reads = map begin_read_of txn.reads; writes = map star txn.writes }
 
 -- the second half reads these from the first, and writes what the transaction writes
 abbrev pub commit_txn : TxnId → Txn → Txn
-commit_txn id txn = record { reads = map (λ key. (star key, By (begin_half id))) txn.writes; writes = txn.writes }
+commit_txn id txn = record { reads = map (commit_read_of id) txn.writes; writes = txn.writes }
 
 -- transactions of a session, the first with this number, two for each
 abbrev pub split_txns : ℕ → ℕ → List Txn → List Txn

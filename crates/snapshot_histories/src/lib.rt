@@ -4,9 +4,11 @@
 
 mod events;
 mod laws;
+mod splitting;
 
 pub use events::{Event, event_of};
 pub use laws::{
     orders_isolate, split_goes_with_arrivals, split_keeps_isolation, split_keeps_pending,
     split_keeps_verdict,
 };
+pub use splitting::split_fragment;
