@@ -8,7 +8,6 @@ use Rattle.std.proofs.lemmas.List.Elements.{All-map}
 use Rattle.std.proofs.lemmas.List.Folds.{list_any_at}
 use Rattle.txn.specs.declared.transactions.TxnId.{TxnId}
 use Rattle.txn.specs.declared.transactions.Source.{Source}
-use Rattle.txn.specs.declared.transactions.Source.TheVariants.{By}
 use Rattle.txn.specs.declared.transactions.Txn.{Txn}
 use Rattle.txn.specs.Transactions.{KeepsEpoch}
 use Rattle.txn.specs.History.{History, txn_at, session_of, in_session, ids_from, writes_key, IsLastWriter}
@@ -18,7 +17,7 @@ use Rattle.snapshot_histories.specs.declared.events.Event.TheVariants.{Begin, Co
 use Rattle.snapshot_histories.specs.Events.{event_in_session, events_from}
 use Rattle.snapshot_histories.specs.Halves.{begin_half, commit_half, half_of, event_at}
 use Rattle.snapshot_histories.specs.Snapshot.{IsSnapshotOrder, KeepsSnapshotIsolation}
-use Rattle.snapshot_histories.specs.Split.{begin_read_of, commit_read_of, star, split_source, begin_txn, commit_txn, split_history, HistoryCanBeSplit}
+use Rattle.snapshot_histories.specs.Split.{begin_read_of, commit_read_of, star, begin_txn, commit_txn, split_history, HistoryCanBeSplit}
 use Rattle.snapshot_histories.proofs.CommitReads.{WritesLow}
 use Rattle.snapshot_histories.proofs.EventHalves.{filter_halves, split_ids, parted, halves_of_events, half_of_event, events_of_halves}
 use Rattle.snapshot_histories.proofs.EventPlaces.{AreEvents}

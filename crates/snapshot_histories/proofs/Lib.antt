@@ -1,4 +1,5 @@
 mod Arrivals
+mod Coming
 mod CommitReads
 mod EventHalves
 mod EventPlaces
@@ -9,3 +10,4 @@ mod Pending
 mod Places
 mod SplitSteps
 mod ToOrder
+mod WellFormedSplit

@@ -1,13 +1,17 @@
 -- Laws of split histories.
-use Rattle.std.specs.Prelude.{◌≡◌, ◌↔◌, List, map}
+use Rattle.std.specs.Prelude.{◌≡◌, ◌≤◌, ◌↔◌, List, length, map}
 use Rattle.txn.specs.declared.transactions.TxnId.{TxnId}
+use Rattle.txn.specs.declared.transactions.Txn.{Txn}
+use Rattle.txn.specs.declared.transactions.Fragment.{Fragment}
+use Rattle.txn.specs.Transactions.{IsWellFormedFragment}
 use Rattle.txn.specs.History.{History}
 use Rattle.order_check.specs.declared.remainder.Kind.{Kind}
-use Rattle.order_check.specs.StandsFor.{Arrival, history_after}
+use Rattle.order_check.specs.StandsFor.{Arrival, IsFenceFrom, history_after}
 use Rattle.order_check.specs.Whole.{ExplainsWhole, HasOrderWhole, HasPendingWhole, IsVerdictWhole}
-use Rattle.snapshot_histories.specs.Halves.{event_at}
+use Rattle.snapshot_histories.specs.Halves.{begin_half, commit_half, event_at}
 use Rattle.snapshot_histories.specs.Snapshot.{IsSnapshotOrder, KeepsSnapshotIsolation, IsSnapshotVerdict}
-use Rattle.snapshot_histories.specs.Split.{split_history, split_arrival, HistoryCanBeSplit, IsNextArrival}
+use Rattle.snapshot_histories.specs.Split.{begin_txn, commit_txn, split_history, split_of, split_arrival, HistoryCanBeSplit, IsNextArrival}
+use Rattle.snapshot_histories.specs.Splittable.{IsSplittable, fragment_of}
 
 -- A history keeps snapshot isolation exactly where some order explains its split history.
 abbrev pub SplitKeepsIsolation : Type 0
@@ -28,3 +32,19 @@ SplitKeepsVerdict = (history : History) (kind : Kind) → HistoryCanBeSplit hist
 -- A history with an arrival is split into the split history with the split arrival.
 abbrev pub SplitGoesWithArrivals : Type 0
 SplitGoesWithArrivals = (history : History) (arrival : Arrival) → IsNextArrival history arrival → split_history (history_after history arrival) ≡ history_after (split_history history) (split_arrival arrival)
+
+-- What arrives next of a history, split, arrives next of the split history.
+abbrev pub SplitComesNext : Type 0
+SplitComesNext = (history : History) (arrival : Arrival) → IsNextArrival history arrival → IsNextArrival (split_history history) (split_arrival arrival)
+
+-- A history that can be split still can, with a splittable fragment that arrives next.
+abbrev pub ArrivalsCanBeSplit : Type 0
+ArrivalsCanBeSplit = (history : History) (arrival : Arrival) → HistoryCanBeSplit history → IsNextArrival history arrival → IsSplittable (fragment_of arrival) → HistoryCanBeSplit (history_after history arrival)
+
+-- What a splittable fragment of at most 128 transactions is split into is a well-formed fragment.
+abbrev pub SplitIsWellFormed : Type 0
+SplitIsWellFormed = (fragment : Fragment) → IsSplittable fragment → length fragment.txns ≤ 128 → IsWellFormedFragment (split_of fragment)
+
+-- A fence is split into two: the first reads from the commit of what the fence reads from, and the second from the first.
+abbrev pub SplitKeepsFences : Type 0
+SplitKeepsFences = (id source : TxnId) (txn : Txn) → IsFenceFrom source txn → IsFenceFrom (commit_half source) (begin_txn txn) × IsFenceFrom (begin_half id) (commit_txn id txn)

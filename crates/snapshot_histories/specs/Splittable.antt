@@ -5,6 +5,7 @@ use Rattle.txn.specs.declared.transactions.Source.TheVariants.{Init, By}
 use Rattle.txn.specs.declared.transactions.Txn.{Txn}
 use Rattle.txn.specs.declared.transactions.Fragment.{Fragment}
 use Rattle.txn.specs.Transactions.{IsWellFormedFragment}
+use Rattle.order_check.specs.StandsFor.{Arrival, More, Joins, Returns}
 
 -- the writer is numbered below 2^47
 abbrev pub IsLowSource : Source → Type 0
@@ -25,3 +26,9 @@ pub record IsSplittable (fragment : Fragment) : Type 0 where
   pub well_formed : IsWellFormedFragment fragment
   pub numbers : fragment.first + length fragment.txns ≤ 2 ^ 47
   pub each : All HasLowNumbers fragment.txns
+
+-- the fragment that arrives
+abbrev pub fragment_of : Arrival → Fragment
+fragment_of (More fragment) = fragment
+fragment_of (Joins fragment) = fragment
+fragment_of (Returns fragment) = fragment

@@ -1,4 +1,4 @@
-ghost use Rattle.snapshot_histories.specs.Laws.{SplitKeepsIsolation, OrdersIsolate, SplitKeepsPending, SplitKeepsVerdict, SplitGoesWithArrivals};
+ghost use Rattle.snapshot_histories.specs.Laws.{SplitKeepsIsolation, OrdersIsolate, SplitKeepsPending, SplitKeepsVerdict, SplitGoesWithArrivals, SplitComesNext, ArrivalsCanBeSplit, SplitIsWellFormed, SplitKeepsFences};
 
 /// A history keeps snapshot isolation exactly where some order explains its split history.
 pub fn split_keeps_isolation()
@@ -23,4 +23,24 @@ pub fn split_keeps_verdict()
 /// A history with an arrival is split into the split history with the split arrival.
 pub fn split_goes_with_arrivals()
     ensures { SplitGoesWithArrivals }
+{}
+
+/// What arrives next of a history, split, arrives next of the split history.
+pub fn split_comes_next()
+    ensures { SplitComesNext }
+{}
+
+/// A history that can be split still can, with a splittable fragment that arrives next.
+pub fn arrivals_can_be_split()
+    ensures { ArrivalsCanBeSplit }
+{}
+
+/// What a splittable fragment of at most 128 transactions is split into is a well-formed fragment.
+pub fn split_is_well_formed()
+    ensures { SplitIsWellFormed }
+{}
+
+/// A fence is split into two fences.
+pub fn split_keeps_fences()
+    ensures { SplitKeepsFences }
 {}

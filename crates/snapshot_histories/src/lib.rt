@@ -4,11 +4,14 @@
 
 mod events;
 mod laws;
+mod splittable;
 mod splitting;
 
 pub use events::{Event, event_of};
 pub use laws::{
-    orders_isolate, split_goes_with_arrivals, split_keeps_isolation, split_keeps_pending,
+    arrivals_can_be_split, orders_isolate, split_comes_next, split_goes_with_arrivals,
+    split_is_well_formed, split_keeps_fences, split_keeps_isolation, split_keeps_pending,
     split_keeps_verdict,
 };
+pub use splittable::{KEYS, NUMBERS, is_splittable};
 pub use splitting::split_fragment;

@@ -3,18 +3,16 @@ ghost use Rattle.snapshot_histories.specs.Halves.{begin_half, commit_half};
 ghost use Rattle.snapshot_histories.specs.Split.{star, split_source, begin_read_of, commit_read_of, begin_txn, commit_txn, split_of};
 ghost use Rattle.snapshot_histories.specs.Splittable.{IsLowRead, IsLowSource, HasLowNumbers, IsSplittable};
 
+use crate::splittable::KEYS;
 use std::alloc::Global;
 use txn::{EPOCH, Fragment, NoMemory, Sequence, Source, Txn, TxnId};
-
-/// Keys of histories that are split are below it.
-const STARS: u64 = 1 << 63;
 
 /// The key by which a commit reads from its own begin.
 fn starred(key: u64) -> u64
     requires { key < 2 ^ 63 }
     ensures { result ≡ star key }
 {
-    if key == EPOCH { EPOCH } else { key + STARS }
+    if key == EPOCH { EPOCH } else { key + KEYS }
 }
 
 /// What stands for a transaction's begin.

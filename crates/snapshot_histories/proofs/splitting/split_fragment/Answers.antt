@@ -1,6 +1,5 @@
-use Rattle.std.proofs.Common.{◌≡◌, refl, sym, ap, ◌∙◌, List, get_or, length, ◌*◌, subst, ◌<◌}
+use Rattle.std.proofs.Common.{refl, ap, ◌∙◌, List, ◌*◌}
 use Rattle.std.proofs.lemmas.List.{take_all}
-use Rattle.txn.specs.declared.transactions.Fragment.{Fragment}
 use Rattle.txn.specs.declared.transactions.Txn.{Txn}
 use Rattle.snapshot_histories.specs.Split.{split_txns}
 use Rattle.snapshot_histories.proofs.SplitSteps.{low_at, split_next}
