@@ -1,0 +1,5 @@
+//! Tests of histories that are split for snapshot isolation, by the public calls of these libraries.
+#![tactic(auto)]
+
+#[cfg(test)]
+mod histories;
