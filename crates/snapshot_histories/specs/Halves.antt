@@ -8,7 +8,7 @@ use Rattle.snapshot_histories.specs.declared.events.Event.TheVariants.{Begin, Co
 abbrev pub begin_half : TxnId → TxnId
 begin_half id = record { session = id.session; number = 2 * id.number }
 
--- what stands for its commit, right behind
+-- what stands for its commit, right after that
 abbrev pub commit_half : TxnId → TxnId
 commit_half id = record { session = id.session; number = 2 * id.number + 1 }
 

@@ -13,5 +13,5 @@ pub use laws::{
     split_is_well_formed, split_keeps_fences, split_keeps_isolation, split_keeps_pending,
     split_keeps_verdict,
 };
-pub use splittable::{KEYS, NUMBERS, is_splittable};
+pub use splittable::is_splittable;
 pub use splitting::split_fragment;
