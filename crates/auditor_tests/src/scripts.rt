@@ -2,7 +2,8 @@ ghost use Rattle.std.specs.Prelude.{◌<◌, ◌≤◌, IfOk};
 
 use cobra::{
     Asked, ByteSink, ByteSource, DeviceFault, Failure, LONGEST_LINE, LineReader, MemorySink,
-    MemorySource, Next, Pace, ReaderSource, WriterSink, asked_of, exit_of, serve, write_all,
+    MemorySource, Next, Pace, ReaderSource, Solvers, WriterSink, asked_of, exit_of, serve,
+    write_all,
 };
 use polygraph::Single;
 use std::alloc::{AllocError, Global};
