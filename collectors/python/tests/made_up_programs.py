@@ -121,7 +121,7 @@ class Audit(Program):
 class Live(Program):
     def serve(self):
         opening = json.loads(self.next_line())
-        self.model.open(*opening[1:3], *opening[6:])  # the version comes last
+        self.model.open(*opening[1:3], *(part for part in opening[6:] if part != "guided"))
         self.has_more = False
         while True:
             if not self.lines.wait(0):
