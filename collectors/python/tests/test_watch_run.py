@@ -60,9 +60,13 @@ class Runs(InAFolder):
         self.run = run
         is_done = is_done or (lambda status: status.rounds_count >= 1 and status.seen.reads)
 
+        late = []
+
         def stop():
             try:
                 self.until(lambda: run.stop.is_set() or is_done(run.board.status()))
+            except AssertionError as error:
+                late.append(error)
             finally:
                 run.stop.set()
 
@@ -73,6 +77,7 @@ class Runs(InAFolder):
         finally:
             run.stop.set()
             stopping.join()
+            self.assertEqual(late, [])
 
     def test_a_serial_one(self):
         told, status = self.run_of(SERIAL)
@@ -162,16 +167,18 @@ class Runs(InAFolder):
 
     def test_the_journal_brings_another_auditor_to_where_it_stood(self):
         def is_done(status):
-            if status.rounds_count == 1 and not killed:
-                killed.append(1)
+            if status.rounds_count == 1 and not os.path.exists(killed):
                 self.run._watching.auditing._program._pipes.process.kill()
+                with open(killed, "w", encoding="utf-8"):
+                    pass  # the proxy goes on now
             return status.rounds_count >= 2 and status.restarts == 1
 
-        killed = []
-        parts = [*SERIAL, ("await", "cut"), feed.offer(0, 1, [[], [6]]), *feed.ROUND]
+        killed = os.path.join(self.folder, "killed")
+        parts = [*SERIAL, ("file", killed), feed.offer(0, 1, [[], [6]]), *feed.ROUND]
         journal = os.path.join(self.folder, "journal")
         told, status = self.run_of(parts, is_done=is_done, journal=journal)
         self.assertEqual(status, 0, told)
+        self.assertEqual(self.run.board.status().restarts, 1)
         self.assertTrue(os.path.isfile(journal))
 
 

@@ -113,7 +113,7 @@ class CommandWords(unittest.TestCase):
     def test_ends_and_arguments(self):
         told = rb"line 4: serial: (?s:.*)\n"
         mistake = rb"(?s:.*)\n"
-        versions = rf"zanteyard {re.escape(VERSION)}\nauditor .*\nchecker .*\n".encode()
+        versions = rf"zanteyard {re.escape(VERSION)}\nauditor .*\nchecker .*\nproxy .*\n".encode()
         rows = [  # arguments, ends, input; status, standard output, standard error
             (["--version"], "", b"", 0, versions, b""),
             (["--help"], NO_INPUT, b"", 0, rb"usage: zanteyard (?s:.*)\n", b""),

@@ -110,8 +110,9 @@ def described(session, number, **more):
 
 
 class Fake:
-    """Writes its parts one behind the other. A part is a line, an event, ("await", command): then it
-    goes on once that command has come, or ("exit", status), which ends the program. Each `describe` is answered by `describes`, and
+    """Writes its parts one after another. A part is a line, an event, ("await", command): then it
+    goes on once that command has come, ("file", path): then it goes on once the file exists, or
+    ("exit", status), which ends the program. Each `describe` is answered by `describes`, and
     `stop` and `restart` in the way of the real one."""
 
     def __init__(self, parts, output=sys.stdout, describes=described, holds=False):
@@ -129,6 +130,9 @@ class Fake:
         for part in self.parts:
             if isinstance(part, tuple) and part[0] == "exit":
                 sys.exit(part[1])
+            elif isinstance(part, tuple) and part[0] == "file":
+                while not os.path.exists(part[1]):
+                    time.sleep(0.01)
             elif isinstance(part, tuple):
                 self.wait_for(part[1])
             else:
@@ -187,7 +191,7 @@ def parts_of(path):
         file.seek(0)
         start = len(file.readlines())
     parts = runs[min(start, len(runs)) - 1]
-    its_own = ("await", "exit")
+    its_own = ("await", "exit", "file")
     return [tuple(it) if isinstance(it, list) and it[0] in its_own else it for it in parts]
 
 
