@@ -5,7 +5,7 @@ ghost use Rattle.order_check.specs.Cycles.{IsArc, IsPath, IsCycle};
 ghost use Rattle.refutation.specs.Reading.{reads_in};
 ghost use Rattle.order_check.specs.Known.{ReadsKey, WritesKey, ReadsBase, IsBaseSource, IsChoice};
 
-use crate::reads::{is_overwritten, is_silent, reads_of, remains, writes};
+use crate::front_reads::{is_overwritten, is_silent, reads_of, remains, writes};
 use order_check::Front;
 use txn::{Arc, Choice, Source, TxnId};
 

@@ -3,6 +3,7 @@
 
 mod arcs;
 mod checking;
+mod front_reads;
 mod joining;
 mod laws;
 mod pruned;

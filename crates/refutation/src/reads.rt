@@ -4,22 +4,22 @@ ghost use Rattle.order_check.specs.Based.{Remains, IsGone, remaining_at};
 ghost use Rattle.order_check.specs.Known.{WritesKey};
 ghost use Rattle.refutation.specs.Reading.{reads_in};
 
-use order_check::Front;
+use order_check::Parts;
 use txn::{Source, TxnId};
 
-pub fn remains(parts: &Front<'_>, id: TxnId) -> bool
+pub fn remains(parts: &Parts, id: TxnId) -> bool
     ensures { IsTrue result ↔ Remains parts.now id }
 {
     parts.remaining_at(id).is_some()
 }
 
-fn is_gone(parts: &Front<'_>, id: TxnId) -> bool
+fn is_gone(parts: &Parts, id: TxnId) -> bool
     ensures { IsTrue result ↔ IsGone parts.now id }
 {
     id.number < parts.mark_of(id.session)
 }
 
-pub fn writes(parts: &Front<'_>, id: TxnId, key: u64) -> bool
+pub fn writes(parts: &Parts, id: TxnId, key: u64) -> bool
     ensures { IsTrue result ↔ WritesKey parts.now id key }
 {
     match parts.remaining_at(id) {
@@ -29,7 +29,7 @@ pub fn writes(parts: &Front<'_>, id: TxnId, key: u64) -> bool
 }
 
 /// Whether the source remains and doesn't write the key.
-pub fn is_silent(parts: &Front<'_>, key: u64, source: Source) -> bool
+pub fn is_silent(parts: &Parts, key: u64, source: Source) -> bool
     ensures { IsTrue result ↔ IsSilent parts.now key source }
 {
     match source {
@@ -39,7 +39,7 @@ pub fn is_silent(parts: &Front<'_>, key: u64, source: Source) -> bool
 }
 
 /// Whether the source is gone, and isn't what the base has for the key.
-pub fn is_overwritten(parts: &Front<'_>, key: u64, source: Source) -> bool
+pub fn is_overwritten(parts: &Parts, key: u64, source: Source) -> bool
     ensures { IsTrue result ↔ IsOverwritten parts.now key source }
 {
     match source {
@@ -49,7 +49,7 @@ pub fn is_overwritten(parts: &Front<'_>, key: u64, source: Source) -> bool
 }
 
 /// What a remaining transaction reads.
-pub fn reads_of<'a>(parts: &'a Front<'_>, id: TxnId) -> &'a [(u64, Source)]
+pub fn reads_of(parts: &Parts, id: TxnId) -> &[(u64, Source)]
     ensures { result.now ≡ reads_in (remaining_at parts.now id) }
 {
     match parts.remaining_at(id) {
