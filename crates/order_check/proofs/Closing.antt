@@ -23,7 +23,7 @@ meets_flagged parts a b front key Init meets = meets
 meets_flagged parts a b front key (By writer) meets = record { gone = meets.gone; remaining = meets.remaining }
 
 -- which orders explain parts has nothing to do with their flags
-explains_flagged : (parts : Parts) (a b : List Bool) (order : List TxnId) → Explains (flagged parts a) order → Explains (flagged parts b) order
+pub explains_flagged : (parts : Parts) (a b : List Bool) (order : List TxnId) → Explains (flagged parts a) order → Explains (flagged parts b) order
 explains_flagged parts a b order explained = record {
   sessions = explained.sessions;
   reads = λ front back id is txn at. All-weaker (λ read. Meets (flagged parts a) front read.0 read.1) (λ read. Meets (flagged parts b) front read.0 read.1) (λ read. meets_flagged parts a b front read.0 read.1) txn.reads (explained.reads front back id is txn at);

@@ -1,4 +1,6 @@
 pub mod Closing
+pub mod CopiedFronts
+pub mod CountedFronts
 pub mod CutAhead
 pub mod CutCounts
 pub mod CutFits
@@ -8,6 +10,7 @@ pub mod CutOrders
 pub mod CutReads
 pub mod CutStands
 pub mod EachRemaining
+pub mod ExplainedFronts
 pub mod Extensions
 pub mod Extending
 pub mod Fenced
@@ -29,6 +32,7 @@ pub mod Parted
 pub mod PendingReads
 pub mod Places
 pub mod Received
+pub mod ReceivedCounts
 pub mod Remaining
 pub mod Replayed
 pub mod RisingLists

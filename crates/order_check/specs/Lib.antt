@@ -1,6 +1,7 @@
 pub mod BadReads
 pub mod Based
 pub mod Codes
+pub mod CountedFronts
 pub mod CutLaws
 pub mod Cuts
 pub mod Cutting

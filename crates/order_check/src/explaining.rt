@@ -1,23 +1,28 @@
-ghost use Rattle.std.specs.Prelude.{◌≡◌, ◌↔◌, ℕ, ◌+◌, length, IfOk, OnOk, IsTrue, slice_index, slice_set, Some};
+ghost use Rattle.std.specs.Prelude.{◌≡◌, ◌↔◌, ℕ, ◌+◌, Bool, List, length, IfOk, OnOk, IsTrue, slice_index, slice_set, Some};
 ghost use Rattle.std.specs.FinMap as map;
 ghost use Rattle.order_check.specs.Based.{remaining_at};
+ghost use Rattle.order_check.specs.CountedFronts.{AreFrontCounts, front_at};
 ghost use Rattle.order_check.specs.Good.{IsGood};
 ghost use Rattle.order_check.specs.Explains.{Explains, KeepsSessions, MeetsAllReads};
 ghost use Rattle.order_check.specs.Replay.{last_writer, IsMetBy, AreMetBy, writer_after, IsNext, AreAllTaken};
 
+use crate::fronts::Front;
 use crate::remainder::{LastWriters, Parts};
 use std::alloc::Global;
 use txn::{NoMemory, Source, Txn, TxnId};
 
 /// The last writer of the key: of those in front, or else of the gone ones.
-fn last_writer(parts: &Parts, front: &LastWriters, key: u64) -> Option<TxnId>
+fn last_writer(parts: &Front<'_>, front: &LastWriters, key: u64) -> Option<TxnId>
     ensures { result ≡ last_writer parts.now front.now key }
 {
-    front.get(key).or_else(|| parts.last_gone(key))
+    match front.get(key) {
+        Some(writer) => Some(writer),
+        None => parts.last_gone(key),
+    }
 }
 
 /// Whether a read of the key from the source is met.
-fn is_met(parts: &Parts, front: &LastWriters, key: u64, source: Source) -> bool
+fn is_met(parts: &Front<'_>, front: &LastWriters, key: u64, source: Source) -> bool
     requires { IsGood parts.now }
     ensures { IsTrue result ↔ IsMetBy parts.now front.now key source }
 {
@@ -29,7 +34,7 @@ fn is_met(parts: &Parts, front: &LastWriters, key: u64, source: Source) -> bool
 }
 
 /// Whether each read of the transaction is met.
-fn are_met(parts: &Parts, front: &LastWriters, txn: &Txn) -> bool
+fn are_met(parts: &Front<'_>, front: &LastWriters, txn: &Txn) -> bool
     requires { IsGood parts.now }
     ensures { IsTrue result ↔ AreMetBy parts.now front.now (Some txn.now) }
 {
@@ -50,7 +55,7 @@ fn note_writes(front: &mut LastWriters, id: TxnId, txn: &Txn) -> Result<(), NoMe
 }
 
 /// Whether the next id's reads are met; if they are, its writes are noted.
-fn take_id(parts: &Parts, front: &mut LastWriters, id: TxnId) -> Result<bool, NoMemory>
+fn take_id(parts: &Front<'_>, front: &mut LastWriters, id: TxnId) -> Result<bool, NoMemory>
     requires { IsGood parts.now }
     ensures met { IfOk result (λ met. IsTrue met ↔ AreMetBy parts.now front.old (remaining_at parts.now id)) }
     ensures noted { IfOk result (λ met. IsTrue met → (key : ℕ) → map.get front.new key ≡ writer_after id (remaining_at parts.now id) key (map.get front.old key)) }
@@ -66,7 +71,7 @@ fn take_id(parts: &Parts, front: &mut LastWriters, id: TxnId) -> Result<bool, No
 }
 
 /// Whether each id's reads are met by what stands in front of it.
-fn meets_all_reads(alloc: Global, parts: &Parts, order: &[TxnId]) -> Result<bool, NoMemory>
+fn meets_all_reads(alloc: Global, parts: &Front<'_>, order: &[TxnId]) -> Result<bool, NoMemory>
     requires { IsGood parts.now }
     ensures { IfOk result (λ yes. IsTrue yes ↔ MeetsAllReads parts.now order.now) }
 {
@@ -81,7 +86,7 @@ fn meets_all_reads(alloc: Global, parts: &Parts, order: &[TxnId]) -> Result<bool
 }
 
 /// Counts the id in its session, where it is the next one there that remains.
-fn take_next(parts: &Parts, taken: &mut Vec<usize>, id: TxnId) -> bool
+fn take_next(parts: &Front<'_>, taken: &mut Vec<usize>, id: TxnId) -> bool
     requires good { IsGood parts.now }
     requires counts { length taken.old.items ≡ length parts.now.remain }
     ensures next { IsTrue result ↔ IsNext parts.now taken.old.items id }
@@ -100,12 +105,13 @@ fn take_next(parts: &Parts, taken: &mut Vec<usize>, id: TxnId) -> bool
 }
 
 /// Whether as many were counted of each session as remain of it.
-fn are_all_taken(parts: &Parts, taken: &[usize]) -> bool
-    requires { length taken.now ≡ length parts.now.remain }
+fn are_all_taken(parts: &Front<'_>, taken: &[usize]) -> bool
+    requires good { IsGood parts.now }
+    requires counts { length taken.now ≡ length parts.now.remain }
     ensures { IsTrue result ↔ AreAllTaken parts.now taken.now }
 {
-    for (session, txns) in parts.remain.as_slice().iter().enumerate() {
-        if taken[session] != txns.len() {
+    for session in 0..parts.sessions() as u8 {
+        if taken[usize::from(session)] != parts.remaining_of(session).len() {
             return false;
         }
     }
@@ -113,7 +119,7 @@ fn are_all_taken(parts: &Parts, taken: &[usize]) -> bool
 }
 
 /// Whether the order has what remains of each session, each id once and in order of number, and nothing else.
-fn keeps_sessions(alloc: Global, parts: &Parts, order: &[TxnId]) -> Result<bool, NoMemory>
+fn keeps_sessions(alloc: Global, parts: &Front<'_>, order: &[TxnId]) -> Result<bool, NoMemory>
     requires { IsGood parts.now }
     ensures { IfOk result (λ yes. IsTrue yes ↔ KeepsSessions parts.now order.now) }
 {
@@ -126,8 +132,8 @@ fn keeps_sessions(alloc: Global, parts: &Parts, order: &[TxnId]) -> Result<bool,
     Ok(are_all_taken(parts, &taken))
 }
 
-/// Whether the order explains the parts, whatever is handed in as an order: ids may be repeated or unknown.
-pub fn explains(alloc: Global, parts: &Parts, order: &[TxnId]) -> Result<bool, NoMemory>
+/// Whether the order explains a front.
+fn explains_all(alloc: Global, parts: &Front<'_>, order: &[TxnId]) -> Result<bool, NoMemory>
     requires { IsGood parts.now }
     ensures { IfOk result (λ yes. IsTrue yes ↔ Explains parts.now order.now) }
 {
@@ -135,4 +141,29 @@ pub fn explains(alloc: Global, parts: &Parts, order: &[TxnId]) -> Result<bool, N
         return Ok(false);
     }
     meets_all_reads(alloc, parts, order)
+}
+
+/// Whether the order explains the parts, whatever is handed in as an order: ids may be repeated or unknown.
+pub fn explains(alloc: Global, parts: &Parts, order: &[TxnId]) -> Result<bool, NoMemory>
+    requires { IsGood parts.now }
+    ensures { IfOk result (λ yes. IsTrue yes ↔ Explains parts.now order.now) }
+{
+    let counts = parts.received_counts(alloc)?;
+    explains_front(alloc, parts, counts.as_slice(), order)
+}
+
+/// Whether the order explains the front of the parts up to these counts, whichever sessions are open there. A read of an id that isn't
+/// below its session's count is pending.
+pub fn explains_front(
+    alloc: Global,
+    parts: &Parts,
+    counts: &[u64],
+    order: &[TxnId],
+) -> Result<bool, NoMemory>
+    requires good { IsGood parts.now }
+    requires counts { AreFrontCounts parts.now counts.now }
+    ensures { IfOk result (λ yes. (live : List Bool) → IsTrue yes ↔ Explains (front_at parts.now counts.now live) order.now) }
+{
+    let front = Front::new(parts, counts);
+    explains_all(alloc, &front, order)
 }

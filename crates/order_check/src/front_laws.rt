@@ -1,4 +1,5 @@
 //! Laws of fronts that are kept while their parts go on. The functions do nothing.
+ghost use Rattle.order_check.specs.CountedFronts.{KeptFrontsAreCounted};
 ghost use Rattle.order_check.specs.FrontLaws.{FrontOfItself, FragmentKeepsFront, CloseKeepsFront, SettledStaysSettled};
 
 /// Parts are a front of themselves.
@@ -19,4 +20,9 @@ pub fn close_keeps_front()
 /// A fence that is settled in a front has behind it all that has come since, and all that may still come.
 pub fn settled_stays_settled()
     ensures { SettledStaysSettled }
+{}
+
+/// A front that was kept is the one of its own counts.
+pub fn kept_fronts_are_counted()
+    ensures { KeptFrontsAreCounted }
 {}

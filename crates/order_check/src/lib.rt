@@ -5,6 +5,7 @@ mod cut_laws;
 mod explaining;
 mod facts;
 mod front_laws;
+mod fronts;
 mod known_laws;
 mod laws;
 mod lookups;
@@ -21,7 +22,7 @@ pub use cut_laws::{
     cut_keeps_good, cut_keeps_known, cut_keeps_received, cut_keeps_stands_for, cut_keeps_waiting,
     cut_leaves_the_rest, cut_moves_base, cuts_of_fronts_fit, fence_splits_orders, split_law,
 };
-pub use explaining::explains;
+pub use explaining::{explains, explains_front};
 pub use facts::{
     row_base_read, row_empty, row_first_cut, row_gone_read, row_lost_update, row_not_a_writer,
     row_open_choice, row_overwritten, row_pending_arrives, row_pending_in_front, row_reader_first,
@@ -29,8 +30,10 @@ pub use facts::{
     row_unordered_writers, row_write_skew,
 };
 pub use front_laws::{
-    close_keeps_front, fragment_keeps_front, front_of_itself, settled_stays_settled,
+    close_keeps_front, fragment_keeps_front, front_of_itself, kept_fronts_are_counted,
+    settled_stays_settled,
 };
+pub use fronts::{Front, front_parts};
 pub use known_laws::{cycle_leaves_no_order, every_order_keeps_known};
 pub use laws::{
     close_keeps_stands_for, join_keeps_stands_for, offer_keeps_stands_for, orders_as_of_whole,

@@ -1,10 +1,11 @@
-ghost use Rattle.std.specs.Prelude.{◌≡◌, ◌↔◌, ◌<◌, length, IsTrue, sum_by, slice_get, true};
+ghost use Rattle.std.specs.Prelude.{◌≡◌, ◌↔◌, ◌<◌, length, IfOk, IsTrue, sum_by, slice_get, true};
 ghost use Rattle.std.specs.Option.{option_copied};
-ghost use Rattle.order_check.specs.Based.{mark_of, remaining_of, received_count, remaining_at, IsReceived, last_gone};
+ghost use Rattle.order_check.specs.Based.{mark_of, remaining_of, received_count, received_counts, remaining_at, IsReceived, last_gone};
 ghost use Rattle.order_check.specs.Good.{IsGood};
 
 use crate::remainder::Parts;
-use txn::{Txn, TxnId};
+use std::alloc::Global;
+use txn::{NoMemory, Sequence, Txn, TxnId};
 
 impl Parts {
     /// How many transactions of the session are gone; 0 where there is no such session.
@@ -33,6 +34,19 @@ impl Parts {
         ensures { result ≡ received_count self.now session }
     {
         self.mark_of(session) + self.remaining_of(session).len() as u64
+    }
+
+    /// How many transactions were received of each session.
+    #[tactic(auto, using(crate::proofs::ReceivedCounts::counts_more, crate::proofs::ReceivedCounts::counts_all))]
+    pub fn received_counts(&self, alloc: Global) -> Result<Sequence<u64>, NoMemory>
+        requires { IsGood self.now }
+        ensures { IfOk result (λ counts. counts ≡ received_counts self.now) }
+    {
+        let mut counts = Vec::with_capacity(alloc, self.sessions())?;
+        for session in 0..self.sessions() as u8 {
+            counts.push(self.received_count(session))?;
+        }
+        Ok(Sequence::new(counts))
     }
 
     /// The transaction that has the id, where it remains.

@@ -1,4 +1,5 @@
-ghost use Rattle.std.specs.Prelude.{◌≡◌, ◌≤◌, All, IfOk};
+ghost use Rattle.std.specs.Prelude.{◌≡◌, ◌≤◌, length, All, IfOk};
+ghost use Rattle.order_check.specs.CountedFronts.{AreFrontCounts, front_at};
 ghost use Rattle.order_check.specs.Good.{IsGood};
 ghost use Rattle.order_check.specs.Known.{IsChoice};
 ghost use Rattle.polygraph.specs.Outcomes.{split_choices};
@@ -6,7 +7,7 @@ ghost use Rattle.polygraph.specs.ProblemState.{IsProblem};
 
 use crate::stopping::{Stop, StopWord};
 use forced_choices::{OpenChoices, Saturated};
-use order_check::Parts;
+use order_check::{Parts, front_parts};
 use std::alloc::{AllocError, Global};
 use std::marker::Model;
 use txn::{Choice, NoMemory};
@@ -59,6 +60,25 @@ impl Problem {
             choices,
             stop: None,
         })
+    }
+
+    /// The problem of the front of the parts up to these counts, where these sessions are open. The front is copied, and its relation is
+    /// made of the whole.
+    pub fn of_front(
+        alloc: Global,
+        parts: &Parts,
+        counts: &[u64],
+        live: &[bool],
+    ) -> Result<Problem, NoMemory>
+        requires good { IsGood parts.now }
+        requires counts { AreFrontCounts parts.now counts.now }
+        requires flags { length live.now ≡ length parts.now.remain }
+        ensures parts { IfOk result (λ problem. problem.known.parts ≡ front_at parts.now counts.now live.now) }
+        ensures choices { IfOk result IsProblem }
+    {
+        let front = front_parts(alloc, parts, counts, live)?;
+        let known = Saturated::of(alloc, &front)?;
+        Problem::about(alloc, known)
     }
 
     /// The same problem, whose search has this number where the word gives searches up. Where memory is wanting for that it can't be given up.

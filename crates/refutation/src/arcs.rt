@@ -5,11 +5,11 @@ ghost use Rattle.order_check.specs.Cycles.{IsArc, IsPath, IsCycle};
 ghost use Rattle.refutation.specs.Reading.{reads_in};
 ghost use Rattle.order_check.specs.Known.{ReadsKey, WritesKey, ReadsBase, IsBaseSource, IsChoice};
 
-use crate::reads::{is_overwritten, is_silent, reads_of, remains, writes};
-use order_check::Parts;
+use crate::front_reads::{is_overwritten, is_silent, reads_of, remains, writes};
+use order_check::Front;
 use txn::{Arc, Choice, Source, TxnId};
 
-fn reads(parts: &Parts, id: TxnId, key: u64, source: Source) -> bool
+fn reads(parts: &Front<'_>, id: TxnId, key: u64, source: Source) -> bool
     ensures { IsTrue result ↔ ReadsKey parts.now id key source }
 {
     match parts.remaining_at(id) {
@@ -19,7 +19,7 @@ fn reads(parts: &Parts, id: TxnId, key: u64, source: Source) -> bool
 }
 
 /// The source that a read of the key from the base names.
-fn base_source(parts: &Parts, key: u64) -> Source
+fn base_source(parts: &Front<'_>, key: u64) -> Source
     ensures { IsBaseSource parts.now key result }
 {
     match parts.last_gone(key) {
@@ -28,13 +28,13 @@ fn base_source(parts: &Parts, key: u64) -> Source
     }
 }
 
-fn reads_base(parts: &Parts, id: TxnId, key: u64) -> bool
+fn reads_base(parts: &Front<'_>, id: TxnId, key: u64) -> bool
     ensures { IsTrue result ↔ ReadsBase parts.now id key }
 {
     reads(parts, id, key, base_source(parts, key))
 }
 
-pub fn is_choice(parts: &Parts, choice: Choice) -> bool
+pub fn is_choice(parts: &Front<'_>, choice: Choice) -> bool
     ensures { IsTrue result ↔ IsChoice parts.now choice }
 {
     reads(parts, choice.reader, choice.key, Source::By(choice.writer))
@@ -58,7 +58,7 @@ fn is_taken(taken: &[(TxnId, TxnId)], side: (TxnId, TxnId)) -> bool
 }
 
 /// Whether the arc is right where these sides are taken, the last one last.
-fn is_arc(parts: &Parts, taken: &[(TxnId, TxnId)], arc: Arc) -> bool
+fn is_arc(parts: &Front<'_>, taken: &[(TxnId, TxnId)], arc: Arc) -> bool
     ensures { IsTrue result ↔ IsArc parts.now (reverse taken.now) arc }
 {
     match arc {
@@ -80,7 +80,13 @@ fn is_arc(parts: &Parts, taken: &[(TxnId, TxnId)], arc: Arc) -> bool
 
 /// Whether the arcs are a right path between the two.
 #[tactic(auto, using(crate::proofs::Paths::path_step))]
-fn is_path(parts: &Parts, taken: &[(TxnId, TxnId)], start: TxnId, arcs: &[Arc], goal: TxnId) -> bool
+fn is_path(
+    parts: &Front<'_>,
+    taken: &[(TxnId, TxnId)],
+    start: TxnId,
+    arcs: &[Arc],
+    goal: TxnId,
+) -> bool
     ensures { IsTrue result ↔ IsPath parts.now (reverse taken.now) start arcs.now goal }
 {
     let mut at = start;
@@ -93,7 +99,7 @@ fn is_path(parts: &Parts, taken: &[(TxnId, TxnId)], start: TxnId, arcs: &[Arc], 
     at == goal
 }
 
-pub fn is_cycle(parts: &Parts, taken: &[(TxnId, TxnId)], arcs: &[Arc]) -> bool
+pub fn is_cycle(parts: &Front<'_>, taken: &[(TxnId, TxnId)], arcs: &[Arc]) -> bool
     ensures { IsTrue result ↔ IsCycle parts.now (reverse taken.now) arcs.now }
 {
     match arcs.first() {
@@ -103,7 +109,7 @@ pub fn is_cycle(parts: &Parts, taken: &[(TxnId, TxnId)], arcs: &[Arc]) -> bool
 }
 
 /// Whether the transaction reads the key from one that remains and doesn't write it.
-pub fn is_no_write(parts: &Parts, reader: TxnId, key: u64) -> bool
+pub fn is_no_write(parts: &Front<'_>, reader: TxnId, key: u64) -> bool
     ensures { IsTrue result ↔ Any (λ read. (read.0 ≡ key) × IsSilent parts.now key read.1) (reads_in (remaining_at parts.now reader)) }
 {
     reads_of(parts, reader)
@@ -112,7 +118,7 @@ pub fn is_no_write(parts: &Parts, reader: TxnId, key: u64) -> bool
 }
 
 /// Whether the transaction reads the key from what is gone, but not from what the base has for the key.
-pub fn is_gone_read(parts: &Parts, reader: TxnId, key: u64) -> bool
+pub fn is_gone_read(parts: &Front<'_>, reader: TxnId, key: u64) -> bool
     ensures { IsTrue result ↔ Any (λ read. (read.0 ≡ key) × IsOverwritten parts.now key read.1) (reads_in (remaining_at parts.now reader)) }
 {
     reads_of(parts, reader)

@@ -3,6 +3,7 @@
 
 mod arcs;
 mod checking;
+mod front_reads;
 mod joining;
 mod laws;
 mod pruned;
@@ -13,7 +14,7 @@ mod steps;
 mod trees;
 mod used;
 
-pub use checking::check;
+pub use checking::{check, check_front};
 pub use joining::join;
 pub use laws::{
     after_both, after_more, forced_both, forced_with_more, joined_depth, joined_trees_refute,

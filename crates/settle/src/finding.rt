@@ -88,13 +88,20 @@ fn has_no_cycle(known: &Saturated, order: &[TxnId])
 }
 
 /// The cut at the settled fence that comes after all other settled ones, where some fence is settled. The open sessions are
-/// those of the problem. The order only shows that there is one.
+/// those of the parts that the relation is about. The order only shows that there is one.
+pub fn find_in(alloc: Global, known: &Saturated, order: &[TxnId]) -> Result<Option<Cut>, NoMemory>
+    requires { Explains known.now.parts order.now }
+    ensures { IfOk result (IsFound known.now.parts) }
+{
+    has_no_cycle(known, order);
+    let found = find_known(alloc, known)?;
+    Ok(found)
+}
+
+/// The same in the parts that a problem is about.
 pub fn find(alloc: Global, problem: &Problem, order: &[TxnId]) -> Result<Option<Cut>, NoMemory>
     requires { Explains problem.now.known.parts order.now }
     ensures { IfOk result (IsFound problem.now.known.parts) }
 {
-    let known = problem.known();
-    has_no_cycle(known, order);
-    let found = find_known(alloc, known)?;
-    Ok(found)
+    find_in(alloc, problem.known(), order)
 }

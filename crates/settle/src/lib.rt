@@ -7,4 +7,4 @@ mod lines;
 mod writers;
 
 pub use cuts::Cut;
-pub use finding::find;
+pub use finding::{find, find_in};
