@@ -32,7 +32,7 @@ ELSEWHERE = {
     r"zanteyard audit postgres .*": "test_commands, with less time",
     r"zanteyard audit (mariadb|redis|sqlite) .*": "test_stores, with less time",
     r"/usr/bin/python3 examples/store_faults\.py .*": "test_stores, which compares the tables",
-    r"/usr/bin/python3 examples/bank(_orm)?\.py .*": "test_sql_bank, with less time",
+    r"/usr/bin/python3 examples/bank\.py .*": "test_bank, with less time",
     r"/usr/bin/python3 examples/postgres_\w+\.py .*": "test_postgres_live and test_examples, with less time",
 }
 
@@ -121,7 +121,7 @@ class Documents(unittest.TestCase):
                             raise
                         continue  # its driver isn't installed
                     self.assertEqual([name for name in names.split(", ") if not hasattr(there, name)], [])
-        self.assertGreater(count, 20)
+        self.assertGreater(count, 15)
 
     def test_every_command_is_run_somewhere(self):
         """One without a prompt stands in a block of commands alone."""

@@ -140,14 +140,3 @@ class ImportRefusedError(ZanteyardError):
         self.line_number = line_number
         self.why = why
         super().__init__(f"line {line_number}: {why}" if line_number else why)
-
-
-class StatementRefusedError(ZanteyardError):
-    """A statement of the application's that isn't audited; it wasn't sent. `may_run` says whether
-    it can be run all the same, unaudited, where the user wants that."""
-
-    def __init__(self, statement: str, why: str, may_run: bool = False) -> None:
-        self.statement = statement
-        self.why = why
-        self.may_run = may_run
-        super().__init__(f"not audited, and not sent, since {why}: {statement}")
