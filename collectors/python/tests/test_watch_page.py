@@ -229,14 +229,14 @@ class Feeds(unittest.TestCase):
         self.assertEqual(first.plain, "SELECT qty FROM stock WHERE id = $1")
 
     def test_how_rows_are_named(self):
-        for row, columns, wanted in (
-            (Row("public.stock", "7"), (), "stock(7)"),
-            (Row("public.stock", "7"), ("id",), "stock(id=7)"),
-            (Row("shop.stock", "7, x"), ("id", "place"), "shop.stock(id=7, place=x)"),
-            (Row("public.stock", "7, x, y"), ("id", "place"), "stock(7, x, y)"),
-            (Row("public.stock", "7, x", ("a",)), ("id", "place"), "stock(a=7, x)"),
+        for row, wanted in (
+            (Row("public.stock", "7"), "stock(7)"),
+            (Row("public.stock", "7", ("id",)), "stock(id=7)"),
+            (Row("shop.stock", "7, x", ("id", "place")), "shop.stock(id=7, place=x)"),
+            (Row("public.stock", "7, x, y", ("id", "place")), "stock(7, x, y)"),
+            (Row("public.stock", "7, x", ("a",)), "stock(a=7, x)"),
         ):
-            self.assertEqual(row.named(columns), wanted)
+            self.assertEqual(row.named(), wanted)
 
 
 @unittest.skipUnless(BROWSER, "chromium is not installed")

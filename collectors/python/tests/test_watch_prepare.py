@@ -1,4 +1,5 @@
 """What `zanteyard prepare` finds of a server and its tables."""
+import argparse
 import contextlib
 import io
 import os
@@ -9,9 +10,9 @@ from zanteyard.cli._main import main
 from zanteyard.trial.postgres_server import PostgresServer, program
 from zanteyard.watch import _facts as facts
 from zanteyard.watch import _hosts as hosts
-from zanteyard.watch._columns import KeyColumns
 from zanteyard.watch._database import Database, without_password
 from zanteyard.watch._facts import Server
+from zanteyard.watch._patterns import table_patterns
 from zanteyard.watch._prepare import host_name, is_ready, report
 from zanteyard.watch._schema import Table, quoted, tables_of
 
@@ -89,6 +90,26 @@ class Hosts(unittest.TestCase):
     def test_names_as_sql_has_them(self):
         for name, wanted in (("a_1", "a_1"), ("A", '"A"'), ('a"b', '"a""b"'), ("1a", '"1a"')):
             self.assertEqual(quoted(name), wanted)
+
+
+class Patterns(unittest.TestCase):
+    def test_which_tables_they_mean(self):
+        """By the same rows as the proxy's own test has."""
+        for text, has, has_not in (
+            ("public.*, shop.orders", "public.t shop.orders", "shop.order shop.orders2 Public.t"),
+            ("orders", "shop.orders public.orders", "public.order"),
+            ("sh*p.o*r*s", "shop.orders shp.ors ship.oars shop.oorsrs", "shop.order shop.rs sho.ors"),
+            ("*.a*a", "s.aa s.aba s.aaa", "s.a s.ab s.ba"),
+            (" x.y.z ", "x.y.z", "x.y"),
+        ):
+            its = table_patterns(text)
+            for name in has.split():
+                self.assertTrue(its.have([tuple(name.split(".", 1))]), (text, name))
+            for name in has_not.split():
+                self.assertFalse(its.have([tuple(name.split(".", 1))]), (text, name))
+        for wrong in (",", "a,,b", ".t", "s.", "a, ", ""):
+            with self.assertRaises(argparse.ArgumentTypeError):
+                table_patterns(wrong)
 
 
 class Reports(unittest.TestCase):
@@ -199,11 +220,19 @@ class OverAServer(unittest.TestCase):
         self.assertNotIn(facts.FENCE, found)
         self.assertNotIn("public.temporary", found)
 
-    def test_3_b_columns_of_keys(self):
-        columns = KeyColumns(self.url)
-        self.assertEqual(columns("public.two"), ("a", "b"))
-        self.assertEqual(columns("public.nothing_there"), ())
-        self.assertEqual(KeyColumns("postgresql://a@127.0.0.1:1/b")("public.two"), ())
+    def test_3_b_those_that_are_asked_for(self):
+        """A partition is asked for by its topmost table's name as well as by its own."""
+        for words, wanted in (
+            ("public.p*,by_enum,shop.*", ["  no table is meant by shop.* of --tables"]),
+            ("parts", []),
+            ("*.no_key", ["  public.no_key: no primary key: its rows can't be told apart"]),
+        ):
+            lines = self.prepare("--tables", words)[1]
+            at = next(at for at, line in enumerate(lines) if line.startswith("the tables: "))
+            with self.subTest(tables=words):
+                self.assertEqual([it for it in wanted if it not in lines], [])
+                count = {"parts": "2 of 2 tables", "*.no_key": "0 of 1 table"}.get(words, "3 of 3 tables")
+                self.assertEqual(lines[at], f"the tables: {count} can be audited")
 
     def test_4_a_role_that_may_little(self):
         with Database(self.url) as database:

@@ -230,7 +230,7 @@ class Command(InAFolder):
         self.cluster.start()
         for number in (signal.SIGTERM, signal.SIGINT):
             with self.subTest(signal=number):
-                run = self.begin(self.url, "--listen", "127.0.0.1:7777", "--sample", "0.5")
+                run = self.begin(self.url, "--listen", "127.0.0.1:7777", "--sample", "0.5", "--tables", "public.*")
                 self.wait_for_round(run)
                 run.send_signal(number)
                 out, errors = run.communicate(timeout=120)
@@ -239,7 +239,8 @@ class Command(InAFolder):
                 self.assertNotIn("secret", out + errors)
         with open(os.path.join(self.folder, "zanteyard-proxy.starts"), encoding="utf-8") as file:
             (words, _) = map(json.loads, file.read().splitlines())
-        self.assertEqual(words[2:], ["--listen", "127.0.0.1:7777", "--parameters=true", "--sample=0.5"])
+        wanted = ["--listen", "127.0.0.1:7777", "--parameters=true", "--sample=0.5"]
+        self.assertEqual(words[2:], [*wanted, "--tables=public.*"])
         self.assertEqual(words[0], "--server")
         self.assertNotIn("secret", words[1])
 
@@ -257,7 +258,7 @@ class Command(InAFolder):
         self.assertIn("the server can't be asked", errors)
 
     def test_4_wrong_words(self):
-        for words in (["--listen", "x"], ["--sample", "2"], ["--page", "1:2:3"], []):
+        for words in (["--listen", "x"], ["--sample", "2"], ["--page", "1:2:3"], ["--tables", "a,"], []):
             ended = self.begin(*words)
             ended.communicate(timeout=120)
             self.assertEqual(ended.returncode, 2, words)

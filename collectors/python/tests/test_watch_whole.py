@@ -13,7 +13,6 @@ from zanteyard import comments
 from zanteyard.program._binaries import PROGRAM
 from zanteyard.trial.postgres_server import PostgresServer, program
 from zanteyard.watch import _facts as facts
-from zanteyard.watch._columns import KeyColumns
 from zanteyard.watch._database import Database
 from zanteyard.watch._proxy import proxy_path
 from zanteyard.watch._run import Plan, Run
@@ -89,8 +88,7 @@ class Whole(unittest.TestCase):
         self.told = []
         socket = f"{self.folder}/.s.PGSQL.6432"
         call = [proxy_path(), "--server", self.url, "--listen", socket, "--parameters=true"]
-        columns = KeyColumns(self.url)
-        self.watch = Run(Plan(call, PROGRAM, "shop", columns=columns), self.told.append)
+        self.watch = Run(Plan(call, PROGRAM, "shop"), self.told.append)
         self.status = None
         running = threading.Thread(target=self.run_it)
         running.start()

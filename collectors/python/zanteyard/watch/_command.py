@@ -16,16 +16,15 @@ from urllib.parse import unquote, urlsplit
 from ..core.errors import ZanteyardError
 from ..program._binaries import find_program, origin_of
 from . import _prepare
-from ._columns import KeyColumns
 from ._database import Database, DatabaseError, DriverMissingError, without_password
 from ._ending import STATUS_WORDS
 from ._facts import create, findings, server_of
+from ._patterns import add_tables_option
 from ._prepare import host_name
 from ._proxy import find_proxy
 from ._run import Plan, Run, stopped_by_signals
 from ._supervising import CantBeginError
 from ._text import visible
-from ._violations import Columns, unknown
 from ._web import host_and_port
 
 MISTAKE = 2
@@ -65,6 +64,7 @@ def add_arguments(command: argparse.ArgumentParser) -> None:
         "--sample", type=share, metavar="SHARE",
         help="audits this share of the connections, as 0.1",
     )
+    add_tables_option(command, "audits only these tables, as public.*,shop.orders")
     command.add_argument(
         "--redact", action="store_true", help="shows no parameters and no constants of statements"
     )
@@ -117,14 +117,10 @@ def run(asked: Any) -> int:
         return _mistake("\n".join(lacks))
     call, environment = call_of(proxy, asked)
     title = f"{visible(without_password(asked.url))}, through {asked.listen}"
-    columns: Columns = unknown
-    if not asked.redact:
-        columns = KeyColumns(asked.url)
     plan = Plan(
         call, program, title, origin_of(program).sentence(), environment,
         page=asked.page, metrics=asked.metrics, journal=asked.journal, save=asked.save,
         round_seconds=asked.round_seconds, for_seconds=asked.seconds, redacts=asked.redact,
-        columns=columns,
     )
     watch = Run(plan, tell)
     logger.info("applications connect to %s", asked.listen)
@@ -180,6 +176,8 @@ def call_of(proxy: str, asked: Any) -> Tuple[Sequence[str], Dict[str, str]]:
     call.append(f"--parameters={'false' if asked.redact else 'true'}")
     if asked.sample is not None:
         call.append(f"--sample={asked.sample:g}")
+    if asked.tables is not None:
+        call.append(f"--tables={asked.tables.text}")
     return call, environment
 
 

@@ -10,7 +10,8 @@ from urllib.parse import parse_qs, urlsplit
 from ._database import Database, DatabaseError, without_password
 from ._facts import Finding, Server, create, findings, server_of
 from ._hosts import DOCKER_NOTE, OWN
-from ._schema import Table, summary, tables_of
+from ._patterns import add_tables_option
+from ._schema import Table, asked_of, summary, tables_of
 from ._text import counted, visible
 
 READY, MISSING = 0, 2
@@ -27,6 +28,7 @@ def add_arguments(command: argparse.ArgumentParser) -> None:
     command.add_argument(
         "--create", action="store_true", help="creates the audit's own table, if it isn't there"
     )
+    add_tables_option(command, "shows only these tables, as public.*,shop.orders")
 
 
 def run(asked: Any) -> int:
@@ -37,7 +39,11 @@ def run(asked: Any) -> int:
             for line in _created(database):
                 print(line)
         found = findings(database, server)
-        for line in report(server, found, tables_of(database)):
+        idle: Sequence[str] = ()
+        tables = tables_of(database)
+        if asked.tables is not None:
+            tables, idle = asked_of(tables, asked.tables)
+        for line in report(server, found, tables, idle):
             print(line)
     return READY if is_ready(found) else MISSING
 
@@ -69,8 +75,10 @@ def _created(database: Database) -> Iterator[str]:
         yield f"  {visible(statement)}" + (f": {visible(error)}" if error else "")
 
 
-def report(server: Server, found: Sequence[Finding], tables: Sequence[Table]) -> Iterator[str]:
-    """The lines of what was found."""
+def report(
+    server: Server, found: Sequence[Finding], tables: Sequence[Table], idle: Sequence[str] = ()
+) -> Iterator[str]:
+    """The lines of what was found. Idle patterns mean no table."""
     yield "the server"
     for one in found:
         mark = "ok  " if one.is_right else "MISSING" if one.is_needed else "note"
@@ -80,6 +88,8 @@ def report(server: Server, found: Sequence[Finding], tables: Sequence[Table]) ->
             if server.host is OWN and one.sentence.startswith("wal_level"):
                 yield f"  {'':<8}  {DOCKER_NOTE}"
     yield from _tables(tables)
+    for pattern in idle:
+        yield f"  no table is meant by {visible(pattern)} of --tables"
     missing = [one for one in found if one.is_needed and not one.is_right]
     if missing:
         yield f"{counted(len(missing), 'thing is', 'things are')} missing: an audit can't begin"

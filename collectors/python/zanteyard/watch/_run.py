@@ -20,7 +20,7 @@ from ._intake import Intake
 from ._saving import save
 from ._serving import Pages
 from ._supervising import Supervisor
-from ._violations import Columns, Violation, unknown
+from ._violations import Violation
 from ._watching import Watching
 from ._web import Tell, WebServer
 
@@ -48,7 +48,6 @@ class Plan:
     round_seconds: float = 60.0
     for_seconds: Optional[float] = None  # then it stops by itself
     redacts: bool = False  # shows no values of statements
-    columns: Columns = unknown
 
 
 class Run:
@@ -61,7 +60,7 @@ class Run:
         self._turn = threading.Lock()
         self.board = Board(plan.title, plan.origin)
         intake = Intake()
-        explaining = Explaining(plan.auditor, self._explained, plan.columns)
+        explaining = Explaining(plan.auditor, self._explained)
         auditing = Auditing(plan.auditor, plan.journal, plan.round_seconds)
         its = (auditing, self.board, intake, self._to_proxy, explaining, plan.redacts)
         self._watching = Watching(*its)

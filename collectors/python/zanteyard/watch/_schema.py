@@ -2,11 +2,12 @@
 
 from __future__ import annotations
 
-from dataclasses import dataclass
+from dataclasses import dataclass, replace
 from typing import Any, Dict, Iterable, Iterator, List, Sequence, Tuple
 
 from ._database import Database
 from ._facts import FENCE
+from ._patterns import Name, TablePatterns
 
 # Types of a primary key's columns whose values the proxy can compare; enums as well, and domains
 # over these.
@@ -16,10 +17,13 @@ COMPARED = frozenset(
 )
 TABLES = """
 SELECT c.oid, n.nspname, c.relname, c.relkind, c.relpersistence, c.relreplident, c.relispartition,
+       coalesce(m.nspname, n.nspname), coalesce(r.relname, c.relname),
        i.indexrelid IS NOT NULL, coalesce(i.indimmediate, true), coalesce(i.indisreplident, false)
   FROM pg_class c
   JOIN pg_namespace n ON n.oid = c.relnamespace
   LEFT JOIN pg_index i ON i.indrelid = c.oid AND i.indisprimary
+  LEFT JOIN pg_class r ON c.relispartition AND r.oid = pg_partition_root(c.oid)
+  LEFT JOIN pg_namespace m ON m.oid = r.relnamespace
  WHERE c.relkind IN ('r', 'p', 'f', 'v', 'm') AND c.relpersistence <> 't'
    AND n.nspname NOT IN ('pg_catalog', 'information_schema') AND n.nspname !~ '^pg_(toast|temp)'
    AND NOT EXISTS (SELECT FROM pg_depend d WHERE d.classid = 'pg_class'::regclass
@@ -46,10 +50,11 @@ class Table:
     """One table or view. Of one that isn't seen `reason` says why, and the remedy what can be done,
     if anything."""
 
-    name: str
+    name: str  # as SQL has it
     kind: str  # "table", "partition", "view" or "foreign table"
     reason: str = ""
     remedy: str = ""
+    names: Tuple[Name, ...] = ()  # its own, and its topmost table's
 
     @property
     def is_seen(self) -> bool:
@@ -61,12 +66,21 @@ def tables_of(database: Database) -> List[Table]:
     columns: Dict[Any, List[Sequence[Any]]] = {}
     for oid, *its in database.run(COLUMNS):
         columns.setdefault(oid, []).append(its)
-    found = (_table(row, columns.get(row[0], [])) for row in database.run(TABLES))
+    found = (
+        replace(_table(row, columns.get(row[0], [])), names=(row[1:3], row[7:9]))
+        for row in database.run(TABLES)
+    )
     return [table for table in found if table.name != FENCE]
 
 
+def asked_of(tables: Sequence[Table], asked: TablePatterns) -> Tuple[List[Table], List[str]]:
+    """Those that are asked for, and the patterns that mean none of them all."""
+    found = [table for table in tables if asked.have(table.names)]
+    return found, asked.idle([name for table in tables for name in table.names])
+
+
 def _table(row: Sequence[Any], key: Sequence[Sequence[Any]]) -> Table:
-    _, schema, name, kind, persistence, identity, is_partition, *index = row
+    _, schema, name, kind, persistence, identity, is_partition, _, _, *index = row
     full = f"{quoted(schema)}.{quoted(name)}"
     if kind in ("v", "m"):
         return Table(full, "view", "a view: rows that are read through it aren't seen")

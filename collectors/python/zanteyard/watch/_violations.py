@@ -5,7 +5,7 @@ from __future__ import annotations
 
 import re
 from dataclasses import dataclass, replace
-from typing import Any, Callable, Dict, Iterable, Iterator, List, Mapping, Sequence, Set
+from typing import Any, Dict, Iterable, Iterator, List, Mapping, Sequence, Set
 from typing import Tuple
 
 from ..core._own_keys import FENCE
@@ -30,14 +30,13 @@ class Row:
     values: str  # as one text
     columns: Tuple[str, ...] = ()  # their names, if they are known
 
-    def named(self, columns: Sequence[str] = ()) -> str:
+    def named(self) -> str:
         """As accounts(id=7), or accounts(7) if nobody knows the columns' names."""
         table = self.table[len(PUBLIC) :] if self.table.startswith(PUBLIC) else self.table
-        names = self.columns or columns
-        values = self.values.split(", ") if len(names) > 1 else [self.values]
-        if len(values) != len(names):
+        values = self.values.split(", ") if len(self.columns) > 1 else [self.values]
+        if len(values) != len(self.columns):
             return f"{table}({self.values})"
-        return f"{table}({', '.join(map('='.join, zip(names, values)))})"
+        return f"{table}({', '.join(map('='.join, zip(self.columns, values)))})"
 
 
 @dataclass(frozen=True)
@@ -50,12 +49,6 @@ class Answered:
 
 NOTHING = Answered({}, {})
 PUBLIC = "public."
-Columns = Callable[[str], Sequence[str]]  # of a table the columns of its primary key, if known
-
-
-def unknown(_table: str) -> Sequence[str]:
-    """The columns of no table are known."""
-    return ()
 
 
 @dataclass(frozen=True)
@@ -180,7 +173,6 @@ def explained(
     answered: Answered,
     program: str,
     now: float,
-    columns: Columns = unknown,
     seconds: float = EXPLAINING,
 ) -> Violation:
     """The violation that this report of a round tells of, with what the proxy said of it. Takes up
@@ -199,8 +191,7 @@ def explained(
     small, places = compact(part, [one[0] for one in ordered])
     ids = {one: real[there] for one, there in places.items() if there in real}
     shown = {
-        key_text(key): visible(row.named(columns(row.table)), 200)
-        for key, row in answered.keys.items()
+        key_text(key): visible(row.named(), 200) for key, row in answered.keys.items()
     }
 
     def called(one: ShownId) -> str:

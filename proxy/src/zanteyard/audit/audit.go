@@ -153,18 +153,19 @@ func (r *running) watch(ctx context.Context) {
 	often, seldom := time.NewTicker(time.Second), time.NewTicker(10*time.Second)
 	defer often.Stop()
 	defer seldom.Stop()
-	counted := map[string]uint64{}
+	counted := map[[2]string]uint64{}
 	for {
 		select {
 		case <-ctx.Done():
 			return
 		case <-often.C:
-			for table, n := range r.tables.Keyless() {
-				if n > counted[table] {
-					r.audit.inbox.UnseenMany("changes of "+table, "the table has no primary key", false, n-counted[table])
-					counted[table] = n
+			r.tables.LeftOut(func(table, reason string, n uint64) {
+				its := [2]string{table, reason}
+				if n > counted[its] {
+					r.audit.inbox.UnseenMany("changes of "+table, reason, false, n-counted[its])
+					counted[its] = n
 				}
-			}
+			})
 		case <-seldom.C:
 			if err := r.health(ctx); err != nil {
 				r.joiner.End(err)

@@ -8,6 +8,7 @@ import (
 	"testing"
 	"time"
 
+	"zanteyard/catalog"
 	"zanteyard/record"
 	"zanteyard/slot"
 )
@@ -48,11 +49,17 @@ func hearSlot(t *testing.T, plugin slot.Plugin) {
 	conn := s.connect(t)
 	must(t, conn, "CREATE TABLE zanteyard_fence (id integer PRIMARY KEY CHECK (id = 0), n bigint NOT NULL);"+
 		"INSERT INTO zanteyard_fence VALUES (0, 0); CREATE TABLE a (id int PRIMARY KEY, v text); CREATE TABLE b (id int PRIMARY KEY, v text);"+
-		"CREATE TABLE none (id int); CREATE EXTENSION pg_walinspect; CREATE TABLE full_row (id int PRIMARY KEY, v text);"+
+		"CREATE TABLE none (id int); CREATE SCHEMA aside; CREATE TABLE aside.log (id int PRIMARY KEY);"+
+		"CREATE TABLE parts (id int PRIMARY KEY) PARTITION BY RANGE (id); CREATE TABLE aside.part PARTITION OF parts DEFAULT; CREATE EXTENSION pg_walinspect; CREATE TABLE full_row (id int PRIMARY KEY, v text);"+
 		"ALTER TABLE full_row REPLICA IDENTITY FULL")
 	ctx, cancel := context.WithCancel(context.Background())
 	defer cancel()
-	options := slot.Options{Source: s.source(), Name: "names", Plugin: plugin, FenceSchema: "public", FenceTable: "zanteyard_fence", Canonical: canonical}
+	asked, err := catalog.ParseFilter("public.*")
+	if err != nil {
+		t.Fatal(err)
+	}
+	options := slot.Options{Source: s.source(), Name: "names", Plugin: plugin, FenceSchema: "public", FenceTable: "zanteyard_fence",
+		Asked: asked, Canonical: canonical}
 	control, tables, err := slot.NewControl(ctx, options)
 	if err != nil {
 		t.Fatal(err)
@@ -99,6 +106,8 @@ func hearSlot(t *testing.T, plugin slot.Plugin) {
 	if it := expect("COMMIT PREPARED 'p'", record.Write{Relation: a, Key: "2"}); fmt.Sprint(it.Number) != number {
 		t.Errorf("a prepared transaction is told with the number %d, and not %s", it.Number, number)
 	}
+	must(t, conn, "INSERT INTO aside.log VALUES (1), (2)")
+	expect("INSERT INTO parts VALUES (4); TRUNCATE aside.log", record.Write{Relation: oid("parts"), Key: "4"})
 	must(t, conn, "TRUNCATE a")
 	if it := h.next(t); len(it.Emptied) != 1 || it.Emptied[0] != a {
 		t.Errorf("a TRUNCATE is told as %+v", it)
@@ -108,8 +117,10 @@ func hearSlot(t *testing.T, plugin slot.Plugin) {
 	} else if it := h.next(t); !it.Fence || it.Number != uint32(number) {
 		t.Errorf("fence %d is told as %+v", number, it)
 	}
-	if keyless := tables.Keyless(); keyless["public.none"] != 1 {
-		t.Errorf("of tables without a key it was told %v", keyless)
+	if left := leftOut(tables); left["public.none: the table has no primary key"] != 1 {
+		t.Errorf("of tables without a key it was told %v", left)
+	} else if left["aside.log: a table that wasn't asked for"] < 2 || left["aside.part: a table that wasn't asked for"] != 0 {
+		t.Errorf("of tables that weren't asked for it was told %v", left)
 	}
 
 	before, err := control.Place(ctx)
@@ -131,6 +142,12 @@ func hearSlot(t *testing.T, plugin slot.Plugin) {
 	if gone, err := control.Health(ctx, "another"); err != nil || !gone.Lost {
 		t.Errorf("a slot that isn't there is %+v (%v)", gone, err)
 	}
+}
+
+func leftOut(tables *slot.Tables) map[string]uint64 {
+	its := map[string]uint64{}
+	tables.LeftOut(func(table, reason string, n uint64) { its[table+": "+reason] = n })
+	return its
 }
 
 func hearSubtransactions(t *testing.T, control *slot.Control, it record.Commit) {

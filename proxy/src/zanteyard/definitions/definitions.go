@@ -36,6 +36,7 @@ func newest(table string) string {
 type Definitions struct {
 	config *pgconn.Config
 	log    func(string)
+	only   catalog.Filter
 	cache  atomic.Pointer[plan.Cache]
 	wake   chan struct{}
 	every  time.Duration
@@ -48,6 +49,9 @@ type Definitions struct {
 func New(config *pgconn.Config, every time.Duration, log func(string)) *Definitions {
 	return &Definitions{config: config, log: log, wake: make(chan struct{}, 1), every: every}
 }
+
+// Only has all tables be hidden that the filter leaves out. To be called before Run.
+func (d *Definitions) Only(filter catalog.Filter) { d.only = filter }
 
 // Open loads the catalog of the database that the configuration names.
 func Open(ctx context.Context, config *pgconn.Config, every time.Duration, log func(string)) (*Definitions, error) {
@@ -172,6 +176,7 @@ func (d *Definitions) load(ctx context.Context, conn *pgconn.PgConn) error {
 	if err != nil {
 		return err
 	}
+	c.Only(d.only)
 	if cache := d.cache.Load(); cache != nil {
 		cache.Use(c)
 	} else {

@@ -123,7 +123,7 @@ func transaction(it *join.Description) map[string]any {
 	}
 	rows := make([]any, len(it.Rows))
 	for i, one := range it.Rows {
-		rows[i] = map[string]any{"key": one.Key, "table": one.Table, "row": one.Row}
+		rows[i] = map[string]any{"key": one.Key, "table": one.Table, "row": one.Row, "columns": texts(one.Columns)}
 	}
 	writes := it.Writes
 	if writes == nil {

@@ -92,6 +92,7 @@ type KeyRead struct {
 type Row struct {
 	Key        uint64
 	Table, Row string
+	Columns    []string // the names of the key's columns, none if the table is gone
 }
 
 func (Started) event()      {}
@@ -168,8 +169,8 @@ func (c *core) describe(one *told, to *Description) {
 			return
 		}
 		seen[r.number] = true
-		table, text := c.tables.Words(r.id.relation, r.id.key)
-		to.Rows = append(to.Rows, Row{r.number, table, text})
+		table, text, columns := c.tables.Words(r.id.relation, r.id.key)
+		to.Rows = append(to.Rows, Row{r.number, table, text, columns})
 	}
 	for _, it := range one.reads {
 		read := KeyRead{Key: it.row.number, Initial: it.from == initial}

@@ -19,8 +19,8 @@ func (plainTables) Root(r record.Relation) record.Relation {
 	return r
 }
 
-func (plainTables) Words(r record.Relation, k record.Key) (string, string) {
-	return fmt.Sprint("t", r), string(k)
+func (plainTables) Words(r record.Relation, k record.Key) (string, string, []string) {
+	return fmt.Sprint("t", r), string(k), []string{"id"}
 }
 
 // bench drives a core, and takes its lines into a plain model of the auditor, which refuses what cobra_audit refuses.

@@ -76,6 +76,6 @@ type Tables interface {
 	// Root is the table whose primary key a row of this table is found by: the topmost partitioned table that has one, or
 	// the table itself.
 	Root(record.Relation) record.Relation
-	// Words are the table's name and the row's key as a person reads them.
-	Words(record.Relation, record.Key) (table, row string)
+	// Words are the table's name and the row's key as a person reads them, and the names of the key's columns.
+	Words(record.Relation, record.Key) (table, row string, columns []string)
 }

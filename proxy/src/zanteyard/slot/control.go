@@ -220,12 +220,14 @@ const tablesSQL = `SELECT c.oid, n.nspname, c.relname, CASE WHEN c.relispartitio
   (SELECT p.relid::oid FROM pg_partition_ancestors(c.oid) WITH ORDINALITY p(relid, level)
    JOIN pg_index i ON i.indrelid = p.relid AND i.indisprimary ORDER BY p.level DESC LIMIT 1) END,
   a.attname, CASE t.typtype WHEN 'e' THEN 3500 WHEN 'd' THEN coalesce(nullif(t.typbasetype, 0), t.oid) ELSE t.oid END,
-  concat_ws(' ', c.oid, n.nspname, c.relname, c.relispartition, x.indexrelid, x.indkey)
+  concat_ws(' ', c.oid, n.nspname, c.relname, c.relispartition, x.indexrelid, x.indkey), top.nspname, top.relname
 FROM pg_class c JOIN pg_namespace n ON n.oid = c.relnamespace
 LEFT JOIN pg_index x ON x.indrelid = c.oid AND x.indisprimary
 LEFT JOIN LATERAL unnest(x.indkey) WITH ORDINALITY k(number, place) ON k.place <= x.indnkeyatts
 LEFT JOIN pg_attribute a ON a.attrelid = c.oid AND a.attnum = k.number
 LEFT JOIN pg_type t ON t.oid = a.atttypid
+LEFT JOIN LATERAL (SELECT m.nspname, r.relname FROM pg_class r JOIN pg_namespace m ON m.oid = r.relnamespace
+  WHERE c.relispartition AND r.oid = pg_partition_root(c.oid)) top ON true
 WHERE c.relkind IN ('r', 'p') AND c.relpersistence = 'p' AND n.nspname NOT IN ('pg_catalog', 'information_schema')
 ORDER BY c.oid, k.place`
 
@@ -276,5 +278,7 @@ func (c *Control) table(row []string) (*Table, error) {
 		its.Root = record.Relation(root)
 	}
 	its.fence = its.Schema == c.options.FenceSchema && its.Name == c.options.FenceTable
+	its.unasked = !its.fence && !c.options.Asked.Has(its.Schema, its.Name) &&
+		(row[8] == "" || !c.options.Asked.Has(row[7], row[8]))
 	return its, nil
 }

@@ -51,10 +51,16 @@ func (c *Control) Started(ctx context.Context) (join.Started, error) {
 		its.Warnings = append(its.Warnings, "the slot is permanent, and max_slot_wal_keep_size isn't set: "+
 			"while nobody reads the slot, the server keeps its log, until its disk is full")
 	}
-	for _, one := range c.tables.list() {
-		if len(one.Key) == 0 {
+	all := c.tables.list()
+	names := make([][2]string, len(all))
+	for i, one := range all {
+		names[i] = [2]string{one.Schema, one.Name}
+		if len(one.Key) == 0 && !one.unasked {
 			its.Warnings = append(its.Warnings, "the table "+one.Schema+"."+one.Name+" has no primary key: it isn't seen")
 		}
+	}
+	for _, one := range c.options.Asked.Idle(names) {
+		its.Warnings = append(its.Warnings, "no table is meant by "+one+" of --tables")
 	}
 	return its, nil
 }

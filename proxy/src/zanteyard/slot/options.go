@@ -7,6 +7,7 @@ import (
 	"strconv"
 	"strings"
 
+	"zanteyard/catalog"
 	"zanteyard/record"
 )
 
@@ -34,6 +35,8 @@ type Options struct {
 	Plugin Plugin
 	// Fence is the table of the fences.
 	FenceSchema, FenceTable string
+	// Asked are the tables that are asked for: changes of others are counted, and told by nobody.
+	Asked catalog.Filter
 	// Canonical gives a key column's value, as the slot writes it, its one text.
 	Canonical func(typeOID uint32, text string) (string, bool)
 	// Show is a canonical text as a person reads it.

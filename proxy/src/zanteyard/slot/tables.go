@@ -7,6 +7,7 @@ import (
 	"sync"
 	"sync/atomic"
 
+	"zanteyard/catalog"
 	"zanteyard/record"
 )
 
@@ -17,6 +18,7 @@ type Table struct {
 	Schema, Name string
 	Key          []Column // in the key's order; none where there is no primary key
 	fence        bool
+	unasked      bool   // it isn't one of those that are asked for
 	stamp        string // is another one where its name or key is
 	used         uint32 // atomic: the slot has told of it
 }
@@ -49,6 +51,11 @@ func (t *Table) sameKey(names [][]byte) bool {
 	return true
 }
 
+// left are changes of a table that are left out, by its name and the reason.
+type left struct{ table, reason string }
+
+const noKey = "the table has no primary key"
+
 // Tables are what is known of a database's tables, by name and by identifier. Safe for use by many goroutines.
 type Tables struct {
 	show func(uint32, string) string
@@ -60,12 +67,12 @@ type Tables struct {
 	oids     string                       // of the tables that are used, as an array's text
 	stamp    string                       // theirs
 	missing  bool                         // a name came that isn't known: they are to be read anew
-	without  map[string]uint64            // changes of tables without a key, by the table's name
+	left     map[left]uint64              // changes that are left out
 	unlisted uint64
 }
 
 func newTables(show func(uint32, string) string) *Tables {
-	return &Tables{show: show, without: map[string]uint64{}}
+	return &Tables{show: show, left: map[left]uint64{}}
 }
 
 // set takes in all tables, and gives those that aren't what they were.
@@ -170,28 +177,35 @@ func (t *Tables) unknown(schema, table []byte) {
 	t.lock.Unlock()
 }
 
-// mostNames bounds the tables without a key that are counted one by one.
+// mostNames bounds the tables that are counted one by one.
 const mostNames = 100
 
-func (t *Tables) keyless(table *Table) {
-	name := table.Schema + "." + table.Name
+// leaves says that changes of the table are left out, and counts one.
+func (t *Tables) leaves(table *Table) bool {
+	reason := noKey
+	switch {
+	case table.unasked:
+		reason = catalog.NotAsked
+	case len(table.Key) > 0:
+		return false
+	}
+	its := left{table.Schema + "." + table.Name, reason}
 	t.lock.Lock()
 	defer t.lock.Unlock()
-	if _, is := t.without[name]; !is && len(t.without) >= mostNames {
-		name = "others"
+	if _, is := t.left[its]; !is && len(t.left) >= mostNames {
+		its.table = "others"
 	}
-	t.without[name]++
+	t.left[its]++
+	return true
 }
 
-// Keyless counts changes of tables without a primary key, by the table's name.
-func (t *Tables) Keyless() map[string]uint64 {
+// LeftOut calls take with the changes of each table that are left out, and why.
+func (t *Tables) LeftOut(take func(table, reason string, changes uint64)) {
 	t.lock.RLock()
 	defer t.lock.RUnlock()
-	to := make(map[string]uint64, len(t.without))
-	for name, n := range t.without {
-		to[name] = n
+	for its, n := range t.left {
+		take(its.table, its.reason, n)
 	}
-	return to
 }
 
 // Missing says that names came which aren't known: Control.Load reads the catalog anew.
@@ -212,18 +226,22 @@ func (t *Tables) Root(relation record.Relation) record.Relation {
 }
 
 // Words implements join.Tables.
-func (t *Tables) Words(relation record.Relation, key record.Key) (table, row string) {
+func (t *Tables) Words(relation record.Relation, key record.Key) (table, row string, columns []string) {
 	t.lock.RLock()
 	it := t.by[relation]
 	t.lock.RUnlock()
 	parts := strings.Split(string(key), "\x00")
 	if it == nil {
-		return "a table that is gone", strings.Join(parts, ", ")
+		return "a table that is gone", strings.Join(parts, ", "), nil
+	}
+	columns = make([]string, len(it.Key))
+	for i, one := range it.Key {
+		columns[i] = one.Name
 	}
 	if t.show != nil && len(parts) == len(it.Key) {
 		for i := range parts {
 			parts[i] = t.show(it.Key[i].Type, parts[i])
 		}
 	}
-	return it.Schema + "." + it.Name, strings.Join(parts, ", ")
+	return it.Schema + "." + it.Name, strings.Join(parts, ", "), columns
 }

@@ -57,8 +57,7 @@ func (d *testDecoding) change(text []byte) error {
 	case t.fence:
 		d.open.fence = true
 		return nil
-	case len(t.Key) == 0:
-		d.tables.keyless(t)
+	case d.tables.leaves(t):
 		return nil
 	}
 	was, now, err := d.rows(rest, t, string(action))
@@ -79,7 +78,7 @@ func (d *testDecoding) change(text []byte) error {
 // truncate reads "s.t, s.u: TRUNCATE: (no-flags)" from behind the first name on.
 func (d *testDecoding) truncate(schema, table, rest []byte) error {
 	for {
-		if t := d.tables.named(schema, table); t != nil {
+		if t := d.tables.named(schema, table); t != nil && !(t.unasked && d.tables.leaves(t)) {
 			d.open.empty(t.Root)
 		}
 		if !bytes.HasPrefix(rest, []byte(", ")) {

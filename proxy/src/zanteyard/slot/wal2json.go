@@ -209,14 +209,13 @@ func (w *wal2json) change(m *message) {
 	case t == nil:
 		w.tables.unknown(m.schema, m.table)
 		return
-	case m.action == 'T':
+	case m.action == 'T' && !t.unasked:
 		w.open.empty(t.Root)
 		return
 	case t.fence:
 		w.open.fence = true
 		return
-	case len(t.Key) == 0:
-		w.tables.keyless(t)
+	case w.tables.leaves(t):
 		return
 	case !t.sameKey(m.pk):
 		w.tables.unknown(m.schema, m.table)

@@ -21,6 +21,7 @@ import (
 	"github.com/jackc/pgconn"
 
 	"zanteyard/audit"
+	"zanteyard/catalog"
 	"zanteyard/definitions"
 	"zanteyard/join"
 	"zanteyard/keys"
@@ -44,6 +45,7 @@ type flags struct {
 	permanent         bool
 	kept, held        int64
 	join              join.Options
+	tables            catalog.Filter
 	records           string
 	passing           bool
 	version           bool
@@ -73,6 +75,10 @@ func parse(args []string, errors io.Writer) (flags, error) {
 	set.IntVar(&f.join.Limit, "limit", 4096, "`number` of transactions that may remain at a time")
 	set.Float64Var(&f.join.Sample, "sample", 1, "the `part` of the connections that is audited")
 	set.DurationVar(&f.join.Between, "between", 2*time.Second, "the least `time` between two meetings")
+	set.Func("tables", "audit only these tables, given as `patterns` such as public.*, shop.orders", func(text string) (err error) {
+		f.tables, err = catalog.ParseFilter(text)
+		return err
+	})
 	set.StringVar(&f.records, "records", "", "write what sessions saw to this `file`, as JSON, and audit nothing")
 	set.BoolVar(&f.passing, "pass", false, "pass all on without looking, and audit nothing")
 	set.BoolVar(&f.version, "version", false, "print the version and end")
@@ -166,6 +172,7 @@ func look(ctx context.Context, f flags, config *pgconn.Config, options *session.
 		return end, err
 	}
 	d := definitions.New(config, f.look, options.Log)
+	d.Only(f.tables)
 	options.Plans, options.Generation, options.Defined = d, d.Generation, d.Changed
 	go d.Run(ctx, func() { loaded.Store(true) })
 	if f.records != "" {
@@ -190,7 +197,7 @@ func slotOptions(f flags) slot.Options {
 		schema, table = "public", f.fence
 	}
 	return slot.Options{Source: f.server, Settings: keys.SlotSettings(), Name: f.slot, Permanent: f.permanent,
-		FenceSchema: schema, FenceTable: table, Canonical: keys.FromSlot, Show: keys.Show}
+		FenceSchema: schema, FenceTable: table, Asked: f.tables, Canonical: keys.FromSlot, Show: keys.Show}
 }
 
 func listen(address string) (net.Listener, error) {

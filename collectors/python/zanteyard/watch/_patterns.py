@@ -1,0 +1,63 @@
+"""Which tables are asked for: patterns as `public.*` and `shop.orders`, with commas between them,
+by the proxy's own rules (proxy/src/zanteyard/catalog/filter.go)."""
+
+from __future__ import annotations
+
+import argparse
+import re
+from dataclasses import dataclass
+from typing import Iterable, List, Pattern, Sequence, Tuple
+
+Name = Tuple[str, str]  # schema and table, without quotes
+
+
+@dataclass(frozen=True)
+class TablePattern:
+    """A * in it stands for any characters; without a schema it means each one's."""
+
+    text: str
+    schema: Pattern[str]
+    table: Pattern[str]
+
+    def means(self, name: Name) -> bool:
+        return bool(self.schema.fullmatch(name[0]) and self.table.fullmatch(name[1]))
+
+
+@dataclass(frozen=True)
+class TablePatterns:
+    """`text` is the list as it was given."""
+
+    text: str
+    its: Sequence[TablePattern]
+
+    def have(self, names: Iterable[Name]) -> bool:
+        """One of these names is asked for: a partition is by its topmost table's as well."""
+        return any(pattern.means(name) for name in names for pattern in self.its)
+
+    def idle(self, names: Sequence[Name]) -> List[str]:
+        """The patterns that mean none of these."""
+        return [it.text for it in self.its if not any(map(it.means, names))]
+
+
+def table_patterns(text: str) -> TablePatterns:
+    """For argparse."""
+    return TablePatterns(text, [_pattern(one.strip()) for one in text.split(",")])
+
+
+def _pattern(text: str) -> TablePattern:
+    schema, dot, table = text.partition(".")
+    if not dot:
+        schema, table = "*", text
+    if not schema or not table:
+        raise argparse.ArgumentTypeError(
+            f"{text!r} is no table's name or pattern: give them as public.*, shop.orders"
+        )
+    return TablePattern(text, _regular(schema), _regular(table))
+
+
+def _regular(text: str) -> Pattern[str]:
+    return re.compile(".*".join(map(re.escape, text.split("*"))), re.DOTALL)
+
+
+def add_tables_option(command: argparse.ArgumentParser, what: str) -> None:
+    command.add_argument("--tables", type=table_patterns, metavar="LIST", help=what)
