@@ -127,8 +127,9 @@ func (c *core) take(it record.Transaction, conn *connection) {
 func (c *core) name(e *entry) {
 	s, it := e.session, e.its
 	follows := s.own && e.conn != nil && s.tenant == e.conn && it.Place > s.place
+	began, ended := span(&it)
 	switch {
-	case !follows && it.Began.Before(s.floor):
+	case !follows && began.Before(s.floor):
 		c.leave(it, acrossMeeting)
 		return
 	case it.Fence && it.Number == 0:
@@ -157,8 +158,8 @@ func (c *core) name(e *entry) {
 		}
 	}
 	s.own, s.place = e.conn != nil && s.tenant == e.conn, it.Place
-	if it.Ended.After(s.floor) {
-		s.floor = it.Ended
+	if ended.After(s.floor) {
+		s.floor = ended
 	}
 	s.fenced = it.Fence
 	if it.Fence {
@@ -240,6 +241,9 @@ func (c *core) decideUnclear(e *entry) {
 		return
 	}
 	e.its.Ended = c.now
+	if !e.its.Known.IsZero() {
+		e.its.Known = c.now
+	}
 	c.name(e)
 	e.session.own = false
 }
@@ -247,8 +251,9 @@ func (c *core) decideUnclear(e *entry) {
 // join brings a closed session back with its fence. It is false as long as that has to wait.
 func (c *core) join(e *entry) bool {
 	w, s := e.writer, e.session
+	began, _ := span(&e.its)
 	if w.place == 0 || w.fate != undecided || !w.fence || e.its.Outcome != record.Committed ||
-		e.its.Began.Before(s.floor) || !c.hasRoom(true) || s.next > lastNumber {
+		began.Before(s.floor) || !c.hasRoom(true) || s.next > lastNumber {
 		if w.fate == undecided {
 			c.leaveWriter(w, noFence)
 		}
