@@ -1,6 +1,7 @@
 #!/bin/sh
 # Builds zanteyard-proxy into proxy/out, or into the folder that is given. It needs Debian's golang-go, libpg-query-dev,
-# golang-github-jackc-pgproto3-v2-dev and golang-github-jackc-pgconn-dev, and takes nothing from the network.
+# golang-github-jackc-pgproto3-v2-dev, golang-github-jackc-pgconn-dev and golang-github-gomodule-redigo-dev, and takes
+# nothing from the network.
 set -eu
 cd "$(dirname "$0")"
 . ./env.sh

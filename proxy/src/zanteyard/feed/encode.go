@@ -83,7 +83,7 @@ func coverage(it join.Coverage) map[string]any {
 			"shape": one.Shape, "reason": one.Reason, "reads": one.Reads, "count": one.Count, "first": seconds(one.First),
 		}
 	}
-	return map[string]any{
+	to := map[string]any{
 		"committed": it.Committed, "offered": it.Offered, "fences": it.Fences, "aborted": it.Aborted, "empty": it.Empty,
 		"folded": it.Folded,
 		"reads":  map[string]any{"seen": it.Reads, "offered": it.ReadsOffered, "own": it.ReadsOwn, "left_out": it.ReadsLeft},
@@ -97,6 +97,19 @@ func coverage(it join.Coverage) map[string]any {
 		"pending":  it.Pending, "remaining": it.Remaining, "rounds": it.Rounds, "keys": it.Rows,
 		"statements_dropped": it.StatementsDropped,
 	}
+	if it.Remotes != nil {
+		to["remote"] = remotes(it.Remotes)
+	}
+	return to
+}
+
+func remotes(it *join.Remotes) map[string]any {
+	proxies := make([]any, len(it.Proxies))
+	for i, one := range it.Proxies {
+		proxies[i] = map[string]any{"name": one.Name, "feeds": one.Feeds, "connections": one.Connections,
+			"transactions": one.Transactions, "silent": one.Heard.Seconds()}
+	}
+	return map[string]any{"proxies": proxies, "refused": it.Refused, "down": it.Down}
 }
 
 var levels = map[record.Level]string{
@@ -131,7 +144,7 @@ func transaction(it *join.Description) map[string]any {
 	}
 	for field, value := range map[string]any{
 		"fence": it.Its.Fence, "connection": it.From.Number, "application_name": it.From.ApplicationName,
-		"address": it.From.Address, "user": it.From.User, "database": it.From.Database, "level": levels[it.Its.Level],
+		"address": it.From.Address, "user": it.From.User, "database": it.From.Database, "proxy": it.From.Proxy, "level": levels[it.Its.Level],
 		"began": seconds(it.Its.Began), "ended": seconds(it.Its.Ended), "xid": uint32(it.Its.Number),
 		"statements": statements, "statements_dropped": it.Dropped, "reads": reads, "writes": writes, "keys": rows,
 	} {

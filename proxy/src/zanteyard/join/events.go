@@ -60,6 +60,23 @@ type Coverage struct {
 	Lag                                       time.Duration
 	Pending, Remaining, Rows                  int
 	Rounds, StatementsDropped, Lost, SubsLost uint64
+	Remotes                                   *Remotes // nil where no other proxies are expected
+}
+
+// Remotes says how proxies are that feed the audit from other machines.
+type Remotes struct {
+	Proxies []Proxy
+	Refused uint64 // messages that weren't signed with the audit's key
+	Down    string // why Redis can't be reached, "" if it can
+}
+
+// Proxy is one of them.
+type Proxy struct {
+	Name         string
+	Feeds        bool // it is heard, and belongs to this audit
+	Connections  int
+	Transactions uint64        // that have arrived
+	Heard        time.Duration // since something of it arrived
 }
 
 // Transactions answers a question for transactions.
@@ -117,6 +134,13 @@ func (j *Joiner) coverageEvent() Coverage {
 	}
 	if n.lost > 0 {
 		it.Folded["told faster than they could be taken in"] = n.lost
+	}
+	for reason, n := range j.inbox.losses() {
+		it.Folded[reason] = n
+	}
+	if remotes, is := j.meeter.(interface{ Remotes() Remotes }); is {
+		its := remotes.Remotes()
+		it.Remotes = &its
 	}
 	it.Waiting = len(c.queue)
 	for _, s := range c.sessions {

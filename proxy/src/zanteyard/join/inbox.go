@@ -20,6 +20,7 @@ type Inbox struct {
 	most    int
 	closed  bool
 	lost    uint64
+	gone    map[string]uint64 // by the reason
 	unseen  map[unseenKey]*Unseen
 	outside *Unseen // shapes beyond the most
 }
@@ -108,6 +109,23 @@ func (b *Inbox) UnseenMany(shape, reason string, reads bool, n uint64) {
 		it = b.outside
 	}
 	it.Count += n
+}
+
+// Lose counts transactions of proxies elsewhere that never arrive, for a reason.
+func (b *Inbox) Lose(reason string, n uint64) {
+	b.lock.Lock()
+	defer b.lock.Unlock()
+	if b.gone == nil {
+		b.gone = map[string]uint64{}
+	}
+	b.gone[reason] += n
+}
+
+// losses are those that were counted.
+func (b *Inbox) losses() map[string]uint64 {
+	b.lock.Lock()
+	defer b.lock.Unlock()
+	return copyOf(b.gone)
 }
 
 // take empties the inbox.

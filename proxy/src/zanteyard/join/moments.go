@@ -57,10 +57,6 @@ func (m *moments) spanned(began, ended time.Time) bool {
 	return m.between(began, ended) || m.forgot && began.Before(m.its[0])
 }
 
-// span bounds when a transaction ran, by the joiner's clock: it didn't begin before the first time, nor end after the
-// second one.
-func span(it *record.Transaction) (began, ended time.Time) { return it.Began, it.Ended }
-
 // quiet makes now a quiet moment: what runs now is folded when it ends.
 func (c *core) quiet() {
 	if c.moments.set(c.now) {

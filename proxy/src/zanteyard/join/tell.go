@@ -252,6 +252,9 @@ func (c *core) decideUnclear(e *entry) {
 		return
 	}
 	e.its.Ended = c.now
+	if !e.its.Known.IsZero() {
+		e.its.Known = c.now
+	}
 	c.name(e)
 	e.session.own = false
 }

@@ -85,6 +85,10 @@ type Transaction struct {
 	Absent   []Absence
 	// Incomplete says that reads were dropped because there were more than the limit.
 	Incomplete bool
+	// After and Known bound when a transaction of another machine's proxy ran, by the joiner's clock: it began after the
+	// one (the zero time where that isn't known), and had ended by the other. Known is zero for the joiner's own proxy,
+	// whose clock is the joiner's.
+	After, Known time.Time
 	// Fence is set for the proxy's own transactions on the fence table. They have no statement.
 	Fence      bool
 	Statements []Statement
@@ -97,6 +101,7 @@ type Connection struct {
 	ApplicationName string
 	Address         string // of the client
 	User, Database  string
+	Proxy           string // its name, if it is on another machine
 	Ended           bool
 }
 

@@ -12,6 +12,7 @@ import (
 
 	"zanteyard/audit"
 	"zanteyard/record"
+	"zanteyard/remote"
 )
 
 // audits runs one audit after another: when one has ended, its parent may ask for the next one by `restart`.
@@ -146,4 +147,18 @@ func (s *switched) Transaction(it record.Transaction) { (*s.to.Load()).Transacti
 
 func (s *switched) Unseen(shape, reason string, reads bool) {
 	(*s.to.Load()).Unseen(shape, reason, reads)
+}
+
+// UnseenMany implements remote.Sink.
+func (s *switched) UnseenMany(shape, reason string, reads bool, n uint64) {
+	if to, is := (*s.to.Load()).(remote.Sink); is {
+		to.UnseenMany(shape, reason, reads, n)
+	}
+}
+
+// Lose implements remote.Sink.
+func (s *switched) Lose(reason string, n uint64) {
+	if to, is := (*s.to.Load()).(remote.Sink); is {
+		to.Lose(reason, n)
+	}
 }

@@ -14,6 +14,7 @@ import (
 	"os"
 	"os/signal"
 	"strings"
+	"sync"
 	"sync/atomic"
 	"syscall"
 	"time"
@@ -26,6 +27,7 @@ import (
 	"zanteyard/join"
 	"zanteyard/keys"
 	"zanteyard/meeting"
+	"zanteyard/remote"
 	"zanteyard/server"
 	"zanteyard/session"
 	"zanteyard/slot"
@@ -46,6 +48,9 @@ type flags struct {
 	kept, held        int64
 	join              join.Options
 	tables            catalog.Filter
+	redis, audit      string
+	shared, name      string
+	remote            bool
 	records           string
 	passing           bool
 	version           bool
@@ -79,6 +84,12 @@ func parse(args []string, errors io.Writer) (flags, error) {
 		f.tables, err = catalog.ParseFilter(text)
 		return err
 	})
+	set.StringVar(&f.redis, "redis", os.Getenv(redisURL), "several proxies feed one audit over the Redis with this `URL`; better "+
+		"given by the environment's "+redisURL)
+	set.StringVar(&f.audit, "audit", "", "the audit's `name` in that Redis")
+	set.StringVar(&f.shared, "key", "", "`file` with the key that all of them share")
+	set.BoolVar(&f.remote, "remote", false, "audit nothing here: what sessions saw is sent to the audit of that name")
+	set.StringVar(&f.name, "name", "", "what people call this proxy; its machine's name if it is left out")
 	set.StringVar(&f.records, "records", "", "write what sessions saw to this `file`, as JSON, and audit nothing")
 	set.BoolVar(&f.passing, "pass", false, "pass all on without looking, and audit nothing")
 	set.BoolVar(&f.version, "version", false, "print the version and end")
@@ -88,13 +99,21 @@ func parse(args []string, errors io.Writer) (flags, error) {
 	if set.NArg() > 0 {
 		return f, fmt.Errorf("unexpected argument %q", set.Arg(0))
 	}
-	if f.server == "" && !f.version {
-		return f, errNoServer
+	switch {
+	case f.version:
+		return f, nil
+	case f.server == "":
+		return f, fmt.Errorf("--server is missing")
+	case f.audit == "" && (f.remote || f.shared != ""):
+		return f, fmt.Errorf("--audit is missing")
+	case f.audit != "" && (f.redis == "" || f.shared == ""):
+		return f, fmt.Errorf("--audit needs --redis and --key")
 	}
 	return f, nil
 }
 
-var errNoServer = errors.New("--server is missing")
+// redisURL is the environment's name for --redis: a list of processes doesn't show it.
+const redisURL = "ZANTEYARD_REDIS"
 
 func main() {
 	f, err := parse(os.Args[1:], os.Stderr)
@@ -179,17 +198,65 @@ func look(ctx context.Context, f flags, config *pgconn.Config, options *session.
 	if f.records != "" {
 		return end, nil
 	}
+	var shared remote.Options
+	if f.audit != "" {
+		if shared, err = sharing(f, config, options.Log); err != nil {
+			return nil, err
+		}
+	}
+	if f.remote {
+		return post(ctx, f, shared, options, room, &loaded)
+	}
 	sink := newSwitched(options.Sink)
 	all := &audits{sink: sink, log: options.Log, config: audit.Config{Slot: slotOptions(f), Join: f.join, Meeter: room,
 		Held: int(f.held), Kept: uint64(f.kept), Out: out}}
 	options.Sink = sink
 	options.Auditing = func() bool { return loaded.Load() && all.running.Load() }
-	ended := make(chan struct{})
+	var running sync.WaitGroup
+	if f.audit != "" {
+		hub, err := remote.NewHub(shared, sink, all.running.Load)
+		if err != nil {
+			return nil, err
+		}
+		all.config.Meeter = remote.NewMeeter(room, hub, f.bound)
+		beside(&running, func() { hub.Run(ctx) })
+	}
+	beside(&running, func() { all.run(ctx, in) })
+	return running.Wait, nil
+}
+
+func beside(all *sync.WaitGroup, f func()) {
+	all.Add(1)
 	go func() {
-		defer close(ended)
-		all.run(ctx, in)
+		defer all.Done()
+		f()
 	}()
-	return func() { <-ended }, nil
+}
+
+// sharing is what several proxies of one audit need to know.
+func sharing(f flags, config *pgconn.Config, log func(string)) (remote.Options, error) {
+	key, err := remote.ReadKey(f.shared)
+	return remote.Options{Redis: f.redis, Audit: f.audit, Key: key, Server: config, Fence: f.fence, Log: log}, err
+}
+
+// post has what sessions saw be sent to an audit elsewhere.
+func post(ctx context.Context, f flags, shared remote.Options, options *session.Options, room *meeting.Room,
+	loaded *atomic.Bool) (end func(), err error) {
+	name := f.name
+	if name == "" {
+		if name, err = os.Hostname(); err != nil {
+			return nil, err
+		}
+	}
+	its, err := remote.NewPost(shared, name, int(f.held), room)
+	if err != nil {
+		return nil, err
+	}
+	options.Sink = its
+	options.Auditing = func() bool { return loaded.Load() && its.Auditing() }
+	var running sync.WaitGroup
+	beside(&running, func() { its.Run(ctx) })
+	return running.Wait, nil
 }
 
 func slotOptions(f flags) slot.Options {

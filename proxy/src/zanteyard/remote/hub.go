@@ -1,0 +1,425 @@
+package remote
+
+import (
+	"context"
+	"fmt"
+	"sort"
+	"sync"
+	"time"
+
+	"zanteyard/join"
+	"zanteyard/record"
+)
+
+// Sink takes what proxies elsewhere tell, as that of this proxy's own sessions.
+type Sink interface {
+	record.Sink
+	UnseenMany(shape, reason string, reads bool, n uint64)
+	// Lose counts transactions that never arrive, for a reason.
+	Lose(reason string, n uint64)
+}
+
+// Why transactions of a proxy elsewhere never arrive.
+const (
+	lostOnTheWay = "lost between another proxy and the audit"
+	noRoomThere  = "told faster than another proxy could send them"
+)
+
+// Hub takes what proxies elsewhere send, and has them meet. Safe for use by many goroutines.
+type Hub struct {
+	options Options
+	sink    Sink
+	running func() bool // there is an audit
+	logs    complaints
+	run     string
+	base    time.Time // ticks count from it
+	out     chan fromHub
+
+	lock     sync.Mutex
+	changed  chan struct{} // closed, and made anew, when a proxy has answered or is gone
+	who      identity
+	mark     int64 // 0 while there is none
+	proxies  map[string]*attached
+	epochs   uint64
+	numbers  uint64            // connections
+	of       map[uint64]remote // by our numbers of them
+	number   uint64            // of the last message
+	meetings uint64
+	refused  uint64
+	down     string // why Redis can't be reached
+}
+
+// attached is a proxy elsewhere.
+type attached struct {
+	id, name    string
+	try         uint64
+	epoch       uint64 // 0: not any more
+	next        uint64 // number of the message that has to come
+	received    uint64 // transactions
+	dropped     uint64
+	heard       time.Time
+	connections map[uint64]uint64 // ours, by theirs
+	first       uint64            // the last meeting whose first fences it has made
+	met         met
+}
+
+type remote struct{ epoch, connection uint64 }
+
+// firstConnection is above all numbers that this proxy's own connections have.
+const firstConnection = 1 << 32
+
+// NewHub makes one. running says whether there is an audit.
+func NewHub(options Options, sink Sink, running func() bool) (*Hub, error) {
+	run, err := drawn()
+	if err != nil {
+		return nil, err
+	}
+	return &Hub{options: options, sink: sink, running: running, logs: complaints{log: options.Log}, run: run, base: time.Now(),
+		out: make(chan fromHub, 256), changed: make(chan struct{}), proxies: map[string]*attached{}, of: map[uint64]remote{}}, nil
+}
+
+// Run takes what comes until ctx ends.
+func (h *Hub) Run(ctx context.Context) {
+	var all sync.WaitGroup
+	for _, one := range []func(context.Context){h.write, h.look, h.keepMark} {
+		one := one
+		all.Add(1)
+		go func() {
+			defer all.Done()
+			one(ctx)
+		}()
+	}
+	stream(ctx, &h.options, h.options.proxies(), h.take, func(err error) { h.reached(ctx, err) })
+	all.Wait()
+}
+
+// reached notes whether Redis is there.
+func (h *Hub) reached(ctx context.Context, err error) {
+	h.lock.Lock()
+	defer h.lock.Unlock()
+	switch {
+	case ctx.Err() != nil:
+	case err != nil:
+		h.down = err.Error()
+		h.logs.say("proxies elsewhere aren't heard, Redis can't be reached: " + h.down)
+	case h.down != "":
+		h.down = ""
+		h.options.Log("Redis is reached again")
+	}
+}
+
+// take takes messages in, and has Redis forget them.
+func (h *Hub) take(l *link, its []entry) {
+	now := time.Now()
+	for _, one := range its {
+		var m toHub
+		err := h.options.open(upwards, one.text, one.signature, &m)
+		h.lock.Lock()
+		switch {
+		case err != nil:
+			h.refused++
+			h.logs.say("messages were refused: " + err.Error())
+		case m.Run != h.run: // for a watch that was before this one
+		case m.Hello != nil:
+			h.greet(&m, now)
+		default:
+			h.one(&m, now)
+		}
+		h.lock.Unlock()
+	}
+	if _, err := l.do(0, "XTRIM", h.options.proxies(), "MINID", behind(its[len(its)-1].id)); err != nil {
+		h.lock.Lock()
+		h.logs.say("Redis can't forget what was read (version 6.2 is needed): " + err.Error())
+		h.lock.Unlock()
+	}
+}
+
+// greet answers a hello. Called with lock held.
+func (h *Hub) greet(m *toHub, now time.Time) {
+	its := m.Hello
+	a := h.proxies[m.Proxy]
+	if a != nil && its.Try <= a.try {
+		return // once more
+	}
+	reply := answer{Proxy: m.Proxy, Try: its.Try, Mark: h.mark, Refused: h.refuses(its)}
+	if reply.Refused != "" || h.mark == 0 {
+		if reply.Refused != "" {
+			h.logs.say("the proxy " + its.Name + " is refused: " + reply.Refused)
+			h.say(fromHub{Answer: &reply})
+		}
+		return
+	}
+	if a == nil {
+		a = &attached{id: m.Proxy, received: m.Sent, dropped: m.Dropped}
+		h.proxies[m.Proxy] = a
+	}
+	h.end(a, "")
+	if m.Sent > a.received {
+		h.sink.Lose(lostOnTheWay, m.Sent-a.received)
+		a.received = m.Sent
+	}
+	h.drop(a, m.Dropped)
+	h.epochs++
+	a.name, a.try, a.epoch, a.next, a.heard = its.Name, its.Try, h.epochs, 0, now
+	a.connections, a.first, a.met = map[uint64]uint64{}, 0, met{}
+	reply.Epoch = a.epoch
+	h.say(fromHub{Answer: &reply})
+	h.options.Log("the proxy " + a.name + " feeds this audit")
+}
+
+// refuses says why a proxy can't feed this audit, "" if it can. Called with lock held.
+func (h *Hub) refuses(its *hello) string {
+	switch {
+	case its.Protocol != protocol:
+		return fmt.Sprintf("it speaks version %d of the messages, and the audit version %d", its.Protocol, protocol)
+	case its.Database != h.who.database && h.mark != 0:
+		return fmt.Sprintf("it is before the database %s, and the audit is of %s", its.Database, h.who.database)
+	case its.System != "" && h.who.system != "" && its.System != h.who.system:
+		return fmt.Sprintf("its server is another one (%s) than the audit's (%s)", its.System, h.who.system)
+	case its.Fence != h.options.Fence:
+		return fmt.Sprintf("its fences' table is %s, and the audit's is %s", its.Fence, h.options.Fence)
+	}
+	return ""
+}
+
+// one takes a message of an attachment, if it is the next one. Called with lock held.
+func (h *Hub) one(m *toHub, now time.Time) {
+	a := h.proxies[m.Proxy]
+	switch {
+	case a == nil || m.Epoch == 0 || m.Epoch != a.epoch:
+		if m.Epoch != 0 {
+			h.say(fromHub{Gone: m.Epoch}) // it was silent for too long, or something was lost
+		}
+		return
+	case m.Number < a.next:
+		return // once more
+	case m.Number > a.next:
+		h.end(a, "something it sent was lost")
+		h.say(fromHub{Gone: m.Epoch})
+		return
+	}
+	a.next, a.heard = m.Number+1, now
+	h.drop(a, m.Dropped)
+	for i := range m.Items {
+		h.item(a, &m.Items[i], now)
+	}
+	a.received = m.Sent
+}
+
+func (h *Hub) drop(a *attached, dropped uint64) {
+	if dropped > a.dropped {
+		h.sink.Lose(noRoomThere, dropped-a.dropped)
+		a.dropped = dropped
+	}
+}
+
+func (h *Hub) item(a *attached, it *item, now time.Time) {
+	switch {
+	case it.Connection != nil:
+		h.connection(a, *it.Connection)
+	case it.Transaction != nil:
+		its := it.Transaction.Its
+		its.Connection = a.connections[its.Connection] // 0 where it isn't known
+		its.After, its.Known = h.at(it.Transaction.Tick, now), now
+		h.sink.Transaction(its)
+	case it.Unseen != nil:
+		h.sink.UnseenMany(it.Unseen.Shape, it.Unseen.Reason, it.Unseen.Reads, it.Unseen.Count)
+	case it.First != 0:
+		a.first = it.First
+		h.signal()
+	case it.Met != nil:
+		a.met = *it.Met
+		h.signal()
+	}
+}
+
+// at is when a tick was made; the zero time, before everything, for one that wasn't.
+func (h *Hub) at(tick int64, now time.Time) time.Time {
+	at := h.base.Add(time.Duration(tick))
+	if tick <= 0 || at.After(now) {
+		return time.Time{}
+	}
+	return at
+}
+
+func (h *Hub) connection(a *attached, it record.Connection) {
+	theirs := it.Number
+	number, known := a.connections[theirs]
+	switch {
+	case it.Ended && !known:
+		return
+	case it.Ended:
+		delete(a.connections, theirs)
+		delete(h.of, number)
+	case !known:
+		number = firstConnection + h.numbers
+		h.numbers++
+		a.connections[theirs] = number
+		h.of[number] = remote{a.epoch, theirs}
+	}
+	it.Number, it.Proxy = number, a.name
+	h.sink.Connection(it)
+}
+
+// end ends an attachment, with all of its connections. Called with lock held.
+func (h *Hub) end(a *attached, why string) {
+	if a.epoch == 0 {
+		return
+	}
+	if why != "" {
+		h.options.Log("the proxy " + a.name + " doesn't feed this audit any more: " + why)
+	}
+	a.epoch = 0
+	numbers := make([]uint64, 0, len(a.connections))
+	for _, number := range a.connections {
+		numbers = append(numbers, number)
+	}
+	sort.Slice(numbers, func(i, j int) bool { return numbers[i] < numbers[j] })
+	for _, number := range numbers {
+		delete(h.of, number)
+		h.sink.Connection(record.Connection{Number: number, Ended: true})
+	}
+	a.connections = nil
+	h.signal()
+}
+
+// signal wakes those who wait for proxies. Called with lock held.
+func (h *Hub) signal() {
+	close(h.changed)
+	h.changed = make(chan struct{})
+}
+
+// say has a message be sent, with the time of this moment. Called with lock held. What Redis doesn't take in time is
+// left out: each message but an answer's is of use at its moment alone, and a hello is said again.
+func (h *Hub) say(m fromHub) {
+	h.number++
+	m.Run, m.Number, m.Tick, m.Idle = h.run, h.number, int64(time.Since(h.base)), !h.running()
+	select {
+	case h.out <- m:
+	default:
+	}
+}
+
+// write sends messages, and forgets what is too old where Redis was away.
+func (h *Hub) write(ctx context.Context) {
+	l := &link{url: h.options.Redis}
+	defer l.close()
+	var expires time.Time
+	for {
+		var m fromHub
+		select {
+		case <-ctx.Done():
+			h.lock.Lock()
+			h.number++
+			m = fromHub{Run: h.run, Number: h.number, Tick: int64(time.Since(h.base)), Bye: true}
+			h.lock.Unlock()
+			h.add(l, m)
+			return
+		case m = <-h.out:
+		}
+		if time.Since(h.base)-time.Duration(m.Tick) > time.Second {
+			continue
+		}
+		if err := h.add(l, m); err != nil {
+			h.reached(ctx, err)
+			pause(ctx, 100*time.Millisecond)
+			continue
+		}
+		if time.Since(expires) > time.Minute { // what both sides leave behind goes by itself
+			expires = time.Now()
+			for _, name := range []string{h.options.watch(), h.options.proxies()} {
+				l.do(0, "EXPIRE", name, 3600)
+			}
+		}
+	}
+}
+
+func (h *Hub) add(l *link, m fromHub) error {
+	text, err := encode(m)
+	if err != nil {
+		return err
+	}
+	return l.add(h.options.watch(), text, h.options.sign(downwards, text))
+}
+
+// look sends ticks, and ends the attachments of proxies that are silent.
+func (h *Hub) look(ctx context.Context) {
+	for ctx.Err() == nil {
+		h.lock.Lock()
+		wait := seldom
+		for id, a := range h.proxies {
+			switch {
+			case a.epoch == 0 && time.Since(a.heard) > time.Hour:
+				delete(h.proxies, id)
+			case a.epoch == 0:
+			case time.Since(a.heard) > silence:
+				h.end(a, "it isn't heard")
+			default:
+				wait = every
+			}
+		}
+		if h.mark != 0 {
+			h.say(fromHub{})
+		}
+		h.lock.Unlock()
+		pause(ctx, wait)
+	}
+}
+
+// keepMark keeps the lock by which proxies know the server. Without it none can feed the audit.
+func (h *Hub) keepMark(ctx context.Context) {
+	s := &server{config: h.options.Server}
+	defer s.close()
+	for ctx.Err() == nil {
+		if err := h.keep(ctx, s); err != nil && ctx.Err() == nil {
+			s.close()
+			h.lock.Lock()
+			if h.mark != 0 {
+				h.mark = 0
+				for _, a := range h.proxies {
+					h.end(a, "the audit's connection to the server was lost")
+				}
+			}
+			h.logs.say("no proxy elsewhere can feed this audit: " + err.Error())
+			h.lock.Unlock()
+		}
+		pause(ctx, time.Second)
+	}
+}
+
+func (h *Hub) keep(ctx context.Context, s *server) error {
+	h.lock.Lock()
+	mark := h.mark
+	h.lock.Unlock()
+	if mark != 0 {
+		sees, err := s.sees(ctx, mark)
+		if err == nil && !sees {
+			err = fmt.Errorf("the lock by which they know the server is gone")
+		}
+		return err
+	}
+	who, err := s.identity(ctx)
+	if err != nil {
+		return err
+	}
+	if mark, err = s.setMark(ctx); err != nil {
+		return err
+	}
+	h.lock.Lock()
+	defer h.lock.Unlock()
+	h.who, h.mark = who, mark
+	return nil
+}
+
+// Remotes says how proxies elsewhere are.
+func (h *Hub) Remotes() join.Remotes {
+	h.lock.Lock()
+	defer h.lock.Unlock()
+	its := join.Remotes{Refused: h.refused, Down: h.down}
+	for _, a := range h.proxies {
+		its.Proxies = append(its.Proxies, join.Proxy{Name: a.name, Feeds: a.epoch != 0, Connections: len(a.connections),
+			Transactions: a.received, Heard: time.Since(a.heard)})
+	}
+	sort.Slice(its.Proxies, func(i, j int) bool { return its.Proxies[i].Name < its.Proxies[j].Name })
+	return its
+}

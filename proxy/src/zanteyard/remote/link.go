@@ -1,0 +1,170 @@
+package remote
+
+import (
+	"context"
+	"errors"
+	"fmt"
+	"strconv"
+	"strings"
+	"time"
+
+	"github.com/gomodule/redigo/redis"
+)
+
+// link is a connection to Redis, made anew where it is lost. For one goroutine.
+type link struct {
+	url  string
+	conn redis.Conn
+}
+
+// do runs a command, for which Redis may wait for some time.
+func (l *link) do(waits time.Duration, command string, arguments ...any) (any, error) {
+	if l.conn == nil {
+		conn, err := dial(l.url)
+		if err != nil {
+			return nil, fmt.Errorf("connect to Redis: %w", err)
+		}
+		l.conn = conn
+	}
+	reply, err := redis.DoWithTimeout(l.conn, waits+patience, command, arguments...)
+	if l.conn.Err() != nil {
+		l.close()
+	}
+	return reply, err
+}
+
+func dial(url string) (redis.Conn, error) {
+	options := []redis.DialOption{redis.DialConnectTimeout(patience), redis.DialReadTimeout(patience), redis.DialWriteTimeout(patience)}
+	if path := strings.TrimPrefix(url, "unix://"); path != url {
+		return redis.Dial("unix", path, options...)
+	}
+	return redis.DialURL(url, options...)
+}
+
+func (l *link) close() {
+	if l.conn != nil {
+		l.conn.Close()
+		l.conn = nil
+	}
+}
+
+// add appends a message to a stream, which is kept short.
+func (l *link) add(stream string, text, signature []byte) error {
+	_, err := l.do(0, "XADD", stream, "MAXLEN", "~", backlog, "*", "m", text, "s", signature)
+	return err
+}
+
+// entry is one message of a stream.
+type entry struct {
+	id              string
+	text, signature []byte
+}
+
+var errReply = errors.New("remote: Redis answers in another form than expected")
+
+// read waits for a moment for what stands in a stream behind an id.
+func (l *link) read(stream, after string) ([]entry, error) {
+	const wait = 200 * time.Millisecond
+	reply, err := l.do(wait, "XREAD", "COUNT", backlog, "BLOCK", wait.Milliseconds(), "STREAMS", stream, after)
+	if err != nil || reply == nil {
+		return nil, err
+	}
+	streams, err := redis.Values(reply, nil)
+	if err != nil || len(streams) != 1 {
+		return nil, errReply
+	}
+	its, err := redis.Values(streams[0], nil)
+	if err != nil || len(its) != 2 {
+		return nil, errReply
+	}
+	list, err := redis.Values(its[1], nil)
+	if err != nil {
+		return nil, errReply
+	}
+	entries := make([]entry, 0, len(list))
+	for _, one := range list {
+		parts, err := redis.Values(one, nil)
+		if err != nil || len(parts) != 2 {
+			return nil, errReply
+		}
+		id, err := redis.String(parts[0], nil)
+		if err != nil {
+			return nil, errReply
+		}
+		fields, _ := redis.ByteSlices(parts[1], nil) // what has another form isn't signed
+		e := entry{id: id}
+		for i := 0; i+1 < len(fields); i += 2 {
+			switch string(fields[i]) {
+			case "m":
+				e.text = fields[i+1]
+			case "s":
+				e.signature = fields[i+1]
+			}
+		}
+		entries = append(entries, e)
+	}
+	return entries, nil
+}
+
+// stream reads a stream from now on, until ctx ends. take gets what came at once. Redis may have lost what it had, and
+// its ids may begin anew: so where nothing has come for a while, all that it has is read. lost is told what goes wrong,
+// and nil when it goes well again.
+func stream(ctx context.Context, o *Options, name string, take func(*link, []entry), lost func(error)) {
+	l := &link{url: o.Redis}
+	defer l.close()
+	after, heard, failing := "$", time.Now(), false
+	for ctx.Err() == nil {
+		if time.Since(heard) > time.Second {
+			after, heard = "0-0", time.Now()
+		}
+		entries, err := l.read(name, after)
+		if err != nil {
+			lost(err)
+			failing = true
+			pause(ctx, 200*time.Millisecond)
+			continue
+		}
+		if failing {
+			failing = false
+			lost(nil)
+		}
+		if len(entries) > 0 {
+			after, heard = entries[len(entries)-1].id, time.Now()
+			take(l, entries)
+		}
+	}
+}
+
+func pause(ctx context.Context, d time.Duration) {
+	select {
+	case <-ctx.Done():
+	case <-time.After(d):
+	}
+}
+
+// complaints are logged once a minute each.
+type complaints struct {
+	log  func(string)
+	told map[string]time.Time
+}
+
+func (c *complaints) say(text string) {
+	if c.told == nil || len(c.told) > 100 {
+		c.told = map[string]time.Time{}
+	}
+	if at, is := c.told[text]; is && time.Since(at) < time.Minute {
+		return
+	}
+	c.told[text] = time.Now()
+	c.log(text)
+}
+
+// behind is the id after one.
+func behind(id string) string {
+	head, tail, _ := strings.Cut(id, "-")
+	n, err := strconv.ParseUint(tail, 10, 63)
+	if err != nil {
+		return id
+	}
+	return head + "-" + strconv.FormatUint(n+1, 10)
+}

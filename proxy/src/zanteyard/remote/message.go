@@ -1,0 +1,116 @@
+package remote
+
+import (
+	"bytes"
+	"crypto/hmac"
+	"crypto/sha256"
+	"encoding/gob"
+	"errors"
+
+	"zanteyard/record"
+)
+
+// toHub is what a proxy sends. Keys aren't text, so messages are gob's and not JSON.
+type toHub struct {
+	Run, Proxy string // the watch that it is for, and who sends it
+	Epoch      uint64 // of the attachment, 0 for a hello
+	Number     uint64 // from 0 with no gap, in each attachment
+	Sent       uint64 // transactions in all messages of the proxy's up to this one
+	Dropped    uint64 // transactions that it had no room for
+	Hello      *hello
+	Items      []item
+}
+
+// hello asks for an attachment.
+type hello struct {
+	Protocol                      int
+	Try                           uint64 // rises
+	Name, Database, System, Fence string
+}
+
+// item is one thing that a proxy tells.
+type item struct {
+	Connection  *record.Connection
+	Transaction *transaction
+	Unseen      *unseen
+	First       uint64 // the meeting whose first fences are made
+	Met         *met
+}
+
+type transaction struct {
+	Its  record.Transaction
+	Tick int64 // the last one that was received before it began, 0 if there was none
+}
+
+type unseen struct {
+	Shape, Reason string
+	Reads         bool
+	Count         uint64
+}
+
+type met struct {
+	Meeting uint64
+	Fences  int
+}
+
+// fromHub is what the watch sends to all proxies.
+type fromHub struct {
+	Run    string
+	Number uint64 // rises
+	Tick   int64  // nanoseconds of the watch's clock, from its start on, when this was made
+	Idle   bool   // there is no audit for now
+	Bye    bool   // the watch ends
+	Hold   uint64 // a meeting begins
+	Second uint64 // it goes on with its second fences
+	Answer *answer
+	Gone   uint64 // this attachment has ended
+	Fence  *order
+}
+
+// answer is that to a hello.
+type answer struct {
+	Proxy   string
+	Try     uint64
+	Epoch   uint64
+	Mark    int64  // the lock by which the server is known
+	Refused string // why there is no attachment
+}
+
+// order has a connection make a fence.
+type order struct{ Epoch, Connection uint64 }
+
+// Directions, so that nobody can send one side's messages back to it.
+const (
+	upwards   = "zanteyard proxy to watch 1\x00"
+	downwards = "zanteyard watch to proxy 1\x00"
+)
+
+func (o *Options) sign(direction string, text []byte) []byte {
+	sum := hmac.New(sha256.New, o.Key)
+	sum.Write([]byte(direction + o.Audit + "\x00"))
+	sum.Write(text)
+	return sum.Sum(nil)
+}
+
+func (o *Options) isSigned(direction string, text, signature []byte) bool {
+	return hmac.Equal(o.sign(direction, text), signature)
+}
+
+func encode(it any) ([]byte, error) {
+	var text bytes.Buffer
+	err := gob.NewEncoder(&text).Encode(it)
+	return text.Bytes(), err
+}
+
+var errSigned = errors.New("remote: a message isn't signed with the audit's key")
+
+// open reads a message, if it is signed.
+func (o *Options) open(direction string, text, signature []byte, to any) error {
+	if !o.isSigned(direction, text, signature) {
+		return errSigned
+	}
+	return gob.NewDecoder(bytes.NewReader(text)).Decode(to)
+}
+
+func (o *Options) proxies() string { return "zanteyard watch " + o.Audit + ":proxies" }
+func (o *Options) watch() string   { return "zanteyard watch " + o.Audit + ":watch" }

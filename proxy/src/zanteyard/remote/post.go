@@ -1,0 +1,441 @@
+package remote
+
+import (
+	"context"
+	"errors"
+	"strings"
+	"sync"
+	"time"
+
+	"zanteyard/record"
+)
+
+// Room has the sessions of this proxy make fences (package meeting).
+type Room interface {
+	MeetAround(ctx context.Context, between func(context.Context)) (fences int, took time.Duration, err error)
+	Fence(ctx context.Context, connection uint64) error
+}
+
+// Post sends what the sessions of a proxy tell to the watch elsewhere. It implements record.Sink. While no watch is heard
+// nothing is gathered. Safe for use by many goroutines.
+type Post struct {
+	options Options
+	name    string
+	room    Room
+	id      string
+	held    int // bytes that may wait
+	logs    complaints
+	wake    chan struct{}
+
+	lock    sync.Mutex
+	live    map[uint64]record.Connection
+	ticks   ticks
+	run     string    // the watch that is heard
+	number  uint64    // of its last message
+	heard   time.Time // when that was
+	try     uint64
+	tried   time.Time
+	epoch   uint64 // of the attachment, 0 without one
+	idle    bool   // the watch has no audit
+	next    uint64 // number of the next message
+	sent    uint64 // transactions in messages
+	dropped uint64
+	items   []item
+	bytes   int
+	unseen  map[unseen]uint64
+	wanted  *answer // a hello's answer, whose mark is still to be looked for
+	mark    int64
+	looked  time.Time // when it was seen last
+	meeting uint64    // the last one that was begun
+	second  chan struct{}
+}
+
+// NewPost makes one. The name is for people. Up to so many bytes of what sessions tell wait for Redis.
+func NewPost(options Options, name string, held int, room Room) (*Post, error) {
+	id, err := drawn()
+	if err != nil {
+		return nil, err
+	}
+	return &Post{options: options, name: name, room: room, id: id, held: held, logs: complaints{log: options.Log},
+		wake: make(chan struct{}, 1), live: map[uint64]record.Connection{}, unseen: map[unseen]uint64{}}, nil
+}
+
+// Auditing says whether a watch takes what is told.
+func (p *Post) Auditing() bool {
+	p.lock.Lock()
+	defer p.lock.Unlock()
+	return p.epoch != 0 && !p.idle
+}
+
+// Connection implements record.Sink.
+func (p *Post) Connection(it record.Connection) {
+	p.lock.Lock()
+	defer p.lock.Unlock()
+	if it.Ended {
+		delete(p.live, it.Number)
+	} else {
+		p.live[it.Number] = it
+	}
+	p.put(item{Connection: &it}, 0)
+}
+
+// Transaction implements record.Sink.
+func (p *Post) Transaction(it record.Transaction) {
+	size := sizeOf(&it)
+	p.lock.Lock()
+	defer p.lock.Unlock()
+	switch {
+	case p.epoch == 0:
+	case p.bytes+size > p.held, size > mostOfOne:
+		p.dropped++
+	default:
+		p.put(item{Transaction: &transaction{Its: it, Tick: p.ticks.before(it.Began)}}, size)
+	}
+}
+
+// Unseen implements record.Sink.
+func (p *Post) Unseen(shape, reason string, reads bool) {
+	const most = 500
+	p.lock.Lock()
+	defer p.lock.Unlock()
+	key := unseen{Shape: shape, Reason: reason, Reads: reads}
+	if _, is := p.unseen[key]; !is && len(p.unseen) >= most {
+		key = unseen{Shape: "others", Reason: "more shapes than are told apart", Reads: reads}
+	}
+	p.unseen[key]++
+}
+
+func sizeOf(it *record.Transaction) int {
+	n := 256 + len(it.Snapshot) + 4*len(it.Versions)
+	for _, one := range it.Reads {
+		n += 24 + len(one.Key)
+	}
+	for _, one := range it.Absent {
+		n += 24 + len(one.Key)
+	}
+	for _, one := range it.Statements {
+		n += 64 + len(one.Text)
+		for _, parameter := range one.Parameters {
+			n += 16 + len(parameter)
+		}
+		for _, left := range one.Unseen {
+			n += 16 + len(left.Shape) + len(left.Reason)
+		}
+	}
+	return n
+}
+
+// put has something be sent. Called with lock held.
+func (p *Post) put(it item, bytes int) {
+	if p.epoch == 0 {
+		return
+	}
+	p.items = append(p.items, it)
+	p.bytes += bytes
+	select {
+	case p.wake <- struct{}{}:
+	default:
+	}
+}
+
+// Run talks with the watch until ctx ends.
+func (p *Post) Run(ctx context.Context) {
+	var all sync.WaitGroup
+	for _, one := range []func(context.Context){p.send, p.look} {
+		one := one
+		all.Add(1)
+		go func() {
+			defer all.Done()
+			one(ctx)
+		}()
+	}
+	stream(ctx, &p.options, p.options.watch(), func(_ *link, its []entry) { p.take(ctx, its) }, func(err error) {
+		if err != nil && ctx.Err() == nil {
+			p.say("Redis: " + err.Error())
+		}
+	})
+	all.Wait()
+}
+
+func (p *Post) say(text string) {
+	p.lock.Lock()
+	defer p.lock.Unlock()
+	p.logs.say(text)
+}
+
+// take takes what the watch has sent. What has waited in Redis for longer than a meeting is no reason to hold clients.
+func (p *Post) take(ctx context.Context, its []entry) {
+	const tooOld = time.Second
+	var messages []fromHub
+	var latest int64
+	for _, one := range its {
+		var m fromHub
+		if err := p.options.open(downwards, one.text, one.signature, &m); err != nil {
+			p.say("a message was refused: " + err.Error())
+			continue
+		}
+		if messages = append(messages, m); m.Tick > latest {
+			latest = m.Tick
+		}
+	}
+	for i := range messages {
+		m := &messages[i]
+		p.one(ctx, m, time.Duration(latest-m.Tick) < tooOld)
+	}
+}
+
+func (p *Post) one(ctx context.Context, m *fromHub, isNew bool) {
+	now := time.Now()
+	p.lock.Lock()
+	defer p.lock.Unlock()
+	switch {
+	case m.Run != p.run && now.Sub(p.heard) < silence:
+		return // of another watch: that of an earlier time, or a second one
+	case m.Run != p.run:
+		p.detach()
+		p.run, p.number = m.Run, 0
+	case m.Number <= p.number:
+		return // once more
+	}
+	p.number, p.heard, p.idle = m.Number, now, m.Idle
+	p.ticks.add(now, m.Tick)
+	switch {
+	case m.Bye:
+		p.detach()
+		p.run, p.heard = "", time.Time{}
+	case m.Gone != 0 && m.Gone == p.epoch:
+		p.detach()
+	case m.Answer != nil && m.Answer.Proxy == p.id && m.Answer.Try == p.try && p.epoch == 0:
+		p.answered(m.Answer)
+	case m.Fence != nil && m.Fence.Epoch == p.epoch && p.epoch != 0 && isNew:
+		go func(connection uint64) {
+			fencing, cancel := context.WithTimeout(ctx, patience)
+			defer cancel()
+			p.room.Fence(fencing, connection) // if that fails, it makes one at the next meeting
+		}(m.Fence.Connection)
+	case m.Hold > p.meeting && p.epoch != 0 && isNew:
+		p.meeting, p.second = m.Hold, make(chan struct{})
+		go p.meet(ctx, m.Hold, p.second)
+	case m.Second != 0 && m.Second == p.meeting && p.second != nil:
+		close(p.second)
+		p.second = nil
+	}
+}
+
+// answered takes the answer to a hello. Called with lock held.
+func (p *Post) answered(it *answer) {
+	if it.Refused != "" {
+		p.logs.say("the audit refuses this proxy, which passes everything on without looking: " + it.Refused)
+		p.tried = time.Now().Add(verifying) // not soon again
+		return
+	}
+	p.wanted = it // look goes on
+}
+
+// detach ends the attachment: what isn't sent yet is never told. Called with lock held.
+func (p *Post) detach() {
+	if p.epoch != 0 {
+		p.options.Log("the audit isn't told of this proxy any more; everything is passed on without looking")
+	}
+	p.epoch, p.wanted, p.meeting = 0, nil, 0
+	for _, it := range p.items {
+		if it.Transaction != nil {
+			p.dropped++
+		}
+	}
+	p.items, p.bytes = nil, 0
+	p.tried = time.Time{}
+	p.ticks.forget()
+}
+
+// attach begins one: all connections that are there are told first. Called with lock held.
+func (p *Post) attach(it *answer) {
+	p.epoch, p.mark, p.looked, p.next, p.wanted = it.Epoch, it.Mark, time.Now(), 0, nil
+	p.items, p.bytes = nil, 0
+	for _, one := range p.live {
+		one := one
+		p.put(item{Connection: &one}, 0)
+	}
+	p.options.Log("the audit is told of this proxy")
+}
+
+// look asks for an attachment where there is none, and sees to it that the server is the audit's.
+func (p *Post) look(ctx context.Context) {
+	s := &server{config: p.options.Server}
+	defer s.close()
+	l := &link{url: p.options.Redis}
+	defer l.close()
+	for ctx.Err() == nil {
+		pause(ctx, 50*time.Millisecond)
+		if err := p.lookOnce(ctx, s, l); err != nil && ctx.Err() == nil {
+			p.say(err.Error())
+			pause(ctx, time.Second)
+		}
+	}
+}
+
+func (p *Post) lookOnce(ctx context.Context, s *server, l *link) error {
+	p.lock.Lock()
+	if p.run != "" && time.Since(p.heard) > silence {
+		p.detach()
+		p.run = ""
+	}
+	wanted, run, mark := p.wanted, p.run, p.mark
+	greets := run != "" && p.epoch == 0 && wanted == nil && time.Since(p.tried) > again
+	verifies := p.epoch != 0 && time.Since(p.looked) > verifying
+	p.lock.Unlock()
+	switch {
+	case wanted != nil:
+		mark = wanted.Mark
+	case greets:
+		return p.greet(ctx, s, l, run)
+	case !verifies:
+		return nil
+	}
+	sees, err := s.sees(ctx, mark)
+	p.lock.Lock()
+	defer p.lock.Unlock()
+	switch {
+	case err == nil && sees && wanted == nil:
+		p.looked = time.Now()
+	case err == nil && sees && wanted == p.wanted:
+		p.attach(wanted)
+	case err == nil && p.run == run:
+		p.detach()
+		p.tried = time.Now().Add(verifying)
+		return errOther
+	case err != nil && time.Since(p.looked) > 2*verifying:
+		p.detach()
+	}
+	return err
+}
+
+var errOther = errors.New("this proxy's server isn't the one that is audited (a copy or a standby of it, or its name leads " +
+	"elsewhere): everything is passed on without looking")
+
+// greet sends a hello.
+func (p *Post) greet(ctx context.Context, s *server, l *link, run string) error {
+	who, err := s.identity(ctx)
+	if err != nil {
+		return err
+	}
+	p.lock.Lock()
+	p.try++
+	p.tried = time.Now()
+	m := toHub{Run: run, Proxy: p.id, Sent: p.sent, Dropped: p.dropped, Hello: &hello{Protocol: protocol, Try: p.try,
+		Name: p.name, Database: who.database, System: who.system, Fence: p.options.Fence}}
+	p.lock.Unlock()
+	text, err := encode(m)
+	if err != nil {
+		return err
+	}
+	return l.add(p.options.proxies(), text, p.options.sign(upwards, text))
+}
+
+// send sends what there is, in order, and a sign of life where there is nothing. A message that may not have arrived is
+// sent again as it is.
+func (p *Post) send(ctx context.Context) {
+	l := &link{url: p.options.Redis}
+	defer l.close()
+	last := time.Now()
+	for ctx.Err() == nil {
+		timer := time.NewTimer(heartbeat)
+		select {
+		case <-ctx.Done():
+			timer.Stop()
+			return
+		case <-p.wake:
+			pause(ctx, gather)
+		case <-timer.C:
+		}
+		timer.Stop()
+		for {
+			m, more := p.message(time.Since(last) >= heartbeat)
+			if m == nil {
+				break
+			}
+			last = time.Now()
+			p.deliver(ctx, l, m)
+			if !more {
+				break
+			}
+		}
+	}
+}
+
+// message takes what is sent next, nil where there is nothing. It says whether there is more.
+func (p *Post) message(alive bool) (m *toHub, more bool) {
+	p.lock.Lock()
+	defer p.lock.Unlock()
+	if p.epoch == 0 || len(p.items) == 0 && !alive {
+		return nil, false
+	}
+	bytes, n := 0, 0
+	for ; n < len(p.items) && (n == 0 || bytes < mostBytes) && n < 1000; n++ {
+		if t := p.items[n].Transaction; t != nil {
+			bytes += sizeOf(&t.Its)
+			p.sent++
+		}
+	}
+	m = &toHub{Run: p.run, Proxy: p.id, Epoch: p.epoch, Number: p.next, Sent: p.sent, Dropped: p.dropped}
+	m.Items = append(m.Items, p.items[:n]...)
+	for i := range p.items[:n] {
+		p.items[i] = item{}
+	}
+	p.items = p.items[n:]
+	p.bytes -= bytes
+	p.next++
+	for key, count := range p.unseen {
+		its := key
+		its.Count = count
+		m.Items = append(m.Items, item{Unseen: &its})
+		delete(p.unseen, key)
+	}
+	return m, len(p.items) > 0
+}
+
+// deliver sends a message for as long as its attachment lasts.
+func (p *Post) deliver(ctx context.Context, l *link, m *toHub) {
+	text, err := encode(m)
+	if err != nil {
+		p.say("a message can't be written: " + err.Error())
+		return
+	}
+	signature := p.options.sign(upwards, text)
+	for ctx.Err() == nil {
+		if err = l.add(p.options.proxies(), text, signature); err == nil {
+			return
+		}
+		p.say("Redis: " + strings.TrimSpace(err.Error()))
+		p.lock.Lock()
+		over := p.epoch != m.Epoch
+		p.lock.Unlock()
+		if over {
+			return
+		}
+		pause(ctx, 100*time.Millisecond)
+	}
+}
+
+// meet has the sessions here meet. Clients are held for the room's own bound at most, whatever the watch says.
+func (p *Post) meet(ctx context.Context, meeting uint64, second <-chan struct{}) {
+	ctx, cancel := context.WithTimeout(ctx, patience)
+	defer cancel()
+	fences, _, err := p.room.MeetAround(ctx, func(held context.Context) {
+		p.tell(item{First: meeting})
+		select {
+		case <-second:
+		case <-held.Done():
+		}
+	})
+	if err != nil && ctx.Err() == nil {
+		p.say("the sessions didn't meet: " + err.Error())
+	}
+	p.tell(item{Met: &met{meeting, fences}})
+}
+
+func (p *Post) tell(it item) {
+	p.lock.Lock()
+	defer p.lock.Unlock()
+	p.put(it, 0)
+}

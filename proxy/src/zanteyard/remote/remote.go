@@ -1,0 +1,78 @@
+// Package remote lets several proxies feed one audit. A proxy beside another application server sends what its sessions
+// tell over a Redis stream (Post); beside the joiner it is passed on as if the sessions were here (Hub). Another stream
+// takes what the joiner asks of proxies: to meet, and to make fences.
+//
+// Nothing rests on Redis, nor on the clocks of two machines. Each message is signed with a key that the proxies share,
+// and numbered. A message that is lost, comes twice or in another order leaves transactions out, which folds them
+// (docs/FOLDING.md); it never changes what one has read. When a transaction ran is bounded by the joiner's own clock: the
+// hub's messages have its time (a tick), and a transaction began after the last tick that its proxy had then received;
+// it had ended when the hub received it.
+package remote
+
+import (
+	"crypto/rand"
+	"encoding/hex"
+	"errors"
+	"fmt"
+	"os"
+	"time"
+
+	"github.com/jackc/pgconn"
+)
+
+const (
+	protocol  = 1
+	every     = 20 * time.Millisecond // between two ticks, while proxies are attached
+	seldom    = 250 * time.Millisecond
+	again     = time.Second          // between two hellos
+	gather    = 2 * time.Millisecond // for how long a proxy gathers what it sends
+	heartbeat = 500 * time.Millisecond
+	silence   = 3 * time.Second // after which the other side counts as gone
+	verifying = 10 * time.Second
+	patience  = 5 * time.Second // with Redis and with the server
+	backlog   = 4096            // messages that wait in a stream at most
+	mostBytes = 64 << 10        // of a message, unless one transaction is longer
+	mostOfOne = 4 << 20         // bytes of one transaction
+	leastKey  = 16
+)
+
+// Options are those that both sides need.
+type Options struct {
+	Redis  string // its URL
+	Audit  string // the audit's name: several don't meet
+	Key    []byte // with which messages are signed
+	Server *pgconn.Config
+	Fence  string // the fences' table
+	Log    func(string)
+}
+
+// ErrKey is the reason why a key isn't taken.
+var ErrKey = errors.New("the key that proxies and watch share")
+
+// ReadKey reads a key, in whose file nobody else may look.
+func ReadKey(path string) ([]byte, error) {
+	state, err := os.Stat(path)
+	if err != nil {
+		return nil, fmt.Errorf("%w: %v", ErrKey, err)
+	}
+	if state.Mode().Perm()&0o077 != 0 {
+		return nil, fmt.Errorf("%w: others than its owner may use the file %s: chmod 600 it", ErrKey, path)
+	}
+	key, err := os.ReadFile(path)
+	if err != nil {
+		return nil, fmt.Errorf("%w: %v", ErrKey, err)
+	}
+	if len(key) < leastKey {
+		return nil, fmt.Errorf("%w: the file %s has fewer than %d bytes", ErrKey, path, leastKey)
+	}
+	return key, nil
+}
+
+// drawn is a name that nobody else has.
+func drawn() (string, error) {
+	var its [16]byte
+	if _, err := rand.Read(its[:]); err != nil {
+		return "", err
+	}
+	return hex.EncodeToString(its[:]), nil
+}
