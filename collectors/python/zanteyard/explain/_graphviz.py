@@ -7,8 +7,9 @@ import subprocess
 from typing import Iterator, List, Optional, Sequence, Tuple
 
 from ..core._records import ABORTED, History, Naming, ShownId
-from ._reasons import Arc, below, explain_history, table
-from ._shrinking import deeds, name, statements_of
+from ._arcs import Arc, below, table, told_arc, transaction_of
+from ._reasons import explain_history
+from ._words import deeds, name, statements_of
 
 DRAWING = 20.0  # seconds for `dot`
 
@@ -44,8 +45,12 @@ def dot_text(
         lines.append(f"  {ends} [label={quoted(f'read {key}')}, style=dashed];")
     for arc in below(around):
         style = "color=red, penwidth=2" if arc in around else "color=grey, fontcolor=grey40"
-        ends = f"{quoted(name(arc.start))} -> {quoted(name(arc.end))}"
-        lines.append(f"  {ends} [label={quoted(arc.why)}, {style}];")
+        start, end = transaction_of(arc.start), transaction_of(arc.end)
+        if start == end:  # a begin, and its own commit
+            continue
+        ends = f"{quoted(name(start))} -> {quoted(name(end))}"
+        label = arc.why if start is arc.start else f"{told_arc(arc, name)}: {arc.why}"
+        lines.append(f"  {ends} [label={quoted(label)}, {style}];")
     return "\n".join([*lines, "}", ""])
 
 

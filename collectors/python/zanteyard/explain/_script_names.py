@@ -36,8 +36,9 @@ class ScriptNames:
     keys: Mapping[int, str] = field(default_factory=dict)
     transactions: Sequence[Sequence[NamedTransaction]] = ()
     absent: Mapping[AuditId, str] = field(default_factory=dict)
-    asks_time: bool = False  # whether fences ask for an order of time
+    asks_time: bool = False  # whether it was made to be asked about the order of time
     timed: Sequence[int] = ()  # sessions that several clients share by the order of time
+    has_pauses: bool = False  # fences of nobody's ask for some of the order of time
 
     def name(self, id: AuditId) -> str:
         """How the transaction is told."""
@@ -66,6 +67,7 @@ def write_names(names: ScriptNames, script: str) -> str:
         "form": names.form,
         "asks_time": names.asks_time,
         "timed": names.timed,
+        "has_pauses": names.has_pauses,
         "keys": [[number, key] for number, key in sorted(names.keys.items())],
         "absent": [[*id, name] for id, name in sorted(names.absent.items())],
         "transactions": [
@@ -118,6 +120,7 @@ def _names_of(whole: Any) -> ScriptNames:
         },
         bool(whole["asks_time"]),
         [int(session) for session in whole["timed"]],
+        bool(whole.get("has_pauses", whole["asks_time"])),
     )
 
 
