@@ -6,6 +6,7 @@ import time
 from typing import Callable, Iterable
 
 from ..core._circumstances import circumstances
+from ..core._private_files import private
 from ..core._records import History, Naming, ShownId
 from ..program._binaries import PROGRAM
 from ._graphviz import draw
@@ -51,7 +52,7 @@ def tell_violation(
 def write_script(
     small: History, path: str, called: Naming, explanation: Explanation, program: str
 ) -> str:
-    with open(f"{path}.jsonl", "w", encoding="utf-8") as file:
+    with open(f"{path}.jsonl", "w", encoding="utf-8", opener=private) as file:
         file.write(audited(small, program)[1])
     return f"(cobra_audit < {path}.jsonl says so again)"
 

@@ -7,6 +7,7 @@ import os
 from dataclasses import dataclass
 from typing import Any, Callable, Mapping, Optional
 
+from ..core._private_files import private
 from ..core.errors import ImportRefusedError
 from ..explain._script_names import write_names
 from ._jepsen import read_jepsen
@@ -85,7 +86,7 @@ def run(asked: Any) -> int:
     where nothing sound can be made of the file, and writes nothing then."""
     text = _text_of(asked.file)
     imported = import_text(asked.form, text, asked.first, asked.initial, asked.realtime)
-    with open(asked.script, "w", encoding="utf-8") as file:
+    with open(asked.script, "w", encoding="utf-8", opener=private) as file:
         file.writelines(f"{line}\n" for line in imported.lines)
     write_names(imported.names, asked.script)
     print(f"{asked.script}: {imported.about[0]}")
