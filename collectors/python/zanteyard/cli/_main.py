@@ -10,6 +10,7 @@ import sys
 import traceback
 from typing import Any, Callable, Iterator, List, Mapping, Optional, Sequence
 
+from ..core._private_files import private
 from ..core._version import VERSION
 from ..core.errors import (
     CantBeAskedError,
@@ -361,7 +362,7 @@ def _write_page(story: Story, about: str, path: str) -> None:
 
 
 def _write(page: str, path: str) -> None:
-    with open(path, "w", encoding="utf-8") as file:
+    with open(path, "w", encoding="utf-8", opener=private) as file:
         file.write(page)
     print(f"(to look at: {path})")
 

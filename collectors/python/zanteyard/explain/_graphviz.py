@@ -6,6 +6,7 @@ import shutil
 import subprocess
 from typing import Iterator, List, Optional, Sequence, Tuple
 
+from ..core._private_files import private
 from ..core._records import ABORTED, History, Naming, ShownId
 from ._arcs import Arc, below, table, told_arc, transaction_of
 from ._reasons import explain_history
@@ -70,7 +71,7 @@ def draw(
 ) -> List[str]:
     """Writes path.dot, and path.svg where `dot` is installed and makes one; gives the names of the
     files. Raises OSError where they can't be written."""
-    with open(f"{path}.dot", "w", encoding="utf-8") as file:
+    with open(f"{path}.dot", "w", encoding="utf-8", opener=private) as file:
         file.write(dot_text(history, name, arcs))
     if not shutil.which("dot"):
         return [f"{path}.dot"]

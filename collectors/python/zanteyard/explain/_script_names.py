@@ -10,6 +10,7 @@ import os
 from dataclasses import dataclass, field
 from typing import Any, Dict, List, Mapping, Optional, Sequence, Tuple
 
+from ..core._private_files import private
 from ..core._records import AuditId
 
 NAMES = ".names"
@@ -75,7 +76,7 @@ def write_names(names: ScriptNames, script: str) -> str:
             for session in names.transactions
         ],
     }
-    with open(script + NAMES, "w", encoding="utf-8") as file:
+    with open(script + NAMES, "w", encoding="utf-8", opener=private) as file:
         json.dump(whole, file, ensure_ascii=False, separators=(",", ":"))
         file.write("\n")
     return script + NAMES

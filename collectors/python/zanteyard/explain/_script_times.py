@@ -9,6 +9,7 @@ from dataclasses import dataclass, field
 from typing import Any, Dict, Iterable, Iterator, List, Mapping, Optional, Sequence, Tuple
 
 from ..core._own_keys import LONGEST
+from ..core._private_files import private
 from ..core._records import AuditId
 from ..core.errors import CantBeAskedError
 from ..promises._rewriting import is_of_transactions
@@ -54,7 +55,7 @@ def _has_order(transaction: Sequence[Any]) -> bool:
 
 def write_times(times: ScriptTimes, script: str) -> str:
     """Gives the name of the file."""
-    with open(script + TIMES, "w", encoding="utf-8") as file:
+    with open(script + TIMES, "w", encoding="utf-8", opener=private) as file:
         for line in _lines_of(times):
             file.write(json.dumps(line, separators=(",", ":")) + "\n")
     return script + TIMES

@@ -6,6 +6,7 @@ import time
 from typing import Callable, Iterable
 
 from ..core._circumstances import circumstances
+from ..core._private_files import private
 from ..core._records import History, Naming, ShownId
 from ..program._binaries import PROGRAM
 from ..promises._kinds import SERIALIZABLE, Promise
@@ -64,7 +65,7 @@ def write_script(
     program: str,
     promise: Promise,
 ) -> str:
-    with open(f"{path}.jsonl", "w", encoding="utf-8") as file:
+    with open(f"{path}.jsonl", "w", encoding="utf-8", opener=private) as file:
         file.write(audited(small, program, promise)[1])
     if promise.is_split:
         return f"(zanteyard check --promise {promise.name} {path}.jsonl says so again)"

@@ -8,6 +8,7 @@ import os
 from dataclasses import dataclass
 from typing import Any, Callable, Mapping, Optional
 
+from ..core._private_files import private
 from ..core.errors import ImportRefusedError
 from ..explain._script_names import write_names
 from ..explain._script_times import TIMES, write_times
@@ -90,7 +91,7 @@ def run(asked: Any) -> int:
     where nothing sound can be made of the file, and writes nothing then."""
     text = _text_of(asked.file)
     imported = import_text(asked.form, text, asked.first, asked.initial, asked.strict)
-    with open(asked.script, "w", encoding="utf-8") as file:
+    with open(asked.script, "w", encoding="utf-8", opener=private) as file:
         file.writelines(f"{line}\n" for line in imported.lines)
     write_names(imported.names, asked.script)
     print(f"{asked.script}: {imported.about[0]}")
