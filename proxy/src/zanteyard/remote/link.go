@@ -4,6 +4,7 @@ import (
 	"context"
 	"errors"
 	"fmt"
+	"net/url"
 	"strconv"
 	"strings"
 	"time"
@@ -33,12 +34,36 @@ func (l *link) do(waits time.Duration, command string, arguments ...any) (any, e
 	return reply, err
 }
 
-func dial(url string) (redis.Conn, error) {
+// dial connects to a Redis by a URL as redis-py has them: redis://, rediss:// (TLS) or unix:///socket?db=0.
+func dial(text string) (redis.Conn, error) {
 	options := []redis.DialOption{redis.DialConnectTimeout(patience), redis.DialReadTimeout(patience), redis.DialWriteTimeout(patience)}
-	if path := strings.TrimPrefix(url, "unix://"); path != url {
-		return redis.Dial("unix", path, options...)
+	its, err := url.Parse(text)
+	if err != nil || its.Scheme != "unix" {
+		return redis.DialURL(text, options...)
 	}
-	return redis.DialURL(url, options...)
+	if number := its.Query().Get("db"); number != "" {
+		database, err := strconv.Atoi(number)
+		if err != nil {
+			return nil, fmt.Errorf("the database %q of Redis: %w", number, err)
+		}
+		options = append(options, redis.DialDatabase(database))
+	}
+	if password, is := its.User.Password(); is {
+		options = append(options, redis.DialUsername(its.User.Username()), redis.DialPassword(password))
+	}
+	return redis.Dial("unix", its.Path, options...)
+}
+
+// CheckURL says what is wrong with a Redis's URL, as far as that shows without connecting.
+func CheckURL(text string) error {
+	its, err := url.Parse(text)
+	switch {
+	case err != nil:
+		return errors.New("the URL of Redis can't be read") // the error would show a password
+	case its.Scheme != "redis" && its.Scheme != "rediss" && its.Scheme != "unix":
+		return errors.New("the URL of Redis begins with redis://, rediss:// or unix://")
+	}
+	return nil
 }
 
 func (l *link) close() {

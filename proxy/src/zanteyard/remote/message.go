@@ -73,6 +73,7 @@ type answer struct {
 	Try     uint64
 	Epoch   uint64
 	Mark    int64  // the lock by which the server is known
+	Redacts bool   // constants and parameters aren't to be sent
 	Refused string // why there is no attachment
 }
 
@@ -113,4 +114,5 @@ func (o *Options) open(direction string, text, signature []byte, to any) error {
 }
 
 func (o *Options) proxies() string { return "zanteyard watch " + o.Audit + ":proxies" }
+func (o *Options) owner() string   { return "zanteyard watch " + o.Audit + ":owner" }
 func (o *Options) watch() string   { return "zanteyard watch " + o.Audit + ":watch" }

@@ -7,6 +7,8 @@ import (
 	"sync"
 	"time"
 
+	"zanteyard/feed"
+	"zanteyard/plan"
 	"zanteyard/record"
 )
 
@@ -36,6 +38,7 @@ type Post struct {
 	try     uint64
 	tried   time.Time
 	epoch   uint64 // of the attachment, 0 without one
+	redacts bool
 	idle    bool   // the watch has no audit
 	next    uint64 // number of the next message
 	sent    uint64 // transactions in messages
@@ -81,9 +84,12 @@ func (p *Post) Connection(it record.Connection) {
 
 // Transaction implements record.Sink.
 func (p *Post) Transaction(it record.Transaction) {
-	size := sizeOf(&it)
 	p.lock.Lock()
 	defer p.lock.Unlock()
+	if p.redacts && p.epoch != 0 {
+		redact(&it)
+	}
+	size := sizeOf(&it)
 	switch {
 	case p.epoch == 0:
 	case p.bytes+size > p.held, size > mostOfOne:
@@ -103,6 +109,16 @@ func (p *Post) Unseen(shape, reason string, reads bool) {
 		key = unseen{Shape: "others", Reason: "more shapes than are told apart", Reads: reads}
 	}
 	p.unseen[key]++
+}
+
+// redact leaves out the constants and parameters of statements.
+func redact(it *record.Transaction) {
+	its := make([]record.Statement, len(it.Statements))
+	for i, one := range it.Statements {
+		one.Text, one.Parameters = plan.Redacted(one.Text)+feed.Origin(one.Text), nil
+		its[i] = one
+	}
+	it.Statements = its
 }
 
 func sizeOf(it *record.Transaction) int {
@@ -250,6 +266,7 @@ func (p *Post) detach() {
 
 // attach begins one: all connections that are there are told first. Called with lock held.
 func (p *Post) attach(it *answer) {
+	p.redacts = p.options.Redacts || it.Redacts
 	p.epoch, p.mark, p.looked, p.next, p.wanted = it.Epoch, it.Mark, time.Now(), 0, nil
 	p.items, p.bytes = nil, 0
 	for _, one := range p.live {
