@@ -1,36 +1,39 @@
 #!/usr/bin/python3
-"""A bank over PostgreSQL, in plain SQL, by four workers; with two lines it is audited.
+"""A bank over PostgreSQL, in plain SQL, by four workers, while `zanteyard watch` audits it.
 
     /usr/bin/python3 examples/bank.py --level repeatable     finds its bug: customers overdraw
     /usr/bin/python3 examples/bank.py --level serializable   has none
     /usr/bin/python3 examples/bank.py --driver psycopg       the same by psycopg 3
 
 Its rule: a customer's two accounts may not be below 0 together. Each withdrawal looks at both, and
-takes from one. It starts a server of its own, or takes one that is there (--dsn), in a schema that
-it makes and drops.
+takes from one. It starts a server of its own, and ends with the audit's status: 0 if all is serial,
+1 if it was violated.
 """
 
 from __future__ import annotations
 
 import argparse
-import contextlib
+import importlib
 import os
 import random
+import signal
+import subprocess
 import sys
 import threading
 import time
 
 HERE = os.path.dirname(os.path.abspath(__file__))
-sys.path.insert(0, os.path.join(os.path.dirname(HERE), "collectors", "python"))
+PACKAGE = os.path.join(os.path.dirname(HERE), "collectors", "python")
+sys.path.insert(0, PACKAGE)
 
 import psycopg2
 
-from zanteyard import RATHER_WAIT, AuditorApart, LiveAuditor, from_start, tell_violation
+from zanteyard import comments
 from zanteyard.trial.postgres_server import PostgresServer
-from zanteyard.sql.psycopg2 import prepare
 
 CUSTOMERS, WORKERS = 20, 4
-TABLES = ("accounts", "transfers", "reports")
+PORT = 6432  # of the proxy's socket
+LISTENING, ENDING = 60.0, 180.0  # seconds for the audit to begin, and to end
 AGAIN = ("SerializationFailure", "DeadlockDetected", "UniqueViolation")  # of either driver
 SCHEMA = """
 CREATE TABLE accounts (customer int, kind text, balance int NOT NULL, PRIMARY KEY (customer, kind));
@@ -47,11 +50,9 @@ class Overdrawn(Exception):
 # The application. It knows nothing of the audit.
 
 
-def balance(cursor, customer, kind):
-    cursor.execute(
-        "SELECT balance FROM accounts WHERE customer = %s AND kind = %s", (customer, kind)
-    )
-    return cursor.fetchone()[0]
+def balances(cursor, customer):
+    cursor.execute("SELECT kind, balance FROM accounts WHERE customer = %s", (customer,))
+    return dict(cursor.fetchall())
 
 
 def move(cursor, customer, kind, amount):
@@ -71,21 +72,20 @@ def deposit(cursor, customer):
 
 
 def withdraw(cursor, customer):
-    both = balance(cursor, customer, "checking") + balance(cursor, customer, "savings")
     amount = random.randint(1, 60)
-    if both < amount:
+    if sum(balances(cursor, customer).values()) < amount:
         raise Overdrawn(customer)
     return move(cursor, customer, random.choice(("checking", "savings")), -amount)
 
 
 def report(cursor, month):
-    total = sum(
-        balance(cursor, customer, kind)
-        for customer in range(CUSTOMERS)
-        for kind in ("checking", "savings")
+    cursor.execute("SELECT customer, kind, balance FROM accounts")
+    total = sum(balance for _, _, balance in cursor.fetchall())
+    cursor.execute(
+        "INSERT INTO reports VALUES (%s, %s, %s) "
+        "ON CONFLICT (month) DO UPDATE SET total = excluded.total",
+        (month, CUSTOMERS, total),
     )
-    cursor.execute("DELETE FROM reports WHERE month = %s", (month,))
-    cursor.execute("INSERT INTO reports VALUES (%s, %s, %s)", (month, CUSTOMERS, total))
 
 
 def in_transaction(connection, work, *values):
@@ -129,62 +129,98 @@ def open_bank(dsn):
     connection.close()
 
 
-# The audit: what is around the application, and the two lines.
+# What is around it: a server, and the audit.
 
 
-@contextlib.contextmanager
-def server(dsn):
-    """In a schema of its own, where the server is there already."""
-    if dsn is None:
-        with PostgresServer() as cluster:
-            yield cluster.dsn
-        return
-    schema = f"bank_{os.getpid()}"
-    admin = psycopg2.connect(dsn)
-    admin.autocommit = True
-    admin.cursor().execute(f"CREATE SCHEMA {schema}")
-    try:
-        yield psycopg2.extensions.make_dsn(dsn, options=f"-csearch_path={schema}")
-    finally:
-        admin.cursor().execute(f"DROP SCHEMA {schema} CASCADE")
-        admin.close()
+def begin_server(cluster):
+    """With what a replication slot needs."""
+    connection = psycopg2.connect(cluster.dsn)
+    connection.autocommit = True
+    connection.cursor().execute("ALTER SYSTEM SET wal_level = 'logical'")
+    connection.close()
+    cluster.stop()
+    cluster.start()
 
 
-def connected(dsn, asked, live):
+class Watch:
+    """`zanteyard watch`, from `with` to `end`. What it prints is printed, without its log;
+    `has_found` says whether a violation was found."""
+
+    def __init__(self, cluster):
+        url = f"postgresql://postgres@/postgres?host={cluster.folder}"
+        self.socket = f"{cluster.folder}/.s.PGSQL.{PORT}"
+        words = ["watch", url, "--listen", self.socket, "--log", "CRITICAL"]
+        self.process = subprocess.Popen(
+            [sys.executable, "-m", "zanteyard", *words],
+            env={**os.environ, "PYTHONPATH": PACKAGE},
+            stdout=subprocess.PIPE,
+            text=True,
+        )
+        self.has_found = threading.Event()
+        self.printing = threading.Thread(target=self.print_all)
+        self.printing.start()
+
+    def __enter__(self):
+        return self
+
+    def print_all(self):
+        for line in self.process.stdout:
+            print(line, end="", flush=True)
+            if line.startswith("violated"):
+                self.has_found.set()
+
+    def wait(self):
+        """Until it listens. Raises OSError if it doesn't."""
+        ends = time.monotonic() + LISTENING
+        while not os.path.exists(self.socket):
+            if self.process.poll() is not None or time.monotonic() > ends:
+                raise OSError("the audit hasn't begun")
+            time.sleep(0.05)
+
+    def end(self):
+        """After a last round; gives its status."""
+        self.process.send_signal(signal.SIGINT)
+        status = self.process.wait(ENDING)
+        self.printing.join()
+        return status
+
+    def __exit__(self, *_):
+        if self.process.poll() is None:
+            self.process.kill()
+        self.printing.join()
+
+
+def connected(dsn, asked):
+    """By the proxy. The cursors add comments that say from which line a statement came."""
     if asked.driver == "psycopg":
-        import psycopg
-
-        from zanteyard.sql.psycopg3 import audited
-
-        its = audited(live, TABLES)  # the first line
-        connection = its.connect(dsn)  # the second, changed
+        psycopg = importlib.import_module("psycopg")
+        connection = psycopg.connect(dsn, cursor_factory=comments.psycopg_cursor())
         connection.isolation_level = psycopg.IsolationLevel[asked.level.upper().replace(" ", "_")]
         return connection
-    from zanteyard.sql.psycopg2 import audited
-
-    its = audited(live, TABLES)  # the first line
-    connection = psycopg2.connect(dsn, connection_factory=its)  # the second, changed
+    connection = psycopg2.connect(dsn, cursor_factory=comments.psycopg2_cursor())
     connection.set_session(isolation_level=asked.level)
     return connection
 
 
-def run(dsn, asked, live):
-    """The four workers, until the time is up or a violation was found."""
-    connections = [connected(dsn, asked, live) for _ in range(WORKERS)]
-    ends_at = time.monotonic() + asked.seconds
+def run(cluster, asked):
+    """The four workers, until the time is up or a violation was found; gives the audit's status."""
+    with Watch(cluster) as watch:
+        watch.wait()
+        dsn = f"{cluster.dsn} port={PORT} application_name=bank"
+        connections = [connected(dsn, asked) for _ in range(WORKERS)]
+        ends_at = time.monotonic() + asked.seconds
 
-    def ends():
-        return time.monotonic() > ends_at or live.is_over
+        def ends():
+            return time.monotonic() > ends_at or watch.has_found.is_set()
 
-    threads = [threading.Thread(target=worker, args=(one, ends)) for one in connections]
-    for thread in threads:
-        thread.start()
-    for thread in threads:
-        thread.join()
-    outcome = live.stop()
-    for connection in connections:
-        connection.close()
-    return outcome
+        threads = [threading.Thread(target=worker, args=(one, ends)) for one in connections]
+        for thread in threads:
+            thread.start()
+        for thread in threads:
+            thread.join()
+        for connection in connections:
+            connection.close()
+        return watch.end()
 
 
 def main():
@@ -193,19 +229,13 @@ def main():
     asked.add_argument("--level", choices=levels, default="repeatable")
     asked.add_argument("--driver", choices=("psycopg2", "psycopg"), default="psycopg2")
     asked.add_argument("--seconds", type=float, default=10.0)
-    asked.add_argument("--dsn")
     asked = asked.parse_args()
     asked.level = levels[asked.level]
-    with server(asked.dsn) as dsn:
-        open_bank(dsn)
-        prepare(dsn, TABLES)  # once, beside the schema
-        with AuditorApart(WORKERS) as auditor:
-            outcome = run(dsn, asked, LiveAuditor(auditor, policy=RATHER_WAIT))
-            if outcome.is_violated:
-                history, called = from_start(auditor)
-                tell_violation(history, "bank", called)
-    print(f"the bank at {asked.level}: {outcome}")
+    with PostgresServer() as cluster:
+        begin_server(cluster)
+        open_bank(cluster.dsn)
+        return run(cluster, asked)
 
 
 if __name__ == "__main__":
-    main()
+    sys.exit(main())

@@ -27,6 +27,7 @@ HERE = os.path.dirname(os.path.abspath(__file__))
 TOP = os.path.normpath(os.path.join(HERE, "../.."))
 PROGRAMS = ("cobra_audit", "cobra_check", "cobra_live")  # each a crate of this name
 PROXY = os.path.join(TOP, "proxy", "out", "zanteyard-proxy")  # where its build.sh puts it
+LGPL = "/usr/share/common-licenses/LGPL-2.1"  # of the C library, which is linked into the proxy
 PATIENCE = 600  # seconds in which a build without proofs has to have come to its run
 
 
@@ -158,7 +159,8 @@ def stage(folder: str, programs: Sequence[str], is_proved: bool) -> None:
     shutil.copytree(os.path.join(HERE, "zanteyard"), package, ignore=hidden)
     for name in ("pyproject.toml", "README.md"):
         shutil.copy(os.path.join(HERE, name), folder)
-    shutil.copy(os.path.join(TOP, "LICENSE"), folder)
+    for name in ("LICENSE", "LICENSES.md"):
+        shutil.copy(os.path.join(TOP, name), folder)
     inside = os.path.join(package, "program", "bin")
     os.mkdir(inside)
     for path in programs:
@@ -166,6 +168,8 @@ def stage(folder: str, programs: Sequence[str], is_proved: bool) -> None:
     write_note(inside, is_proved)  # of the proved programs, to which the proxy doesn't belong
     if os.path.isfile(PROXY):
         os.chmod(shutil.copy(PROXY, inside), 0o755)
+        if os.path.isfile(LGPL):
+            shutil.copy(LGPL, os.path.join(folder, "LICENSE.LGPL-2.1"))
     else:
         print("the wheel has no proxy for `zanteyard watch`: proxy/build.sh builds it")
     platform = sysconfig.get_platform().replace("-", "_").replace(".", "_")

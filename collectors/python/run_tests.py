@@ -31,8 +31,8 @@ HERE = os.path.dirname(os.path.abspath(__file__))
 LONG = [
     f"tests.test_{each}"
     for each in (
-        *("machines", "stores", "killed", "journal_kills", "streams", "sql_killed", "faults"),
-        *("restarting", "postgres_live", "sql_bank", "shrinking", "examples", "live", "no_harm"),
+        *("machines", "stores", "killed", "journal_kills", "streams", "faults"),
+        *("restarting", "postgres_live", "bank", "shrinking", "examples", "live", "no_harm"),
         *("running", "proxy_drivers", "watch_whole"),
     )
 ]
@@ -249,7 +249,7 @@ def main() -> int:
     words.add_argument("--seconds", type=float, default=3600.0, help="for all of them (3600)")
     words.add_argument("--slowest", type=int, default=0, help="so many tests are named at the end")
     words.add_argument("--one-of-them", action="store_true", help=argparse.SUPPRESS)
-    words.add_argument("modules", nargs="*", metavar="MODULE", help="as tests.test_sql; else all")
+    words.add_argument("modules", nargs="*", metavar="MODULE", help="as tests.test_live; else all")
     asked = words.parse_args()
     if asked.one_of_them:
         answers = os.fdopen(os.dup(1), "w", encoding="utf-8")

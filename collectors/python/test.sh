@@ -10,10 +10,7 @@ seconds=${ZANTEYARD_SECONDS:-2400}
 [ -z "${COBRA_AUDIT:-}" ] || COBRA_AUDIT=$(realpath "$COBRA_AUDIT")
 cd "$(dirname "$0")"
 if [ "${1:-}" = --install ]; then
-    apt-get update -qq
-    DEBIAN_FRONTEND=noninteractive apt-get install -y -qq postgresql python3-psycopg2 python3-pglast python3-venv python3-setuptools \
-        python3-wheel mypy python3-pycodestyle chromium mariadb-server python3-pymysql redis-server python3-redis python3-sqlalchemy \
-        python3-psycopg python3-psycopg-pool > /dev/null
+    ../../install_packages.sh
 fi
 audit=${COBRA_AUDIT:-../../crates/cobra_audit/out/cobra_audit}
 [ -x "$audit" ] || { echo "$audit is not built: README.md says how"; exit 1; }
@@ -44,7 +41,7 @@ if command -v mypy > /dev/null; then # beside the tests; what it tells comes beh
 else
     echo "skipped: mypy, which isn't installed (no type was checked)"
 fi
-styled="zanteyard import_graph.py make_wheel.py run_tests.py ../../examples/postgres_live.py ../../examples/store_faults.py ../../examples/bank.py ../../examples/bank_orm.py"
+styled="zanteyard import_graph.py make_wheel.py run_tests.py ../../examples/postgres_live.py ../../examples/store_faults.py ../../examples/bank.py"
 if command -v ruff > /dev/null; then
     ruff check --no-cache --line-length 100 --select E,W --ignore E203,E402,E701,E731 $styled
 elif "$python" -m pycodestyle --version > /dev/null 2>&1; then
@@ -66,17 +63,11 @@ for each in "MariaDB mariadb_server mariadbd pymysql" "Redis redis_server redis_
         echo "skipped: what needs $name and $driver, which aren't both installed (nothing was audited over it)"
     fi
 done
-if ! "$python" -c "import psycopg2, pglast" 2> /dev/null; then
-    echo "skipped: what needs psycopg2 and pglast, which aren't both installed (no application's own SQL was audited)"
-fi
-if ! "$python" -c "import psycopg2, pglast, psycopg" 2> /dev/null; then
-    echo "skipped: what needs psycopg 3, psycopg2 and pglast, which aren't all installed (no application over psycopg 3 was audited)"
-elif ! "$python" -c "import psycopg_pool" 2> /dev/null; then
-    echo "skipped: what needs psycopg_pool, which isn't installed (no pool of psycopg 3 was audited)"
-fi
-if ! "$python" -c "import psycopg2, pglast, sqlalchemy" 2> /dev/null; then
-    echo "skipped: what needs SQLAlchemy, psycopg2 and pglast, which aren't all installed (no application over SQLAlchemy was audited)"
-fi
+for each in psycopg sqlalchemy django asyncpg; do
+    if ! "$python" -c "import $each" 2> /dev/null; then
+        echo "skipped: what needs $each, which isn't installed (no program over it was run through the proxy)"
+    fi
+done
 if [ ! -x "${ZANTEYARD_PROXY:-../../proxy/out/zanteyard-proxy}" ]; then
     echo "skipped: what needs the proxy, which isn't built by proxy/build.sh (no application was watched over a real one)"
 fi

@@ -189,18 +189,18 @@ def attempts_of(attempts, is_of_lists):
     ]
 
 
-def is_explained(attempts, ignored=(), part_of=None):
+def is_explained(attempts, ignored=(), earlier=None):
     """Whether there is an order of what committed, and of some of what may have, each client's
     kept, in which each read gives what it gave. What (key, value) a read of which is ignored counts
-    as whatever was there. Of what has a `part_of`, the first parts come first."""
+    as whatever was there. What is in `earlier` has taken effect, behind those that stand there."""
     clients = [*by_client(attempts).values()]
     seen = set()
-    parts = part_of or {}
+    earlier = earlier or {}
 
     def is_due(one, places):
-        """Whether nothing of an earlier part is left."""
+        """Whether nothing is left that comes earlier."""
         left = (other for place, its in zip(places, clients) for other in its[place:])
-        return one not in parts or not any(parts.get(it, parts[one]) < parts[one] for it in left)
+        return not any(it in earlier.get(one, ()) for it in left)
 
     def after(state, attempt):
         state, own = dict(state), set()
@@ -236,7 +236,7 @@ def is_explained(attempts, ignored=(), part_of=None):
                 continue
             following = (*places[:client], place + 1, *places[client + 1 :])
             one = its[place]
-            if one.outcome != COMMITTED and one not in parts and search(following, state):
+            if one.outcome != COMMITTED and one not in earlier and search(following, state):
                 return True
             if one.outcome != ABORTED and is_due(one, places):
                 then = after(state, one)

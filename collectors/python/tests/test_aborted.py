@@ -7,7 +7,7 @@ import unittest
 from contextlib import redirect_stderr, redirect_stdout
 from unittest import mock
 
-from zanteyard import AbortedError, Auditor, AuditorApart, AuditLostError, LiveAuditor, Logged
+from zanteyard import AbortedError, Auditor, AuditorApart, LiveAuditor, Logged
 from zanteyard import OutcomeUnknownError, Session
 from zanteyard import audited, from_start, reasons, smaller, words
 from zanteyard.explain._anomalies import find_anomaly
@@ -286,15 +286,6 @@ class Found(WithFolder):
         key = f"{FLAG}0"
         self.assertEqual(told, [([(FENCE, "init")], [FENCE])] * 3 + [([(key, "init")], [key])] * 3)
 
-    def test_a_store_s_own_word_on_what_clients_wrote(self):
-        with self.auditor() as auditor:
-            a, *_ = self.sessions(auditor)
-            a.store.tried = lambda: ["a row", "another"]
-            with self.assertRaises(ZeroDivisionError):
-                a.run(lambda t: 1 // 0)
-            logged = auditor.history[0][0]
-        self.assertEqual((logged.tried_writes, logged.values), (["a row", "another"], ()))  # no value is known
-
     def test_over_sqlite(self):
         """At its weakest level, where the fault shows each time; and at the strictest, where what is
         aborted is told."""
@@ -350,19 +341,6 @@ class NotKnown(WithFolder):
                 store.known = False
                 logged = self.outcome_of(store, ValueError, OutcomeUnknownError, KeyboardInterrupt)
                 self.assertEqual((logged.outcome, logged.writes, logged.did), ("unknown", ["x"], ([], ["x"])))
-
-    def test_nor_what_its_client_knows_nothing_of(self):
-        """As of an application's own statements: it may have written what isn't known."""
-
-        def look_up(transaction):
-            transaction.unclear = AuditLostError("a statement isn't understood")
-
-        auditor = self.auditor()
-        store = self.store(commit=self.raises(ValueError("of a handler")), look_up=look_up)
-        session = Session(auditor, 0, store, patience=0.05)
-        with self.assertRaises(ValueError):
-            session.run(read("x"), attempts=1)
-        self.assertEqual((auditor.history[0], auditor.outcome().kind), ([], "incomplete"))
 
     def test_what_the_store_has_answered_is(self):
         failed = ValueError("a constraint")

@@ -2,7 +2,9 @@
 import unittest
 
 from zanteyard import Logged
-from zanteyard.explain._anomalies import MEANINGS, find_anomaly
+from zanteyard.explain._anomalies import MEANINGS, find_anomaly, name_circle
+from zanteyard.explain._arcs import IN_SESSION, IN_TIME, READ, READ_BEFORE, WRITTEN, Arc
+from zanteyard.promises._kinds import SNAPSHOT, STRICT
 
 
 def txn(*reads, writes="", outcome="committed"):
@@ -46,7 +48,7 @@ ROWS = (
         [[txn(writes="y")], [txn(("x", FIRST))]],
     ),
     (
-        "two writers seen in two orders",
+        "two writers seen in two orders by sessions",
         None,
         [
             [txn(writes="x")],
@@ -55,7 +57,45 @@ ROWS = (
             [txn(("y", (1, 0))), txn(("x", "init"))],
         ],
     ),
+    (
+        "two writers seen in two orders",
+        "long fork",
+        [
+            [txn(writes="x")],
+            [txn(writes="y")],
+            [txn(("x", FIRST), ("y", "init"))],
+            [txn(("x", "init"), ("y", (1, 0)))],
+        ],
+    ),
+    ("two versions", "non-repeatable read", [[txn(writes="x")], [txn(("x", FIRST), ("x", "init"))]]),
+    (
+        "each from the other",
+        "circular information flow",
+        [[txn(("y", (1, 0)), writes="x")], [txn(("x", FIRST), writes="y")]],
+    ),
+    (
+        "from what its session does later",
+        "circular information flow",
+        [[txn(("x", (0, 1))), txn(writes="x")]],
+    ),
+    (
+        "each has overwritten a part",
+        "dirty write",
+        [[txn(writes="xy")], [txn(writes="xy")], [txn(("x", FIRST), ("y", (1, 0)))]],
+    ),
     ("nothing is wrong", None, [[txn(writes="x")], [txn(("x", FIRST), writes="x")]]),
+)
+
+
+# Of each row: what it shows, the name that is wanted, and the kinds of the arcs around.
+CIRCLES = (
+    ("reads alone", "circular information flow", [READ, IN_SESSION, READ]),
+    ("writes alone", "dirty write", [WRITTEN, IN_SESSION, WRITTEN]),
+    ("one anti-dependency", "G-single", [READ, READ_BEFORE, WRITTEN]),
+    ("two apart", "G-nonadjacent", [READ_BEFORE, READ, READ_BEFORE, WRITTEN]),
+    ("two, one after another", "G2", [READ_BEFORE, READ, READ_BEFORE]),
+    ("by time", None, [READ_BEFORE, IN_TIME]),
+    ("none", None, []),
 )
 
 
@@ -77,7 +117,42 @@ class Anomalies(unittest.TestCase):
 
     def test_each_has_a_meaning(self):
         named = {wanted for _, wanted, _ in ROWS} - {None, "read of what was never written"}
-        self.assertEqual(named, {*MEANINGS})
+        circles = {name for _, name, _ in CIRCLES} - {None}
+        self.assertEqual(named | circles, {*MEANINGS})
+
+    def test_a_circle_without_a_pattern_is_named_by_what_leads_round(self):
+        for shows, wanted, kinds in CIRCLES:
+            ids = [(at, 0) for at in range(len(kinds))]
+            arcs = [
+                Arc(ids[at], ids[(at + 1) % len(ids)], "", (), kind)
+                for at, kind in enumerate(kinds)
+            ]
+            with self.subTest(shows=shows):
+                found = name_circle(arcs)
+                self.assertEqual(None if found is None else found.name, wanted)
+
+    def test_snapshot_isolation_has_no_write_skew(self):
+        (skew,) = [history for shows, _, history in ROWS if shows == "of two"]
+        self.assertIsNone(find_anomaly(skew, promise=SNAPSHOT))
+
+    def test_a_read_that_its_clock_excludes(self):
+        """It is told only where the promise asks for time."""
+        for ended, began, told in (
+            (2_000_000, 5_000_000, "1.0 began 3 ms after 0.0 had ended, and did not see it: it"),
+            (None, 5_000_000, None),
+            (6_000_000, 5_000_000, None),
+        ):
+            history = [
+                [txn(writes="x")._replace(span=(1_000_000, ended, "ns"))],
+                [txn(("x", "init"))._replace(span=(began, 9_000_000, "ns"))],
+            ]
+            with self.subTest(ended=ended):
+                self.assertIsNone(find_anomaly(history))
+                found = find_anomaly(history, promise=STRICT)
+                self.assertEqual(found is None, told is None)
+                if told:
+                    self.assertEqual(found.name, "stale read")
+                    self.assertTrue(found.sentence.startswith(told), found.sentence)
 
 
 if __name__ == "__main__":

@@ -1,12 +1,10 @@
 """When and from where a transaction came, and what it read, is told of a violation."""
-import json
 import os
 import unittest
 
 from zanteyard import Auditor, Session, tell_violation
 from zanteyard.program._auditor import PROGRAM
-from zanteyard.core._circumstances import brief, brief_row, caller, clock_of
-from zanteyard.core._signal_errors import is_foreign
+from zanteyard.core._circumstances import brief, caller, clock_of
 from zanteyard.stores.memory import MemoryStore
 from zanteyard.explain._html import page_of
 from zanteyard.core._records import Logged
@@ -51,38 +49,6 @@ class Circumstances(unittest.TestCase):
         page = page_of(story_of(small, name), "a bank", "proved")
         self.assertIn("<td>&#x27;100&#x27;</td>", page)
         self.assertRegex(page, rf"\d\d:\d\d:\d\d\.\d{{3}} .*{here}:\d+")
-
-
-class Unprintable:
-    def __repr__(self):
-        raise ValueError("not to be told")
-
-
-class Values(unittest.TestCase):
-    def test_what_is_told_of_a_row_is_short(self):
-        for row, told in (
-            ((), "()"),
-            ((30,), "(30,)"),
-            ((None,), "(None,)"),
-            ((1, None, "x"), "(1, None, 'x')"),
-            ((Unprintable(), 1), "(of Unprintable, 1)"),
-            (("x" * 10**6, 1), "('" + "x" * 58 + " .."),
-            ((1, b"x" * 10**6), "(1, b'" + "x" * 54 + " .."),
-            (tuple(range(10**5)), repr(tuple(range(100)))[:60] + " .."),
-        ):
-            self.assertEqual(brief_row(row), told)
-
-    def test_whose_an_exception_is(self):
-        for raises, is_its in ((lambda: json.loads("{"), True), (lambda: brief_row(5), True), (lambda: [][0], True)):
-            try:
-                raises()
-            except Exception as error:
-                error.__traceback__ = error.__traceback__.tb_next.tb_next  # behind this file's own
-                self.assertEqual(is_foreign(error), not is_its)
-        try:
-            raise ValueError("the application's")
-        except ValueError as error:
-            self.assertTrue(is_foreign(error))
 
 
 if __name__ == "__main__":

@@ -10,10 +10,11 @@ import sys
 import tempfile
 import unittest
 
+import make_wheel
 from zanteyard.program._auditor import PROGRAM
 
 TOP = os.path.normpath(os.path.join(os.path.dirname(os.path.abspath(__file__)), "../../.."))
-NAMES = ("README.md", "CONTRIBUTING.md", "docs/*.md", "collectors/python/README.md")
+NAMES = ("README.md", "CONTRIBUTING.md", "LICENSES.md", "docs/*.md", "collectors/python/README.md")
 DOCUMENTS = sorted(
     os.path.relpath(path, TOP) for name in NAMES for path in glob.glob(os.path.join(TOP, name))
 )
@@ -33,7 +34,7 @@ ELSEWHERE = {
     r"zanteyard audit postgres .*": "test_commands, with less time",
     r"zanteyard audit (mariadb|redis|sqlite) .*": "test_stores, with less time",
     r"/usr/bin/python3 examples/store_faults\.py .*": "test_stores, which compares the tables",
-    r"/usr/bin/python3 examples/bank(_orm)?\.py .*": "test_sql_bank, with less time",
+    r"/usr/bin/python3 examples/bank\.py .*": "test_bank, with less time",
     r"/usr/bin/python3 examples/postgres_\w+\.py .*": "test_postgres_live and test_examples, with less time",
 }
 
@@ -122,7 +123,7 @@ class Documents(unittest.TestCase):
                             raise
                         continue  # its driver isn't installed
                     self.assertEqual([name for name in names.split(", ") if not hasattr(there, name)], [])
-        self.assertGreater(count, 20)
+        self.assertGreater(count, 15)
 
     def test_every_command_is_run_somewhere(self):
         """One without a prompt stands in a block of commands alone."""
@@ -133,6 +134,50 @@ class Documents(unittest.TestCase):
                     if not word and line.startswith(begins):
                         with self.subTest(document=name, command=line):
                             self.assertTrue(is_elsewhere(line))
+
+
+class Licences(unittest.TestCase):
+    """LICENSES.md beside what is linked into the programs, and what the package's extras name."""
+
+    @classmethod
+    def setUpClass(cls):
+        cls.page = text_of("LICENSES.md")
+
+    def assert_named(self, names):
+        for name in names:
+            with self.subTest(name=name):
+                self.assertTrue(f"`{name}`" in self.page)
+
+    def test_each_library_of_the_kit_that_a_program_of_the_wheel_takes(self):
+        on = {}
+        for line in text_of("crates.txt").splitlines():
+            crate, _, below = line.partition(":")
+            on[crate.split()[0]] = below.split() if not line.startswith("#") else []
+        taken, left = set(), list(make_wheel.PROGRAMS)
+        while left:
+            crate = left.pop()
+            if crate not in taken:
+                taken.add(crate)
+                left += on.get(crate, [])
+        self.assert_named(taken - on.keys())
+        self.assertGreater(len(taken - on.keys()), 5)
+
+    @unittest.skipUnless(shutil.which("go"), "Go is not installed")
+    def test_each_module_that_the_proxy_takes(self):
+        call = ". ./env.sh && go list -deps zanteyard/cmd/zanteyard-proxy"
+        listed = subprocess.run(["sh", "-c", call], cwd=f"{TOP}/proxy", stdout=subprocess.PIPE, text=True)
+        modules = set()
+        for package in listed.stdout.split():
+            if package.startswith(("github.com/", "golang.org/")):
+                modules.add("/".join(package.split("/")[:3]))
+        self.assertEqual(listed.returncode, 0)
+        self.assertGreater(len(modules), 5)
+        self.assert_named(name if name.startswith("golang") else name.split("/")[2] for name in modules)
+
+    def test_each_extra(self):
+        settings = text_of("collectors/python/pyproject.toml")
+        extras = settings.split("[project.optional-dependencies]\n")[1].split("\n\n")[0]
+        self.assert_named(line.split(" = ")[0] for line in extras.splitlines())
 
 
 class Definitions(unittest.TestCase):

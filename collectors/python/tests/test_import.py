@@ -14,13 +14,15 @@ from zanteyard.program._auditor import PROGRAM
 from zanteyard.cli._main import main
 from zanteyard.imports._edn import EdnReader, Keyword
 from zanteyard.core.errors import ImportRefusedError
-from zanteyard.imports._times import Times, part_of
+from zanteyard.imports._times import Times
 from zanteyard.imports._command import FORMS, import_text
 from zanteyard.imports._script import script_of
 from zanteyard.imports._recording import ABORTED, COMMITTED, UNKNOWN
-from zanteyard.explain._script_names import write_names
+from zanteyard.explain._script_times import read_times
 from zanteyard.explain._scripts import ScriptRun
 from zanteyard.imports._sources import Sources
+from zanteyard.promises._kinds import STRICT
+from zanteyard.promises._rewriting import Rewriting
 
 from . import plain_readers, recordings
 from .recordings import attempts_of, judged, judged_script, nobodys, seeded
@@ -364,38 +366,60 @@ class Edn(unittest.TestCase):
             self.assertEqual(raised.exception.line_number, line)
 
 
-class Realtime(unittest.TestCase):
-    def test_pauses_ask_for_the_order_of_time_and_for_nothing_else(self):
+def in_time(imported):
+    """The lines of the script, rewritten so that some order explains them exactly where one does
+    that keeps the order of time."""
+    lines = [*map(json.loads, imported.lines)]
+    rewriting = Rewriting(STRICT, imported.times.timeline(lines))
+    return [json.dumps(each) for line in lines for each in rewriting.asked(line)]
+
+
+class Strict(unittest.TestCase):
+    def test_the_verdict_is_by_the_order_of_time(self):
+        """Against every order of the attempts; an end that isn't known comes before nothing."""
         told = Counter()
         for kind in ("jepsen-registers as EDN", "jepsen-lists as JSON"):
             form, written = WRITERS[kind]
-            for seed in range(200):
+            for seed in range(300):
                 text = written(*wanted(form, seed))
                 try:
                     found = FORMS[form].read(text)
-                    imported = script_of(found, None, True, 1)
+                    imported = script_of(found, None, True)
                 except ImportRefusedError:
                     continue
-                of = Sources(found).of
-                times = Times(found.attempts, of)
-                pauses = times.pauses(1)
+                its = [found.attempts[at] for at in Sources(found).of]
+                earlier = {one: {it for it in its if it.ended < one.began} for one in its}
                 with self.subTest(kind=kind, seed=seed, text=text):
-                    for at in of:  # none is in flight
-                        self.assertFalse(
-                            [it for it in pauses if times.began[at] < it <= times.ended[at]]
-                        )
-                    parts = {found.attempts[at]: part_of(times.began[at], pauses) for at in of}
-                    verdict = judged_script(imported.lines)
+                    verdict = judged_script(in_time(imported))
                     ignored = nobodys(found.attempts)
-                    is_explained = recordings.is_explained(found.attempts, ignored, parts)
+                    is_explained = recordings.is_explained(found.attempts, ignored, earlier)
                     if not ignored:
                         self.assertEqual(verdict, "serial" if is_explained else "violated")
                     plain = judged_script(script_of(found).lines)
                     if plain == "violated":
                         self.assertEqual(verdict, plain)
-                    told[plain, verdict, len(pauses) > 0] += 1
+                    told[plain, verdict] += 1
         for wanted_ in (("serial", "serial"), ("serial", "violated"), ("violated", "violated")):
-            self.assertGreaterEqual(told[(*wanted_, True)], 4, told)
+            self.assertGreaterEqual(told[wanted_], 8, told)
+
+    def test_at_a_pause_nothing_is_in_flight(self):
+        count = 0
+        for seed in range(200):
+            text = recordings.as_edn(*wanted("jepsen-registers", seed))
+            try:
+                found = FORMS["jepsen-registers"].read(text)
+                of = Sources(found).of
+            except ImportRefusedError:
+                continue
+            times = Times(found.attempts, of)
+            pauses = times.pauses(1)
+            with self.subTest(seed=seed, text=text):
+                for at in of:
+                    self.assertFalse(
+                        [it for it in pauses if times.began[at] < it <= times.ended[at]]
+                    )
+            count += len(pauses) > 0
+        self.assertGreater(count, 50)
 
     def test_a_part_asks_for_no_more_than_the_whole(self):
         verdicts = Counter()
@@ -404,7 +428,7 @@ class Realtime(unittest.TestCase):
             try:
                 found = FORMS["jepsen-registers"].read(text)
                 whole, part = (
-                    judged_script(script_of(found, first, True, 1).lines)
+                    judged_script(in_time(script_of(found, first, True)))
                     for first in (None, len(found.attempts) - 1)
                 )
             except ImportRefusedError:
@@ -461,13 +485,17 @@ class Realtime(unittest.TestCase):
                 return run("check", script) if not status else (status, "", err)
 
             self.assertIn("1,100 transactions", tried()[2])
-            status, out, err = tried("--realtime")
-            self.assertEqual((status, err), (0, ""))
-            self.assertNotIn("nothing was settled", out)
-            self.assertIn("(asked for was the order of time", out)
-            self.assertGreaterEqual(out.count("serial"), 8)
+            for option in ("--strict", "--realtime"):
+                status, out, err = tried(option)
+                self.assertEqual((status, err), (0, ""))
+                self.assertNotIn("nothing was settled", out)
+                self.assertIn("and the order of time kept", out)
+                self.assertGreaterEqual(out.count("serial"), 8)
+            status, out, err = run("check", "--promise", "serializable", script)
+            self.assertEqual(status, 2)
+            self.assertIn("import it again without --strict", err)
             lines = self.long(1100, 700)
-            self.assertIn("line 1: from here on 70", tried("--realtime")[2])
+            self.assertIn("line 1: from here on 70", tried("--strict")[2])
 
     @unittest.skipUnless(os.path.isfile(PROGRAM), f"{PROGRAM} is not built")
     def test_what_time_alone_excludes_is_told_so(self):
@@ -481,24 +509,42 @@ class Realtime(unittest.TestCase):
         first = one(0, ["w", 1, 1], ["w", 2, 2])
         old, torn = one(1, ["r", 1, None]), one(1, ["r", 1, 1], ["r", 2, None])
         rows = (
-            ([*first, *old], 0, 1, "the order of time has part in this"),
-            ([*one(0, ["w", 1, 1], ["w", 2, 2]), *torn], 1, 1, "has no part in this"),
+            ([*first, *old], 0, "line 2 had ended, and did not see it"),
+            ([*one(0, ["w", 1, 1], ["w", 2, 2]), *torn], 1, "fractured read"),
         )
         with tempfile.TemporaryDirectory() as folder:
             path, script = os.path.join(folder, "a.json"), os.path.join(folder, "a.jsonl")
-            for lines, plain, timed, words in rows:
+            for lines, plain, words in rows:
                 with open(path, "w", encoding="utf-8") as file:
-                    json.dump(lines, file)
-                run("import", "jepsen-registers", path, "-o", script)
-                self.assertEqual(run("check", script)[0], plain)
-                text = "".join(json.dumps(it) for it in lines)
-                found = script_of(FORMS["jepsen-registers"].read(text), None, True, 1)
-                with open(script, "w", encoding="utf-8") as file:
-                    file.writelines(f"{line}\n" for line in found.lines)
-                write_names(found.names, script)
-                status, out, _ = run("check", script)
-                self.assertEqual(status, timed)
-                self.assertIn(words, out)
+                    file.writelines(f"{json.dumps(one)}\n" for one in lines)
+                for more in ((), ("--strict",)):
+                    run("import", "jepsen-registers", path, "-o", script, *more)
+                    asked = () if more else ("--promise", "strict")
+                    self.assertEqual(run("check", script, "--promise", "serializable")[0], plain)
+                    status, out, _ = run("check", script, *asked)
+                    self.assertEqual(status, 1)
+                    self.assertIn(words, out)
+
+    def test_times_of_the_file_are_told(self):
+        """In nanoseconds where each operation has one, which says how long one had ended."""
+        lines = (
+            "{:process 0 :type :invoke :f :txn :time 1000 :value [[:w :x 1]]}\n"
+            "{:process 0 :type :ok :f :txn :time 2000000 :value [[:w :x 1]]}\n"
+            "{:process 1 :type :invoke :f :txn :time 5000000 :value [[:r :x nil]]}\n"
+            "{:process 1 :type :ok :f :txn :time 6000000 :value [[:r :x nil]]}\n"
+        )
+        with tempfile.TemporaryDirectory() as folder:
+            path, script = os.path.join(folder, "a.edn"), os.path.join(folder, "a.jsonl")
+            with open(path, "w", encoding="utf-8") as file:
+                file.write(lines)
+            run("import", "jepsen-registers", path, "-o", script)
+            times = read_times(script)
+            self.assertEqual((times.unit, times.spans[0, 0]), ("ns", (1000, 2000000)))
+            if os.path.isfile(PROGRAM):
+                out = run("check", "--promise", "strict", script)[1]
+                self.assertIn("line 4 began 3 ms after line 2 had ended, and did not see it", out)
+            run("import", "csv", os.path.join(SAMPLES, "sessions.csv"), "-o", script)
+            self.assertIsNone(read_times(script))
 
 
 class Limits(unittest.TestCase):

@@ -16,23 +16,16 @@ import unittest
 from typing import Any, Iterator
 from unittest import mock
 
-from zanteyard import LiveAuditor
+from zanteyard import Auditor, LiveAuditor, Session
 from zanteyard.program._subprocess import AuditorApart
 from zanteyard.program._auditor import PROGRAM
 from zanteyard.core.errors import AuditLostError
 from zanteyard.core._log_guard import guard
 from zanteyard.stores.memory import MemoryStore
 
-try:
-    import psycopg2
-except ImportError:
-    psycopg2 = None  # type: ignore[assignment]
-
-from tests.test_sql import LACKING, OverAServer
 from tests.waiting import wait_until
 
 LOGGER = logging.getLogger("zanteyard")
-SCHEMA = "CREATE TABLE t (id int PRIMARY KEY, v int); INSERT INTO t VALUES (1, 10), (2, 20)"
 
 
 class Raising(logging.Handler):
@@ -141,28 +134,16 @@ class Audits(unittest.TestCase):
         self.assertIn("for a test (the log can't be written", told.getvalue())
 
 
-@unittest.skipIf(LACKING, f"not installed or not built: {', '.join(LACKING)}")
-class Applications(OverAServer):
     def test_a_commit_that_isnt_audited_is_no_failure(self) -> None:
-        place = self.database(SCHEMA, ["t"])
-        (client,) = self.clients(place, "serializable", ["t"], 1)
-        cursor = client.cursor()
-        cursor.execute("SELECT v FROM t WHERE id = 1")
-        client.commit()
-        cursor.execute("UPDATE t SET v = v + 1 WHERE id = 1")
-        lost = AuditLostError("there is no server that answers")
-        with without_folder() as told:
-            with mock.patch.object(client.store.side, "ask", side_effect=lost):
-                client.commit()
-            with self.assertRaises(psycopg2.NotSupportedError):
-                cursor.execute("SELECT v FROM t WHERE v > 3")
-            client.rollback()
+        """The client's transactions go on, and the outcome says so."""
+        with without_folder() as told, Auditor(1) as auditor:
+            session = Session(auditor, 0, MemoryStore().connect())
+            lost = AuditLostError("there is no auditor that answers")
+            with mock.patch.object(auditor, "take", side_effect=lost):
+                session.run(lambda transaction: transaction.put("x", 11))
+            self.assertEqual(session.run(lambda transaction: transaction.get("x")), 11)
+            self.assertEqual(auditor.outcome().kind, "incomplete")
         self.assertIn("nothing more of session 0 is audited", told.getvalue())
-        self.assertIn("session 0: refused, since", told.getvalue())
-        cursor.execute("SELECT v FROM t WHERE id = 1")
-        self.assertEqual(cursor.fetchall(), [(11,)])
-        client.commit()
-        self.assertEqual(self.auditor.outcome().kind, "incomplete")
 
 
 if __name__ == "__main__":

@@ -12,6 +12,7 @@ import unittest
 from unittest import mock
 
 from zanteyard import AuditClient, Auditor, AuditServer, LiveAuditor, Logged, Policy, Session
+from zanteyard.core._forks import UNAUDITED
 from zanteyard.core._own_keys import FENCE
 from zanteyard.program._auditor import PROGRAM
 from zanteyard.live._backlog import Backlog
@@ -160,14 +161,13 @@ class Noted(unittest.TestCase):
         with self.assertRaises(LostError):
             in_files({self.path: None})
 
-    UNCLEAR = "a statement of it isn't understood"
+    UNCLEAR = "it has read what a forked child wrote"
 
-    def unclear(self, outcome, **more):
+    def unclear(self, outcome, is_last=False):
         """A transaction of which its client didn't know itself what it had done."""
-        ticket = more.get("ticket", ("x",))
-        self.notes.write(0, 0, None, as_bytes(more.get("did", DID)), ticket, True, False, self.UNCLEAR)
+        self.notes.write(0, 0, None, as_bytes(DID), ("x",), True, False, self.UNCLEAR)
         if outcome is not None:
-            self.notes.write(0, 0, outcome, None, None, True, more.get("is_last", False), self.UNCLEAR)
+            self.notes.write(0, 0, outcome, None, None, True, is_last, self.UNCLEAR)
 
     def test_what_its_client_did_not_know_is_lost(self):
         for outcome, is_last in (("committed", False), ("unknown", True), ("unknown", False)):
@@ -178,21 +178,19 @@ class Noted(unittest.TestCase):
                     self.told()
 
     def test_where_it_was_not_answered_the_store_is_asked(self):
-        """Also where nothing is known that it has written."""
-        for did in (DID, Logged((), ())):
-            for became in ("committed", "unknown", "aborted"):
-                with self.subTest(became=became, did=did):
-                    self.setUp()
-                    self.unclear(None, did=did)
-                    with mock.patch("zanteyard.remote._crash_recovery.find_out", return_value=(became, None)):
-                        if became == "aborted":
-                            (first, told), rest = self.told()[0]
-                            self.assertEqual((first, rest), (0, (1, NOTHING)))
-                            self.assertEqual((told.outcome, told.reads, told.writes), ("aborted", (), ()))
-                            self.assertEqual([*map(list, told.did)], [[*did.reads], [*did.writes]])
-                            continue
-                        with self.assertRaisesRegex(LostError, self.UNCLEAR):
-                            self.told()
+        for became in ("committed", "unknown", "aborted"):
+            with self.subTest(became=became):
+                self.setUp()
+                self.unclear(None)
+                with mock.patch("zanteyard.remote._crash_recovery.find_out", return_value=(became, None)):
+                    if became == "aborted":
+                        (first, told), rest = self.told()[0]
+                        self.assertEqual((first, rest), (0, (1, NOTHING)))
+                        self.assertEqual((told.outcome, told.reads, told.writes), ("aborted", (), ()))
+                        self.assertEqual([*map(list, told.did)], [[*DID.reads], [*DID.writes]])
+                        continue
+                    with self.assertRaisesRegex(LostError, self.UNCLEAR):
+                        self.told()
 
     def test_where_nothing_of_it_was_committed_nothing_is_unclear(self):
         self.unclear("aborted")
@@ -222,29 +220,23 @@ class Noted(unittest.TestCase):
         self.assertEqual(self.notes.half.at, HEAD.size + length)
 
 
-class Doubtful(MemoryStore):
-    """In place of an application's own SQL: it says at its commit what it did, or that it can't."""
-
-    why = None
-
-    def connect(self):
-        made = super().connect()
-        made.look_up = self.look_up
-        return made
-
-    def look_up(self, transaction):
-        transaction.unclear = self.why and AuditLostError(self.why)
-        transaction.reads.add(("y", "init"))
+def written_by_a_child(run_name):
+    """A store that has a value that a forked child of a client wrote."""
+    store = MemoryStore()
+    child = store.connect()
+    child.begin()
+    child.write("x", 1, (run_name, UNAUDITED, 0))
+    child.commit()
+    return store
 
 
 class WhatIsNoted(unittest.TestCase):
-    """By a session whose store looks up before the commit what was done."""
+    """By a session that may have read what isn't audited."""
 
     setUp, UNCLEAR = Noted.setUp, Noted.UNCLEAR
 
-    def run_one(self, why, unclaimed=None):
-        store, told = Doubtful(), []
-        store.why = why
+    def run_one(self, store, unclaimed=None):
+        told = []
         auditor = mock.Mock(run_name="run", is_named=False, policy=Policy(30.0))
         auditor.miss = lambda *missed: told.append(missed)
         session = Session(auditor, 0, store.connect(), "run")
@@ -254,19 +246,20 @@ class WhatIsNoted(unittest.TestCase):
         session.run(add_one("x"))
         return notes_of(self.path), told
 
-    def test_what_was_looked_up_is_noted_and_handed_in(self):
-        (before, answered), told = self.run_one(None)
-        self.assertIn(("y", "init"), unpacked(before.packed).reads)
+    def test_what_was_read_is_noted_and_handed_in(self):
+        (before, answered), told = self.run_one(MemoryStore())
+        self.assertIn(("x", "init"), unpacked(before.packed).reads)
         self.assertEqual((before.unclear, answered.unclear, told), (None, None, []))
 
     def test_that_it_is_unclear_is_noted_before_and_behind(self):
-        (before, answered), told = self.run_one(self.UNCLEAR)
-        self.assertEqual((before.unclear, answered.unclear), (self.UNCLEAR, self.UNCLEAR))
+        (before, answered), told = self.run_one(written_by_a_child("run"))
+        for why in (before.unclear, answered.unclear, *(str(error) for _, _, error in told)):
+            self.assertIn(self.UNCLEAR, why)
         self.assertEqual((before.outcome, answered.outcome), (None, "committed"))
-        self.assertEqual([str(error) for _, _, error in told], [self.UNCLEAR])
+        self.assertEqual(len(told), 1)
 
     def test_so_is_that_its_names_may_be_anothers(self):
-        (before, answered), told = self.run_one(None, self.UNCLEAR)
+        (before, answered), told = self.run_one(MemoryStore(), self.UNCLEAR)
         self.assertEqual((before.unclear, answered.unclear), (self.UNCLEAR, self.UNCLEAR))
         self.assertEqual([str(error) for _, _, error in told], [self.UNCLEAR])
 
@@ -427,41 +420,25 @@ os.kill(os.getpid(), signal.SIGKILL)
         transaction.commit()
         self.assertEqual(notes.halves, [])
 
-    def test_what_is_not_audited_is_told_at_once(self):
-        live, _, client = self.audited()
-        client.lose(AuditLostError("a connection isn't audited"))
-        self.wait_for(lambda: live.is_over)
-        self.assertIn("a connection isn't audited", str(live.outcome.failure))
-        client.leave()
-
-    def test_where_it_can_not_be_told_its_notes_tell_so(self):
-        live, server, client = self.audited()
-        client.session(MemoryStore().connect())
-        with mock.patch.object(client._messages, "tell", return_value=False):
-            client.lose(AuditLostError("a connection isn't audited"))
-        self.assertEqual(os.listdir(server.notes), [])
-        client.leave()
-
     def test_a_session_that_ends_unclear_is_not_closed(self):
         """What nobody hands in may have been read by others."""
         live, _, client = self.audited()
-        store = Doubtful()
-        store.why = "a statement of it isn't understood"
-        one, other = client.session(store.connect(), 0.1), live.session(MemoryStore.connect(store))
+        store = written_by_a_child(client.run_name)
+        one, other = client.session(store.connect(), 0.1), live.session(store.connect())
         commit = one.store.commit
 
         def unanswered():
             commit()
-            self.assertEqual(other.run(lambda transaction: transaction.get("x")), "1")
+            self.assertEqual(other.run(lambda transaction: transaction.get("x")), 2)
             raise OutcomeUnknownError("no answer came")
 
         one.store.commit, one.store.outcome = unanswered, lambda: "unknown"
         with self.assertRaises(OutcomeUnknownError), client._outbox._sending:
-            one.run(lambda transaction: transaction.put("x", "1"))
+            one.run(add_one("x"))
         client.leave()
         outcome = live.stop()
         self.assertEqual(outcome.kind, "incomplete", str(outcome))
-        self.assertIn("isn't understood", str(outcome))
+        self.assertIn("a forked child", str(outcome))
 
     def test_where_nothing_can_be_noted_clients_go_on(self):
         logging.getLogger("zanteyard").setLevel(logging.CRITICAL)

@@ -6,7 +6,9 @@ import subprocess
 import sys
 import tempfile
 import unittest
+import zipfile
 
+import make_wheel
 from zanteyard.program._auditor import PROGRAM
 from zanteyard.program._binaries import BUILT
 from zanteyard.core._version import VERSION
@@ -110,6 +112,14 @@ class Package(unittest.TestCase):
         self.assertIn(f"{self.folder}/venv/", programs[0])
         self.assertIn(": proved by " if self.is_of_the_tree else "NOT PROVED", programs[0])
         self.assertEqual("+unproved" in os.path.basename(self.wheel), not self.is_of_the_tree)
+
+    def test_it_has_the_licences_of_what_is_inside(self):
+        with zipfile.ZipFile(self.wheel) as packed:
+            names = {os.path.basename(name) for name in packed.namelist() if ".dist-info/" in name}
+        wanted = {"LICENSE", "LICENSES.md"}
+        if os.path.isfile(make_wheel.PROXY) and os.path.isfile(make_wheel.LGPL):
+            wanted.add("LICENSE.LGPL-2.1")
+        self.assertLessEqual(wanted, names)
 
     def test_a_page_from_a_demonstration(self):
         self.assertEqual(len(self.commands), 3)

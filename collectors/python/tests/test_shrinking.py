@@ -11,7 +11,8 @@ from zanteyard.explain import _shrinking as shrinking
 from zanteyard.program._auditor import PROGRAM
 from zanteyard.explain._reasons import explain_history
 from zanteyard.stores.memory import MemoryStore
-from zanteyard.explain._shrinking import Part, named, refuted, statements_of
+from zanteyard.explain._shrinking import Part, named, refuted
+from zanteyard.explain._words import statements_of
 
 from .test_examples import EXAMPLES
 

@@ -1,6 +1,8 @@
 """`zanteyard watch` over a real server, the real proxy and the real auditor."""
 import os
+import random
 import shutil
+import subprocess
 import sys
 import tempfile
 import threading
@@ -21,6 +23,43 @@ except ImportError:
     psycopg2 = None
 HERE = os.path.basename(__file__)
 LIMIT = 300.0  # seconds in which what is owed has to be found
+ROWS = (100, 108)  # of the clients that are disturbed
+# A client that connects again where its connection is lost, and says how many commits were answered.
+DISTURBED = f"""
+import random, sys
+import psycopg2
+from psycopg2 import errors
+
+while True:
+    try:
+        connection = psycopg2.connect(sys.argv[1])
+        connection.set_session(isolation_level="SERIALIZABLE")
+        while True:
+            one, other = random.sample(range{ROWS}, 2)
+            try:
+                cursor = connection.cursor()
+                cursor.execute("SELECT qty FROM stock WHERE id IN (%s, %s)", (one, other))
+                cursor.execute("SAVEPOINT undone")
+                cursor.execute("UPDATE stock SET qty = 0 WHERE id = %s", (one,))
+                cursor.execute("ROLLBACK TO undone")
+                cursor.execute("SAVEPOINT kept")
+                cursor.execute("UPDATE stock SET qty = qty - 1 WHERE id = %s", (other,))
+                cursor.execute("RELEASE kept")
+                connection.commit()
+                print("committed", flush=True)
+            except (errors.SerializationFailure, errors.DeadlockDetected):
+                connection.rollback()
+    except (psycopg2.OperationalError, psycopg2.InterfaceError):
+        pass
+"""
+DEFINITIONS = (
+    "ALTER TABLE stock ADD COLUMN note text",
+    "VACUUM (FULL, FREEZE) stock",
+    "CREATE INDEX by_qty ON stock (qty)",
+    "ALTER TABLE stock DROP COLUMN note",
+    "DROP INDEX by_qty",
+    "TRUNCATE beside",
+)
 
 
 @unittest.skipUnless(psycopg2 and program("initdb"), "PostgreSQL or psycopg2 is not installed")
@@ -40,6 +79,7 @@ class Whole(unittest.TestCase):
         with Database(cls.url) as database:
             facts.create(database)
             database.run("CREATE TABLE stock (id int PRIMARY KEY, qty int NOT NULL)")
+            database.run("CREATE TABLE beside (id int PRIMARY KEY)")
             database.run("INSERT INTO stock VALUES (7, 1000000), (8, 1000000)")
 
     def setUp(self):
@@ -161,6 +201,61 @@ class Whole(unittest.TestCase):
         self.assertEqual(self.status, 0, told)
         self.assertTrue(told.startswith("serial: "), told)
         self.assertIn("an aggregate", told)
+
+    def test_what_disturbs_it_makes_nothing_up(self):
+        """Clients that are killed wherever they are, connections that the server ends, statements
+        that a savepoint undoes, and definitions that change meanwhile. What was answered is there."""
+        admin = psycopg2.connect(self.cluster.dsn)
+        self.addCleanup(admin.close)
+        admin.autocommit = True
+        cursor = admin.cursor()
+        cursor.execute("INSERT INTO stock SELECT i, 0 FROM generate_series(%s, %s) i", (ROWS[0], ROWS[1] - 1))
+        self.connect()  # it listens
+        dsn = f"host={self.folder} port=6432 user=postgres dbname=postgres application_name=disturbed"
+        answers, errors = (open(f"{self.folder}/{name}", "a+b") for name in ("answers", "errors"))
+        self.addCleanup(answers.close)
+        self.addCleanup(errors.close)
+        clients, disturbed = [], []
+
+        def begin():
+            call = [sys.executable, "-c", DISTURBED, dsn]
+            clients.append(subprocess.Popen(call, stdout=answers, stderr=errors))
+
+        def end(client):
+            client.kill()
+            client.wait()
+
+        self.addCleanup(lambda: [end(client) for client in clients])
+        for _ in range(4):
+            begin()
+
+        def disturb():
+            time.sleep(random.uniform(0.05, 0.4))
+            end(clients.pop(0))
+            begin()
+            cursor.execute("""SELECT pg_terminate_backend(pid) FROM pg_stat_activity
+                WHERE application_name = 'disturbed' ORDER BY random() LIMIT 1""")
+            cursor.execute(DEFINITIONS[len(disturbed) % len(DEFINITIONS)])
+            disturbed.append(True)
+
+        def is_done(status):
+            return len(disturbed) >= 12 and status.rounds_count >= 3 and status.seen.reads >= 50
+
+        self.until(disturb, is_done)
+        while clients:
+            end(clients.pop())
+        told = self.finish()
+        self.assertEqual(self.status, 0, told)
+        self.assertTrue(told.startswith("serial: "), told)
+        for file in (answers, errors):
+            file.seek(0)
+        self.assertNotIn(b"Traceback", errors.read())
+        answered = len(answers.readlines())
+        cursor.execute("SELECT -sum(qty) FROM stock WHERE id >= %s", (ROWS[0],))
+        ((done,),) = cursor.fetchall()
+        self.assertGreater(answered, 50)
+        self.assertLessEqual(answered, done)
+        self.assertLessEqual(done, answered + 2 * len(disturbed) + 4)  # one of each that was lost
 
 
 if __name__ == "__main__":

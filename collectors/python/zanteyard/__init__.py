@@ -56,8 +56,9 @@ from .core.errors import (
 )
 from .explain._graphviz import dot_text, draw
 from .explain._reasons import Explanation, explain_history, reasons
-from .explain._shrinking import audited, from_start, smaller, words
+from .explain._shrinking import audited, from_start, smaller
 from .explain._violation_text import tell_violation
+from .explain._words import words
 from .live._live_auditor import LiveAuditor
 from .program._auditor import Auditor
 from .program._subprocess import AuditorApart

@@ -10,17 +10,26 @@ import sys
 import traceback
 from typing import Any, Callable, Iterator, List, Mapping, Optional, Sequence
 
+from ..core._private_files import private
 from ..core._version import VERSION
-from ..core.errors import ImportRefusedError, ProgramEndedError, ScriptMistakeError, ZanteyardError
+from ..core.errors import (
+    CantBeAskedError,
+    ImportRefusedError,
+    ProgramEndedError,
+    ScriptMistakeError,
+    ZanteyardError,
+)
 from ..explain._html import page_of
+from ..explain._levels import Levels, levels_lines
 from ..explain._report import EXPLAINED, Story, story_lines, verdict_story, violation_story
 from ..explain._script_names import ScriptNames, read_names
+from ..explain._script_times import ScriptTimes, read_times
 from ..explain._scripts import MORE, ScriptRun, Verdict
 from ..imports import _command as import_command
-from ..imports._times import time_line
 from ..program import _check_report as check_report
 from ..program._auditor import Auditor
 from ..program._binaries import checker_path, find_program, origin_of, program_path
+from ..promises._kinds import ASKED
 from ..trial import _demo as demo
 from ..trial.store_kinds import KINDS
 from ..watch import _command as watch_command
@@ -105,9 +114,14 @@ def parser() -> argparse.ArgumentParser:
 
     check = command("check", _check, "tells each verdict of a script in words")
     _add_script(check)
+    _add_promise(check)
     explain = command("explain", _explain, "tells why a script is violated, also on a page")
     _add_script(explain)
+    _add_promise(explain)
     explain.add_argument("--html", metavar="FILE", help="writes a page to look at")
+    levels = command("levels", _levels, "tells which promises a script's history keeps")
+    levels.epilog = "The exit status is 0 where that was told, and 2 at a mistake in the script."
+    _add_script(levels)
     shown = command("demo", _demo, "audits a store in memory that has a fault")
     shown.add_argument(
         "name",
@@ -168,6 +182,20 @@ def _add_script(command: argparse.ArgumentParser) -> None:
     )
 
 
+def _add_promise(command: argparse.ArgumentParser) -> None:
+    command.add_argument(
+        "--promise",
+        choices=tuple(ASKED),
+        help="what the store promises (serializable; strict for a script that was imported "
+        "with --strict); strict takes the times in SCRIPT.times (docs/PROMISES.md)",
+    )
+    command.add_argument(
+        "--all",
+        action="store_true",
+        help="tells each violation that lies apart from the first whole",
+    )
+
+
 def _nodes(text: str) -> int:
     nodes = int(text)
     if not 1 <= nodes <= MORE[-1][0]:
@@ -193,15 +221,34 @@ def _names(path: str) -> Optional[ScriptNames]:
     return names
 
 
+def _times(path: str) -> Optional[ScriptTimes]:
+    """The times beside the script, where it has some."""
+    return read_times(path) if path != "-" else None
+
+
+def _run_of(asked: Any) -> ScriptRun:
+    """Raises CantBeAskedError where the script can't be asked about the promise."""
+    names = _names(asked.script)
+    is_timed = names is not None and names.asks_time
+    promise = ASKED[asked.promise or ("strict" if is_timed else "serializable")]
+    if is_timed and not promise.is_timed and names is not None and names.has_pauses:
+        raise CantBeAskedError(
+            f"the script asks for the order of time itself, by its fences, which {promise.title} "
+            "doesn't: import it again without --strict"
+        )
+    times = _times(asked.script)
+    return ScriptRun(find_program(), asked.nodes, names, promise, times)
+
+
 def _check(asked: Any) -> int:
     is_told = False
-    with ScriptRun(find_program(), asked.nodes, _names(asked.script)) as run:
+    with _run_of(asked) as run:
         for verdict in run.verdicts(_lines(asked.script)):
             print(_where(verdict), end=" ")
             if verdict.kind == "violated" and is_told:
                 print("violated, still")
                 continue
-            _tell(_story(verdict, run, asked.seconds), run.history.names)
+            _tell(_story(verdict, run, asked.seconds), asked.all)
             is_told = verdict.kind == "violated"
         _tell_no_cuts(run)
         _tell_resumed(run)
@@ -209,19 +256,28 @@ def _check(asked: Any) -> int:
 
 
 def _explain(asked: Any) -> int:
-    with ScriptRun(find_program(), asked.nodes, _names(asked.script)) as run:
+    with _run_of(asked) as run:
         for verdict in run.verdicts(_lines(asked.script)):
             if verdict.kind == "violated":
                 break  # violated is final
         assert run.verdict is not None
         story = _story(run.verdict, run, asked.seconds)
         print(_where(run.verdict), end=" ")
-        _tell(story, run.history.names)
+        _tell(story, asked.all)
         _tell_resumed(run)
     if asked.html:
         about = os.path.basename(asked.script) if asked.script != "-" else "a script"
         _write_page(story, about, asked.html)
     return _status(run)
+
+
+def _levels(asked: Any) -> int:
+    lines = [*_lines(asked.script)]
+    names, times = _names(asked.script), _times(asked.script)
+    more = (asked.nodes, asked.seconds)
+    for line in levels_lines(Levels(find_program(), lines, names, times, *more).found()):
+        print(line)
+    return 0
 
 
 def _demo(asked: Any) -> int:
@@ -275,8 +331,8 @@ def _journal(asked: Any) -> int:
 def _story(verdict: Verdict, run: ScriptRun, seconds: float) -> Story:
     if verdict.kind == "violated":
         round_told = (verdict.counts, seconds, verdict.certificate)
-        return violation_story(run.history, find_program(), *round_told)
-    return verdict_story(verdict, run.history)
+        return violation_story(run.history, find_program(), *round_told, run.promise)
+    return verdict_story(verdict, run.history, run.promise)
 
 
 def _where(verdict: Verdict) -> str:
@@ -286,11 +342,9 @@ def _where(verdict: Verdict) -> str:
     return f"{line}{again if verdict.rounds > 1 else ''}:"
 
 
-def _tell(story: Story, names: Optional[ScriptNames] = None) -> None:
-    for line in story_lines(story):
+def _tell(story: Story, tells_all: bool = False) -> None:
+    for line in story_lines(story, tells_all):
         print(line)
-    if names is not None and names.asks_time:
-        print(time_line(story, names))
 
 
 def _tell_no_cuts(run: ScriptRun) -> None:
@@ -311,7 +365,7 @@ def _write_page(story: Story, about: str, path: str) -> None:
 
 
 def _write(page: str, path: str) -> None:
-    with open(path, "w", encoding="utf-8") as file:
+    with open(path, "w", encoding="utf-8", opener=private) as file:
         file.write(page)
     print(f"(to look at: {path})")
 

@@ -2,18 +2,16 @@
 
 from __future__ import annotations
 
-import socket
-import threading
 import time
-from http.server import BaseHTTPRequestHandler, ThreadingHTTPServer
 from typing import Any, Callable, Iterator
 
 from ..core._prometheus import TEXT, Family, text_of
 from ..core._version import VERSION
 from ..live._live_auditor import LiveAuditor
+from ..watch._web import TEXT as PLAIN
+from ..watch._web import Answer, WebServer
 
 KINDS = ("serial", "pending", "violated", "spent")
-SLOWEST = 10.0  # seconds in which who asks has to send its lines, and to take the answer
 
 
 def families(live: LiveAuditor, clients: int = 0, redis_up: Any = None) -> Iterator[Family]:
@@ -71,42 +69,18 @@ def families(live: LiveAuditor, clients: int = 0, redis_up: Any = None) -> Itera
         yield one("redis_up", "gauge", "1 where the Redis can be reached.", bool(redis_up))
 
 
-class MetricsServer:
-    """Answers GET /metrics at HOST:PORT by what `tell` gives, until it is closed. Raises OSError
-    where nobody can listen there. Port 0 takes any; `port` is the one taken."""
+class MetricsServer(WebServer):
+    """Answers GET /metrics at HOST:PORT by what `tell` gives, until it is closed: a few requests at
+    a time, under whatever name it is asked. Raises OSError if it can't listen there, ValueError if
+    that is no address. Port 0 takes any; `port` is the one taken."""
 
     def __init__(self, address: str, tell: Callable[[], str]) -> None:
-        host, _, port = address.rpartition(":")
+        def answer(path: str) -> Answer:
+            if path == "/metrics":
+                return Answer(tell(), TEXT)
+            return Answer("only /metrics is here\n", PLAIN, 404)
 
-        class Handler(BaseHTTPRequestHandler):
-            timeout = SLOWEST
-
-            def do_GET(self) -> None:
-                is_there = self.path.split("?")[0] == "/metrics"
-                text = (tell() if is_there else "only /metrics is here\n").encode()
-                self.send_response(200 if is_there else 404)
-                self.send_header("Content-Type", TEXT)
-                self.send_header("Content-Length", str(len(text)))
-                self.end_headers()
-                self.wfile.write(text)
-
-            def log_message(self, *_: object) -> None:
-                """Who looks isn't logged."""
-
-        class Server(ThreadingHTTPServer):
-            address_family = socket.AF_INET6 if ":" in host else socket.AF_INET
-
-            def handle_error(self, *_: object) -> None:
-                """As by who hangs up in the middle: that isn't for the log to be filled with."""
-
-        self._server = Server((host.strip("[]") or "127.0.0.1", int(port)), Handler)
-        self._server.daemon_threads = True
-        self.port = self._server.server_address[1]
-        threading.Thread(target=self._server.serve_forever, daemon=True).start()
-
-    def close(self) -> None:
-        self._server.shutdown()
-        self._server.server_close()
+        super().__init__(address, answer, any_name=True)
 
 
 __all__ = ["MetricsServer", "families", "text_of"]

@@ -29,6 +29,7 @@ from ..core._outcome import (
     VIOLATED,
     Outcome,
 )
+from ..core._private_files import private
 from ..core.errors import ZanteyardError
 from ..explain._shrinking import from_start, refuted
 from ..explain._violation_text import tell_violation
@@ -223,7 +224,7 @@ def _tell(asked: Any, auditor: Auditor, outcome: Outcome) -> None:
     except Exception as error:
         tell(f"violated, and why can't be told: {error!r}")
     try:
-        with open(f"{path}.txt", "w", encoding="utf-8") as file:
+        with open(f"{path}.txt", "w", encoding="utf-8", opener=private) as file:
             file.write("\n".join(lines) + "\n")
     except OSError as error:
         logger.error("%s.txt can't be written, and has been told here: %s", path, error)

@@ -8,35 +8,25 @@ import os
 import sys
 import threading
 import time
-from typing import Any, Dict, Iterator, List, Sequence, Tuple
+from typing import Any, Dict, Iterator, List, Tuple
 
 from ._records import History, Logged, Naming, ShownId
 
 PACKAGE = os.path.dirname(os.path.dirname(os.path.abspath(__file__))) + os.sep
-# Files, and folders, that call nothing by themselves.
-ours: Tuple[str, ...] = (PACKAGE, contextlib.__file__, threading.__file__)
+OURS = (PACKAGE, contextlib.__file__, threading.__file__)  # what calls nothing by itself
 LETTERS = 60  # of a value, at most
-depth = 12  # calls that are looked through, at most
-
-
-def pass_over(folder: str, calls: int = 0) -> None:
-    """What stands in this folder calls nothing by itself, as a driver in which calls begin; and so
-    many calls more may come between."""
-    global ours, depth
-    if folder + os.sep not in ours:
-        ours, depth = (*ours, folder + os.sep), depth + calls
+DEPTH = 12  # calls that are looked through, at most
 
 
 def caller() -> str:
     """The file and line outside of this package from which this was called; empty where there is
     none near."""
     frame: Any = sys._getframe(1)
-    for _ in range(depth):
+    for _ in range(DEPTH):
         if frame is None:
             return ""
         name = frame.f_code.co_filename
-        is_made = name == "<string>" and "__name__" not in frame.f_globals  # by a library
-        if not name.startswith(ours) and not is_made:
+        if not name.startswith(OURS):
             return f"{name}:{frame.f_lineno}"
         frame = frame.f_back
     return ""
@@ -49,23 +39,6 @@ def brief(value: Any) -> str:
     is_long = isinstance(value, (str, bytes, list)) and len(value) > LETTERS
     text = repr(value[:LETTERS] if is_long else value)
     return text[:LETTERS] + " .." if is_long or len(text) > LETTERS else text
-
-
-def brief_row(row: Sequence[Any]) -> str:
-    """Several, of which none is made a text that is longer. Raises nothing."""
-    texts: List[str] = []
-    for value in row:
-        try:
-            texts.append("None" if value is None else brief(value))
-        except Exception:  # of a type of the application's
-            texts.append(f"of {type(value).__name__}")
-        if sum(map(len, texts)) > LETTERS:
-            break
-    if len(texts) == len(row) == 1:
-        return f"({texts[0]},)"
-    text = f"({', '.join(texts)})"
-    is_whole = len(text) <= LETTERS and len(texts) == len(row)
-    return text if is_whole else text[:LETTERS] + " .."
 
 
 def clock_of(logged: Logged) -> str:

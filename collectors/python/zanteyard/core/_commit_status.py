@@ -25,7 +25,6 @@ PACKAGE = __name__.split(".")[0]
 MODULES = {  # that look an outcome up, by the word for the kind of store
     "postgres": f"{PACKAGE}.stores._postgres_outcomes",
     **{kind: f"{PACKAGE}.stores.{kind}" for kind in ("mariadb", "redis", "sqlite")},
-    "sql": f"{PACKAGE}.sql._store",
 }
 
 

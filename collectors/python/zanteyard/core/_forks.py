@@ -24,7 +24,7 @@ class _Nobody:
     def take(self, *_: object) -> None:
         pass
 
-    take_packed = take_close = miss = lose = take
+    take_packed = take_close = miss = take
 
 
 def keep(session: Any) -> None:

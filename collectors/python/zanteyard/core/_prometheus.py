@@ -14,8 +14,13 @@ def text_of(every: Iterator[Family]) -> str:
     lines: List[str] = []
     for name, kind, about, samples in every:
         lines += [f"# HELP {name} {about}", f"# TYPE {name} {kind}"]
-        lines += [f"{name}{labels(labelled)} {float(value):g}" for labelled, value in samples]
+        lines += [f"{name}{labels(labelled)} {number(value)}" for labelled, value in samples]
     return "\n".join(lines) + "\n"
+
+
+def number(value: float) -> str:
+    """All of its digits: a counter that is rounded stands still and then jumps."""
+    return str(int(value)) if float(value).is_integer() else repr(float(value))
 
 
 def labels(pairs: Labels) -> str:

@@ -37,7 +37,9 @@ class Logged(NamedTuple):
     The rest is for who is told of a violation. `statements` are pairs of a deed and what was run
     for it; `values` are triples of "read" or "wrote", a key, and what was read or written, as a
     short text; `began` is the time of day in seconds since 1970, 0 where it isn't known; `caller`
-    is the file and line from which the transaction was begun."""
+    is the file and line from which the transaction was begun. `span` is when it began and when it
+    ended, by one clock, and what that counts ("ns", or another word); empty where it isn't known,
+    and None for an end that isn't."""
 
     reads: Sequence[Read]
     writes: Sequence[str]
@@ -48,6 +50,7 @@ class Logged(NamedTuple):
     caller: str = ""
     tried_reads: Sequence[Read] = ()
     tried_writes: Sequence[str] = ()
+    span: Sequence[Any] = ()
 
     @property
     def is_undone(self) -> bool:

@@ -101,16 +101,3 @@ class ObservedStore(Protocol):
     def has_answered(self, error: BaseException) -> bool:
         """Whether what `commit` raised is the store's own answer: then nothing of it was committed,
         and nobody has to ask."""
-
-    def look_up(self, transaction: Any) -> None:
-        """Called before a client's commit is noted and sent; raises AbortedError alone. A store
-        whose clients don't read and write by a Transaction says there what they did, or, as the
-        transaction's `unclear`, why that isn't known."""
-
-    @property
-    def has_number(self) -> bool:
-        """Whether the store may be asked what became of a transaction that is unclear."""
-
-    def tried(self) -> Sequence[str]:
-        """The keys that a client has written by statements of its own, for an attempt that was
-        aborted."""

@@ -118,6 +118,11 @@ class JournalVersionError(JournalError):
     """The file is no journal, or one of another version."""
 
 
+class CantBeAskedError(ZanteyardError):
+    """A line that can't be asked about the promise that was chosen; nothing is said of the
+    store."""
+
+
 class ScriptMistakeError(ZanteyardError):
     """A line of a script was refused, or none opens an audit (`refusal` is "nothing"): the script
     is wrong, and nothing is said of the store."""
@@ -129,6 +134,8 @@ class ScriptMistakeError(ZanteyardError):
         what = f"line {line_number} was answered {refusal}"
         if refusal == "nothing":
             what = "no audit is open where the script ends"
+        elif not refusal:
+            what = f"line {line_number} can't be asked about this promise"
         super().__init__(f"{what}: {advice}" if advice else what)
 
 
@@ -140,14 +147,3 @@ class ImportRefusedError(ZanteyardError):
         self.line_number = line_number
         self.why = why
         super().__init__(f"line {line_number}: {why}" if line_number else why)
-
-
-class StatementRefusedError(ZanteyardError):
-    """A statement of the application's that isn't audited; it wasn't sent. `may_run` says whether
-    it can be run all the same, unaudited, where the user wants that."""
-
-    def __init__(self, statement: str, why: str, may_run: bool = False) -> None:
-        self.statement = statement
-        self.why = why
-        self.may_run = may_run
-        super().__init__(f"not audited, and not sent, since {why}: {statement}")

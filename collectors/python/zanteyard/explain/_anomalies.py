@@ -13,8 +13,10 @@ from typing import Dict, Iterator, List, Mapping, Optional, Sequence, Set, Tuple
 
 from ..core._own_keys import FENCE, PLAIN_FENCE
 from ..core._records import Logged, Naming, ShownId, Source, Transactions
-from ._shrinking import told_undone, version
-from ._shrinking import name as plain_name
+from ..promises._kinds import SERIALIZABLE, Promise
+from ._arcs import IN_TIME, READ, READ_BEFORE, Arc, told_later, transaction_of
+from ._words import name as plain_name
+from ._words import told_undone, version
 
 Edge = Tuple[ShownId, ShownId]
 
@@ -33,36 +35,79 @@ MEANINGS: Mapping[str, str] = {
     "from what wrote nothing",
     "intermediate read": "a read of what its writer hadn't finished with",
     "impossible read": "a read that no order could give its reader, whatever the others did",
+    "non-repeatable read": "a transaction read a key twice, and found two versions of it",
+    "circular information flow": "Adya's G1c: transactions that each saw what another of them "
+    "wrote, around",
     "lost update": "two transactions read one version of a key, and both overwrote it",
+    "dirty write": "Adya's G0: of two transactions that wrote the same keys each overwrote a part "
+    "of the other's work",
     "fractured read": "a transaction saw one part of another's work and not the rest",
     "stale read": "a read of a version that the reader has to come behind",
+    "long fork": "two transactions saw two writes in opposite orders: each saw the one and not "
+    "the other",
     "write skew": "transactions that each overwrote what another had read, on different keys",
+    # circles that are none of the patterns above
+    "G-single": "a circle in which exactly one transaction read what the next one overwrote",
+    "G-nonadjacent": "a circle in which transactions read what the next one overwrote, but never "
+    "two one after another",
+    "G2": "a circle in which several transactions read what the next one overwrote",
 }
 
 
-UNREPEATABLE = "non-repeatable read"  # a name of SQL's, which `zanteyard watch` uses
-OF_SQL = {UNREPEATABLE: "a transaction read a row twice, and found two versions of it"}
+UNREPEATABLE = "non-repeatable read"
 
 
 def meaning_of(name: str) -> str:
     """What an anomaly's name says; empty if it isn't known."""
-    return {**OF_SQL, **MEANINGS}.get(name, "")
+    return MEANINGS.get(name, "")
 
 
 def find_anomaly(
-    history: Sequence[Sequence[Logged]], name: Naming = plain_name
+    history: Sequence[Sequence[Logged]],
+    name: Naming = plain_name,
+    promise: Promise = SERIALIZABLE,
 ) -> Optional[Anomaly]:
-    """The first of the patterns that the history has, or None. The history should be small."""
+    """The first of the patterns that the history has, and that the promise excludes; or None. The
+    history should be small."""
     table = {
         ShownId((session, number)): logged
         for session, transactions in enumerate(history)
         for number, logged in enumerate(transactions)
     }
-    behind = _behind(table)
-    for pattern in (_dirty_reads, _lost_updates, _fractured_reads, _stale_reads, _write_skews):
+    behind = _behind(table, promise.is_timed)
+    patterns = [
+        *(_dirty_reads, _unrepeatable_reads, _information_flows, _lost_updates, _dirty_writes),
+        *(_fractured_reads, _stale_reads, _long_forks),
+    ]
+    if not promise.is_split:  # snapshot isolation lets it through
+        patterns.append(_write_skews)
+    for pattern in patterns:
         for anomaly in pattern(table, behind, name):
             return anomaly
     return None
+
+
+def name_circle(arcs: Sequence[Arc], name: Naming = plain_name) -> Optional[Anomaly]:
+    """What a circle is called that has none of the patterns; None where the order of time has part
+    in it."""
+    kinds = [arc.kind for arc in arcs]
+    if not arcs or IN_TIME in kinds:
+        return None
+    ids = tuple(dict.fromkeys(transaction_of(arc.start) for arc in arcs))
+    count = kinds.count(READ_BEFORE)
+    are_next = any(
+        first == second == READ_BEFORE for first, second in zip(kinds, [*kinds[1:], kinds[0]])
+    )
+    if not count and READ not in kinds:
+        called = "dirty write"
+    elif not count:
+        called = "circular information flow"
+    elif count == 1:
+        called = "G-single"
+    else:
+        called = "G2" if are_next else "G-nonadjacent"
+    around = " → ".join(name(id) for id in (*ids, ids[0]))
+    return Anomaly(called, f"each comes before the next: {around}", ids)
 
 
 def _told(key: str) -> str:
@@ -80,10 +125,18 @@ def _plain_arcs(table: Transactions) -> Iterator[Edge]:
                 yield source, id
 
 
-def _behind(table: Transactions) -> Dict[ShownId, Set[ShownId]]:
+def _in_time(table: Transactions) -> Iterator[Edge]:
+    """What ended before what began."""
+    for first, first_logged in table.items():
+        for second, second_logged in table.items():
+            if told_later(first_logged, second_logged, ("", "")):
+                yield first, second
+
+
+def _behind(table: Transactions, is_timed: bool) -> Dict[ShownId, Set[ShownId]]:
     """Of each transaction, those that stand behind it by these arcs."""
     after: Dict[ShownId, List[ShownId]] = {id: [] for id in table}
-    for start, end in _plain_arcs(table):
+    for start, end in [*_plain_arcs(table), *(_in_time(table) if is_timed else ())]:
         after[start].append(end)
     behind: Dict[ShownId, Set[ShownId]] = {}
     for id in table:
@@ -137,6 +190,77 @@ def _wrong_read(source: Logged) -> Tuple[str, str]:
     return "read of what was never written", "which didn't write it"
 
 
+def _unrepeatable_reads(table: Transactions, _: object, name: Naming) -> Iterator[Anomaly]:
+    for reader, logged in table.items():
+        first: Dict[str, Source] = {}
+        for key, source in logged.reads:
+            other = first.setdefault(key, source)
+            if other != source:
+                versions = [version(key, each, name) for each in (other, source)]
+                sentence = f"{name(reader)} read {_told(key)} {versions[0]}, and {versions[1]}"
+                ids = [each for each in (other, source) if each in table]
+                yield Anomaly(UNREPEATABLE, sentence, (*ids, reader))
+
+
+def _information_flows(
+    table: Transactions, behind: Mapping[ShownId, Set[ShownId]], name: Naming
+) -> Iterator[Anomaly]:
+    """Reads around; what was read may have been handed on by a session."""
+    for start in table:
+        found: Dict[ShownId, Tuple[ShownId, str]] = {}
+        waiting = [start]
+        while waiting:
+            at = waiting.pop(0)
+            for writer, reader, key in _flows(table, at):
+                if reader not in found:
+                    found[reader] = (writer, key)
+                    waiting.append(reader)
+        if start in found:
+            way = [(start, *found[start])]
+            while way[-1][1] != start and len(way) <= len(table):
+                way.append((way[-1][1], *found[way[-1][1]]))
+            sentence = ", and ".join(
+                f"{name(reader)} read {_told(key)} from {name(writer)}" if key
+                else f"{name(reader)} follows {name(writer)} in its session"
+                for reader, writer, key in way
+            )
+            ids = tuple(reader for reader, _, _ in way)
+            yield Anomaly("circular information flow", sentence, ids)
+
+
+def _flows(table: Transactions, writer: ShownId) -> Iterator[Tuple[ShownId, ShownId, str]]:
+    """Who read from it, and who follows it in its session."""
+    for reader, logged in table.items():
+        for key, source in logged.reads:
+            if source == writer:
+                yield writer, reader, key
+    following = [id for id in table if id[0] == writer[0] and id[1] > writer[1]]
+    if following:
+        yield writer, min(following), ""
+
+
+def _dirty_writes(
+    table: Transactions, behind: Mapping[ShownId, Set[ShownId]], name: Naming
+) -> Iterator[Anomaly]:
+    """Of two writers of the same keys, neither of which is known to come first, a reader found each
+    one's version of another key."""
+    for reader, logged in table.items():
+        for key, first in logged.reads:
+            for other_key, second in logged.reads:
+                if first == second or not {first, second} <= table.keys():
+                    continue
+                if second in behind[first] or first in behind[second] or key == other_key:
+                    continue
+                both = {key, other_key}
+                if both <= {*table[first].writes} and both <= {*table[second].writes}:
+                    sentence = (
+                        f"{name(first)} and {name(second)} both wrote {_told(key)} and "
+                        f"{_told(other_key)}, and {name(reader)} found {_told(key)} as the one had "
+                        "left it and the other key as the other had"
+                    )
+                    yield Anomaly("dirty write", sentence, (first, second, reader))
+
+
 def _lost_updates(table: Transactions, _: object, name: Naming) -> Iterator[Anomaly]:
     first: Dict[Tuple[str, Source], ShownId] = {}
     for id, logged in table.items():
@@ -173,6 +297,14 @@ def _stale_reads(
 ) -> Iterator[Anomaly]:
     for reader, key, source, other in _overwritten(table, behind):
         if reader in behind[other]:
+            names = (name(other), name(reader))
+            later = told_later(table[other], table[reader], names)
+            if later and other[0] != reader[0]:
+                what = f"it read {_told(key)} {version(key, source, name)}"
+                yield Anomaly(
+                    "stale read", f"{later}, and did not see it: {what}", (other, reader)
+                )
+                continue
             why = "in its session" if reader[0] == other[0] else "as what was read before it shows"
             yield Anomaly(
                 "stale read",
@@ -180,6 +312,25 @@ def _stale_reads(
                 f"behind {name(other)}, which wrote it ({why})",
                 (other, reader),
             )
+
+
+def _long_forks(
+    table: Transactions, behind: Mapping[ShownId, Set[ShownId]], name: Naming
+) -> Iterator[Anomaly]:
+    """Two readers, each of which saw a write that the other one didn't see."""
+    missed = _overwritten(table, behind)
+    for first, key, _, unseen in missed:
+        for second, other_key, _, other_unseen in missed:
+            if first == second or unseen == other_unseen or key == other_key:
+                continue
+            saw = (other_key, other_unseen) in [*table[first].reads]
+            if saw and (key, unseen) in [*table[second].reads]:
+                sentence = (
+                    f"{name(first)} saw {_told(other_key)} of {name(other_unseen)}, and not "
+                    f"{_told(key)} of {name(unseen)}; {name(second)} saw {_told(key)} of "
+                    f"{name(unseen)}, and not {_told(other_key)} of {name(other_unseen)}"
+                )
+                yield Anomaly("long fork", sentence, (unseen, other_unseen, first, second))
 
 
 def _write_skews(

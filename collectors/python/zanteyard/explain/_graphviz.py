@@ -6,9 +6,11 @@ import shutil
 import subprocess
 from typing import Iterator, List, Optional, Sequence, Tuple
 
+from ..core._private_files import private
 from ..core._records import ABORTED, History, Naming, ShownId
-from ._reasons import Arc, below, explain_history, table
-from ._shrinking import deeds, name, statements_of
+from ._arcs import Arc, below, table, told_arc, transaction_of
+from ._reasons import explain_history
+from ._words import deeds, name, statements_of
 
 DRAWING = 20.0  # seconds for `dot`
 
@@ -44,8 +46,12 @@ def dot_text(
         lines.append(f"  {ends} [label={quoted(f'read {key}')}, style=dashed];")
     for arc in below(around):
         style = "color=red, penwidth=2" if arc in around else "color=grey, fontcolor=grey40"
-        ends = f"{quoted(name(arc.start))} -> {quoted(name(arc.end))}"
-        lines.append(f"  {ends} [label={quoted(arc.why)}, {style}];")
+        start, end = transaction_of(arc.start), transaction_of(arc.end)
+        if start == end:  # a begin, and its own commit
+            continue
+        ends = f"{quoted(name(start))} -> {quoted(name(end))}"
+        label = arc.why if start is arc.start else f"{told_arc(arc, name)}: {arc.why}"
+        lines.append(f"  {ends} [label={quoted(label)}, {style}];")
     return "\n".join([*lines, "}", ""])
 
 
@@ -65,7 +71,7 @@ def draw(
 ) -> List[str]:
     """Writes path.dot, and path.svg where `dot` is installed and makes one; gives the names of the
     files. Raises OSError where they can't be written."""
-    with open(f"{path}.dot", "w", encoding="utf-8") as file:
+    with open(f"{path}.dot", "w", encoding="utf-8", opener=private) as file:
         file.write(dot_text(history, name, arcs))
     if not shutil.which("dot"):
         return [f"{path}.dot"]

@@ -10,23 +10,33 @@ from __future__ import annotations
 
 import time
 from dataclasses import dataclass
-from typing import Any, Dict, Iterable, Iterator, List, NamedTuple, Optional, Tuple
+from typing import Dict, Iterable, Iterator, List, Optional, Tuple
 
 from ..core._records import History, Naming, ShownId, Transactions
-from ._shrinking import SECONDS, name, told_undone, version
+from ..promises._kinds import SERIALIZABLE, Promise
+from ._arcs import (
+    READ,
+    READ_BEFORE,
+    SESSION,
+    WRITTEN,
+    Arc,
+    TooLong,
+    below,
+    by_start,
+    check,
+    circles_of,
+    merged,
+    path,
+    table,
+    time_arcs,
+    told_arc,
+    told_node,
+)
+from ._snapshot_reasons import snapshot_circle
+from ._shrinking import SECONDS
+from ._words import name, told_undone, version
 
 
-class Arc(NamedTuple):
-    """That one transaction comes before another; `needs` are the arcs from which this follows."""
-
-    start: ShownId
-    end: ShownId
-    why: str
-    needs: Tuple[Any, ...]  # of Arc, which this Python's types can't name here
-
-
-ArcsFrom = Dict[ShownId, List[Arc]]
-SESSION = "they are in one session"
 # Why a transaction of such an outcome can't be read from.
 NO_WRITE = {
     "aborted": "which aborted",
@@ -42,14 +52,6 @@ class Explanation:
 
     lines: Tuple[str, ...]
     arcs: Tuple[Arc, ...] = ()
-
-
-def table(history: History) -> Transactions:
-    return {
-        ShownId((session, number)): logged
-        for session, txns in enumerate(history)
-        for number, logged in enumerate(txns)
-    }
 
 
 def wrong_reads(history: History, name: Naming = name) -> Iterator[str]:
@@ -85,54 +87,10 @@ def read_arcs(txns: Transactions, name: Naming = name) -> Iterator[Arc]:
                 read = f"{name(id)} read {key} {version(key, source, name)}"
                 for other in writers.get(key, ()):
                     if other != id:
-                        yield Arc(id, other, f"{read}, and {name(other)} wrote it", ())
+                        why = f"{read}, and {name(other)} wrote it"
+                        yield Arc(id, other, why, (), READ_BEFORE)
             elif source in txns:
-                yield Arc(source, id, f"{name(id)} read {key} from {name(source)}", ())
-
-
-def merged(way: Iterable[Arc]) -> List[Arc]:
-    """The same way, where a run of transactions of one session is one arc."""
-    kept: List[Arc] = []
-    for arc in way:
-        if kept and kept[-1].why == arc.why == SESSION:
-            arc = Arc(kept.pop().start, arc.end, SESSION, ())
-        kept.append(arc)
-    return kept
-
-
-def path(
-    arcs_from: ArcsFrom, start: ShownId, end: ShownId
-) -> Optional[List[Arc]]:
-    """The fewest arcs that lead from the one to the other, at least one; or None."""
-    arcs_to: Dict[ShownId, Arc] = {}
-    queue = [start]
-    for at in queue:
-        for arc in arcs_from.get(at, ()):
-            if arc.end not in arcs_to:
-                arcs_to[arc.end] = arc
-                queue.append(arc.end)
-        if end in arcs_to:
-            way = [arcs_to[end]]
-            while way[0].start != start:
-                way.insert(0, arcs_to[way[0].start])
-            return way
-    return None
-
-
-class TooLong(Exception):
-    """The time is up."""
-
-
-def check(ends: float) -> None:
-    if time.monotonic() > ends:
-        raise TooLong
-
-
-def by_start(arcs: Iterable[Arc]) -> ArcsFrom:
-    arcs_from: ArcsFrom = {}
-    for arc in arcs:
-        arcs_from.setdefault(arc.start, []).append(arc)
-    return arcs_from
+                yield Arc(source, id, f"{name(id)} read {key} from {name(source)}", (), READ)
 
 
 def forced_arcs(
@@ -152,29 +110,22 @@ def forced_arcs(
                 read = f"{read}, and {name(other)}, which wrote it too, comes"
                 after, before = path(arcs_from, writer, other), path(arcs_from, other, reader)
                 if after:
-                    yield Arc(reader, other, f"{read} after {name(writer)}", tuple(merged(after)))
+                    why, needs = f"{read} after {name(writer)}", tuple(merged(after))
+                    yield Arc(reader, other, why, needs, READ_BEFORE)
                 if before:
-                    yield Arc(other, writer, f"{read} before {name(reader)}", tuple(merged(before)))
-
-
-def circles_of(txns: Transactions, arcs: Iterable[Arc], ends: float) -> Iterator[List[Arc]]:
-    arcs_from = by_start(arcs)
-    for id in txns:
-        check(ends)
-        way = path(arcs_from, id, id)
-        if way:
-            if len(way) > 1 and way[0].why == way[-1].why == SESSION:
-                way = [way[-1], *way[:-1]]  # so that a run of one session isn't cut in two
-            yield merged(way)
+                    why, needs = f"{read} before {name(reader)}", tuple(merged(before))
+                    yield Arc(other, writer, why, needs, WRITTEN)
 
 
 def circle(
-    history: History, name: Naming = name, seconds: float = SECONDS
+    history: History, name: Naming = name, seconds: float = SECONDS, is_timed: bool = False
 ) -> Optional[List[Arc]]:
     """Arcs that lead from a transaction back to itself, or None; raises TooLong."""
     ends = time.monotonic() + seconds
     txns = table(history)
     arcs = [*session_arcs(txns), *read_arcs(txns, name)]
+    if is_timed:
+        arcs += time_arcs(txns, name, ends)
     while True:
         circles = [*circles_of(txns, arcs, ends)]
         if circles:
@@ -187,32 +138,28 @@ def circle(
         arcs += more
 
 
-def below(arcs: Iterable[Arc]) -> List[Arc]:
-    """The arcs, each behind those from which it follows."""
-    needed: List[Arc] = []
-    for arc in arcs:
-        for below_it in (*below(arc.needs), arc):
-            if below_it not in needed:
-                needed.append(below_it)
-    return needed
-
-
 def explain_history(
-    history: History, name: Naming = name, seconds: float = SECONDS
+    history: History,
+    name: Naming = name,
+    seconds: float = SECONDS,
+    promise: Promise = SERIALIZABLE,
 ) -> Explanation:
     """The Explanation of a violated history; it says so where it takes longer."""
     wrong = tuple(wrong_reads(history, name))
     if wrong:
         return Explanation(wrong)
     try:
-        around = circle(history, name, seconds)
+        if promise.is_split:
+            around = snapshot_circle(history, name, seconds, promise.is_timed)
+        else:
+            around = circle(history, name, seconds, promise.is_timed)
     except TooLong:
         sentence = f"it takes more than {seconds:g} s to say why in words"
         return Explanation((f"{sentence}; the auditor's refutation says it",))
     if around is None:
         return Explanation(("each order fails in its own way",))
-    lines = [f"{name(arc.start)} comes before {name(arc.end)}: {arc.why}" for arc in below(around)]
-    last = "so none can come first of " + ", ".join(name(arc.start) for arc in around)
+    lines = [f"{told_arc(arc, name)}: {arc.why}" for arc in below(around)]
+    last = "so none can come first of " + ", ".join(told_node(arc.start, name) for arc in around)
     return Explanation((*lines, last), tuple(around))
 
 

@@ -5,25 +5,22 @@ A story is plain data, so that it can be told as lines and drawn on a page alike
 
 from __future__ import annotations
 
-from dataclasses import dataclass
-from typing import Any, Dict, Iterable, Iterator, List, Mapping, Optional
+from dataclasses import dataclass, replace
+from typing import Any, Dict, Iterable, Iterator, List, Optional
 from typing import Sequence, Tuple
 
 from ..core._circumstances import caller_of, clock_of, values_of
 from ..core._records import AuditId, History, Logged, Naming, ShownId
-from ._anomalies import Anomaly, find_anomaly, meaning_of
-from ._reasons import SESSION, Explanation, below, explain_history
+from ..promises._kinds import SERIALIZABLE, Promise
+from ._anomalies import Anomaly, find_anomaly, meaning_of, name_circle
+from ._arcs import SESSION, Event, below, told_arc, transaction_of
+from ._reasons import Explanation, explain_history
 from ._scripts import ScriptHistory, Verdict
-from ._shrinking import SECONDS, audited, from_start, refuted, smaller, words
-from ._shrinking import version as version_text
+from ._shrinking import SECONDS, audited, from_start, refuted, smaller
+from ._standing import Apart, Standing, standing
+from ._words import version as version_text
+from ._words import words
 
-SENTENCES: Mapping[str, str] = {
-    "serial": "some order of these transactions explains every read, each session's own order kept",
-    "pending": "what has come is serial so far, but a read names a transaction that hasn't come",
-    "violated": "no order of these transactions explains what they read, each session's own order "
-    "kept",
-    "spent": "undecided: the search ran out of its budget, and nothing is said of the store",
-}
 EXPLAINED = SECONDS  # that making the history small may take, and as many for the reasons
 IN_ONE_SESSION = SESSION
 SHOWN = 12  # transactions of an order, and reads that wait, which are told of a long one
@@ -55,13 +52,21 @@ class Step:
 
 @dataclass(frozen=True)
 class Link:
-    """That one transaction has to come before another, and why."""
+    """That one transaction has to come before another, or one's begin or commit before another's,
+    and why."""
 
     start: ShownId
     end: ShownId
     why: str
     is_of_circle: bool
     is_of_aborted: bool = False  # the first was aborted, and has been read all the same
+    told: str = ""  # what comes before what
+    events: Tuple[str, str] = ("", "")  # "begin" or "commit", where these are told apart
+
+    @property
+    def ends(self) -> Tuple[Tuple[ShownId, str], Tuple[ShownId, str]]:
+        """Between what it leads."""
+        return (self.start, self.events[0]), (self.end, self.events[1])
 
 
 @dataclass(frozen=True)
@@ -79,33 +84,42 @@ class Story:
     order: Tuple[str, ...] = ()  # of a serial or pending verdict
     waiting: Tuple[str, ...] = ()  # the reads that wait for a transaction
     names: Tuple[Tuple[ShownId, str], ...] = ()  # of each transaction that a link names
+    promise: Promise = SERIALIZABLE  # which the verdict is about
+    standing: Standing = Standing()  # what a violation breaks besides, and what it doesn't
+    others: Tuple["Story", ...] = ()  # violations that lie apart from this one
+    are_all_found: bool = True  # whether there are none besides these
 
     @property
     def sentence(self) -> str:
         """The verdict in words."""
-        return SENTENCES[self.kind]
+        return self.promise.sentence(self.kind)
 
     @property
     def circle(self) -> Tuple[str, ...]:
         """The names of the transactions around, the first one last again; empty where none is."""
         names = dict(self.names)
         around = [link for link in self.links if link.is_of_circle]
-        return (*(names[link.start] for link in around), names[around[0].start]) if around else ()
+        told = [" ".join([names[link.start], link.events[0]]).rstrip() for link in around]
+        return (*told, told[0]) if told else ()
 
 
-def verdict_story(verdict: Verdict, history: ScriptHistory) -> Story:
+def verdict_story(
+    verdict: Verdict, history: ScriptHistory, promise: Promise = SERIALIZABLE
+) -> Story:
     """Of a verdict that isn't violated."""
     order: Tuple[str, ...] = ()
     if verdict.kind in ("serial", "pending"):
         order = tuple(
-            history.called(AuditId((session, number))) for session, number in verdict.certificate
+            " ".join([history.called(AuditId((session, number))), *event])
+            for session, number, *event in verdict.certificate
         )
     waiting = tuple(
         f"{history.called(read.reader)} read {read.key} from {history.called(read.source)}, "
         "which hasn't come"
         for read in history.pending()
     )
-    return Story(verdict.kind, tuple(verdict.counts), order=order, waiting=waiting)
+    counts = tuple(verdict.counts)
+    return Story(verdict.kind, counts, order=order, waiting=waiting, promise=promise)
 
 
 def violation_story(
@@ -114,12 +128,33 @@ def violation_story(
     counts: Sequence[int] = (),
     seconds: float = EXPLAINED,
     certificate: Sequence[Any] = (),
+    promise: Promise = SERIALIZABLE,
 ) -> Story:
-    """Of a violated history. The auditor is an Auditor, or whatever has its `history`, `marks` and
-    `base`; the certificate is its last round's. Takes up to twice so many seconds."""
+    """Of a violated history, and of the violations in it that lie apart from the first. The auditor
+    is an Auditor, or whatever has its `history`, `marks` and `base`; the certificate is its last
+    round's. Takes up to four times so many seconds."""
     history, names = from_start(auditor)
-    small = smaller(history, program, seconds, refuted(auditor, certificate))
-    return story_of(small, names, audited(small, program)[1], counts, seconds)
+    small = smaller(history, program, seconds, refuted(auditor, certificate), promise)
+    apart = Apart(history, program, promise)
+    others = tuple(
+        _story_in(other, names, program, (), seconds, promise)
+        for other in apart.others(small, seconds)
+    )
+    story = _story_in(small, names, program, counts, seconds, promise)
+    return replace(story, others=others, are_all_found=apart.are_all_found)
+
+
+def _story_in(
+    small: History,
+    names: Naming,
+    program: str,
+    counts: Sequence[int],
+    seconds: float,
+    promise: Promise,
+) -> Story:
+    script = audited(small, program, promise)[1]
+    story = story_of(small, names, script, counts, seconds, promise)
+    return replace(story, standing=standing(small, program, promise, seconds))
 
 
 def story_of(
@@ -128,21 +163,23 @@ def story_of(
     script: str = "",
     counts: Sequence[int] = (),
     seconds: float = EXPLAINED,
+    promise: Promise = SERIALIZABLE,
 ) -> Story:
     """Of a violated history that is small already."""
-    explanation = explain_history(history, names, seconds)
-    links = tuple(_links(explanation))
+    explanation = explain_history(history, names, seconds, promise)
+    links = tuple(_links(explanation, names))
     ends = {end for link in links for end in (link.start, link.end)}
     return Story(
         "violated",
         tuple(counts),
-        find_anomaly(history, names),
+        find_anomaly(history, names, promise) or name_circle(explanation.arcs, names),
         tuple(_steps(history, names, ends)),
         links,
         tuple(words(history, names)),
         explanation.lines,
         script,
         names=tuple((id, names(id)) for id in sorted(ends)),
+        promise=promise,
     )
 
 
@@ -178,19 +215,56 @@ def _deeds(logged: Logged, names: Naming) -> Iterator[ShownAccess]:
         )
 
 
-def _links(explanation: Explanation) -> Iterator[Link]:
+def _links(explanation: Explanation, names: Naming) -> Iterator[Link]:
     """The arcs of its circle, each behind those from which it follows."""
     around = [(arc.start, arc.end) for arc in explanation.arcs]
-    shown: List[Tuple[ShownId, ShownId]] = []
+    shown: List[Tuple[Any, Any]] = []
     for arc in below(explanation.arcs):
         ends = (arc.start, arc.end)
         if ends not in shown:
             shown.append(ends)
-            yield Link(arc.start, arc.end, arc.why, ends in around)
+            yield Link(
+                transaction_of(arc.start),
+                transaction_of(arc.end),
+                arc.why,
+                ends in around,
+                told=told_arc(arc, names),
+                events=(_event(arc.start), _event(arc.end)),
+            )
 
 
-def story_lines(story: Story) -> Iterator[str]:
-    """The story as text, for a terminal."""
+def _event(node: Any) -> str:
+    return node.what if isinstance(node, Event) else ""
+
+
+def story_lines(story: Story, tells_all: bool = False) -> Iterator[str]:
+    """The story as text, for a terminal; other violations in a line each, or whole."""
+    yield from _one_story(story)
+    count = len(story.others)
+    if count:
+        what = "violation lies" if count == 1 else "violations lie"
+        more = "" if story.are_all_found else ", and there may be more"
+        hint = "" if tells_all else " (--all tells each whole)"
+        yield f"{count} other {what} apart from this one{more}{hint}"
+    elif not story.are_all_found:
+        yield "(there was no time to look for violations that lie apart from this one)"
+    for at, other in enumerate(story.others[: None if tells_all else SHOWN], 2):
+        if tells_all:
+            yield f"violation {at}:"
+            yield from (f"  {line}" for line in _one_story(other))
+        else:
+            yield f"    {_in_a_line(other)}"
+    if len(story.others) > SHOWN and not tells_all:
+        yield f"    and {len(story.others) - SHOWN} more like these"
+
+
+def _in_a_line(story: Story) -> str:
+    if story.anomaly is not None:
+        return f"{story.anomaly.name}: {story.anomaly.sentence}"
+    return "without a name: " + ", ".join(step.name for step in story.steps)
+
+
+def _one_story(story: Story) -> Iterator[str]:
     yield f"{story.kind}: {story.sentence}"
     if story.anomaly is not None:
         meaning = meaning_of(story.anomaly.name)
@@ -202,6 +276,7 @@ def story_lines(story: Story) -> Iterator[str]:
         yield "because"
     for line in story.because:
         yield f"    {line}"
+    yield from story.standing.lines()
     if story.order:
         between = ", " if any(" " in name for name in story.order) else " "
         yield f"  one such order: {_front(story.order, between)}"

@@ -10,6 +10,7 @@ import os
 from dataclasses import dataclass, field
 from typing import Any, Dict, List, Mapping, Optional, Sequence, Tuple
 
+from ..core._private_files import private
 from ..core._records import AuditId
 
 NAMES = ".names"
@@ -36,8 +37,9 @@ class ScriptNames:
     keys: Mapping[int, str] = field(default_factory=dict)
     transactions: Sequence[Sequence[NamedTransaction]] = ()
     absent: Mapping[AuditId, str] = field(default_factory=dict)
-    asks_time: bool = False  # whether fences ask for an order of time
+    asks_time: bool = False  # whether it was made to be asked about the order of time
     timed: Sequence[int] = ()  # sessions that several clients share by the order of time
+    has_pauses: bool = False  # fences of nobody's ask for some of the order of time
 
     def name(self, id: AuditId) -> str:
         """How the transaction is told."""
@@ -66,6 +68,7 @@ def write_names(names: ScriptNames, script: str) -> str:
         "form": names.form,
         "asks_time": names.asks_time,
         "timed": names.timed,
+        "has_pauses": names.has_pauses,
         "keys": [[number, key] for number, key in sorted(names.keys.items())],
         "absent": [[*id, name] for id, name in sorted(names.absent.items())],
         "transactions": [
@@ -73,7 +76,7 @@ def write_names(names: ScriptNames, script: str) -> str:
             for session in names.transactions
         ],
     }
-    with open(script + NAMES, "w", encoding="utf-8") as file:
+    with open(script + NAMES, "w", encoding="utf-8", opener=private) as file:
         json.dump(whole, file, ensure_ascii=False, separators=(",", ":"))
         file.write("\n")
     return script + NAMES
@@ -118,6 +121,7 @@ def _names_of(whole: Any) -> ScriptNames:
         },
         bool(whole["asks_time"]),
         [int(session) for session in whole["timed"]],
+        bool(whole.get("has_pauses", whole["asks_time"])),
     )
 
 

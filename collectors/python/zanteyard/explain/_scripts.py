@@ -8,16 +8,25 @@ import re
 import subprocess
 import time
 from collections import Counter
-from dataclasses import dataclass, field
+from dataclasses import dataclass, field, replace
 from typing import Any, Callable, Dict, Iterable, Iterator, List, Mapping, Optional, Sequence
 
 from ..core._own_keys import FENCE
 from ..core._records import ABORTED, AuditId, Logged, Pending
 from ..core._tenancy import Tenancy
-from ..core.errors import ProgramEndedError, ProgramTooOldError, ScriptMistakeError
+from ..core.errors import (
+    CantBeAskedError,
+    ProgramEndedError,
+    ProgramTooOldError,
+    ScriptMistakeError,
+)
 from ..program._intake import EFFORTS, GUIDED, never_came
 from ..program._lines import TOO_OLD
+from ..program._rewritten_pipes import NO_ROOM
+from ..promises._kinds import SERIALIZABLE, Promise
+from ..promises._rewriting import LIMIT, Rewriting
 from ._script_names import NamedTransaction, ScriptNames
+from ._script_times import ScriptTimes
 
 # What a spent round is given again with: nodes of the search, depth, workers.
 WORKERS = max(1, min(16, os.cpu_count() or 1))
@@ -48,6 +57,12 @@ ADVICE: Mapping[str, str] = {
 }
 
 
+HALF_THE_ROOM = (
+    f"under this promise each transaction takes the room of two, so that at most {LIMIT // 2:,} "
+    "remain at a time: fences and `truncate` make room, or check a part of the history"
+)
+
+
 @dataclass(frozen=True)
 class Verdict:
     """What a round has said. `line_number` is that of the line which asked, from 1; 0 where the
@@ -71,6 +86,7 @@ class ScriptHistory:
     marks: List[int] = field(default_factory=list)  # of each session, how many are forgotten
     base: Dict[str, AuditId] = field(default_factory=dict)  # of a key the last one gone
     tenancy: Tenancy = field(default_factory=Tenancy)  # of sessions that several clients had
+    times: ScriptTimes = field(default_factory=ScriptTimes)
 
     def begin(self, sessions: int) -> None:
         """Nothing has come yet."""
@@ -92,7 +108,8 @@ class ScriptHistory:
             named = self.names.transaction(session, number)
             is_undone = more == [ABORTED]
             logged = logged_of(reads, keys, self.key_name, named, is_undone)
-            self.history[session].append(logged)
+            span = self.times.span(AuditId((session, number)))
+            self.history[session].append(logged._replace(span=span) if span else logged)
 
     def called(self, id: AuditId) -> str:
         """How the transaction is told: with its client's first, where its session had others."""
@@ -103,14 +120,23 @@ class ScriptHistory:
         """How the key is told."""
         return self.names.key(number) if number else FENCE
 
-    def forget(self, gone: Sequence[Sequence[int]], last: Sequence[Sequence[int]]) -> None:
-        """What a `cut` has told, or of the last writers a `last` that is handed over."""
+    def forget(
+        self,
+        gone: Sequence[Sequence[int]],
+        last: Sequence[Sequence[int]],
+        begun: Sequence[Sequence[int]] = (),
+    ) -> None:
+        """What a `cut` has told, or of the last writers a `last` that is handed over. Of those that
+        have begun only the begins are forgotten, and with these what they read."""
         self.base.update(
             (self.key_name(key), AuditId((session, number))) for key, session, number in last
         )
         for session, count in Counter(session for session, _ in gone).items():
             del self.history[session][:count]
             self.marks[session] += count
+        for session, number in begun:
+            at = number - self.marks[session]
+            self.history[session][at] = self.history[session][at]._replace(reads=())
 
     def pending(self) -> Iterator[Pending]:
         """The reads that wait for a transaction which hasn't come."""
@@ -148,16 +174,38 @@ def logged_of(
     return Logged(sources, written_keys, outcome, texts, caller=where)
 
 
+def _parts_of(text: bytes) -> List[Any]:
+    """Of a line; none where the auditor has to say what is wrong with it."""
+    try:
+        line = json.loads(text)
+    except ValueError:
+        return []
+    return line if isinstance(line, list) else []
+
+
 class ScriptRun:
     """The auditor, which is given a script line by line. Not for several threads."""
 
     def __init__(
-        self, program: str, most_nodes: int = MORE[1][0], names: Optional[ScriptNames] = None
+        self,
+        program: str,
+        most_nodes: int = MORE[1][0],
+        names: Optional[ScriptNames] = None,
+        promise: Promise = SERIALIZABLE,
+        times: Optional[ScriptTimes] = None,
     ) -> None:
         """`most_nodes` is the greatest budget that a spent round is given again with; `names` are
-        those of the script's transactions and keys, where there are some."""
-        self.most_nodes = most_nodes
-        self.history = ScriptHistory(names or ScriptNames(""))
+        those of the script's transactions and keys, where there are some, and `times` tell when
+        they began and ended. Raises CantBeAskedError where the promise asks for times, and there
+        are none."""
+        if promise.is_timed and times is None:
+            raise CantBeAskedError(
+                f"{promise.title} takes the times at which transactions began and ended, and the "
+                "script has none: they stand in a file beside it, SCRIPT.times"
+            )
+        self.most_nodes, self.promise = most_nodes, promise
+        self.history = ScriptHistory(names or ScriptNames(""), times=times or ScriptTimes())
+        self._rewriting = Rewriting(promise)
         self.verdict: Verdict | None = None  # the last one
         self.no_cut_lines: List[int] = []  # where `truncate` found nothing to forget
         self.is_resumed = False  # it began with what an earlier run had given out
@@ -173,12 +221,20 @@ class ScriptRun:
         """Gives the lines to the auditor, and yields each round's verdict as it comes; a round is
         put at the end where something came behind the last one. A verdict of a script that resumes
         another is one of every history that the parts stand for. Raises ScriptMistakeError at the
-        first line that is refused, and ProgramEndedError where the program ends."""
+        first line that is refused, or that can't be asked under the promise, and ProgramEndedError
+        where the program ends."""
         number = 0
+        if self.promise.is_timed:  # who comes before whom is known once all is
+            lines = [*lines]
+            timeline = self.history.times.timeline(map(_parts_of, lines))
+            self._rewriting = Rewriting(self.promise, timeline)
         for number, line in enumerate(lines, 1):
             text = line.rstrip(b"\n")
             if text.strip():
-                reply = self._ask(text, number)
+                try:
+                    reply = self._ask(text, number)
+                except CantBeAskedError as error:
+                    raise ScriptMistakeError(number, "", str(error)) from error
                 yield from self._taken(json.loads(text), reply, number)
         if not self._is_open:
             begins = 'a script begins with ["open",..], or by ["resume",..] up to ["resumed"]'
@@ -215,13 +271,15 @@ class ScriptRun:
         elif command[0] == "begin":
             self._round_is_open, self._has_more = True, False
         elif reply[0] == "cut":
-            self.history.forget(reply[2], reply[3])
+            self.history.forget(*reply[2:])
         if reply[0] == "report":
             self._round_is_open = False
             if command[0] == "round":  # what came while a round was open isn't in its report
                 self._has_more = False
             nodes = 0 if command[0] == "answer" else command[1]  # handed in, without a search
             self.verdict = self._decided(nodes, reply, number)
+            if command[0] == "round":
+                self.verdict = self._without_times(self.verdict)
             yield self.verdict
 
     def _decided(self, nodes: int, reply: List[Any], number: int) -> Verdict:
@@ -237,6 +295,13 @@ class ScriptRun:
             reply[2], number, reply[3], reply[4] if len(reply) > 4 else [], nodes, rounds
         )
 
+    def _without_times(self, verdict: Verdict) -> Verdict:
+        """What waits for a transaction by the order of time alone doesn't wait for a read."""
+        is_by_time = self.promise.is_timed and verdict.kind == "pending"
+        if is_by_time and not any(self.history.pending()):
+            return replace(verdict, kind="serial")
+        return verdict
+
     def _ask_for(self, *words: Any) -> List[Any]:
         return self._ask(json.dumps(words).encode(), 0)
 
@@ -249,12 +314,43 @@ class ScriptRun:
             if reply[2] == "BadLine" and OPENS_FORM.match(text):
                 raise ProgramTooOldError(f"{self.path} {TOO_OLD}")
             if reply[2] != "NoMemory":
-                raise ScriptMistakeError(number, reply[2], ADVICE.get(reply[2], ""))
+                raise ScriptMistakeError(number, reply[2], self._advice(reply[2]))
             if wait:
                 time.sleep(wait)
         raise ProgramEndedError(f"line {number} was refused memory, also when it was given again")
 
+    def _advice(self, refusal: str) -> str:
+        if refusal == "Backlog" and self.promise.is_split:
+            return HALF_THE_ROOM
+        return ADVICE.get(refusal, "")
+
     def _reply_to(self, text: bytes) -> List[Any]:
+        """The reply in the script's own numbers."""
+        if self.promise == SERIALIZABLE:
+            return self._told(text)
+        line = _parts_of(text)
+        rewritten = self._rewriting.asked(line)
+        if not self._rewriting.room_for(rewritten):
+            return NO_ROOM
+        if rewritten == [line]:
+            return self._rewriting.told(line, [self._told(text)])
+        replies: List[List[Any]] = []
+        for each in rewritten:  # behind one that is refused nothing is given
+            replies.append(self._told_again(json.dumps(each).encode()))
+            if replies[-1][0] == "no":
+                break
+        return self._rewriting.told(line, replies)
+
+    def _told_again(self, text: bytes) -> List[Any]:
+        """The reply to one of several lines; where memory is refused it alone is given again."""
+        for wait in WAITS:
+            reply = self._told(text)
+            if reply[0] != "no" or reply[2] != "NoMemory":
+                return reply
+            time.sleep(wait)
+        return self._told(text)
+
+    def _told(self, text: bytes) -> List[Any]:
         pipes = self._program.stdin, self._program.stdout
         assert pipes[0] is not None and pipes[1] is not None
         try:

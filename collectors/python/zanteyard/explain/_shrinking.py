@@ -3,6 +3,7 @@ script."""
 
 from __future__ import annotations
 
+import json
 import os
 import time
 from concurrent.futures import ThreadPoolExecutor
@@ -13,21 +14,86 @@ from typing import Optional, Set, Tuple
 from ..core._outcome import VIOLATED
 from ..core._own_keys import FENCE, FORM, LONGEST, PLAIN_FENCE, is_own
 from ..core._records import AuditId, AuditNaming, History, Logged, Naming, Report, ShownId, Source
+from ..core.errors import CantBeAskedError
 from ..program._auditor import Auditor
 from ..program._binaries import PROGRAM
 from ..program._intake import GUIDED
 from ..program._lines import written
+from ..promises._kinds import SERIALIZABLE, STRICT, Promise
+from ..promises._rewriting import LIMIT, SESSIONS, Rewriting, ids_of
+from ..promises._times import Timeline
+from ._anomalies import find_anomaly
+from ._words import name
 
-TOLD, FROM = 300, 150  # characters of a statement, at most, and of its end, where its place stands
 SECONDS = 5.0  # to make a history smaller
+NAMED = 40  # transactions of a part in which an anomaly is looked for, at most
 SIDE_BY_SIDE = max(1, min(4, os.cpu_count() or 1))  # auditors
 START = "everything before the cut"  # a key that the first transaction behind a cut writes
 
 
-def audited(history: History, program: str = PROGRAM) -> Tuple[Report, str]:
-    """The report of an auditor of its own, and the script that gives it."""
-    limit = max(1, sum(map(len, history)))
-    with Auditor(len(history), limit, program) as auditor:
+def timeline_of(history: History) -> Timeline:
+    """When its transactions began and ended, as far as that is known; but for fences, which do
+    nothing else, and for what was aborted."""
+    return Timeline(
+        {
+            (session, number): (logged.span[0], logged.span[1])
+            for session, txns in enumerate(history)
+            for number, logged in enumerate(txns)
+            if logged.span and not logged.is_undone and FENCE not in _keys_of(logged)
+        }
+    )
+
+
+def _keys_of(logged: Logged) -> Set[str]:
+    return {*logged.writes, *(key for key, _ in logged.reads)}
+
+
+def each_apart(history: History) -> History:
+    """The same transactions, each in a session of its own; those that did nothing are left out.
+    Raises CantBeAskedError where they are more than there can be sessions."""
+    did = [
+        ShownId((session, number))
+        for session, txns in enumerate(history)
+        for number, logged in enumerate(txns)
+        if logged.reads or logged.writes or logged.is_undone
+    ]
+    did += [id for id in wrong_sources(history) if id not in did]
+    if len(did) > SESSIONS:
+        raise CantBeAskedError(
+            f"without session order each transaction has a session of its own, and these {len(did)}"
+            f" are more than {SESSIONS}"
+        )
+    places: Dict[Source, Source] = {id: (at, 0) for at, id in enumerate(did)}
+    absent = SESSIONS - 1  # whose number 1 and on nobody has
+
+    def moved(source: Source) -> Source:
+        if source == "init":
+            return source
+        return places.setdefault(source, (absent, len(places) + 1))
+
+    def apart(logged: Logged) -> Logged:
+        return logged._replace(
+            reads=[(key, moved(source)) for key, source in logged.reads],
+            tried_reads=(),
+            statements=(),
+        )
+
+    return [[apart(history[session][number])] for session, number in did] or [[]]
+
+
+def audited(
+    history: History, program: str = PROGRAM, promise: Promise = SERIALIZABLE
+) -> Tuple[Report, str]:
+    """The report of an auditor of its own, and the script that gives it: under a promise about time
+    what that adds is in the script, so that the auditor gives the report by itself; under one about
+    snapshots `zanteyard check` has to be asked for the promise. Raises CantBeAskedError where the
+    history can't be asked about it."""
+    count = max(1, sum(map(len, history)))
+    limit = min(count, LIMIT)
+    timeline = timeline_of(history) if promise.is_timed else None
+    if not promise.keeps_sessions:
+        history = each_apart(history)
+    with Auditor.asked(len(history), limit, program, Rewriting(promise, timeline)) as auditor:
         more = [FORM] if any(logged.is_undone for txns in history for logged in txns) else []
         script: List[Any] = [["open", len(history), limit, *more]]
         fragments: List[Tuple[int, int, List[Logged]]] = []
@@ -36,6 +102,8 @@ def audited(history: History, program: str = PROGRAM) -> Tuple[Report, str]:
                 fragment = txns[first : first + LONGEST]
                 fragments.append((session, first, fragment))
                 script.append(["offer", session, first, [*map(auditor.txn, fragment)]])
+        in_time = Rewriting(STRICT, timeline)
+        script = [each for line in script for each in in_time.asked(json.loads(written(line)))]
         for at, number, offered in fragments:
             auditor.offer(at, number, *offered)
         report = auditor.last_round()
@@ -43,9 +111,11 @@ def audited(history: History, program: str = PROGRAM) -> Tuple[Report, str]:
         return report, "".join(written(line) + "\n" for line in script)
 
 
-def is_violated(history: History, program: str = PROGRAM) -> bool:
+def is_violated(
+    history: History, program: str = PROGRAM, promise: Promise = SERIALIZABLE
+) -> bool:
     """Without what did nothing, so that a few transactions among many take no time."""
-    return Part.of(history).report(program) is not None
+    return Part.of(history, promise).report(program) is not None
 
 
 def from_start(auditor: Any) -> Tuple[History, Naming]:
@@ -132,11 +202,6 @@ def only_keys(history: History, is_kept: Callable[[str], bool]) -> History:
     return [[*map(part, txns)] for txns in history]
 
 
-def name(id: Tuple[int, int]) -> str:
-    """How a transaction is shown that has no other name, in whichever numbering."""
-    return f"{id[0]}.{id[1]}"
-
-
 def named(items: Iterable[Any]) -> Set[AuditId]:
     """The transactions that the items of a refutation name."""
     ids: Set[Tuple[int, int]] = set()
@@ -144,21 +209,23 @@ def named(items: Iterable[Any]) -> Set[AuditId]:
         if kind in ("nowrite", "gone"):
             ids.add((first, rest[0]))
         if kind in ("force", "split"):
-            ids.update([(first[0], first[1]), (first[3], first[4]), (first[5], first[6])])
-        for arc in {"force": rest[-1:], "cycle": [first]}.get(kind, [[]])[0]:
+            choice = ids_of(first)
+            ids.update([(choice[0], choice[1]), (choice[3], choice[4]), (choice[5], choice[6])])
+        for arc in map(ids_of, {"force": rest[-1:], "cycle": [first]}.get(kind, [[]])[0]):
             ids.update([(arc[-4], arc[-3]), (arc[-2], arc[-1])])
     return {AuditId(id) for id in ids}
 
 
 class Part:
     """Some transactions of a history, by (session, number). It is true of the store too: a read is
-    left out where its source is, and a write only where no read of it is left."""
+    left out where its source is, and a write only where no read of it is left. It is asked about
+    one promise."""
 
-    def __init__(self, txns: Dict[ShownId, Logged]) -> None:
-        self.txns = txns
+    def __init__(self, txns: Dict[ShownId, Logged], promise: Promise = SERIALIZABLE) -> None:
+        self.txns, self.promise = txns, promise
 
     @classmethod
-    def of(cls, history: History) -> Part:
+    def of(cls, history: History, promise: Promise = SERIALIZABLE) -> Part:
         return cls(
             {
                 ShownId((session, number)): logged
@@ -166,7 +233,8 @@ class Part:
                 for number, logged in enumerate(txns)
                 if logged.reads or logged.writes
             }
-            | wrong_sources(history)
+            | wrong_sources(history),
+            promise,
         )
 
     def only(self, ids: Iterable[ShownId]) -> Part:
@@ -176,7 +244,8 @@ class Part:
         for id in [*kept]:
             kept.update(source for _, source in self.wrong_reads(self.txns[id]))
         txns = {id: logged for id, logged in self.txns.items() if id in kept}
-        return Part({id: self.less_reads(logged, kept) for id, logged in txns.items()})
+        less = {id: self.less_reads(logged, kept) for id, logged in txns.items()}
+        return Part(less, self.promise)
 
     def wrong_reads(self, logged: Logged) -> Iterator[Tuple[str, ShownId]]:
         for key, source in logged.reads:
@@ -201,9 +270,11 @@ class Part:
             id: ShownId((at, number)) for at, ids in enumerate(old) for number, id in enumerate(ids)
         }
         history = [[self.moved(self.txns[id], new) for id in ids] for ids in old]
-        report = audited(history, program)[0] if history else None
+        report = audited(history, program, self.promise)[0] if history else None
         if report is None or report.kind != VIOLATED:
             return None
+        if not self.promise.keeps_sessions:  # the report has other numbers
+            return {*self.txns}
         return {old[session][number] for session, number in named(report.certificate)}
 
     @staticmethod
@@ -231,11 +302,13 @@ class Part:
         for id, logged in self.txns.items():
             for deed in logged.reads:
                 reads = [other for other in logged.reads if other != deed]
-                yield (id, deed), Part({**self.txns, id: logged._replace(reads=reads)})
+                less = {**self.txns, id: logged._replace(reads=reads)}
+                yield (id, deed), Part(less, self.promise)
             for key in logged.writes:
                 if (id, key) not in read:
                     writes = [other for other in logged.writes if other != key]
-                    yield (id, (key,)), Part({**self.txns, id: logged._replace(writes=writes)})
+                    less = {**self.txns, id: logged._replace(writes=writes)}
+                    yield (id, (key,)), Part(less, self.promise)
 
     def history(self, sessions: int) -> History:
         """With all in their places, and nothing done in between."""
@@ -269,6 +342,7 @@ def smaller(
     program: str = PROGRAM,
     seconds: float = SECONDS,
     known: Iterable[ShownId] = (),
+    promise: Promise = SERIALIZABLE,
 ) -> History:
     """A part of a violated history that is violated too, while nothing that has one thing less is;
     or as small as it got in so many seconds. What a refutation names is kept, as long as that
@@ -276,7 +350,7 @@ def smaller(
     isn't violated. Where it is known what a refutation of the whole names, that is tried first:
     the whole takes longest."""
     ends = time.monotonic() + seconds
-    whole = Part.of(history)
+    whole = Part.of(history, promise)
     part = whole.only(known)
     ids = part.report(program)
     if ids is None:
@@ -305,17 +379,35 @@ def by_names(part: Part, ids: Set[ShownId], program: str) -> Part:
         part, ids = fewer, left
 
 
+def _called(part: Part) -> Optional[str]:
+    """The name of the anomaly that it shows, if it has one."""
+    if len(part.txns) > NAMED:
+        return None
+    sessions = 1 + max(id[0] for id in part.txns)
+    anomaly = find_anomaly(part.history(sessions), promise=part.promise)
+    return anomaly.name if anomaly is not None else None
+
+
 def next_smaller(
     part: Part, needed: Set[Any], program: str, ends: float
 ) -> Optional[Tuple[Part, Set[ShownId]]]:
     """One that has one thing less, and what its refutation names; None where each thing is needed,
-    or the time is up. An auditor takes as long to start as for so few, so that some are asked side
-    by side."""
+    or the time is up. A read or a write isn't left out where that takes an anomaly's name away. An
+    auditor takes as long to start as for so few, so that some are asked side by side."""
+    called = _called(part)
+
+    def keeps_name(what: Any, candidate: Part) -> bool:
+        is_of_transactions = isinstance(what, frozenset)
+        return is_of_transactions or called is None or _called(candidate) == called
 
     def report(candidate: Part) -> Optional[Set[ShownId]]:
         return candidate.report(program)
 
-    left = ((what, candidate) for what, candidate in part.lesser() if what not in needed)
+    left = (
+        (what, candidate)
+        for what, candidate in part.lesser()
+        if what not in needed and keeps_name(what, candidate)
+    )
     with ThreadPoolExecutor(SIDE_BY_SIDE) as pool:
         while time.monotonic() < ends:
             some = [*islice(left, SIDE_BY_SIDE)]
@@ -328,48 +420,3 @@ def next_smaller(
                     return candidate, ids
                 needed.add(what)
     return None
-
-
-def version(key: str, source: Source, name: Naming) -> str:
-    """Which version of the key was read."""
-    if source != "init":
-        return f"from {name(source)}"
-    return getattr(name, "older", {}).get(key, "as it was at first")
-
-
-def told_undone(reader: ShownId, key: str, source: ShownId, name: Naming) -> str:
-    """Of a read of what an attempt wrote that was aborted."""
-    return f"of {key}, {name(reader)} read what {name(source)} wrote, which had aborted"
-
-
-def deeds(logged: Logged, name: Naming) -> List[str]:
-    """What a transaction did."""
-    did_read, did_write = logged.did
-    parts = [f"read {key} {version(key, source, name)}" for key, source in did_read]
-    parts += [f"wrote {key}" for key in did_write]
-    return [*parts, "aborted"] if logged.outcome == "aborted" else parts
-
-
-def statements_of(logged: Logged) -> Iterator[str]:
-    """Lines that tell what was run for what the transaction did, where that is known."""
-    left: Dict[Any, str] = dict(logged.statements)
-    deeds_by_statement: Dict[str, List[str]] = {}
-    did_read, did_write = logged.did
-    for deed in (*did_read, *((key,) for key in did_write)):
-        if deed in left:
-            did = ("wrote" if len(deed) == 1 else "read") + f" {deed[0]}"
-            deeds_by_statement.setdefault(" ".join(left[deed].split()), []).append(did)
-    for statement, deeds in deeds_by_statement.items():
-        is_long = len(statement) > TOLD
-        short = f"{statement[: TOLD - FROM]} .. {statement[-FROM:]}" if is_long else statement
-        yield f"{', '.join(deeds)}: {short}"
-
-
-def words(history: History, name: Naming = name) -> Iterator[str]:
-    """A line for each transaction, with its statements behind it."""
-    for session, txns in enumerate(history):
-        for number, logged in enumerate(txns):
-            if deeds(logged, name):  # else it is there for its number alone
-                called = name(ShownId((session, number)))
-                yield f"{called} {', '.join(deeds(logged, name))}"
-                yield from (f"    {line}" for line in statements_of(logged))

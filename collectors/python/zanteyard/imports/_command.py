@@ -3,12 +3,15 @@
 from __future__ import annotations
 
 import argparse
+import contextlib
 import os
 from dataclasses import dataclass
 from typing import Any, Callable, Mapping, Optional
 
+from ..core._private_files import private
 from ..core.errors import ImportRefusedError
 from ..explain._script_names import write_names
+from ..explain._script_times import TIMES, write_times
 from ._jepsen import read_jepsen
 from ._recording import Recording
 from ._script import script_of
@@ -61,15 +64,18 @@ def add_arguments(command: argparse.ArgumentParser) -> None:
         metavar="N",
         help="takes the first N attempts of the file alone; what isn't violated is then pending",
     )
-    _add_realtime(command)
+    _add_strict(command)
 
 
-def _add_realtime(command: argparse.ArgumentParser) -> None:
+def _add_strict(command: argparse.ArgumentParser) -> None:
     command.add_argument(
+        "--strict",
         "--realtime",
+        dest="strict",
         action="store_true",
-        help="asks for the order of time as well, at moments at which nothing was in flight: more "
-        "than serializability, and room for more than 4,096 transactions",
+        help="makes a script that is asked about strict serializability: with room for more than "
+        "4,096 transactions, if there are moments at which nothing was in flight, and with "
+        "sessions that clients share by the order of time",
     )
 
 
@@ -84,13 +90,19 @@ def run(asked: Any) -> int:
     """Writes the script and its names, and tells what was done; gives 0. Raises ImportRefusedError
     where nothing sound can be made of the file, and writes nothing then."""
     text = _text_of(asked.file)
-    imported = import_text(asked.form, text, asked.first, asked.initial, asked.realtime)
-    with open(asked.script, "w", encoding="utf-8") as file:
+    imported = import_text(asked.form, text, asked.first, asked.initial, asked.strict)
+    with open(asked.script, "w", encoding="utf-8", opener=private) as file:
         file.writelines(f"{line}\n" for line in imported.lines)
     write_names(imported.names, asked.script)
     print(f"{asked.script}: {imported.about[0]}")
     for line in imported.about[1:]:
         print(f"  {line}")
+    if imported.times is not None:
+        write_times(imported.times, asked.script)
+        print(f"  when they began and ended: {asked.script}{TIMES}")
+    else:
+        with contextlib.suppress(FileNotFoundError):  # of another file's script
+            os.remove(asked.script + TIMES)
     return 0
 
 

@@ -208,6 +208,8 @@ class _Pairs:
             + ("" if done.index is None else f", index {done.index}"),
             began,
             ended,
+            invoked.time,
+            None if outcome == UNKNOWN else operation.time,
         )
 
     @staticmethod

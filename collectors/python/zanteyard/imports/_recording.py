@@ -42,6 +42,8 @@ class Attempt:
     where: str = ""  # the rest of what the file calls it
     began: int = 0
     ended: int = 0
+    began_at: Optional[int] = None  # by the file's clock, in nanoseconds
+    ended_at: Optional[int] = None
 
 
 @dataclass(frozen=True)

@@ -11,6 +11,7 @@ from ..core._own_keys import FORM
 from ..core._records import AuditId
 from ..core.errors import ImportRefusedError
 from ..explain._script_names import NamedTransaction, ScriptNames
+from ..explain._script_times import ScriptTimes
 from ._recording import ABORTED, COMMITTED, UNKNOWN, Recording, counted
 from ._script_parts import (
     LONGEST,
@@ -25,7 +26,7 @@ from ._script_parts import (
     written_by,
 )
 from ._sources import Absent, Origin, Sources, Stub
-from ._times import EVERY, Times, check_times, part_of
+from ._times import EVERY, Times, check_times, part_of, times_of
 
 SESSIONS = 64
 LIMIT = 4096  # transactions that remain at a time
@@ -37,9 +38,11 @@ REST = "the rest of the file"  # a key that stands for what wasn't imported
 def script_of(
     recording: Recording, first: Optional[int] = None, asks_time: bool = False, every: int = EVERY
 ) -> Imported:
-    """The script of the whole recording, or of so many attempts from its begin on. With `asks_time`
-    the order of time is asked for, at pauses between which at least so many transactions lie.
-    Raises ImportRefusedError where there is none that is sound, or that the auditor can take."""
+    """The script of the whole recording, or of so many attempts from its begin on, and its times.
+    With `asks_time` it is to be asked about the order of time: then clients may share a session by
+    that, and where there are more transactions than may remain, there are fences at pauses between
+    which at least so many lie. Raises ImportRefusedError where there is none that is sound, or that
+    the auditor can take."""
     if asks_time:
         check_times(recording)
     return _ScriptMaker(recording, first, asks_time, every).imported()
@@ -55,7 +58,8 @@ class _ScriptMaker:
         self._is_part = first is not None and first < len(self._attempts)
         self._kept = self._front(first) if first is not None else set(range(len(self._attempts)))
         self._times = Times(self._attempts, self._of) if asks_time else None  # of the whole file
-        self._pauses = self._times.pauses(every) if self._times else []
+        self._every = every
+        self._pauses: List[int] = []  # that are used
         self._keys: Dict[str, int] = {}
         self._absent: Dict[object, AuditId] = {}
         self._absent_names: Dict[AuditId, str] = {}
@@ -73,6 +77,8 @@ class _ScriptMaker:
     def imported(self) -> Imported:
         """All of it."""
         self._plan = self._planned()
+        if self._times is not None and sum(map(len, self._plan.sessions)) > LIMIT:
+            self._pauses = self._times.pauses(self._every)
         self._put_fences()
         self._places = self._plan.places()
         offered = [
@@ -90,9 +96,16 @@ class _ScriptMaker:
             self._absent_names,
             self._times is not None,
             tuple(sorted(self._plan.by_time)),
+            bool(self._pauses),
         )
         texts = tuple(json.dumps(line, separators=(",", ":")) for line in lines)
-        return Imported(texts, names, tuple(self._about()))
+        return Imported(texts, names, tuple(self._about()), self._script_times())
+
+    def _script_times(self) -> Optional[ScriptTimes]:
+        if not self._recording.has_times or self._recording.time_goes_back:
+            return None
+        ids = {item: id for item, id in self._places.items() if isinstance(item, int)}
+        return times_of(self._recording, ids)
 
     def _lines(self, offered: List[List[Any]]) -> Iterator[List[Any]]:
         """The script. Where all doesn't fit there is a round at each pause, behind which what is
@@ -205,14 +218,14 @@ class _ScriptMaker:
         plan.sessions.append(items[:])
 
     def _is_before_in_time(self, session: List[Item], items: List[Item]) -> bool:
-        """Whether a pause that is used lies between."""
+        """Whether all that the one did had ended when all that the other did began."""
         if self._times is None:
             return False
         last = [self._times.ended[item] for item in session if isinstance(item, int)]
         first = [self._times.began[item] for item in items if isinstance(item, int)]
         if not last or not first:  # what wrote nothing may stand anywhere
             return True
-        return part_of(max(last), self._pauses) < part_of(min(first), self._pauses)
+        return max(last) < min(first)
 
     def _items_of_clients(self) -> Dict[str, List[Item]]:
         """Of each client what is offered, in order. Raises ImportRefusedError where a client goes
@@ -367,11 +380,10 @@ class _ScriptMaker:
                 f"which they come in {'time' if self._plan.by_time else 'every order'}"
             )
         if self._times is not None:
-            yield (
-                "the order of time is asked for at "
-                f"{counted(sum(map(bool, self._plan.fences)), 'pause')}, which is more than "
-                "serializability"
-            )
+            yield "made for strict serializability, which is more than serializability"
+        if self._pauses:
+            pauses = counted(sum(map(bool, self._plan.fences)), "pause")
+            yield f"fences at {pauses}, at which what is settled is forgotten"
 
 
 def too_many(count: int) -> str:

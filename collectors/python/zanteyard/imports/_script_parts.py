@@ -3,10 +3,11 @@
 from __future__ import annotations
 
 from dataclasses import dataclass, field
-from typing import Any, Dict, Iterator, List, Sequence, Set, Tuple, Union
+from typing import Any, Dict, Iterator, List, Optional, Sequence, Set, Tuple, Union
 
 from ..core._records import AuditId
 from ..explain._script_names import NamedTransaction, ScriptNames
+from ..explain._script_times import ScriptTimes
 from ._recording import ABORTED, APPEND, WRITE, Attempt
 from ._sources import DRAFT, Stub
 
@@ -36,6 +37,7 @@ class Imported:
     lines: Tuple[str, ...]
     names: ScriptNames
     about: Tuple[str, ...]
+    times: Optional[ScriptTimes] = None  # where the file tells when its transactions ran
 
 
 @dataclass

@@ -1,15 +1,15 @@
-"""The order of time in a recording, as far as pauses tell it: moments at which nothing that is
-offered was in flight. What ended before a pause comes before what began behind it."""
+"""The order of time in a recording: when each transaction began and ended, and pauses, moments at
+which nothing that is offered was in flight. What ended before a pause comes before what began
+behind it."""
 
 from __future__ import annotations
 
 from typing import Dict, List, Mapping, Sequence
 
-from ..core._own_keys import PLAIN_FENCE
+from ..core._records import AuditId
 from ..core.errors import ImportRefusedError
-from ..explain._report import Story
-from ..explain._script_names import ScriptNames
-from ._recording import Attempt, Recording
+from ..explain._script_times import ScriptTimes
+from ._recording import NEVER, Attempt, Recording
 from ._sources import Sourced
 
 EVERY = 512  # transactions between two pauses that are used, at least
@@ -18,12 +18,29 @@ EVERY = 512  # transactions between two pauses that are used, at least
 def check_times(recording: Recording) -> None:
     """Raises ImportRefusedError where the recording doesn't tell what ended before what began."""
     if not recording.has_times:
-        raise ImportRefusedError(0, f"{recording.form} tells nothing of time (--realtime)")
+        raise ImportRefusedError(0, f"{recording.form} tells nothing of time (--strict)")
     if recording.time_goes_back:
         raise ImportRefusedError(
             recording.time_goes_back,
-            "the time goes back here, so that the order of lines isn't that of time (--realtime)",
+            "the time goes back here, so that the order of lines isn't that of time (--strict)",
         )
+
+
+def times_of(recording: Recording, ids: Mapping[int, AuditId]) -> ScriptTimes:
+    """When these attempts began and ended: in nanoseconds where all tell it, and else as places in
+    the file."""
+    attempts = {id: recording.attempts[at] for at, id in ids.items()}
+    are_told = all(
+        attempt.began_at is not None and (attempt.ended_at is not None or attempt.ended == NEVER)
+        for attempt in attempts.values()
+    )
+    if are_told:
+        told = {id: (its.began_at or 0, its.ended_at) for id, its in attempts.items()}
+        return ScriptTimes("ns", told)
+    places = {
+        id: (its.began, None if its.ended == NEVER else its.ended) for id, its in attempts.items()
+    }
+    return ScriptTimes("places", places)
 
 
 class Times:
@@ -66,24 +83,6 @@ class Times:
             latest = max(latest, self.ended[at])
             count += 1
         return places
-
-
-def time_line(story: Story, names: ScriptNames) -> str:
-    """Whether the order of time has part in what is told of a script that asks for it."""
-    if story.kind != "violated":
-        return "(asked for was the order of time, too, which is more than serializability)"
-    sessions = [step.id[0] for step in story.steps]
-    has_part = (
-        any(PLAIN_FENCE in deed.text for step in story.steps for deed in step.deeds)
-        or any(step.outcome == "forgotten" for step in story.steps)
-        or any(sessions.count(session) > 1 for session in names.timed)
-    )
-    if has_part:
-        return (
-            "(the order of time has part in this, which a serializable store need not keep; "
-            "without --realtime it isn't asked for)"
-        )
-    return "(the order of time has no part in this: it is violated without it, too)"
 
 
 def part_of(place: int, pauses: Sequence[int]) -> int:

@@ -22,10 +22,13 @@ from ..core.errors import (
     RefusedError,
 )
 from ..journal._entries import Head
+from ..promises._kinds import SERIALIZABLE
+from ..promises._rewriting import Rewriting
 from ._binaries import PROGRAM as PROGRAM
 from ._intake import EFFORTS, GUIDED, Effort, Fragment
 from ._lines import BAD_LINE, ENDED, TOO_OLD, Lines, written
 from ._pipes import Pipes
+from ._rewritten_pipes import RewrittenPipes
 from ._resuming import Reopened, journaled, reopened
 from ._supervised import SupervisedProgram
 
@@ -47,6 +50,16 @@ class Auditor(Lines):
     sessions wait. `journal` names a file that isn't there yet (docs/JOURNAL.md): where the program
     dies, or takes more than `round_seconds` for a round, if that is given, another one is brought
     where it stood. Then all calls raise JournalError where the journal can't be written."""
+
+    rewriting: Optional[Rewriting] = None  # where another promise than serializability is asked for
+
+    @classmethod
+    def asked(cls, sessions: int, limit: int, program: str, rewriting: Rewriting) -> Auditor:
+        """One that is asked about the rewriting's promise."""
+        auditor = cls.__new__(cls)
+        auditor.rewriting = rewriting if rewriting.promise != SERIALIZABLE else None
+        Auditor.__init__(auditor, sessions, limit, program)
+        return auditor
 
     @classmethod
     def resumed(
@@ -109,6 +122,8 @@ class Auditor(Lines):
             raise ProgramTooOldError(f"{self.path} {TOO_OLD}") from error
 
     def _started(self, journal: Union[str, Reopened, None]) -> Union[Pipes, SupervisedProgram]:
+        if journal is None and self.rewriting is not None:
+            return RewrittenPipes(self.path, self.rewriting)
         if journal is None:
             return Pipes(self.path)
         program = journaled(self.path, journal, self._head, self.names, self.round_seconds)
@@ -332,13 +347,22 @@ class Auditor(Lines):
         self.can_cut = "BadLine" not in str(refusal)
         raise NoCutError(str(refusal)) from refusal
 
-    def _forget(self, fence: Sequence[int], gone: Sequence[Any], last: Sequence[Any]) -> Cut:
+    def _forget(
+        self,
+        fence: Sequence[int],
+        gone: Sequence[Any],
+        last: Sequence[Any],
+        begun: Sequence[Any] = (),
+    ) -> Cut:
         self.base.update(
             (self.names[key], AuditId((session, number))) for key, session, number in last
         )
         for session, count in Counter(session for session, _ in gone).items():
             del self.history[session][:count]
             self.marks[session] += count
+        for session, number in begun:  # what these have read is forgotten with their begins
+            at = number - self.marks[session]
+            self.history[session][at] = self.history[session][at]._replace(reads=())
         self._tenancy.forget(self.marks)
         return Cut(AuditId((fence[0], fence[1])), len(gone))
 

@@ -266,10 +266,6 @@ class Intake:
         self._waiting.clear()
         self._fail(error)  # what was asked already is answered before a round is
 
-    def lose(self, error: Exception) -> None:
-        """Something was done that isn't audited."""
-        self._fail(error)
-
     def take_close(self, session: int) -> None:
         """Nothing more of this session comes."""
         self._hand_in(("close", session))

@@ -8,6 +8,7 @@ import time
 from typing import Any, List, Mapping, Optional, Sequence, Tuple, Type, Union
 
 from ..core._own_keys import FORM
+from ..core._private_files import private
 from ..core.errors import (
     FullError,
     JournalError,
@@ -56,7 +57,7 @@ class Lines(Intake):
         name."""
         if self.script_path is not None:
             behind = f".{self.audits}" if self.audits > 1 else ""
-            self.script = open(f"{self.script_path}{behind}", "wb", buffering=0)
+            self.script = open(f"{self.script_path}{behind}", "wb", 0, opener=private)
 
     def ask(self, line: Sequence[Any]) -> List[Any]:
         """The reply to a line as docs/FORMATS.md has them; one that is refused for want of memory

@@ -164,15 +164,6 @@ class AuditClient(LocalSessions):
             self._lose(str(error))
         self._outbox.put_behind("missed", session, number)
 
-    def lose(self, error: Exception) -> None:
-        """Something was done that isn't audited. That is told at once, or, where it can't be, by
-        notes that aren't there if this process is killed."""
-        if self._outbox.lost is None:
-            self._lose(str(error))
-        if not self._outbox.tell_lost(self.policy.wait):
-            for notes in list(self._notes):
-                notes.remove()
-
     def take_close(self, session: int) -> None:
         """Nothing more of this session comes."""
         self._outbox.put_close(session)

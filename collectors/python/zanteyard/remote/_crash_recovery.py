@@ -4,8 +4,8 @@ Each number that it may have used is handed in, once: what had come from itself 
 for; what was answered is logged as it would have been; the store is asked for what was on its way
 to it; an attempt of which nothing was sent to be committed did nothing. What can't be found out is
 logged with its writes alone, as the last of its session (docs/COLLECTORS.md). Where a client itself
-didn't know what it had done, as one of an application's own SQL may not, that is lost, unless the
-store says that nothing of it was committed.
+didn't know what it had done, as one that had read what a forked child wrote, that is lost, unless
+the store says that nothing of it was committed.
 """
 
 from __future__ import annotations
@@ -144,7 +144,7 @@ class CrashedProcess:
         """What was sent to be committed and not answered."""
         assert note.packed is not None
         logged = unpacked(note.packed)
-        if not logged.writes and note.unclear is None:
+        if not logged.writes:
             return NOTHING  # whether what it has read is to be checked isn't known
         outcome, overwritten = find_out(how, note.ticket, SECONDS, self.is_dead)
         called = f"{note.session}.{note.number} of a killed process"

@@ -54,11 +54,6 @@ class Outbox:
         self.lost = why
         self._wake.set()
 
-    def tell_lost(self, seconds: float) -> bool:
-        """Whether it could be told in so many seconds why nothing more is handed over."""
-        self._told_lost = self.lost
-        return self._messages.tell("lost", self.lost, seconds=seconds)
-
     def begin_anew(self) -> None:
         """What ends from here on is handed over; what has ended is known by its number."""
         self.lost = None

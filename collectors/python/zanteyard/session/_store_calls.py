@@ -102,17 +102,3 @@ class StoreCalls(BoundedStore, BulkStore, TracedStore, ObservedStore):
     def has_answered(self, error: BaseException) -> bool:
         has_answered = self._own("has_answered")
         return has_answered is not None and bool(has_answered(error))
-
-    def look_up(self, transaction: Any) -> None:
-        look_up = self._own("look_up")
-        if look_up is not None:
-            look_up(transaction)
-
-    @property
-    def has_number(self) -> bool:
-        return bool(self._own("has_number", False))
-
-    def tried(self) -> Sequence[str]:
-        tried = self._own("tried")
-        keys: Sequence[str] = tried() if tried is not None else ()
-        return keys

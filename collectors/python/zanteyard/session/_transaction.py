@@ -117,8 +117,6 @@ class Transaction:
         self.is_committing = True
         is_late = False  # it is noted when it is known by what the store is asked for it
         try:
-            if self.holds:
-                self.calls.look_up(self)
             is_to_note = self.holds or len(self.sent) < len(self.written)
             if is_to_note and self.session.notes is not None:
                 is_late = not self.calls.writes_at_once
@@ -131,7 +129,7 @@ class Transaction:
                     self.was_run((key,))
             if is_late:
                 self.note_before(max(self.written, default=""))
-            self.is_in_doubt = bool(self.written) or self.unclear is not None
+            self.is_in_doubt = bool(self.written)
             self.store.commit()
             self.log(self.reads, self.written, "committed")
         except OutcomeUnknownError:
@@ -156,15 +154,14 @@ class Transaction:
         """From here on the store may have committed what it writes."""
         notes = self.session.notes
         assert notes is not None
-        has_written = bool(self.written) or self.unclear is not None  # or may have
-        why = self.session.unclaimed or self.unclear if has_written else None
+        why = self.session.unclaimed or self.unclear if self.written else None
         try:
             reads = self.reads if has_reads else ()
             logged = self.logged(reads, self.written, "committed")
             packed, name = as_bytes(logged), self.name
             if has_reads:
                 self.prepared = (logged, packed)
-            ticket = self.calls.ticket((key, *name)) if has_written else None
+            ticket = self.calls.ticket((key, *name)) if self.written else None
         except Exception as error:
             return notes.fail(error)
         more = (False, str(why)) if why is not None else ()
@@ -230,7 +227,7 @@ class Transaction:
         the last of its session."""
         until = time.monotonic() + (self.session.patience if self.holds else 0.0)
         try:
-            while self.may_be_told:
+            while self.written:
                 outcome = self.calls.outcome_within(max(LEAST, until - time.monotonic()))
                 if outcome == "committed":
                     return self.log(self.reads, self.written, "committed")
@@ -249,13 +246,6 @@ class Transaction:
             raise
         self.log((), self.written, "unknown", is_last=bool(self.written))
         raise OutcomeUnknownError(f"{self.session.number}.{self.number}")
-
-    @property
-    def may_be_told(self) -> bool:
-        """Whether the store may say what became of it. Where nothing was committed, nothing is
-        unclear."""
-        has_number = self.unclear is not None and self.calls.has_number
-        return bool(self.written or has_number)
 
     def log(
         self, reads: Iterable[Read], writes: Iterable[str], outcome: str, is_last: bool = False
@@ -338,9 +328,8 @@ class Transaction:
     def undone(self) -> Tuple[List[Read], List[str]]:
         """What this has read, and what it wrote under its name, where it was aborted. What was only
         to be written at the commit, and never went to the store, isn't among it."""
-        writes = [*self.tried, *(self.calls.tried() if self.holds else ())]
         id = StoreId((self.session.number or 0, self.number))
-        return undone(id, self.reads, writes, FENCE)
+        return undone(id, self.reads, self.tried, FENCE)
 
 
 def is_dropped_if_unknown(key: str) -> bool:

@@ -15,7 +15,7 @@ from ..core._outcome import RATHER_WAIT, Outcome
 from ..core.errors import AbortedError, OutcomeUnknownError
 from ..explain._anomalies import find_anomaly
 from ..explain._report import story_lines, story_of
-from ..explain._shrinking import name as plain_name
+from ..explain._words import name as plain_name
 from ..program._auditor import Auditor
 from ..session._session import Session
 from ..session._transaction import Transaction

@@ -6,6 +6,7 @@ import logging
 import os
 from typing import Tuple
 
+from ..core._private_files import private
 from ._violation_page import violation_page
 from ._violations import Violation
 
@@ -24,7 +25,7 @@ def save(one: Violation, folder: str, title: str, origin: str) -> Tuple[str, ...
     ):
         try:
             os.makedirs(folder, mode=0o700, exist_ok=True)
-            with open(base + end, "w", encoding="utf-8") as file:
+            with open(base + end, "w", encoding="utf-8", opener=private) as file:
                 file.write(text)
             found.append(base + end)
         except OSError as error:

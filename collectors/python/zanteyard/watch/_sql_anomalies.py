@@ -14,7 +14,8 @@ from typing import Dict, Iterator, Optional, Set, Tuple
 from ..core._records import History, Logged, Naming, ShownId, Source
 from ..explain._anomalies import UNREPEATABLE, Anomaly
 from ..explain._report import Story
-from ..explain._shrinking import Part, is_violated, version
+from ..explain._shrinking import Part, is_violated
+from ..explain._words import version
 
 FRACTURED = "fractured read"
 

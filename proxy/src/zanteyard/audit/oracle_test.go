@@ -47,6 +47,7 @@ func (nobody) MeetAround(_ context.Context, between func(context.Context)) (int,
 	return 0, 0, nil
 }
 func (nobody) Fence(context.Context, uint64) error { return nil }
+func (nobody) Busy() int                           { return 0 }
 
 func canonical(typeOID uint32, text string) (string, bool) { return text, true }
 

@@ -90,6 +90,9 @@ func (c *crowd) MeetAround(ctx context.Context, between func(context.Context)) (
 
 func (c *crowd) Fence(ctx context.Context, connection uint64) error { return nil }
 
+// Busy implements join.Meeter.
+func (c *crowd) Busy() int { return len(c.members) }
+
 // run has a client work until ctx ends.
 func (c *crowd) run(ctx context.Context, m *member, work func(*member) record.Transaction) error {
 	for ctx.Err() == nil {

@@ -25,6 +25,11 @@ type core struct {
 	database    string // the slot's; empty, if any will do
 	held        []*entry
 	joining     []*connection // that got a closed session, and need a fence
+	moments     moments
+	opened      time.Time // when the last fence had ended that a transaction of its moment's own time stands behind
+	closing     time.Time // when the first fence began that has one in front; of the time since the last moment
+	entered     int       // connections, since the last meeting began
+	reserve     int       // sessions without a connection that stay open at this meeting
 
 	rows     *rows
 	writers  map[uint32]*writer // that only the slot or only a session has told of

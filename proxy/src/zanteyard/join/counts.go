@@ -3,6 +3,7 @@ package join
 // counts are what coverage tells, from the beginning of the audit.
 type counts struct {
 	committed, offered, fences, aborted, empty, ever, rounds, dropped, lost, unread uint64
+	handed                                                                          uint64 // sessions that were handed on
 	folded                                                                          map[string]uint64
 	reads, readsOffered, own                                                        uint64
 	leftReads                                                                       map[string]uint64

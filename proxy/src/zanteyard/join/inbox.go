@@ -11,7 +11,7 @@ import (
 // Inbox takes what the sessions of a proxy tell, and holds it until the joiner takes it out. It is bounded: what comes
 // when it is full is dropped, which folds it. Connections aren't dropped: they are few. Safe for use by many goroutines.
 type Inbox struct {
-	wake chan struct{}
+	wake chan struct{} // it is half full
 	now  func() time.Time
 
 	lock    sync.Mutex
@@ -68,7 +68,11 @@ func (b *Inbox) put(it message, bytes int) {
 		b.its = append(b.its, it)
 		b.bytes += bytes
 	}
+	much := b.bytes > b.most/2
 	b.lock.Unlock()
+	if !much {
+		return // the joiner empties it at its next step: to wake it for each transaction costs more than to take it
+	}
 	select {
 	case b.wake <- struct{}{}:
 	default:

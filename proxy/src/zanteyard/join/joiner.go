@@ -40,6 +40,9 @@ type Meeter interface {
 	MeetAround(ctx context.Context, between func(context.Context)) (fences int, took time.Duration, err error)
 	// Fence has one connection make one.
 	Fence(ctx context.Context, connection uint64) error
+	// Busy is about how many sessions have something of their clients' under way. If it is wrong, more is folded than needs
+	// be; one that can't know it gives a great number.
+	Busy() int
 }
 
 // Output takes lines for the auditor and events, in order. Its calls don't wait.
@@ -238,6 +241,9 @@ func (j *Joiner) tick(ctx context.Context) error {
 		}
 	}
 	j.core.step(now)
+	if j.core.wantsMoment(j.meeter.Busy) {
+		j.core.quiet()
+	}
 	j.askPlace(ctx, now)
 	j.askSubs(ctx)
 	j.meet(ctx, now)

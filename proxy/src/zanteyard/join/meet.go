@@ -6,9 +6,8 @@ import "time"
 // stands in front of the last of the first fences, and whatever comes later behind it. So the auditor can forget all that
 // is in front. The audit's own connection makes fences for those sessions whose connection doesn't: it has ended, or it is
 // in the midst of a transaction. The first of these is made while those that have come are held, so that it stands among
-// the first fences. Such a fence may stand in a session, since everything that was offered in it had ended before the
-// fence began, and what begins before the fence has ended isn't offered behind it (session.floor): the transaction that
-// ran across the meeting is folded.
+// the first fences. The quiet moment between the first fences and the second ones (moments.go) is what allows all these
+// fences: the transaction that ran across the meeting is folded.
 
 type phase uint8
 
@@ -48,6 +47,10 @@ func (c *core) wantsMeeting(last time.Time) bool {
 // for them, and something stands behind their last.
 func (c *core) meet() []int {
 	var needs []int
+	if c.reserve = c.entered; c.reserve < c.opt.Reserve {
+		c.reserve = c.opt.Reserve
+	}
+	c.entered = 0
 	for _, s := range c.sessions {
 		s.fences, s.half = 0, 0
 		if s.tenant == nil && !s.closed && !s.fenced {
@@ -71,18 +74,21 @@ func (c *core) missing() []int {
 
 // halfway says that the first fences are made: what is made from now on stands behind them.
 func (c *core) halfway() {
+	c.quiet()
 	for _, s := range c.sessions {
 		s.half = s.fences
 	}
 }
 
 // met says which sessions need a fence after the others have made their second ones: those that are open and haven't.
-// Of those without a connection only the reserve is kept open.
+// Of those without a connection only the reserve is kept open, or comes back.
 func (c *core) met() []int {
-	var needs []int
-	reserve := c.opt.Reserve
+	var needs, closed []int
+	reserve := c.reserve
 	for _, s := range c.sessions {
 		switch {
+		case s.closed && s.tenant == nil && s.isGone():
+			closed = append(closed, s.index)
 		case s.closed || s.fences > s.half:
 		case s.tenant != nil:
 			needs = append(needs, s.index)
@@ -91,7 +97,10 @@ func (c *core) met() []int {
 			needs = append(needs, s.index)
 		}
 	}
-	return needs
+	if len(closed) > reserve {
+		closed = closed[:reserve]
+	}
+	return append(needs, closed...)
 }
 
 // numbers are the sessions' next ones.
@@ -120,7 +129,7 @@ func (c *core) closeVacant() {
 	if len(c.fences) == 0 && c.fenced == 0 {
 		return
 	}
-	reserve := c.opt.Reserve
+	reserve := c.reserve
 	for _, s := range c.sessions {
 		switch {
 		case s.closed || s.tenant != nil:

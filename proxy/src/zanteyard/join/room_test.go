@@ -29,6 +29,7 @@ func TestLimit(t *testing.T) {
 	if !b.core.cut([]uint64{12, 0}) {
 		t.Error("right marks are refused")
 	}
+	b.core.quiet()
 	b.commit(1100, "a")
 	b.tell(1, 50, record.Transaction{Number: 1100})
 	b.model.sessions[0].mark = 12
@@ -65,9 +66,12 @@ func TestConnectionsBeyondTheSessions(t *testing.T) {
 	run(1, 0, 1001)
 	run(2, 0, 1002)
 	b.core.enter(record.Connection{Number: 1, Ended: true})
-	run(2, 1, 1003)
+	run(2, 1, 1003) // no quiet moment lies between this one and the first connection's
+	b.core.quiet()
+	run(2, 2, 1006)
 	b.later(2 * time.Second)
 	b.core.reseat()
+	b.core.quiet()
 	for number := uint64(10); number < 20; number++ { // they come and go, and wait for nothing
 		b.connect(number)
 		b.core.enter(record.Connection{Number: number, Ended: true})
@@ -76,12 +80,12 @@ func TestConnectionsBeyondTheSessions(t *testing.T) {
 		t.Errorf("%d wait, and %d are there", len(b.core.queue), len(b.core.connections))
 	}
 	run(3, 0, 1004)
-	run(2, 2, 1005)
+	run(2, 3, 1005)
 	b.settle()
 	if got, want := b.lines[1], `["offer",0,0,[[[[1,"init"]],[1]],[[[1,0,0]],[1]],[[[1,0,1]],[1]]]]`; got != want {
 		t.Errorf("offered %s, wanted %s", got, want)
 	}
-	if n := b.core.counts.folded[noSession]; n != 2 {
+	if n := b.core.counts.folded[noSession]; n != 3 {
 		t.Errorf("%d are folded for want of a session", n)
 	}
 }

@@ -7,9 +7,7 @@ import (
 )
 
 // session is one of the auditor's sessions. What is offered in it are the transactions of one connection after another,
-// and fences. The order in it is claimed of the server, and PostgreSQL keeps it: each begins after the one before it was
-// answered, so its snapshot has what that one wrote. Transactions of one connection are so by themselves; every other
-// is compared with the time at which the last one ended (floor).
+// and fences. The order of one connection is what is audited; every other one is granted by quiet moments (moments.go).
 type session struct {
 	index   int
 	next    uint64 // the number to give next
@@ -17,15 +15,18 @@ type session struct {
 	mark    uint64 // the numbers below it are gone
 	closed  bool
 	tenant  *connection
-	floor   time.Time
-	own     bool     // what stands last in it is the tenant's
-	place   uint64   // of that in its connection
-	fences  int      // since the meeting began
-	half    int      // of these, first ones
-	fenced  bool     // nothing stands behind its last fence
-	waiting []*entry // named, and not in a line yet
-	kept    []*told  // of numbers from mark on
-	line    []byte   // a fragment that is being made
+	floor   time.Time // when all that is named in it had ended
+	last    time.Time // when the last of these that is no fence had ended
+	fence   time.Time // when the last fence behind that had ended
+	own     bool      // what stands last in it is the tenant's
+	had     uint64    // the connection whose transaction was named last
+	place   uint64    // of that in its connection
+	fences  int       // since the meeting began
+	half    int       // of these, first ones
+	fenced  bool      // nothing stands behind its last fence
+	waiting []*entry  // named, and not in a line yet
+	kept    []*told   // of numbers from mark on
+	line    []byte    // a fragment that is being made
 	first   uint64
 	count   int
 }
@@ -66,6 +67,7 @@ type entry struct {
 	writer  *writer // nil where it wrote nothing that is offered
 	batch   uint64  // what it needs of the slot stands before this batch's place
 	asked   bool    // subtransactions were asked for on its behalf
+	joins   bool    // its session is closed, and comes back by it if it is a fence
 }
 
 // enter takes in what a session said of a connection.
@@ -89,6 +91,7 @@ func (c *core) enter(it record.Connection) {
 	if !c.sampled(it.Number) || c.isElsewhere(it) {
 		return
 	}
+	c.entered++
 	c.queue = append(c.queue, conn)
 	c.place()
 }
@@ -150,15 +153,15 @@ func (c *core) place() {
 	}
 }
 
-// vacant is a session without a connection, and whether it has to join.
+// vacant is a session without a connection that may be handed on, and whether it has to join.
 func (c *core) vacant() (*session, bool) {
 	var closed *session
 	for _, s := range c.sessions {
 		switch {
 		case s.tenant != nil:
-		case !s.closed:
+		case !s.closed && c.isReady(s):
 			return s, false
-		case closed == nil && s.isGone():
+		case closed == nil && s.closed && s.isGone():
 			closed = s
 		}
 	}

@@ -8,18 +8,18 @@ import (
 
 // Why a transaction isn't offered, or its writes aren't.
 const (
-	byOthers      = "committed by others than the proxy, or told too late"
-	noConnection  = "its connection isn't known"
-	noSession     = "its connection has no session of the auditor"
-	noFence       = "its session waits for a fence"
-	acrossMeeting = "it ran across a meeting, or across the end of the one before it"
-	noRoom        = "the auditor's limit is reached"
-	isUnclear     = "its outcome isn't known"
-	elsewhere     = "its connection is of another database"
-	sampledOut    = "its connection isn't in the sample"
-	itAborted     = "it aborted"
-	notKept       = "a transaction read more than is kept of one: all of that counts once here"
-	noNumber      = "its number wasn't learned"
+	byOthers     = "committed by others than the proxy, or told too late"
+	noConnection = "its connection isn't known"
+	noSession    = "its connection has no session of the auditor"
+	noFence      = "its session waits for a fence"
+	acrossMoment = "it ran while the sessions met, or were handed on"
+	noRoom       = "the auditor's limit is reached"
+	isUnclear    = "its outcome isn't known"
+	elsewhere    = "its connection is of another database"
+	sampledOut   = "its connection isn't in the sample"
+	itAborted    = "it aborted"
+	notKept      = "a transaction read more than is kept of one: all of that counts once here"
+	noNumber     = "its number wasn't learned"
 )
 
 // tell takes in a transaction that has ended.
@@ -115,28 +115,32 @@ func (c *core) take(it record.Transaction, conn *connection) {
 			c.leave(it, noNumber)
 			return
 		}
-		e.writer = c.writer(it)
-		conn.held = e
-		c.held = append(c.held, e)
+		conn.held, e.joins = e, conn.joins
+		c.hold(e)
 		return
 	}
 	c.name(e)
+}
+
+// hold has it wait for what the slot tells.
+func (c *core) hold(e *entry) {
+	e.writer = c.writer(e.its)
+	c.held = append(c.held, e)
 }
 
 // name gives the transaction its number, if it stands behind the one before it in its session, and if there is room.
 func (c *core) name(e *entry) {
 	s, it := e.session, e.its
 	follows := s.own && e.conn != nil && s.tenant == e.conn && it.Place > s.place
-	began, ended := span(&it)
 	switch {
-	case !follows && began.Before(s.floor):
-		c.leave(it, acrossMeeting)
-		return
 	case it.Fence && it.Number == 0:
 		c.leave(it, noNumber)
 		return
 	case !c.hasRoom(it.Fence):
 		c.leave(it, noRoom)
+		return
+	case !it.Fence && !c.mayStand(s, &it, follows), it.Fence && !c.mayFence(s, &it, follows):
+		c.leave(it, acrossMoment)
 		return
 	}
 	if it.Number != 0 {
@@ -157,10 +161,14 @@ func (c *core) name(e *entry) {
 			delete(c.writers, e.writer.number)
 		}
 	}
-	s.own, s.place = e.conn != nil && s.tenant == e.conn, it.Place
-	if ended.After(s.floor) {
-		s.floor = ended
+	if !it.Fence && !s.last.IsZero() && !follows && e.conn != nil && s.had != e.conn.its.Number {
+		c.counts.handed++
 	}
+	if e.conn != nil {
+		s.had = e.conn.its.Number
+	}
+	s.own, s.place = e.conn != nil && s.tenant == e.conn, it.Place
+	s.stood(&it)
 	s.fenced = it.Fence
 	if it.Fence {
 		s.fences++
@@ -192,16 +200,17 @@ func (c *core) remaining() int {
 }
 
 // spare takes in a fence that the audit's own connection made for a session, because its connection has ended, or
-// couldn't make one.
+// couldn't make one, or because it is closed and connections are expected.
 func (c *core) spare(session int, number uint64, began, ended time.Time) {
 	s := c.sessions[session]
 	it := record.Transaction{Began: began, Ended: ended, Level: record.ReadCommitted, Number: number, Fence: true}
-	if s.closed {
-		c.leave(it, acrossMeeting)
+	c.batched = true
+	e := &entry{its: it, session: s, batch: c.batch, joins: s.closed}
+	if e.joins {
+		c.hold(e)
 		return
 	}
-	c.batched = true
-	c.name(&entry{its: it, session: s, batch: c.batch})
+	c.name(e)
 }
 
 // decideHeld names what was held back: a transaction of which the connection didn't learn whether it was committed, once
@@ -209,16 +218,18 @@ func (c *core) spare(session int, number uint64, began, ended time.Time) {
 func (c *core) decideHeld() bool {
 	kept := c.held[:0]
 	for _, e := range c.held {
-		if e.batch > c.passed || e.its.Fence && e.conn.joins && !c.join(e) {
+		if e.batch > c.passed || e.joins && e.its.Fence && !c.join(e) {
 			kept = append(kept, e)
 			continue
 		}
-		e.conn.held = nil
 		if e.its.Outcome == record.Unclear {
 			c.decideUnclear(e)
 		}
-		if e.conn.ended {
-			c.release(e.conn)
+		if conn := e.conn; conn != nil {
+			conn.held = nil
+			if conn.ended {
+				c.release(conn)
+			}
 		}
 	}
 	for i := len(kept); i < len(c.held); i++ {
@@ -233,7 +244,7 @@ func (c *core) decideHeld() bool {
 // committed as late as that: nothing that began before is offered behind it.
 func (c *core) decideUnclear(e *entry) {
 	w := e.writer
-	if w.place == 0 || w.fate != undecided || e.conn.joins || e.its.Fence {
+	if w.place == 0 || w.fate != undecided || e.joins || e.its.Fence {
 		c.counts.fold(isUnclear)
 		if w.fate == undecided {
 			c.leaveWriter(w, isUnclear)
@@ -251,9 +262,8 @@ func (c *core) decideUnclear(e *entry) {
 // join brings a closed session back with its fence. It is false as long as that has to wait.
 func (c *core) join(e *entry) bool {
 	w, s := e.writer, e.session
-	began, _ := span(&e.its)
 	if w.place == 0 || w.fate != undecided || !w.fence || e.its.Outcome != record.Committed ||
-		began.Before(s.floor) || !c.hasRoom(true) || s.next > lastNumber {
+		s.closed && !s.isGone() || !c.mayFence(s, &e.its, false) || !c.hasRoom(true) || s.next > lastNumber {
 		if w.fate == undecided {
 			c.leaveWriter(w, noFence)
 		}
@@ -267,11 +277,15 @@ func (c *core) join(e *entry) bool {
 		c.leaveWriter(w, noFence)
 		return true
 	}
-	e.conn.joins = false
+	if s.tenant != nil {
+		s.tenant.joins = false
+	}
 	c.name(e)
-	c.flush()
-	s.closed = false
-	c.write(s)
-	c.writeJoin(s)
+	if s.closed {
+		c.flush()
+		s.closed = false
+		c.write(s)
+		c.writeJoin(s)
+	}
 	return true
 }

@@ -23,6 +23,8 @@ type Member interface {
 	// Try makes the fence that is due, if that is possible now.
 	Try()
 	Release()
+	// Busy says whether something of the client's is under way.
+	Busy() bool
 }
 
 // Errors of Meet. A meeting that failed has done no harm: the fences that were made are transactions like others.
@@ -181,6 +183,17 @@ func (r *Room) fences(ctx context.Context, members []Member, release bool) (ther
 		}
 	}
 	return there, n, err
+}
+
+// Busy is how many sessions have something of their clients' under way.
+func (r *Room) Busy() int {
+	n := 0
+	for _, m := range r.all() {
+		if m.Busy() {
+			n++
+		}
+	}
+	return n
 }
 
 // Fence has one session make a fence, for it to join an audit that goes on. It waits until the session has nothing

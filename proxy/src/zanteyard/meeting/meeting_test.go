@@ -24,6 +24,7 @@ type fake struct {
 }
 
 func (f *fake) Number() uint64 { return f.number }
+func (f *fake) Busy() bool     { return f.busy > 0 }
 
 func (f *fake) Hold() {
 	f.lock.Lock()

@@ -142,6 +142,7 @@ type told struct {
 	lock         sync.Mutex
 	transactions []record.Transaction
 	unseen       []string
+	untimed      int // transactions that weren't told to have begun, and then ended
 }
 
 func (s *told) Connection(record.Connection) {}
@@ -150,6 +151,9 @@ func (s *told) Transaction(t record.Transaction) {
 	s.lock.Lock()
 	defer s.lock.Unlock()
 	s.transactions = append(s.transactions, t)
+	if t.Began.IsZero() || t.Ended.Before(t.Began) {
+		s.untimed++
+	}
 }
 
 func (s *told) Unseen(shape, reason string, _ bool) {
@@ -220,6 +224,13 @@ func through(t testing.TB, user string, change func(*Options)) *proxied {
 	if _, err := server.Write(startupMessage(user)); err != nil {
 		t.Fatal(err)
 	}
+	t.Cleanup(func() {
+		p.sink.lock.Lock()
+		defer p.sink.lock.Unlock()
+		if p.sink.untimed > 0 {
+			t.Errorf("%d transactions were told without the times between which they ran", p.sink.untimed)
+		}
+	})
 	connections++
 	p.session = New(connections, near, server, options)
 	go func() { p.ended <- p.session.Run() }()

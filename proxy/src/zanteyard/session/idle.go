@@ -29,6 +29,13 @@ func (s *Session) between() bool {
 	return true
 }
 
+// Busy says whether something of the client's is under way.
+func (s *Session) Busy() bool {
+	s.state.Lock()
+	defer s.state.Unlock()
+	return s.status != 0 && !s.between()
+}
+
 // rest uses an idle moment: for a fence that is due, otherwise for trials. If the client's messages are just being
 // written, then whoever writes them uses it, if it still is one.
 func (s *Session) rest() {

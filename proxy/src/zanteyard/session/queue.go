@@ -1,6 +1,10 @@
 package session
 
-import "zanteyard/plan"
+import (
+	"time"
+
+	"zanteyard/plan"
+)
 
 // purpose is what a message of the proxy's own is for. What is answered to it is never passed on.
 type purpose uint8
@@ -35,6 +39,7 @@ type expectation struct {
 	part    int  // which statement of several is answered now
 	pieces  []piece
 	rows    int
+	sent    time.Time  // when the client's message was sent, or its predecessor
 	hides   *plan.Plan // whose columns these are
 	on      *statement
 	at      *portal
@@ -60,12 +65,26 @@ const (
 type queue struct {
 	list []expectation
 	head int
+	sent time.Time // when the client's messages were sent that are put in now
 }
 
 func (q *queue) empty() bool { return q.head == len(q.list) }
 func (q *queue) size() int   { return len(q.list) - q.head }
 
-func (q *queue) push(e expectation) { q.list = append(q.list, e) }
+func (q *queue) push(e expectation) {
+	e.sent = q.sent
+	q.list = append(q.list, e)
+}
+
+// next is when the first of the client's messages that aren't answered was sent; zero if all are.
+func (q *queue) next() time.Time {
+	for i := q.head; i < len(q.list); i++ {
+		if q.list[i].kind == clients {
+			return q.list[i].sent
+		}
+	}
+	return time.Time{}
+}
 
 // first is the oldest expectation, nil if nothing is owed.
 func (q *queue) first() *expectation {

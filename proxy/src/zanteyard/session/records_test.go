@@ -4,6 +4,7 @@ import (
 	"reflect"
 	"strconv"
 	"testing"
+	"time"
 
 	"github.com/jackc/pgproto3/v2"
 
@@ -234,5 +235,39 @@ func TestUnclear(t *testing.T) {
 	<-p.ended
 	if got := p.sink.take(); len(got) != 1 || got[0].Outcome != record.Aborted {
 		t.Errorf("told: %+v", got)
+	}
+}
+
+// TestBegan: a transaction that is sent before the one in front of it is answered began no later than it was sent, and
+// no earlier than the first of them.
+func TestBegan(t *testing.T) {
+	needServer(t)
+	p := through(t, "postgres", nil)
+	p.warm("SELECT v FROM t WHERE id = 1", "UPDATE t SET v = 1 WHERE id = 1")
+	for _, x := range []struct {
+		name  string
+		send  []byte
+		times int
+	}{
+		{"three queries at once", append(append(query("SELECT v, pg_sleep(0.1) FROM t WHERE id = 1").send,
+			query("UPDATE t SET v = 1 WHERE id = 1").send...), query("SELECT v FROM t WHERE id = 1").send...), 3},
+		{"three transactions in one", query("BEGIN; UPDATE t SET v = 1 WHERE id = 1; SELECT pg_sleep(0.1); COMMIT; " +
+			"UPDATE t SET v = 1 WHERE id = 1; BEGIN; UPDATE t SET v = 1 WHERE id = 1; COMMIT").send, 1},
+	} {
+		before := time.Now()
+		p.send(x.send)
+		sent := time.Now()
+		for i := 0; i < x.times; i++ {
+			p.until('Z')
+		}
+		its := p.sink.take()
+		if len(its) < 2 {
+			t.Errorf("%s: %d transactions were told", x.name, len(its))
+		}
+		for i, it := range its {
+			if it.Began.Before(before) || it.Began.After(sent.Add(50*time.Millisecond)) {
+				t.Errorf("%s: number %d began %v after all were sent", x.name, i, it.Began.Sub(sent))
+			}
+		}
 	}
 }

@@ -224,6 +224,7 @@ func (s *Session) looked(batch []byte, more int) []byte {
 		s.waiting.Wait()
 	}
 	s.sent = clock()
+	s.queue.sent = s.sent
 	if s.blind.Load() || s.status == 0 {
 		s.partial = more > 0
 		return batch

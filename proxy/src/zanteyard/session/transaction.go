@@ -136,6 +136,7 @@ func (s *Session) finish(outcome record.Outcome) {
 		delete(seen, r)
 	}
 	s.tx = transaction{seen: seen}
+	s.tx.Began = s.queue.next() // what was sent before this one's end may begin by itself
 }
 
 // ended is called when a ReadyForQuery says that no transaction is open.

@@ -163,6 +163,7 @@ func run(ctx context.Context, f flags, in io.Reader, out io.Writer) error {
 		Bound:     f.bound,
 		Log:       func(text string) { log.Print(text) },
 	}
+	go fewProcessors(ctx)
 	room := meeting.NewRoom(f.bound)
 	end, err := look(ctx, f, config, options, room, in, out)
 	if err != nil {

@@ -1,0 +1,290 @@
+"""What the proxy costs an application, beside a direct connection and beside pgbouncer.
+
+    python3 bench/proxy_cost.py [--seconds N] [--times N] [--clients N ..] [--work NAME ..]
+        [--way NAME ..] [--protocol NAME ..] [--scale N] [--latency]
+
+Each work of pgbench (`select` is its -S, `update` its -N, `tpcb` its tpcb-like; `transfer` is two
+reads and an update at serializable) runs in turns in each way: `direct`, `pgbouncer` (pooling
+sessions), `passing` (the proxy with --pass), `audited` (`zanteyard watch` with all that it
+starts). The table has, as medians: transactions a second; their part of the direct ones; the
+microseconds of processor time for each transaction, of pgbouncer or of the proxy, and of all that
+the audit has beside the proxy; with --latency, how long a transaction took in the middle and 99 of
+100, in microseconds. TMPDIR=/dev/shm has the server's folder in memory.
+
+Runs need a PostgreSQL 15, pgbouncer and a built proxy (`proxy/build.sh`, or ZANTEYARD_PROXY).
+"""
+
+from __future__ import annotations
+
+import argparse
+import contextlib
+import os
+import re
+import shutil
+import signal
+import socket
+import statistics
+import subprocess
+import sys
+import tempfile
+import time
+from typing import Any, Dict, List, Optional, Tuple
+
+TOP = os.path.join(os.path.dirname(os.path.abspath(__file__)), "..")
+sys.path[:0] = [os.path.join(TOP, "collectors/python"), os.path.join(TOP, "collectors/python/tests")]
+from proxy_pair import Server, postgres_program, proxy_program
+
+WAYS = ("direct", "pgbouncer", "passing", "audited")
+WORKS = ("select", "update", "tpcb", "transfer")
+TICKS = os.sysconf("SC_CLK_TCK")
+TRANSFER = """\\set a random(1, 100000 * :scale)
+\\set b random(1, 100000 * :scale)
+\\set n random(1, 100)
+BEGIN ISOLATION LEVEL SERIALIZABLE;
+SELECT abalance FROM pgbench_accounts WHERE aid = :a;
+SELECT abalance FROM pgbench_accounts WHERE aid = :b;
+UPDATE pgbench_accounts SET abalance = abalance - :n WHERE aid = :a;
+COMMIT;
+"""
+BOUNCER = """[databases]
+* = host={host} port={port} user=postgres
+[pgbouncer]
+listen_addr = 127.0.0.1
+listen_port = {listen}
+auth_type = any
+pool_mode = session
+max_client_conn = 500
+default_pool_size = 100
+pidfile = {folder}/pgbouncer.pid
+unix_socket_dir =
+ignore_startup_parameters = extra_float_digits
+"""
+
+
+def free_port() -> int:
+    with socket.socket() as free:
+        free.bind(("127.0.0.1", 0))
+        return int(free.getsockname()[1])
+
+
+def wait_for(host: str, port: int, seconds: float = 30) -> None:
+    until = time.monotonic() + seconds
+    while True:
+        try:
+            socket.create_connection((host, port), 1).close()
+            return
+        except OSError:
+            if time.monotonic() > until:
+                raise SystemExit(f"nothing listens on port {port}") from None
+            time.sleep(0.05)
+
+
+def processor_time(pid: int) -> float:
+    """The seconds of processor time that a process has taken, all its threads; 0 if it is gone."""
+    try:
+        with open(f"/proc/{pid}/stat", encoding="ascii") as file:
+            fields = file.read().rpartition(")")[2].split()
+    except OSError:
+        return 0.0
+    return (int(fields[11]) + int(fields[12])) / TICKS
+
+
+def descendants(pid: int) -> List[int]:
+    found = [pid]
+    for each in found:
+        with contextlib.suppress(OSError):
+            for task in os.listdir(f"/proc/{each}/task"):
+                with open(f"/proc/{each}/task/{task}/children", encoding="ascii") as file:
+                    found += [int(word) for word in file.read().split()]
+    return found
+
+
+class Way:
+    """One way to the server: where clients connect, and which processes stand between."""
+
+    def __init__(self, name: str, host: str, port: int, pid: Optional[int] = None) -> None:
+        self.name, self.host, self.port, self.pid = name, host, port, pid
+
+    def used(self) -> Tuple[float, float]:
+        """Processor time so far: of what passes the traffic on, and of all beside it."""
+        if self.pid is None:
+            return 0.0, 0.0
+        between = beside = 0.0
+        for each in descendants(self.pid):
+            try:
+                with open(f"/proc/{each}/comm", encoding="utf-8") as file:
+                    command = file.read().strip()
+            except OSError:
+                continue
+            if command.startswith(("zanteyard-proxy", "pgbouncer")):
+                between += processor_time(each)
+            else:
+                beside += processor_time(each)
+        return between, beside
+
+
+class Started:
+    """The programs between, one after another, ended together."""
+
+    def __init__(self, folder: str, host: str, port: int, proxy: str) -> None:
+        self.folder, self.host, self.port, self.proxy = folder, host, port, proxy
+        self.running: List["subprocess.Popen[bytes]"] = []
+
+    def way(self, name: str) -> Way:
+        if name == "direct":
+            return Way(name, self.host, self.port)
+        listen = free_port()
+        url = f"postgresql://postgres@{self.host}:{self.port}/postgres"
+        environment = dict(os.environ, ZANTEYARD_PROXY=self.proxy)
+        environment["PYTHONPATH"] = os.path.join(TOP, "collectors/python")
+        as_user: Dict[str, Any] = {}
+        if name == "pgbouncer":
+            path = os.path.join(self.folder, "pgbouncer.ini")
+            with open(path, "w", encoding="utf-8") as file:
+                text = BOUNCER.format(
+                    host=self.host, port=self.port, listen=listen, folder=self.folder
+                )
+                file.write(text)
+            program = shutil.which("pgbouncer", path="/usr/sbin:" + os.environ["PATH"])
+            call = [program or "pgbouncer", "-q", path]
+            if os.geteuid() == 0:
+                as_user = {"user": "postgres", "group": "postgres"}
+        elif name == "passing":
+            call = [self.proxy, "--pass", "--listen", f"127.0.0.1:{listen}", "--server", url]
+        else:
+            call = [sys.executable, "-m", "zanteyard", "watch", url, "--log", "WARNING"]
+            call += ["--listen", f"127.0.0.1:{listen}"]
+        log = open(os.path.join(self.folder, f"{name}.log"), "wb")
+        started = subprocess.Popen(
+            call, stdin=subprocess.DEVNULL, stdout=log, stderr=log, env=environment, **as_user
+        )
+        self.running.append(started)
+        wait_for("127.0.0.1", listen)
+        return Way(name, "127.0.0.1", listen, started.pid)
+
+    def end(self) -> None:
+        for each in self.running:
+            each.send_signal(signal.SIGINT)
+        for each in self.running:
+            try:
+                each.wait(60)
+            except subprocess.TimeoutExpired:
+                each.kill()
+
+
+def latencies(folder: str) -> Tuple[float, float]:
+    """Microseconds of a transaction by pgbench's logs: in the middle, and 99 of 100."""
+    taken = []
+    for name in os.listdir(folder):
+        if name.startswith("latency"):
+            with open(os.path.join(folder, name), encoding="ascii") as file:
+                taken += [int(line.split()[2]) for line in file]
+            os.remove(os.path.join(folder, name))
+    taken.sort()
+    if not taken:
+        return 0.0, 0.0
+    return float(taken[len(taken) // 2]), float(taken[len(taken) * 99 // 100])
+
+
+class Figures:
+    """What one run told."""
+
+    def __init__(self, rate: float, between: float, beside: float, late: Tuple[float, float]):
+        self.rate, self.between, self.beside, self.late = rate, between, beside, late
+
+
+def run(asked: Any, folder: str, way: Way, work: str, protocol: str, clients: int) -> Figures:
+    call = [postgres_program("pgbench") or "pgbench", "-n", "-M", protocol, "-c", str(clients)]
+    call += ["-j", str(min(clients, 2)), "-T", str(asked.seconds), "-h", way.host]
+    call += ["-p", str(way.port), "-U", "postgres", "-s", str(asked.scale)]
+    if work == "select":
+        call.append("-S")
+    elif work == "update":
+        call.append("-N")
+    elif work == "transfer":
+        call += ["-f", os.path.join(folder, "transfer.sql"), "--max-tries", "100"]
+    if asked.latency:
+        call += ["-l", "--log-prefix", os.path.join(folder, "latency")]
+    before = way.used()
+    done = subprocess.run(call + ["postgres"], capture_output=True, text=True, check=False)
+    after = way.used()
+    rate = re.search(r"tps = ([0-9.]+) \(without initial", done.stdout)
+    count = re.search(r"transactions actually processed: ([0-9]+)", done.stdout)
+    if rate is None or count is None or not int(count[1]):
+        raise SystemExit(f"{way.name} {work} {protocol}: {done.stdout}{done.stderr}")
+    used = [(b - a) * 1e6 / int(count[1]) for a, b in zip(before, after)]
+    return Figures(float(rate[1]), used[0], used[1], latencies(folder))
+
+
+def middle(runs: List[Figures], name: str) -> float:
+    return statistics.median(getattr(each, name) for each in runs)
+
+
+def table(asked: Any, folder: str, ways: List[Way]) -> None:
+    print(f"{'work':9}{'protocol':9}{'clients':>8}  {'way':10}{'a second':>9}{'of direct':>10}"
+          f"{'between':>9}{'beside':>8}" + (f"{'middle':>9}{'99/100':>9}" if asked.latency else ""))
+    for work in asked.work:
+        for protocol in asked.protocol:
+            for clients in asked.clients:
+                runs: Dict[str, List[Figures]] = {way.name: [] for way in ways}
+                for _ in range(asked.times):
+                    for way in ways:
+                        runs[way.name].append(run(asked, folder, way, work, protocol, clients))
+                first = middle(runs[ways[0].name], "rate")
+                for way in ways:
+                    of_way = runs[way.name]
+                    line = f"{work:9}{protocol:9}{clients:8}  {way.name:10}"
+                    line += f"{middle(of_way, 'rate'):9.0f}{middle(of_way, 'rate') / first:10.2f}"
+                    line += f"{middle(of_way, 'between'):9.1f}{middle(of_way, 'beside'):8.1f}"
+                    if asked.latency:
+                        for place in (0, 1):
+                            late = statistics.median(each.late[place] for each in of_way)
+                            line += f"{late:9.0f}"
+                    print(line, flush=True)
+
+
+def main() -> None:
+    parser = argparse.ArgumentParser(description=__doc__.splitlines()[0])
+    parser.add_argument("--seconds", type=int, default=5)
+    parser.add_argument("--times", type=int, default=5)
+    parser.add_argument("--scale", type=int, default=10)
+    parser.add_argument("--clients", type=int, nargs="+", default=[1, 8])
+    parser.add_argument("--work", nargs="+", choices=WORKS, default=list(WORKS))
+    parser.add_argument("--way", nargs="+", choices=WAYS, default=list(WAYS))
+    parser.add_argument(
+        "--protocol", nargs="+", choices=("simple", "extended", "prepared"),
+        default=["simple", "prepared"],
+    )
+    parser.add_argument("--latency", action="store_true")
+    asked = parser.parse_args()
+    folder = tempfile.mkdtemp(prefix="proxy_cost")
+    os.chmod(folder, 0o777)
+    proxy = proxy_program(folder)
+    if proxy is None:
+        raise SystemExit("Go or its libraries are missing")
+    with open(os.path.join(folder, "transfer.sql"), "w", encoding="utf-8") as file:
+        file.write(TRANSFER)
+    server = Server(os.path.join(folder, "server"))
+    server.initialize()
+    server.start()
+    started = Started(folder, "127.0.0.1", server.port, proxy)
+    try:
+        call = [postgres_program("pgbench") or "pgbench", "-i", "-q", "-s", str(asked.scale)]
+        call += ["-h", "127.0.0.1", "-p", str(server.port), "-U", "postgres", "postgres"]
+        subprocess.run(call, check=True, capture_output=True)
+        prepare = [sys.executable, "-m", "zanteyard", "prepare", "--create"]
+        prepare.append(f"postgresql://postgres@127.0.0.1:{server.port}/postgres")
+        environment = dict(os.environ, PYTHONPATH=os.path.join(TOP, "collectors/python"))
+        subprocess.run(prepare, check=False, capture_output=True, env=environment)
+        table(asked, folder, [started.way(name) for name in asked.way])
+    finally:
+        started.end()
+        server.stop()
+        if sys.exc_info()[0] is None:
+            shutil.rmtree(folder, ignore_errors=True)
+        else:
+            print(f"what the programs logged is in {folder}", file=sys.stderr)
+
+
+if __name__ == "__main__":
+    main()

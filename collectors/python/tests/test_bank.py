@@ -1,0 +1,100 @@
+"""The example of an application with SQL of its own, watched: its fault at one level, and none at
+another."""
+import ast
+import os
+import re
+import subprocess
+import sys
+import tempfile
+import unittest
+
+from zanteyard.program._binaries import PROGRAM
+from zanteyard.trial.postgres_server import program
+from zanteyard.watch._proxy import proxy_path
+
+try:
+    import psycopg2
+except ImportError:
+    psycopg2 = None
+try:
+    import psycopg
+except ImportError:
+    psycopg = None
+TOP = os.path.normpath(os.path.join(os.path.dirname(os.path.abspath(__file__)), "../../.."))
+BANK = f"{TOP}/examples/bank.py"
+ENOUGH = "100"  # seconds: a run ends with the first violation, after some seconds
+LATE = 400  # seconds for the program, which starts a server, where others have the processors
+STATEMENT = re.compile(r" {8}[\d:.]+ ([A-Z]+) (.*)  \[(.*):(\d+)\]")
+TABLE = re.compile(r"\b(?:FROM|INTO|UPDATE) (\w+)")
+# Each kind of statement, by its table, with the function whose line sends it.
+SENDERS = {
+    ("SELECT", "accounts"): {"balances", "report"},
+    ("UPDATE", "accounts"): {"move"},
+    ("INSERT", "transfers"): {"move"},
+    ("INSERT", "reports"): {"report"},
+}
+
+
+def function_at(line):
+    """The innermost of the example's functions that has this line."""
+    with open(BANK, encoding="utf-8") as file:
+        functions = [it for it in ast.walk(ast.parse(file.read())) if isinstance(it, ast.FunctionDef)]
+    its = [(it.lineno, it.name) for it in functions if it.lineno <= line <= it.end_lineno]
+    return max(its)[1] if its else ""
+
+
+@unittest.skipUnless(psycopg2 and program("initdb"), "PostgreSQL or psycopg2 is not installed")
+@unittest.skipUnless(os.path.isfile(proxy_path()), "the proxy is not built")
+@unittest.skipUnless(os.path.isfile(PROGRAM), f"{PROGRAM} is not built")
+class Bank(unittest.TestCase):
+    def told(self, *arguments):
+        """What it prints, and its status."""
+        with tempfile.TemporaryDirectory() as folder:
+            os.chmod(folder, 0o711)  # a server in it runs as another user, where this runs as root
+            ran = subprocess.run(
+                [sys.executable, BANK, *arguments],
+                cwd=TOP,
+                env={**os.environ, "TMPDIR": folder, "COBRA_AUDIT": os.path.abspath(PROGRAM)},
+                capture_output=True,
+                text=True,
+                timeout=LATE,
+            )
+            self.assertEqual(os.listdir(folder), [])
+        self.assertEqual(ran.stderr, "")
+        return ran.stdout, ran.returncode
+
+    def overdraws(self, *how):
+        """Which part of the history is told differs from run to run: what holds for each is that a
+        withdrawal read what another overwrote, and that each statement stands there with the
+        application's own line that has sent it."""
+        told, status = self.told("--level", "repeatable", "--seconds", ENOUGH, *how)
+        self.assertEqual(status, 1, told)
+        self.assertTrue(told.startswith("violated: no order of these transactions"), told)
+        self.assertRegex(told, r"\n  [\d,]+ violations? found: .*write skew")
+        kinds = set()
+        for verb, text, path, line in STATEMENT.findall(told):
+            kind = verb, TABLE.search(f"{verb} {text}")[1]
+            with self.subTest(statement=text):
+                self.assertEqual(path, "examples/bank.py")
+                self.assertIn(function_at(int(line)), SENDERS[kind])
+            kinds.add(kind)
+        self.assertLessEqual({("SELECT", "accounts"), ("UPDATE", "accounts")}, kinds)
+
+    def test_customers_overdraw_at_repeatable_read(self):
+        self.overdraws()
+
+    @unittest.skipUnless(psycopg, "psycopg 3 is not installed")
+    def test_by_psycopg_3_too(self):
+        self.overdraws("--driver", "psycopg")
+
+    def test_none_does_at_serializable(self):
+        for seconds in ("2", "60"):  # in which something was done, also beside other programs
+            told, status = self.told("--level", "serializable", "--seconds", seconds)
+            if status != 4:  # nothing was checked yet
+                break
+        self.assertEqual(status, 0, told)
+        self.assertRegex(told, r"^serial: [\d,]+ of [\d,]+ transactions were checked")
+
+
+if __name__ == "__main__":
+    unittest.main()

@@ -1,0 +1,283 @@
+"""Other promises than serializability, asked by rewriting what the auditor is given: against their
+definitions, tried over all orders."""
+import json
+import os
+import re
+import unittest
+from collections import Counter
+
+from zanteyard.core._own_keys import FENCE
+from zanteyard.core._records import ABORTED, Logged
+from zanteyard.core.errors import CantBeAskedError, ScriptMistakeError
+from zanteyard.explain._scripts import ScriptRun
+from zanteyard.explain._script_times import ScriptTimes
+from zanteyard.explain._shrinking import audited
+from zanteyard.program._auditor import PROGRAM
+from zanteyard.promises._kinds import ALL, ASKED, IMPLIED, SERIALIZABLE, SNAPSHOT, STRICT, weaker
+from zanteyard.promises._rewriting import Rewriting
+from zanteyard.promises._split import KEYS, split_transactions
+from zanteyard.promises._times import TIME_KEYS, Timeline
+
+from .plain_promises import COMMITTED, DEFINITIONS, generated, has_order, ids_of, is_pending, script_of
+
+TOP = os.path.normpath(os.path.join(os.path.dirname(os.path.abspath(__file__)), "../../.."))
+HISTORIES = int(os.environ.get("ZANTEYARD_HISTORIES", "500"))
+ROUND = ["round", 4096, 0, 1, "guided"]
+
+
+def is_fence(transaction):
+    reads, writes, _ = transaction
+    return [key for key, _ in reads] == [0] and writes == {0}
+
+
+def asked_times(history, times):
+    """Those that count: a fence does nothing else, so that nothing can be added to it."""
+    return {id: times[id] for id in times if not is_fence(history[id[0]][id[1]])}
+
+
+def kind_owed(history, times, name):
+    is_kept = DEFINITIONS[name](history, asked_times(history, times))
+    return "violated" if not is_kept else "pending" if is_pending(history) else "serial"
+
+
+def kind_told(lines, promise, times=None):
+    asked_about = ScriptTimes("ns", times) if times is not None else None
+    with ScriptRun(PROGRAM, promise=promise, times=asked_about) as run:
+        (verdict,) = run.verdicts([json.dumps(line).encode() for line in lines])
+        return verdict
+
+
+def as_logged(history, times):
+    """As an explanation has it."""
+    def key_name(key):
+        return FENCE if key == 0 else f"key {key}"
+
+    def one(id):
+        reads, writes, outcome = history[id[0]][id[1]]
+        read = [(key_name(key), "init" if source is None else source) for key, source in reads]
+        written = [key_name(key) for key in sorted(writes)]
+        span = (*times[id], "ns") if id in times else ()
+        if outcome == ABORTED:
+            return Logged((), (), ABORTED, tried_reads=read, tried_writes=written, span=span)
+        return Logged(read, written, span=span)
+
+    return [[one((at, number)) for number in range(len(its))] for at, its in enumerate(history)]
+
+
+def read_back(lines):
+    """Lines of a script as the plain definitions have a history."""
+    sessions = [[] for _ in range(lines[0][1])]
+    for line in lines[1:]:
+        for reads, keys, *more in line[3]:
+            read = [(key, None if source == ["init"] else tuple(source)) for key, *source in reads]
+            sessions[line[1]].append((read, set(keys), more[0] if more else "committed"))
+    return sessions
+
+
+class Rules(unittest.TestCase):
+    """Of the split, as the crate `snapshot_histories` states it."""
+
+    def test_halves(self):
+        """Worked by hand from specs/Split.antt."""
+        star = KEYS + 5
+        rows = (
+            ("a read of the initial state", [[[5, "init"]], []], [[[5, "init"]], []], [[], []]),
+            ("a read", [[[5, 2, 7]], []], [[[5, 2, 15]], []], [[], []]),
+            ("a write", [[], [5]], [[], [star]], [[[star, 3, 8]], [5]]),
+            (
+                "both",
+                [[[4, "init"], [5, 0, 0]], [5, 6]],
+                [[[4, "init"], [5, 0, 1]], [star, star + 1]],
+                [[[star, 3, 8], [star + 1, 3, 8]], [5, 6]],
+            ),
+            ("a fence", [[[0, 1, 2]], [0]], [[[0, 1, 5]], [0]], [[[0, 3, 8]], [0]]),
+            ("the first fence", [[[0, "init"]], [0]], [[[0, "init"]], [0]], [[[0, 3, 8]], [0]]),
+            ("nothing", [[], []], [[], []], [[], []]),
+            (
+                "an attempt that aborted",
+                [[[5, 0, 0]], [5], ABORTED],
+                [[[5, 0, 1]], [star], ABORTED],
+                [[[star, 3, 8]], [5], ABORTED],
+            ),
+        )
+        for shows, transaction, begin, commit in rows:
+            with self.subTest(shows=shows):
+                self.assertEqual([*split_transactions(3, 4, [transaction])], [begin, commit])
+
+    def test_lines(self):
+        rewriting = Rewriting(SNAPSHOT)
+        self.assertEqual(rewriting.asked(["open", 2, 16, 2]), [["open", 2, 32, 2]])
+        self.assertEqual(rewriting.asked(["open", 2, 4000]), [["open", 2, 4096]])
+        self.assertTrue(rewriting.has_less_room)
+        ((word, session, first, halves),) = rewriting.asked(["offer", 1, 3, [[[], [5]], [[], []]]])
+        self.assertEqual((word, session, first, len(halves)), ("offer", 1, 6, 4))
+        fence = [[[0, 0, 1]], [0]]
+        self.assertEqual(rewriting.asked(["join", 2, [fence]])[0][:2], ["join", 2])
+        self.assertEqual(rewriting.asked(["join", 2, 5, [fence]])[0][:3], ["join", 2, 10])
+        many = rewriting.asked(["offer", 0, 2, [[[], []]] * 200])
+        self.assertEqual([(line[2], len(line[3])) for line in many], [(4, 256), (260, 144)])
+        for line in (["round", 1, 0, 1], ["offer", 0, 0, "x"], ["offer", 0, 0, [[[[5]], []]]], []):
+            self.assertEqual(rewriting.asked(line), [line])  # which the auditor judges
+        for line in (
+            ["resume", 2, 16], ["save", "marks"], ["answer", "order", []],
+            ["offer", 0, 0, [[[], [KEYS]]]], ["offer", 0, 0, [[[[5, 0, 0]], []]]],
+            ["offer", 0, 0, [[[[5, 0, 1 << 47]], []]]],
+        ):
+            with self.subTest(line=line), self.assertRaises(CantBeAskedError):
+                rewriting.asked(line)
+
+    def test_split_histories_have_an_order_where_snapshot_isolation_is_kept(self):
+        """Without the auditor: the split by itself, and the times."""
+        kinds = Counter()
+        for seed in range(HISTORIES):
+            history, times = generated(seed)
+            counted = asked_times(history, times)
+            lines = [*script_of(history)]
+            live = {id: counted[id] for id in counted if history[id[0]][id[1]][2] != ABORTED}
+            for promise in ALL:
+                if not promise.keeps_sessions or (promise.name == "prefix" and has_fence(history)):
+                    continue
+                rewriting = Rewriting(promise, Timeline(live))
+                asked = [each for line in lines for each in rewriting.asked(line)]
+                is_kept = DEFINITIONS[promise.name](history, counted)
+                with self.subTest(seed=seed, promise=promise.name):
+                    self.assertEqual(has_order(read_back(asked)), is_kept)
+                kinds[promise.name, is_kept] += 1
+        for promise in ALL:
+            if promise.keeps_sessions:
+                for is_kept in (False, True):
+                    self.assertGreater(kinds[promise.name, is_kept], HISTORIES // 50)
+
+    def test_what_implies_what(self):
+        """And that nothing more does: of each other pair some history keeps the one alone."""
+        found = set()
+        skew = [[([(1, None)], {2}, COMMITTED)], [([(2, None)], {1}, COMMITTED)]]
+        tried = [(skew, {(0, 0): (1, 3), (1, 0): (2, 4)})]
+        tried += [generated(seed, fences=False) for seed in range(HISTORIES)]
+        for history, times in tried:
+            kept = {it.name for it in ALL if DEFINITIONS[it.name](history, times)}
+            for promise in ALL:
+                if promise.name in kept:
+                    self.assertLessEqual({it.name for it in weaker(promise)}, kept)
+                    found.update((promise.name, it.name) for it in ALL if it.name not in kept)
+        owed = {
+            (one.name, other.name)
+            for one in ALL for other in ALL if other not in (one, *weaker(one))
+        }
+        self.assertEqual(owed - found, set())
+        self.assertEqual({*IMPLIED}, {*ALL})
+
+    def test_times(self):
+        """Each transaction reads from the latest of those that had ended, and from no others."""
+        spans = {(0, 0): (0, 10), (1, 0): (5, 20), (0, 1): (12, 30), (1, 1): (25, None), (2, 0): (31, 40)}
+        timeline = Timeline(spans)
+        read = {
+            id: [tuple(read[1:]) for read in timeline.rewritten(id, [[], []])[0]] for id in spans
+        }
+        wanted = {(0, 0): [], (1, 0): [], (0, 1): [(0, 0)], (1, 1): [(0, 0), (1, 0)]}
+        self.assertEqual(read, {**wanted, (2, 0): [(0, 1), (1, 0)]})
+        self.assertEqual(timeline.rewritten((0, 0), [[[5, "init"]], [5]])[1], [5, TIME_KEYS])
+
+
+def has_fence(history):
+    return any(is_fence(one) for its in history for one in its)
+
+
+@unittest.skipUnless(os.path.isfile(PROGRAM), f"{PROGRAM} is not built")
+class ByTheAuditor(unittest.TestCase):
+    def test_histories_get_the_verdicts_of_the_definitions(self):
+        told = Counter()
+        for seed in range(HISTORIES):
+            history, times = generated(seed)
+            lines = [*script_of(history), ROUND]
+            for name, promise in ASKED.items():
+                if promise == SERIALIZABLE:
+                    continue
+                owed = kind_owed(history, times, name)
+                counted = asked_times(history, times) if promise.is_timed else None
+                with self.subTest(seed=seed, promise=name):
+                    verdict = kind_told(lines, promise, counted)
+                    self.assertEqual(verdict.kind, owed)
+                    self.check_order(history, promise, verdict)
+                told[name, owed] += 1
+        for name in ("snapshot", "strict"):
+            for kind in ("serial", "pending", "violated"):
+                self.assertGreater(told[name, kind], HISTORIES // 50, told)
+
+    def check_order(self, history, promise, verdict):
+        """The order of begins and commits names each once, begin before commit."""
+        if verdict.kind != "violated" and promise == SNAPSHOT:
+            events = [*map(tuple, verdict.certificate)]
+            owed = [(*id, event) for id in ids_of(history) for event in ("begin", "commit")]
+            self.assertEqual(sorted(events), sorted(owed))
+            for id in ids_of(history):
+                self.assertLess(events.index((*id, "begin")), events.index((*id, "commit")))
+
+    def test_small_histories_are_asked_about_each_promise(self):
+        """As an explanation asks what a violation breaks."""
+        for seed in range(HISTORIES // 10):
+            history, times = generated(seed, fences=False)
+            for promise in ALL:
+                with self.subTest(seed=seed, promise=promise.name):
+                    report, _ = audited(as_logged(history, times), PROGRAM, promise)
+                    self.assertEqual(report.kind, kind_owed(history, times, promise.name))
+
+    def test_the_table_of_the_crate_that_is_proved(self):
+        """Its histories, split by this module, get the verdicts that they have there."""
+        rows = [*crate_rows()]
+        self.assertGreaterEqual(len(rows), 8)
+        for sessions, by_order, by_snapshot in rows:
+            lines = [["open", len(sessions), 16]]
+            lines += [["offer", at, 0, its] for at, its in enumerate(sessions) if its]
+            with self.subTest(sessions=sessions):
+                self.assertEqual(kind_told([*lines, ROUND], SERIALIZABLE).kind, by_order)
+                self.assertEqual(kind_told([*lines, ROUND], SNAPSHOT).kind, by_snapshot)
+
+    def test_what_cant_be_asked_is_refused_in_words(self):
+        opened = ["open", 2, 4096]
+        rows = (
+            (SNAPSHOT, [["resume", 1, 4]], "resumes another"),
+            (SNAPSHOT, [opened, ["save", "marks"]], "split in two"),
+            (SNAPSHOT, [opened, ["begin"], ["answer", "order", []]], "from elsewhere"),
+            (SNAPSHOT, [opened, ["offer", 0, 0, [[[], [KEYS]]]]], "below 9223372036854775808"),
+            (SNAPSHOT, [opened, *too_many()], "at most 2,048"),
+            (STRICT, [opened, ["offer", 0, 0, [[[], [TIME_KEYS]]]]], "below 4611686018427387904"),
+        )
+        for promise, lines, words in rows:
+            with self.subTest(words=words), self.assertRaisesRegex(ScriptMistakeError, words):
+                kind_told([*lines, ROUND], promise, {} if promise.is_timed else None)
+        with self.assertRaisesRegex(CantBeAskedError, "SCRIPT.times"):
+            ScriptRun(PROGRAM, promise=STRICT)
+        with self.assertRaisesRegex(CantBeAskedError, "1.7 has times, and isn't in the script"):
+            kind_told([opened, ROUND], STRICT, {(1, 7): (0, 1)})
+
+    def test_half_the_room_suffices_for_half_as_many(self):
+        lines = [["open", 1, 4096], *too_many()[:-1], ["show"], ROUND]
+        verdict = kind_told(lines, SNAPSHOT)
+        self.assertEqual((verdict.kind, verdict.counts), ("serial", [2048]))
+
+
+def too_many():
+    """Offers of 256 each that do nothing."""
+    return [["offer", 0, 256 * at, [[[], []]] * 256] for at in range(9)]
+
+
+def crate_rows():
+    """Of crates/snapshot_tests: the sessions of each row as lines have them, and its two verdicts."""
+    path = os.path.join(TOP, "crates/snapshot_tests/src/histories.rt")
+    with open(path, encoding="utf-8") as file:
+        text = file.read()
+    kinds = {"Serial": "serial", "Violated": "violated", "Pending": "pending"}
+    form = r"remain: (&\[.*?\]),\n\s+(?:marks|\.\.EMPTY).*?by_order: Kind::(\w+),\s+by_snapshot: Kind::(\w+)"
+    for remain, by_order, by_snapshot in re.findall(form, text, re.DOTALL):
+        plain = re.sub(r"By\(ID_(\d+)_(\d+)\)", r"(\1, \2)", remain.replace("&", ""))
+        sessions = eval(plain, {"Init": ("init",)})  # of the repository's own source
+        lines = [
+            [[[[key, *source] for key, source in reads], [*keys]] for reads, keys in its]
+            for its in sessions
+        ]
+        yield lines, kinds[by_order], kinds[by_snapshot]
+
+
+if __name__ == "__main__":
+    unittest.main()

@@ -1,0 +1,187 @@
+"""Which promises a finished history keeps, and which transactions break the others."""
+
+from __future__ import annotations
+
+from dataclasses import dataclass, field
+from typing import Dict, Iterator, List, Optional, Sequence, Tuple
+
+from ..core._records import History, Naming
+from ..core.errors import CantBeAskedError, ScriptMistakeError
+from ..promises._kinds import (
+    ALL,
+    GENERALIZED,
+    PREFIX,
+    SERIALIZABLE,
+    SESSIONLESS,
+    SNAPSHOT,
+    STRICT,
+    STRONG_SNAPSHOT,
+    WITHOUT_SESSIONS,
+    Promise,
+    stronger,
+    weaker,
+)
+from ..promises._rewriting import LIMIT, SESSIONS
+from ._arcs import table
+from ._report import EXPLAINED, SHOWN
+from ._script_names import ScriptNames
+from ._script_times import ScriptTimes
+from ._scripts import MORE, ScriptHistory, ScriptRun, Verdict
+from ._shrinking import Part, audited, from_start, is_violated, refuted, smaller
+from ._standing import listed
+
+YES, NO, UNKNOWN, PENDING = "yes", "no", "not known", "so far"
+# By the script's own lines: what these forget is forgotten under each promise.
+BY_LINES = tuple(each for each in ALL if each.keeps_sessions and each != PREFIX)
+
+
+@dataclass(frozen=True)
+class Level:
+    """Whether one promise is kept. `why` names the transactions that break it, or says why that
+    isn't known; empty otherwise."""
+
+    promise: Promise
+    answer: str
+    why: str = ""
+
+
+@dataclass
+class Levels:
+    """Asks a script about all promises, the strongest first; what follows from an answer isn't
+    asked again. `seconds` is how long making a violated history small may take, for each."""
+
+    program: str
+    lines: Sequence[bytes]
+    names: Optional[ScriptNames] = None
+    times: Optional[ScriptTimes] = None
+    most_nodes: int = MORE[1][0]
+    seconds: float = EXPLAINED
+    _found: Dict[Promise, Level] = field(default_factory=dict)
+    _history: ScriptHistory = field(default_factory=ScriptHistory)
+    _small: Dict[Promise, History] = field(default_factory=dict)
+    _is_whole: bool = False  # nothing of it is forgotten, or was handed over
+
+    def found(self) -> List[Level]:
+        """One for each promise. Raises ScriptMistakeError where the script is wrong, and
+        ProgramEndedError."""
+        self._ask(SERIALIZABLE)  # which tells what is in the script
+        for promise in ALL:
+            if promise not in self._found:
+                self._ask(promise)
+        return [self._found[promise] for promise in ALL]
+
+    def _ask(self, promise: Promise) -> None:
+        if promise.is_timed and self.times is None:
+            self._note(Level(promise, UNKNOWN, "the script has no times"))
+            return
+        try:
+            level = self._by_lines(promise) if promise in BY_LINES else self._by_history(promise)
+        except CantBeAskedError as error:
+            level = Level(promise, UNKNOWN, str(error))
+        except ScriptMistakeError as error:
+            if promise == SERIALIZABLE:
+                raise
+            level = Level(promise, UNKNOWN, str(error))
+        self._note(level)
+
+    def _note(self, level: Level) -> None:
+        """With what follows from it."""
+        self._found[level.promise] = level
+        if level.answer in (YES, PENDING):
+            for promise in weaker(level.promise):
+                self._found.setdefault(promise, Level(promise, level.answer, level.why))
+        elif level.answer == NO:
+            for promise in stronger(level.promise):
+                self._found.setdefault(promise, Level(promise, NO, level.why))
+
+    def _by_lines(self, promise: Promise) -> Level:
+        with ScriptRun(self.program, self.most_nodes, self.names, promise, self.times) as run:
+            for verdict in run.verdicts(self.lines):
+                if verdict.kind == "violated":
+                    break  # violated is final
+            assert run.verdict is not None
+            if promise == SERIALIZABLE:
+                self._history = run.history
+                self._is_whole = not any(run.history.marks) and not run.is_resumed
+            return self._level(promise, run.verdict, run.history)
+
+    def _level(self, promise: Promise, verdict: Verdict, history: ScriptHistory) -> Level:
+        if verdict.kind == "violated":
+            return Level(promise, NO, self._by_whom(promise, verdict, history))
+        if verdict.kind == "serial":
+            return Level(promise, YES)
+        if verdict.kind == "pending":
+            return Level(promise, PENDING, "a read names a transaction that hasn't come")
+        return Level(promise, UNKNOWN, "the search ran out of its budget")
+
+    def _by_whom(self, promise: Promise, verdict: Verdict, history: ScriptHistory) -> str:
+        whole, names = from_start(history)
+        known = refuted(history, verdict.certificate)
+        small = smaller(whole, self.program, self.seconds, known, promise)
+        self._small[promise] = small
+        return _told(small, names)
+
+    def _by_history(self, promise: Promise) -> Level:
+        """What can't be asked by lines: without sessions, or where fences aren't apart from other
+        transactions. Of a history that isn't whole that is not known."""
+        if not self._is_whole:
+            return Level(promise, UNKNOWN, "the script forgets, or resumes another one")
+        whole, names = from_start(self._history)
+        if not promise.keeps_sessions:
+            return self._without_sessions(promise, whole, names)
+        if self._history.remaining > LIMIT // 2:
+            return Level(promise, UNKNOWN, f"the script has more than {LIMIT // 2:,} transactions")
+        report = audited(whole, self.program, promise)[0]
+        verdict = Verdict(report.kind, 0, report.counts, report.certificate, 0)
+        return self._level(promise, verdict, self._history)
+
+    def _without_sessions(self, promise: Promise, whole: History, names: Naming) -> Level:
+        """Each transaction is in a session of its own, so that few can be asked about; but what few
+        break the whole breaks."""
+        part = Part.of(whole, promise)
+        if len(part.txns) <= SESSIONS:
+            kind = audited(whole, self.program, promise)[0].kind
+            if kind != "violated":
+                return self._level(promise, Verdict(kind, 0, (), (), 0), self._history)
+            small = smaller(whole, self.program, self.seconds, (), promise)
+            return Level(promise, NO, _told(small, names))
+        (kept_in_order,) = [one for one, other in WITHOUT_SESSIONS.items() if other == promise]
+        few = self._small.get(kept_in_order)
+        if few is not None and len(Part.of(few).txns) <= SESSIONS:
+            if is_violated(few, self.program, promise):
+                return Level(promise, NO, _told(few, names))
+        why = f"the script has more than {SESSIONS} transactions, and each takes a session"
+        return Level(promise, UNKNOWN, why)
+
+
+def _told(small: History, names: Naming) -> str:
+    ids = [id for id, logged in table(small).items() if logged.reads or logged.writes]
+    return ", ".join(names(id) for id in ids[:SHOWN]) + (", .." if len(ids) > SHOWN else "")
+
+
+# How the promises are laid out: whoever keeps one keeps what is to its right and below it.
+COLUMNS = ("in order of time", "in session order", "in any order")
+ROWS = (
+    ("serializability", (STRICT, SERIALIZABLE, SESSIONLESS)),
+    ("snapshot isolation", (STRONG_SNAPSHOT, SNAPSHOT, GENERALIZED)),
+    ("prefix consistency", (None, PREFIX, None)),
+)
+
+
+def levels_lines(levels: Sequence[Level]) -> Iterator[str]:
+    """A table, and behind it who breaks what."""
+    answers = {level.promise: level for level in levels}
+    width = max(map(len, COLUMNS)) + 2
+    names = max(len(name) for name, _ in ROWS) + 2
+    yield " " * names + "".join(column.ljust(width) for column in COLUMNS).rstrip()
+    for name, row in ROWS:
+        cells = [answers[promise].answer if promise else "" for promise in row]
+        yield (name.ljust(names) + "".join(cell.ljust(width) for cell in cells)).rstrip()
+    told: Dict[Tuple[str, str], List[Promise]] = {}
+    for level in levels:
+        if level.answer != YES:
+            told.setdefault((level.answer, level.why), []).append(level.promise)
+    for (answer, why), promises in told.items():
+        begins = {NO: "broken", PENDING: "kept so far", UNKNOWN: "not known"}[answer]
+        yield f"{begins}: {listed(promises)}"
+        yield f"  {'by ' if answer == NO else ''}{why}"

@@ -1,0 +1,119 @@
+"""Which promises a violation breaks, and which it leaves standing; and the other violations of a
+history that lie apart from one."""
+
+from __future__ import annotations
+
+import time
+from dataclasses import dataclass
+from typing import Dict, Iterator, Optional, Sequence, Set
+
+from ..core._records import History, Logged, ShownId
+from ..core.errors import CantBeAskedError, ZanteyardError
+from ..promises._kinds import ALL, SERIALIZABLE, WITHOUT_SESSIONS, Promise, stronger, weaker
+from ._arcs import table
+from ._shrinking import SECONDS, Part, audited, smaller
+
+FEW = 64  # transactions of a violation of which it is asked what it breaks, at most
+
+
+@dataclass(frozen=True)
+class Standing:
+    """Of one violation, as promises in the order of ALL. What couldn't be decided is in neither."""
+
+    broken: Sequence[Promise] = ()
+    kept: Sequence[Promise] = ()
+
+    def lines(self) -> Iterator[str]:
+        """What it breaks, and the strongest of what it leaves standing."""
+        if self.broken:
+            pairs = [each for each in WITHOUT_SESSIONS if each in self.broken]
+            are_both = all(WITHOUT_SESSIONS[each] in self.broken for each in pairs)
+            others = WITHOUT_SESSIONS.values() if pairs and are_both else ()
+            told = listed([each for each in self.broken if each not in others])
+            yield f"breaks {told}{', also without session order' if others else ''}"
+        implied = {each for promise in self.kept for each in weaker(promise)}
+        strongest = [each for each in self.kept if each not in implied]
+        if strongest:
+            yield f"leaves {listed(strongest)} standing"
+
+
+def listed(promises: Sequence[Promise]) -> str:
+    """As in "a, b and c"."""
+    titles = [promise.title for promise in promises]
+    return " and ".join([", ".join(titles[:-1]), titles[-1]] if titles[1:] else titles)
+
+
+def standing(
+    small: History, program: str, promise: Promise = SERIALIZABLE, seconds: float = SECONDS
+) -> Standing:
+    """Of a small history that breaks this promise. Promises about time are asked about if it tells
+    when its transactions began."""
+    if len(Part.of(small).txns) > FEW:
+        return Standing()
+    ends = time.monotonic() + seconds
+    has_times = any(logged.span for txns in small for logged in txns)
+    asked = [each for each in ALL if has_times or not each.is_timed]
+    decided: Dict[Promise, bool] = {promise: False}
+    decided.update((each, False) for each in stronger(promise))
+    for each in asked:
+        if each in decided or time.monotonic() > ends:
+            continue
+        is_kept = _keeps(small, program, each)
+        if is_kept is not None:
+            decided[each] = is_kept
+            decided.update((other, is_kept) for other in _following(each, is_kept))
+    broken = [each for each in asked if decided.get(each) is False]
+    return Standing(broken, [each for each in asked if decided.get(each)])
+
+
+def _following(promise: Promise, is_kept: bool) -> Sequence[Promise]:
+    return weaker(promise) if is_kept else stronger(promise)
+
+
+def _keeps(small: History, program: str, promise: Promise) -> Optional[bool]:
+    """None where that can't be asked, or isn't decided."""
+    try:
+        kind = audited(small, program, promise)[0].kind
+    except CantBeAskedError:
+        return None
+    except ZanteyardError:  # the verdict has been told by then, and rests on none of this
+        return None
+    return {"violated": False, "serial": True, "pending": True}.get(kind)
+
+
+class Apart:
+    """Looks for the violations of a history that share no reader with those found before."""
+
+    def __init__(self, history: History, program: str, promise: Promise = SERIALIZABLE) -> None:
+        self._sessions, self._program = len(history), program
+        self._part = Part.of(history, promise)
+        self.are_all_found = False
+
+    def others(self, first: History, seconds: float = SECONDS) -> Iterator[History]:
+        """Those besides the first, each as small as it gets; as many as are found in so many
+        seconds. `are_all_found` tells whether there is none besides."""
+        ends, small = time.monotonic() + seconds, first
+        while True:
+            left = self._without(small)
+            if left is None or time.monotonic() > ends:
+                return
+            self._part = left
+            ids = left.report(self._program)
+            if ids is None:
+                self.are_all_found = True
+                return
+            whole, promise = left.history(self._sessions), left.promise
+            rest = max(0.0, ends - time.monotonic())
+            small = smaller(whole, self._program, rest, ids, promise)
+            yield small
+
+    def _without(self, small: History) -> Optional[Part]:
+        """The same without what the readers of this violation have read; None where it has none."""
+        readers: Set[ShownId] = {id for id, logged in table(small).items() if logged.reads}
+        if not readers & self._part.txns.keys():
+            return None
+        txns: Dict[ShownId, Logged] = {
+            id: logged._replace(reads=()) if id in readers else logged
+            for id, logged in self._part.txns.items()
+        }
+        return Part(txns, self._part.promise)

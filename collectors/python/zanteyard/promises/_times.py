@@ -1,0 +1,81 @@
+"""The order of time as reads: what had ended before another transaction began comes before it.
+
+Each transaction writes a key of its own, and one that begins later reads it there. Of those that
+had ended it reads the latest alone: the others had ended before one of these began. Each such key
+has one writer, so that no choice arises.
+"""
+
+from __future__ import annotations
+
+from bisect import bisect_left
+from itertools import accumulate
+from typing import Any, Dict, List, Mapping, Optional, Sequence, Tuple
+
+TIME_KEYS = 1 << 62  # keys of scripts that are asked about time are below it
+NUMBERS = 1 << 48  # of a session's transactions
+Id = Tuple[int, int]
+Span = Tuple[int, Optional[int]]  # when it began, and when it ended if that is known
+
+
+class Timeline:
+    """Of transactions whose begins are known. In nanoseconds, or whatever one clock counts."""
+
+    def __init__(self, spans: Mapping[Id, Span]) -> None:
+        self.spans = dict(spans)
+        ends = ((end, id) for id, (_, end) in spans.items() if end is not None)
+        ended: List[Tuple[int, Id]] = sorted(ends)
+        self._ends: List[int] = [end for end, _ in ended]
+        self._ids: List[Id] = [id for _, id in ended]
+        # Of so many that ended first, when the last of them began.
+        begins: List[int] = [spans[id][0] for id in self._ids]
+        self._last_begins: List[int] = list(accumulate(begins, max))
+        self._latest: Dict[Id, Sequence[Id]] = {id: self._latest_of(id) for id in self.spans}
+        self._read = {source for sources in self._latest.values() for source in sources}
+
+    def _latest_of(self, id: Id) -> Sequence[Id]:
+        """Those that had ended before it began, but for those that had before another of them
+        began."""
+        began, _ = self.spans[id]
+        count = bisect_left(self._ends, began)
+        if not count:
+            return ()
+        first = bisect_left(self._ends, self._last_begins[count - 1])
+        return self._ids[first:count]
+
+    def rewritten(self, id: Id, transaction: Sequence[Any]) -> List[Any]:
+        """A transaction of a line, which then keeps the order of time."""
+        reads, keys, *undone = transaction
+        sources = sorted([time_key(source), *source] for source in self._latest.get(id, ()))
+        own = [time_key(id)] if id in self._read else []
+        return [[*reads, *sources], [*keys, *own], *undone]
+
+
+def time_key(id: Id) -> int:
+    """The key of a transaction's own that those read which begin later."""
+    return TIME_KEYS + id[0] * NUMBERS + id[1]
+
+
+def mistake_in(spans: Mapping[Id, Span]) -> Optional[str]:
+    """What can't be of times: that one ends before it begins, or before the one before it of its
+    session began."""
+    for id, (began, end) in sorted(spans.items()):
+        if end is not None and end < began:
+            return f"{id[0]}.{id[1]} ended before it began"
+        before = spans.get((id[0], id[1] - 1))
+        if end is not None and before is not None and end < before[0]:
+            return f"{id[0]}.{id[1]} ended before the one before it in its session began"
+    return None
+
+
+UNITS: Mapping[str, Sequence[Tuple[int, str]]] = {
+    "ns": ((10**9, "s"), (10**6, "ms"), (10**3, "µs"), (1, "ns")),
+}
+
+
+def told_gap(gap: int, unit: str) -> str:
+    """A time of so many of these units, for a person: `3 ms`; empty if the unit is none of time."""
+    for size, word in UNITS.get(unit, ()):
+        if gap >= size:
+            amount = gap / size
+            return f"{amount:.0f} {word}" if amount >= 10 else f"{amount:.3g} {word}"
+    return ""
