@@ -16,12 +16,15 @@ from zanteyard.program._binaries import PROGRAM
 from zanteyard.trial.postgres_server import PostgresServer, program
 from zanteyard.trial.redis_server import RedisServer, redis_server
 from zanteyard.watch import _facts as facts
+from zanteyard.watch import _figures as figures
+from zanteyard.watch import _live_page as live_page
 from zanteyard.watch._database import Database
 from zanteyard.watch._feed import seen_of
 from zanteyard.watch._proxy import proxy_path
 from zanteyard.watch._run import Plan, Run
 
-from . import watch_feed as feed
+from tests import watch_feed as feed
+from tests.test_watch_page import EVIL, SHOWN_EVIL, status
 
 try:
     import psycopg2
@@ -71,6 +74,17 @@ class Words(unittest.TestCase):
         self.assertEqual((one.name, one.feeds, one.transactions, one.silent), ("web-2", False, 7, 9))
         self.assertEqual((seen.others.refused, seen.others.down), (3, "connection refused"))
         self.assertIsNone(seen_of(feed.coverage()).others)
+        page = live_page.whole_page(status(seen=seen))
+        for wanted in ("Other proxies", "web-2", "not heard for 9.0 s", "3 messages refused", "refused."):
+            self.assertIn(wanted, page)
+        told = figures.text_of(figures.families(status(seen=seen)))
+        for wanted in ("other_proxies 0", "messages_refused_total 3", "redis_up 0"):
+            self.assertIn(f"zanteyard_{wanted}\n", told)
+        evil = {"proxies": [{"name": EVIL}], "down": EVIL}
+        page = live_page.whole_page(status(seen=seen_of(feed.coverage(remote=evil))))
+        self.assertEqual((page.count(SHOWN_EVIL), EVIL in page), (2, False))
+        self.assertNotIn("Other proxies", live_page.whole_page(status()))
+        self.assertNotIn("redis_up", figures.text_of(figures.families(status())))
         self.assertIsNone(seen_of(feed.coverage(remote=5)).others)
         for wrong, count in (({"proxies": 7}, 0), ({"proxies": [3]}, 1), ({}, 0)):
             self.assertEqual(len(seen_of(feed.coverage(remote=wrong)).others.proxies), count)

@@ -48,6 +48,7 @@ type Hub struct {
 	refused  uint64
 	down     string // why Redis can't be reached
 	owns     bool   // no other watch has the audit's name
+	left     bool   // proxies were told of connections that aren't audited
 }
 
 // attached is a proxy elsewhere.

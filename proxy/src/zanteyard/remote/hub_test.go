@@ -323,6 +323,49 @@ func TestRoom(t *testing.T) {
 	}
 }
 
+// TestUnaudited: of connections without a session no reads are sent, and those count.
+func TestUnaudited(t *testing.T) {
+	p, err := NewPost(someOptions(), "p", 1<<20, someRoom{})
+	if err != nil {
+		t.Fatal(err)
+	}
+	to := newHeard()
+	h := newTestHub(t, to)
+	m := NewMeeter(someRoom{}, h, time.Second)
+	h.greet(someHello(h, "p", 1), time.Now())
+	h.one(&toHub{Run: h.run, Proxy: "p", Epoch: 1, Items: []item{{Connection: &record.Connection{Number: 1}},
+		{Connection: &record.Connection{Number: 2}}}}, time.Now())
+	p.attach((<-h.out).Answer)
+	p.run = h.run
+	its := record.Transaction{Reads: make([]record.Read, 3), Absent: make([]record.Absence, 2), Statements: make([]record.Statement, 2)}
+	sent := func(connection uint64) record.Transaction {
+		its.Connection = connection
+		p.Transaction(its)
+		m, _ := p.message(false)
+		return m.Items[len(m.Items)-1].Transaction.Its
+	}
+	told := func() {
+		m := <-h.out
+		p.one(context.Background(), &m, true)
+	}
+	if one := sent(2); len(one.Reads) != 3 || one.Unsent != 0 {
+		t.Errorf("without a word it sends %+v", one)
+	}
+	m.Unaudited([]uint64{7, firstConnection + 1})
+	told()
+	if one := sent(2); len(one.Reads)+len(one.Absent)+len(one.Statements) != 0 || one.Unsent != 5 {
+		t.Errorf("of a connection without a session it sends %+v", one)
+	}
+	if one := sent(1); len(one.Reads) != 3 || one.Unsent != 0 {
+		t.Errorf("of one with a session it sends %+v", one)
+	}
+	m.Unaudited(nil)
+	told()
+	if one := sent(2); len(one.Reads) != 3 {
+		t.Errorf("once it has one it sends %+v", one)
+	}
+}
+
 func TestKeys(t *testing.T) {
 	path := filepath.Join(t.TempDir(), "key")
 	for _, one := range []struct {

@@ -65,6 +65,8 @@ type fromHub struct {
 	Answer *answer
 	Gone   uint64 // this attachment has ended
 	Fence  *order
+	// Unaudited are the connections of each attachment that have no session: of these no reads and statements need be sent.
+	Unaudited map[uint64][]uint64
 }
 
 // answer is that to a hello.

@@ -39,9 +39,10 @@ type Post struct {
 	tried   time.Time
 	epoch   uint64 // of the attachment, 0 without one
 	redacts bool
-	idle    bool   // the watch has no audit
-	next    uint64 // number of the next message
-	sent    uint64 // transactions in messages
+	beyond  map[uint64]bool // connections that aren't audited
+	idle    bool            // the watch has no audit
+	next    uint64          // number of the next message
+	sent    uint64          // transactions in messages
 	dropped uint64
 	items   []item
 	bytes   int
@@ -86,12 +87,18 @@ func (p *Post) Connection(it record.Connection) {
 func (p *Post) Transaction(it record.Transaction) {
 	p.lock.Lock()
 	defer p.lock.Unlock()
-	if p.redacts && p.epoch != 0 {
+	switch {
+	case p.epoch == 0:
+		return
+	case p.beyond[it.Connection] && !it.Fence:
+		if it.Unsent = len(it.Reads) + len(it.Absent); it.Unsent > 0 {
+			it.Reads, it.Absent, it.Statements, it.Snapshot = nil, nil, nil, ""
+		}
+	case p.redacts:
 		redact(&it)
 	}
 	size := sizeOf(&it)
 	switch {
-	case p.epoch == 0:
 	case p.bytes+size > p.held, size > mostOfOne:
 		p.dropped++
 	default:
@@ -216,6 +223,11 @@ func (p *Post) one(ctx context.Context, m *fromHub, isNew bool) {
 	p.number, p.heard, p.idle = m.Number, now, m.Idle
 	p.ticks.add(now, m.Tick)
 	switch {
+	case m.Unaudited != nil:
+		p.beyond = map[uint64]bool{}
+		for _, connection := range m.Unaudited[p.epoch] {
+			p.beyond[connection] = true
+		}
 	case m.Bye:
 		p.detach()
 		p.run, p.heard = "", time.Time{}
@@ -268,7 +280,7 @@ func (p *Post) detach() {
 func (p *Post) attach(it *answer) {
 	p.redacts = p.options.Redacts || it.Redacts
 	p.epoch, p.mark, p.looked, p.next, p.wanted = it.Epoch, it.Mark, time.Now(), 0, nil
-	p.items, p.bytes = nil, 0
+	p.items, p.bytes, p.beyond = nil, 0, nil
 	for _, one := range p.live {
 		one := one
 		p.put(item{Connection: &one}, 0)
