@@ -57,7 +57,8 @@ type attached struct {
 	try         uint64
 	epoch       uint64 // 0: not any more
 	next        uint64 // number of the message that has to come
-	received    uint64 // transactions
+	received    uint64 // transactions that were told, also those that were lost
+	arrived     uint64
 	dropped     uint64
 	heard       time.Time
 	connections map[uint64]uint64 // ours, by theirs
@@ -229,6 +230,7 @@ func (h *Hub) item(a *attached, it *item, now time.Time) {
 		its := it.Transaction.Its
 		its.Connection = a.connections[its.Connection] // 0 where it isn't known
 		its.After, its.Known = h.at(it.Transaction.Tick, now), now
+		a.arrived++
 		h.sink.Transaction(its)
 	case it.Unseen != nil:
 		h.sink.UnseenMany(it.Unseen.Shape, it.Unseen.Reason, it.Unseen.Reads, it.Unseen.Count)
@@ -462,7 +464,7 @@ func (h *Hub) Remotes() join.Remotes {
 	its := join.Remotes{Refused: h.refused, Down: h.down}
 	for _, a := range h.proxies {
 		its.Proxies = append(its.Proxies, join.Proxy{Name: a.name, Feeds: a.epoch != 0, Connections: len(a.connections),
-			Transactions: a.received, Heard: time.Since(a.heard)})
+			Transactions: a.arrived, Heard: time.Since(a.heard)})
 	}
 	sort.Slice(its.Proxies, func(i, j int) bool { return its.Proxies[i].Name < its.Proxies[j].Name })
 	return its

@@ -5,6 +5,7 @@ import (
 	"errors"
 	"strings"
 	"sync"
+	"sync/atomic"
 	"time"
 
 	"zanteyard/feed"
@@ -28,6 +29,7 @@ type Post struct {
 	held    int // bytes that may wait
 	logs    complaints
 	wake    chan struct{}
+	takes   atomic.Bool // what is told is taken: there is an attachment, and an audit
 
 	lock    sync.Mutex
 	live    map[uint64]record.Connection
@@ -40,7 +42,6 @@ type Post struct {
 	epoch   uint64 // of the attachment, 0 without one
 	redacts bool
 	beyond  map[uint64]bool // connections that aren't audited
-	idle    bool            // the watch has no audit
 	next    uint64          // number of the next message
 	sent    uint64          // transactions in messages
 	dropped uint64
@@ -65,11 +66,7 @@ func NewPost(options Options, name string, held int, room Room) (*Post, error) {
 }
 
 // Auditing says whether a watch takes what is told.
-func (p *Post) Auditing() bool {
-	p.lock.Lock()
-	defer p.lock.Unlock()
-	return p.epoch != 0 && !p.idle
-}
+func (p *Post) Auditing() bool { return p.takes.Load() }
 
 // Connection implements record.Sink.
 func (p *Post) Connection(it record.Connection) {
@@ -90,10 +87,9 @@ func (p *Post) Transaction(it record.Transaction) {
 	switch {
 	case p.epoch == 0:
 		return
-	case p.beyond[it.Connection] && !it.Fence:
-		if it.Unsent = len(it.Reads) + len(it.Absent); it.Unsent > 0 {
-			it.Reads, it.Absent, it.Statements, it.Snapshot = nil, nil, nil, ""
-		}
+	case p.beyond[it.Connection] && len(it.Reads)+len(it.Absent) > 0:
+		it.Unsent = len(it.Reads) + len(it.Absent)
+		it.Reads, it.Absent, it.Statements, it.Snapshot = nil, nil, nil, ""
 	case p.redacts:
 		redact(&it)
 	}
@@ -220,7 +216,8 @@ func (p *Post) one(ctx context.Context, m *fromHub, isNew bool) {
 	case m.Number <= p.number:
 		return // once more
 	}
-	p.number, p.heard, p.idle = m.Number, now, m.Idle
+	p.number, p.heard = m.Number, now
+	p.takes.Store(p.epoch != 0 && !m.Idle)
 	p.ticks.add(now, m.Tick)
 	switch {
 	case m.Unaudited != nil:
@@ -266,6 +263,7 @@ func (p *Post) detach() {
 		p.options.Log("the audit isn't told of this proxy any more; everything is passed on without looking")
 	}
 	p.epoch, p.wanted, p.meeting = 0, nil, 0
+	p.takes.Store(false)
 	for _, it := range p.items {
 		if it.Transaction != nil {
 			p.dropped++
@@ -278,6 +276,7 @@ func (p *Post) detach() {
 
 // attach begins one: all connections that are there are told first. Called with lock held.
 func (p *Post) attach(it *answer) {
+	p.takes.Store(true)
 	p.redacts = p.options.Redacts || it.Redacts
 	p.epoch, p.mark, p.looked, p.next, p.wanted = it.Epoch, it.Mark, time.Now(), 0, nil
 	p.items, p.bytes, p.beyond = nil, 0, nil
