@@ -1,0 +1,311 @@
+package main
+
+import (
+	"context"
+	"encoding/json"
+	"fmt"
+	"math/rand"
+	"strings"
+	"sync"
+	"testing"
+	"time"
+
+	"github.com/jackc/pgconn"
+)
+
+// version is a row's version as the row itself says it: the tag of who wrote it, "-" at first.
+type version struct{ row, tag string }
+
+// deed is what the answers to a committed transaction say: which versions it read, and which each of its writes
+// replaced.
+type deed struct {
+	read     map[version]bool
+	replaced map[string]string // by row
+}
+
+// tagger runs random transactions over a connection of its own. Each of its writes leaves its tag in the row, and gives
+// the tag that it replaces.
+type tagger struct {
+	conn  *pgconn.PgConn
+	r     *rand.Rand
+	name  int
+	deeds map[string]deed
+}
+
+func (c *tagger) rows(text string) ([][]string, error) {
+	results, err := c.conn.Exec(context.Background(), text).ReadAll()
+	if err != nil {
+		return nil, err
+	}
+	var rows [][]string
+	for _, row := range results[len(results)-1].Rows {
+		var texts []string
+		for _, value := range row {
+			texts = append(texts, string(value))
+		}
+		rows = append(rows, texts)
+	}
+	return rows, nil
+}
+
+// transaction tries one; what aborts isn't kept.
+func (c *tagger) transaction(number int) error {
+	tag := fmt.Sprintf("%d.%d", c.name, number)
+	level := []string{"READ COMMITTED", "REPEATABLE READ", "SERIALIZABLE"}[c.r.Intn(3)]
+	it := deed{map[version]bool{}, map[string]string{}}
+	_, err := c.rows(fmt.Sprintf("BEGIN ISOLATION LEVEL %s /*tag='%s'*/", level, tag))
+	for n := c.r.Intn(4); n >= 0 && err == nil; n-- {
+		err = c.statement(tag, it)
+	}
+	if err == nil {
+		_, err = c.rows("COMMIT")
+	}
+	if err == nil {
+		c.deeds[tag] = it
+		return nil
+	}
+	if _, failed := err.(*pgconn.PgError); !failed {
+		return err
+	}
+	_, err = c.rows("ROLLBACK")
+	return err
+}
+
+func (c *tagger) statement(tag string, it deed) error {
+	id := c.r.Intn(8)
+	read := []string{
+		fmt.Sprintf("SELECT id, tag FROM tagged WHERE id = %d", id),
+		fmt.Sprintf("SELECT id, tag FROM tagged WHERE id BETWEEN %d AND %d ORDER BY id", id, id+2),
+		fmt.Sprintf("SELECT id, tag FROM tagged WHERE id = %d FOR UPDATE", id),
+	}
+	write := fmt.Sprintf("UPDATE tagged SET replaced = tag, tag = '%s' WHERE id = %d RETURNING id, replaced", tag, id)
+	switch n := c.r.Intn(6); n {
+	case 0, 1, 2:
+		rows, err := c.rows(read[n])
+		for _, row := range rows {
+			it.read[version{row[0], row[1]}] = true
+		}
+		return err
+	case 3: // what is undone wasn't written
+		for _, text := range []string{"SAVEPOINT a", write, "ROLLBACK TO a"} {
+			if _, err := c.rows(text); err != nil {
+				return err
+			}
+		}
+		return nil
+	}
+	rows, err := c.rows(write)
+	for _, row := range rows {
+		if row[1] != tag { // else it has written the row before
+			it.replaced[row[0]] = row[1]
+		}
+	}
+	return err
+}
+
+// described is a transaction as the feed describes it.
+type described struct {
+	Session, Number int
+	Known, Fence    bool
+	Statements      []struct{ Comment map[string]string }
+	Reads           [][]any
+	Writes          []int
+	Keys            []struct {
+		Key int
+		Row string
+	}
+}
+
+// offered waits until all that was told is offered, and has it described.
+func (p *program) offered() []described {
+	p.t.Helper()
+	var ids [][2]int
+	var its []described
+	asked := 0
+	for end := time.After(2 * time.Minute); ; {
+		line, open := "", true
+		select {
+		case line, open = <-p.lines:
+		case <-end:
+			p.t.Fatal("not all is offered in time")
+		}
+		if !open {
+			p.t.Fatal("the feed ended")
+		}
+		var event struct {
+			Event        string
+			Pending      int
+			Transactions []described
+		}
+		if line[0] == '{' {
+			if err := json.Unmarshal([]byte(line), &event); err != nil {
+				p.t.Fatalf("%s: %v", line, err)
+			}
+		}
+		switch {
+		case strings.HasPrefix(line, `["offer"`):
+			var first [3]int
+			var fragment []any
+			if err := json.Unmarshal([]byte(line), &[]any{new(string), &first[1], &first[2], &fragment}); err != nil {
+				p.t.Fatalf("%s: %v", line, err)
+			}
+			for i := range fragment {
+				ids = append(ids, [2]int{first[1], first[2] + i})
+			}
+		case line == `["truncate"]`: // nothing is cut
+			text, _ := json.Marshal(map[string]any{"command": "cut", "marks": make([]int, 64)})
+			fmt.Fprintln(p.say, string(text))
+		case event.Event == "coverage" && event.Pending == 0 && asked == 0, event.Event == "transactions":
+			its = append(its, event.Transactions...)
+			if asked == len(ids) && asked > 0 {
+				return its
+			}
+			some := ids[asked:]
+			if len(some) > 10 { // a line of the feed isn't to be long here
+				some = some[:10]
+			}
+			asked += len(some)
+			if len(some) > 0 {
+				text, _ := json.Marshal(map[string]any{"command": "describe", "id": asked, "transactions": some})
+				fmt.Fprintln(p.say, string(text))
+			}
+		case event.Event == "ended":
+			p.t.Fatal(line)
+		}
+	}
+}
+
+// TestReadsAreWhatClientsSaw has clients run at the same time, at all levels, and compares each read that is offered
+// with what the rows themselves said: which version was read, and who is offered as its writer.
+func TestReadsAreWhatClientsSaw(t *testing.T) {
+	c := start(t)
+	p := begin(t, c)
+	p.until(`["open"`)
+	sql(t, p.connect(), `CREATE TABLE tagged (id int PRIMARY KEY, tag text NOT NULL, replaced text);
+		INSERT INTO tagged SELECT i, '-', NULL FROM generate_series(0, 9) i`)
+	const clients, each = 4, 60
+	var all sync.WaitGroup
+	var taggers []*tagger
+	for i := 0; i < clients; i++ {
+		its := &tagger{conn: p.connect(), r: rand.New(rand.NewSource(time.Now().UnixNano() + int64(i))), name: i, deeds: map[string]deed{}}
+		taggers = append(taggers, its)
+		all.Add(1)
+		go func() {
+			defer all.Done()
+			for n := 0; n < each; n++ {
+				if err := its.transaction(n); err != nil {
+					t.Error(err)
+					return
+				}
+			}
+		}()
+	}
+	all.Wait()
+	j := judge{t: t, deeds: map[string]deed{}, names: map[string]string{}, wrote: map[version]bool{}}
+	for _, its := range taggers {
+		for tag, it := range its.deeds {
+			j.deeds[tag] = it
+		}
+	}
+	fmt.Fprintln(p.say, `{"command":"round"}`)
+	j.compare(p.offered())
+	fmt.Fprintln(p.say, `{"command":"stop"}`)
+	p.until("stopped")
+}
+
+type judge struct {
+	t     *testing.T
+	deeds map[string]deed
+	names map[string]string // by tag, of the transactions that are offered
+	wrote map[version]bool  // writes that are offered
+}
+
+// source is the transaction that a read of the version has to name: the last one offered at or before it.
+func (j *judge) source(row, tag string) string {
+	for tag != "-" {
+		if j.wrote[version{row, tag}] {
+			return j.names[tag]
+		}
+		tag = j.deeds[tag].replaced[row]
+	}
+	return "init"
+}
+
+func (j *judge) compare(its []described) {
+	tags := make([]string, len(its))
+	for i, it := range its {
+		for _, statement := range it.Statements {
+			if tag := statement.Comment["tag"]; tag != "" {
+				tags[i], j.names[tag] = tag, fmt.Sprint(it.Session, ".", it.Number)
+			}
+		}
+		for _, key := range it.Writes {
+			j.wrote[version{it.row(key), tags[i]}] = true
+		}
+	}
+	seen, owed := 0, 0
+	for i, it := range its {
+		if tags[i] == "" { // a fence, or a transaction of the test's own
+			continue
+		}
+		want, must := j.owed(tags[i])
+		owed += len(want)
+		got := it.got()
+		for read := range got {
+			if !want[read] {
+				j.t.Errorf("%s is offered with a read of %s, and has read %v", tags[i], read, j.deeds[tags[i]])
+			} else {
+				seen++
+			}
+		}
+		for read := range must {
+			if len(it.Writes) > 0 && !got[read] {
+				j.t.Errorf("%s is offered without what its write replaced: %s", tags[i], read)
+			}
+		}
+	}
+	j.t.Logf("%d of %d transactions were offered, %d of %d reads", len(j.names), len(j.deeds), seen, owed)
+	if len(j.names)*2 < len(j.deeds) || seen*2 < owed {
+		j.t.Error("too little was offered")
+	}
+}
+
+// owed is what a transaction may be offered with, and what it has to be where its writes are.
+func (j *judge) owed(tag string) (all, must map[string]bool) {
+	all, must = map[string]bool{}, map[string]bool{}
+	it, committed := j.deeds[tag]
+	if !committed {
+		j.t.Errorf("%s wasn't committed, and is offered", tag)
+	}
+	for its := range it.read {
+		if its.tag != tag {
+			all[its.row+" from "+j.source(its.row, its.tag)] = true
+		}
+	}
+	for row, before := range it.replaced {
+		text := row + " from " + j.source(row, before)
+		all[text], must[text] = true, true
+	}
+	return all, must
+}
+
+func (it described) row(key int) string {
+	for _, one := range it.Keys {
+		if one.Key == key {
+			return one.Row
+		}
+	}
+	return ""
+}
+
+func (it described) got() map[string]bool {
+	got := map[string]bool{}
+	for _, read := range it.Reads {
+		from := "init"
+		if len(read) == 3 {
+			from = fmt.Sprint(read[1], ".", read[2])
+		}
+		got[it.row(int(read[0].(float64)))+" from "+from] = true
+	}
+	return got
+}
