@@ -29,6 +29,7 @@ ELSEWHERE = {
     r"python3 examples/journal\.py .*": "test_restarting, over an auditor that knows save",
     r"zanteyard journal .*": "test_restarting, too",
     r"zanteyard (watch|prepare) .*": "test_watch_run and test_watch_prepare, over servers of their own",
+    r"zanteyard proxy .*": "test_watch_remote, over servers of its own",
     r"zanteyard serve .*": "test_serving and test_machines, over folders and a Redis of their own",
     r"zanteyard audit postgres .*": "test_commands, with less time",
     r"zanteyard audit (mariadb|redis|sqlite) .*": "test_stores, with less time",

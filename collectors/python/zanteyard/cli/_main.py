@@ -34,6 +34,7 @@ from ..trial import _demo as demo
 from ..trial.store_kinds import KINDS
 from ..watch import _command as watch_command
 from ..watch import _prepare as watch_prepare
+from ..watch import _proxy_command as proxy_command
 from ..watch._proxy import build_of
 from . import _serve as serve_command
 from . import audit as audit_command
@@ -142,6 +143,8 @@ def parser() -> argparse.ArgumentParser:
     import_command.add_arguments(made)
     watched = command("watch", watch_command.run, "audits any application over PostgreSQL")
     watch_command.add_arguments(watched)
+    beside = command("proxy", proxy_command.run, "a proxy on another machine, for one audit")
+    proxy_command.add_arguments(beside)
     prepared = command("prepare", watch_prepare.run, "shows what a server lacks for `watch`")
     watch_prepare.add_arguments(prepared)
     served = command("serve", serve_command.run, "audits as a daemon, for clients that come and go")

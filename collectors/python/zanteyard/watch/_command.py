@@ -23,6 +23,7 @@ from ._patterns import add_tables_option
 from ._prepare import host_name
 from ._proxy import find_proxy
 from ._run import Plan, Run, stopped_by_signals
+from ._sharing import add_sharing, mistake_of, words_of
 from ._supervising import CantBeginError
 from ._text import visible
 from ._web import host_and_port
@@ -64,6 +65,7 @@ def add_arguments(command: argparse.ArgumentParser) -> None:
         "--sample", type=share, metavar="SHARE",
         help="audits this share of the connections, as 0.1",
     )
+    add_sharing(command)
     add_tables_option(command, "audits only these tables, as public.*,shop.orders")
     command.add_argument(
         "--redact", action="store_true", help="shows no parameters and no constants of statements"
@@ -111,6 +113,9 @@ def run(asked: Any) -> int:
     logging.basicConfig(level=asked.log, format=FORM, stream=sys.stderr)
     if not asked.url:
         return _mistake(f"no server is named: give its URL, or set {URL}")
+    told = mistake_of(asked)
+    if told is not None:
+        return _mistake(told)
     program, proxy = find_program(), find_proxy()
     lacks = prepared(asked.url)
     if lacks:
@@ -178,6 +183,7 @@ def call_of(proxy: str, asked: Any) -> Tuple[Sequence[str], Dict[str, str]]:
         call.append(f"--sample={asked.sample:g}")
     if asked.tables is not None:
         call.append(f"--tables={asked.tables.text}")
+    call += words_of(asked, environment)
     return call, environment
 
 

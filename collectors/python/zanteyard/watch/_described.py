@@ -63,6 +63,7 @@ class Described:
     statements: Tuple[Statement, ...] = ()
     statements_dropped: int = 0  # whose texts weren't kept
     xid: int = 0  # the server's number of it, 0 if it has none
+    proxy: str = ""  # the other machine's, if it came through one
 
     @property
     def client(self) -> str:
@@ -72,6 +73,7 @@ class Described:
         its = [visible(self.application, 80)] if self.application else []
         its += [f"from {visible(self.address, 80)}"] if self.address else []
         its += [f"as {visible(self.user, 80)}"] if self.user else []
+        its += [f"through the proxy {visible(self.proxy, 80)}"] if self.proxy else []
         return " ".join(its)
 
 

@@ -8,7 +8,7 @@ from typing import Any, Dict, List, Mapping, Optional, Sequence, Tuple, Union
 
 from ..core._records import AuditId
 from ._described import Described, Statement
-from ._state import Seen, Shape
+from ._state import OtherProxy, Others, Seen, Shape
 from ._violations import Answered, Row
 
 Event = Dict[str, Any]
@@ -108,6 +108,24 @@ def seen_of(event: Mapping[str, Any]) -> Seen:
         remaining=whole(event.get("remaining")),
         keys=whole(event.get("keys")),
         statements_dropped=whole(event.get("statements_dropped")),
+        others=_others(event.get("remote")),
+    )
+
+
+def _others(its: Any) -> Optional[Others]:
+    if not isinstance(its, dict):
+        return None
+    proxies = tuple(_other(table(one)) for one in listed(its.get("proxies")))
+    return Others(proxies, whole(its.get("refused")), text(its.get("down")))
+
+
+def _other(its: Mapping[str, Any]) -> OtherProxy:
+    return OtherProxy(
+        text(its.get("name")),
+        its.get("feeds") is True,
+        whole(its.get("connections")),
+        whole(its.get("transactions")),
+        number(its.get("silent")),
     )
 
 
@@ -154,6 +172,7 @@ def _described(id: AuditId, one: Mapping[str, Any]) -> Described:
         tuple(_statement(table(it)) for it in listed(one.get("statements"))),
         whole(one.get("statements_dropped")),
         whole(one.get("xid")),
+        text(one.get("proxy")),
     )
 
 

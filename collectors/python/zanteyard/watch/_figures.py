@@ -60,6 +60,12 @@ def families(status: Status) -> Iterator[Family]:
     yield one("clients", "gauge", "Connections of clients.", seen.connections)
     about = "Connections for which no session is free."
     yield one("clients_beyond", "gauge", about, seen.waiting_connections)
+    if seen.others is not None:
+        feeding = sum(it.feeds for it in seen.others.proxies)
+        yield one("other_proxies", "gauge", "Proxies of other machines that are heard.", feeding)
+        about = "Messages that weren't signed with the audit's key."
+        yield one("messages_refused_total", "counter", about, seen.others.refused)
+        yield one("redis_up", "gauge", "1 while the Redis is reached.", not seen.others.down)
     yield one("audits_total", "counter", "Audits that have begun.", status.audit)
     yield one("violations_total", "counter", "Violations found.", status.violations_count)
     yield one("violated", "gauge", "1 after a violation.", bool(status.violations_count))

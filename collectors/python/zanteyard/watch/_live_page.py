@@ -63,6 +63,7 @@ def changing(status: Status) -> str:
             *_figures(status),
             *_violations(status),
             *_shares(status),
+            *_others(status),
             *_shapes(status),
             *_left_out(status),
             *_rounds(status),
@@ -215,6 +216,29 @@ def _bar(name: str, part: float, whole: float, told: str) -> Iterator[str]:
         f'height="10"/><rect class="part" width="{width:.1f}" height="10"/></svg>'
         f'<span class="soft">{html.escape(told)}</span></div>'
     )
+
+
+def _others(status: Status) -> Iterator[str]:
+    others = status.seen.others
+    if others is None:
+        return
+    yield "<h2>Other proxies</h2>"
+    if others.down:
+        yield f"<p>Redis can’t be reached, so they aren’t heard: {escaped(others.down, 200)}.</p>"
+    if not others.proxies:
+        yield "<p>None has come yet.</p>"
+    else:
+        yield "<table><tbody>"
+        for one in others.proxies:
+            heard = "" if one.feeds else f", not heard for {lasting(one.silent)}"
+            yield (
+                f'<tr><td>{escaped(one.name, 80)}</td><td class="count">{one.transactions:,}</td>'
+                f"<td>transactions, {counted(one.connections, 'connection')}{heard}</td></tr>"
+            )
+        yield "</tbody></table>"
+    if others.refused:
+        told = counted(others.refused, "message")
+        yield f"<p>{told} refused: not signed with this audit’s key.</p>"
 
 
 def _shapes(status: Status) -> Iterator[str]:

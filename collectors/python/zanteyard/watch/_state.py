@@ -4,7 +4,7 @@ the end are made of."""
 from __future__ import annotations
 
 from dataclasses import dataclass, field, replace
-from typing import ClassVar, Mapping, Sequence, Tuple
+from typing import ClassVar, Mapping, Optional, Sequence, Tuple
 
 from ..explain._charts import RoundSeen
 from ._violations import Violation
@@ -24,6 +24,26 @@ class Shape:
     is_reads: bool = True
     first: float = 0.0  # seconds since 1970
     where: str = ""  # the file and line, or the application's name
+
+
+@dataclass(frozen=True)
+class OtherProxy:
+    """A proxy on another machine, which feeds this audit over a Redis, or did."""
+
+    name: str
+    feeds: bool
+    connections: int = 0
+    transactions: int = 0  # that have arrived
+    silent: float = 0.0  # seconds since something of it arrived
+
+
+@dataclass(frozen=True)
+class Others:
+    """What comes over a Redis. `down` says why that can't be reached, and is empty if it can."""
+
+    proxies: Sequence[OtherProxy] = ()
+    refused: int = 0  # messages that aren't signed with the audit's key
+    down: str = ""
 
 
 @dataclass(frozen=True)
@@ -60,6 +80,7 @@ class Seen:
     remaining: int = 0
     keys: int = 0
     statements_dropped: int = 0
+    others: Optional[Others] = None  # None if no Redis was named
 
     COUNTED: ClassVar[Tuple[str, ...]] = (
         "committed", "offered", "fences", "aborted", "empty", "reads", "reads_seen", "reads_own",

@@ -75,3 +75,19 @@ func wholeNumber(text string) (uint64, bool) {
 	number, err := strconv.ParseUint(text, 10, 31)
 	return number, err == nil
 }
+
+// Origin is a comment of sqlcommenter's form with the file and line that a statement's own one names, "" where it names
+// none.
+func Origin(text string) string {
+	var its []string
+	tags := comment(text)
+	for _, key := range []string{"file", "line", "lineno"} {
+		if value, is := tags[key]; is {
+			its = append(its, key+"='"+strings.ReplaceAll(url.PathEscape(value), "'", "%27")+"'")
+		}
+	}
+	if its == nil {
+		return ""
+	}
+	return " /*" + strings.Join(its, ",") + "*/"
+}

@@ -73,6 +73,18 @@ func TestComments(t *testing.T) {
 	}
 }
 
+func TestOrigin(t *testing.T) {
+	for text, want := range map[string]string{
+		"SELECT 1 /*file='it%27s%2A%2F.py',line='41',route='x'*/": " /*file='it%27s%2A%2F.py',line='41'*/",
+		"SELECT 1 /*route='x'*/":                                  "",
+		"SELECT 1 /*lineno='7'*/":                                 " /*lineno='7'*/",
+	} {
+		if got := Origin(text); got != want {
+			t.Errorf("%s: %s, and not %s", text, got, want)
+		}
+	}
+}
+
 func TestEvents(t *testing.T) {
 	at := time.Unix(1764220800, 125_000_000)
 	for _, one := range []struct {

@@ -32,6 +32,10 @@ type world struct {
 	fences   []*worldFence
 	points   bool // the fault: a session is handed on by the clock alone
 	aborted  int
+	// elsewhere: connections with an even number are those of another machine's proxy (elsewhere_test.go). trusted: the fault
+	// that its clock is believed.
+	elsewhere, trusted bool
+	far                uint64 // transactions from there that were offered
 }
 
 type worldVersion struct{ by, at int } // the writer's place in the order of commits
@@ -273,6 +277,10 @@ func (w *world) told(c *worldConn, it record.Transaction) {
 	}
 	it.Connection, it.Place = c.number, c.place
 	c.place++
+	if w.elsewhere && c.number%2 == 0 {
+		w.tellFar(it)
+		return
+	}
 	w.later2(func() { w.core.tell(it) })
 }
 

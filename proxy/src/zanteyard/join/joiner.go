@@ -252,6 +252,9 @@ func (j *Joiner) tick(ctx context.Context) error {
 		j.forgot = now
 		j.core.forget()
 		j.core.reseat()
+		if its, is := j.meeter.(interface{ Unaudited([]uint64) }); is {
+			its.Unaudited(j.core.unaudited())
+		}
 	}
 	if now.Sub(j.coverage) >= each {
 		j.coverage = now

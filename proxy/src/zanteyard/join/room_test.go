@@ -39,6 +39,22 @@ func TestLimit(t *testing.T) {
 	}
 }
 
+// TestUnsent: a transaction whose reads weren't sent is folded, also if its connection has got a session meanwhile.
+func TestUnsent(t *testing.T) {
+	b := newBench(t, Options{Sessions: 1})
+	b.connect(1)
+	b.connect(2)
+	if its := b.core.unaudited(); len(its) != 1 || its[0] != 2 {
+		t.Errorf("the connections %v have no session", its)
+	}
+	b.commit(1001, "a")
+	b.tell(1, 0, record.Transaction{Number: 1001, Unsent: 3})
+	b.settle()
+	if n := len(b.model.sessions[0].its); n != 0 || b.core.counts.folded[noSession] != 1 || b.core.counts.leftReads[noSession] != 3 {
+		t.Errorf("%d are offered, and folded are %v", n, b.core.counts.folded)
+	}
+}
+
 func TestWrongMarks(t *testing.T) {
 	b := newBench(t, Options{Sessions: 2})
 	b.connect(1)

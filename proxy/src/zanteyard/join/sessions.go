@@ -111,6 +111,17 @@ func (c *core) unqueue(conn *connection) {
 	}
 }
 
+// unaudited are the connections that have no session.
+func (c *core) unaudited() []uint64 {
+	var its []uint64
+	for number, conn := range c.connections {
+		if conn.session == nil {
+			its = append(its, number)
+		}
+	}
+	return its
+}
+
 // sampled says whether a connection is one of those to be audited. It depends on nothing that a client does.
 func (c *core) sampled(number uint64) bool {
 	if c.opt.Sample >= 1 {

@@ -24,7 +24,7 @@ const (
 
 // tell takes in a transaction that has ended.
 func (c *core) tell(it record.Transaction) {
-	c.counts.reads += uint64(len(it.Reads) + len(it.Absent))
+	c.counts.reads += readsOf(&it)
 	if it.Incomplete {
 		c.counts.leftReads[notKept]++
 	}
@@ -35,14 +35,14 @@ func (c *core) tell(it record.Transaction) {
 	switch {
 	case it.Outcome == record.Aborted:
 		c.counts.aborted++
-		c.counts.leftReads[itAborted] += uint64(len(it.Reads) + len(it.Absent))
+		c.counts.leftReads[itAborted] += readsOf(&it)
 	case conn == nil:
 		c.leave(it, noConnection)
 	case conn.session == nil && c.isElsewhere(conn.its):
 		c.leave(it, elsewhere)
 	case conn.session == nil && !c.sampled(it.Connection):
 		c.leave(it, sampledOut)
-	case conn.session == nil:
+	case conn.session == nil || it.Unsent > 0:
 		c.leave(it, noSession)
 	case conn.held != nil:
 		c.leave(it, noFence)
@@ -62,10 +62,15 @@ func isEmpty(it record.Transaction) bool {
 	return it.Number == 0 && !it.MayHaveWritten && len(it.Reads) == 0 && len(it.Absent) == 0
 }
 
+// readsOf is how many rows it has read, those that weren't there among them.
+func readsOf(it *record.Transaction) uint64 {
+	return uint64(len(it.Reads) + len(it.Absent) + it.Unsent)
+}
+
 // leave folds a whole transaction.
 func (c *core) leave(it record.Transaction, reason string) {
 	c.counts.fold(reason)
-	c.counts.leftReads[reason] += uint64(len(it.Reads) + len(it.Absent))
+	c.counts.leftReads[reason] += readsOf(&it)
 	if it.Number == 0 {
 		return // what it may have written nobody tells of, and is folded as somebody else's
 	}

@@ -89,6 +89,9 @@ type Transaction struct {
 	// one (the zero time where that isn't known), and had ended by the other. Known is zero for the joiner's own proxy,
 	// whose clock is the joiner's.
 	After, Known time.Time
+	// Unsent is how many reads another machine's proxy left out, since it was told that the connection isn't audited:
+	// nothing of the transaction is offered.
+	Unsent int
 	// Fence is set for the proxy's own transactions on the fence table. They have no statement.
 	Fence      bool
 	Statements []Statement

@@ -47,6 +47,8 @@ type Hub struct {
 	meetings uint64
 	refused  uint64
 	down     string // why Redis can't be reached
+	owns     bool   // no other watch has the audit's name
+	left     bool   // proxies were told of connections that aren't audited
 }
 
 // attached is a proxy elsewhere.
@@ -55,7 +57,8 @@ type attached struct {
 	try         uint64
 	epoch       uint64 // 0: not any more
 	next        uint64 // number of the message that has to come
-	received    uint64 // transactions
+	received    uint64 // transactions that were told, also those that were lost
+	arrived     uint64
 	dropped     uint64
 	heard       time.Time
 	connections map[uint64]uint64 // ours, by theirs
@@ -111,6 +114,12 @@ func (h *Hub) reached(ctx context.Context, err error) {
 // take takes messages in, and has Redis forget them.
 func (h *Hub) take(l *link, its []entry) {
 	now := time.Now()
+	h.lock.Lock()
+	owns := h.owns
+	h.lock.Unlock()
+	if !owns {
+		return // another watch reads them, and has Redis forget them
+	}
 	for _, one := range its {
 		var m toHub
 		err := h.options.open(upwards, one.text, one.signature, &m)
@@ -141,7 +150,7 @@ func (h *Hub) greet(m *toHub, now time.Time) {
 	if a != nil && its.Try <= a.try {
 		return // once more
 	}
-	reply := answer{Proxy: m.Proxy, Try: its.Try, Mark: h.mark, Refused: h.refuses(its)}
+	reply := answer{Proxy: m.Proxy, Try: its.Try, Mark: h.mark, Redacts: h.options.Redacts, Refused: h.refuses(its)}
 	if reply.Refused != "" || h.mark == 0 {
 		if reply.Refused != "" {
 			h.logs.say("the proxy " + its.Name + " is refused: " + reply.Refused)
@@ -221,6 +230,7 @@ func (h *Hub) item(a *attached, it *item, now time.Time) {
 		its := it.Transaction.Its
 		its.Connection = a.connections[its.Connection] // 0 where it isn't known
 		its.After, its.Known = h.at(it.Transaction.Tick, now), now
+		a.arrived++
 		h.sink.Transaction(its)
 	case it.Unseen != nil:
 		h.sink.UnseenMany(it.Unseen.Shape, it.Unseen.Reason, it.Unseen.Reads, it.Unseen.Count)
@@ -305,19 +315,28 @@ func (h *Hub) write(ctx context.Context) {
 	l := &link{url: h.options.Redis}
 	defer l.close()
 	var expires time.Time
+	claims := time.NewTicker(time.Second)
+	defer claims.Stop()
+	owns := h.claim(ctx, l)
 	for {
 		var m fromHub
 		select {
+		case <-claims.C:
+			owns = h.claim(ctx, l)
+			continue
 		case <-ctx.Done():
 			h.lock.Lock()
 			h.number++
 			m = fromHub{Run: h.run, Number: h.number, Tick: int64(time.Since(h.base)), Bye: true}
 			h.lock.Unlock()
-			h.add(l, m)
+			if owns {
+				h.add(l, m)
+				l.do(0, "DEL", h.options.owner())
+			}
 			return
 		case m = <-h.out:
 		}
-		if time.Since(h.base)-time.Duration(m.Tick) > time.Second {
+		if !owns || time.Since(h.base)-time.Duration(m.Tick) > time.Second {
 			continue
 		}
 		if err := h.add(l, m); err != nil {
@@ -332,6 +351,33 @@ func (h *Hub) write(ctx context.Context) {
 			}
 		}
 	}
+}
+
+// claim has this watch be the one of the audit's name, and says whether it is.
+func (h *Hub) claim(ctx context.Context, l *link) bool {
+	reply, err := l.do(0, "SET", h.options.owner(), h.run, "NX", "PX", silence.Milliseconds())
+	owns := err == nil && reply != nil
+	if err == nil && !owns {
+		if reply, err = l.do(0, "GET", h.options.owner()); err == nil {
+			text, _ := reply.([]byte)
+			if owns = string(text) == h.run; owns {
+				_, err = l.do(0, "PEXPIRE", h.options.owner(), silence.Milliseconds())
+			}
+		}
+	}
+	if err != nil {
+		h.reached(ctx, err)
+	}
+	h.lock.Lock()
+	defer h.lock.Unlock()
+	if err != nil {
+		return h.owns
+	}
+	if !owns {
+		h.logs.say("another watch has the audit " + h.options.Audit + " in this Redis: other machines' proxies feed that one")
+	}
+	h.owns = owns
+	return owns
 }
 
 func (h *Hub) add(l *link, m fromHub) error {
@@ -418,7 +464,7 @@ func (h *Hub) Remotes() join.Remotes {
 	its := join.Remotes{Refused: h.refused, Down: h.down}
 	for _, a := range h.proxies {
 		its.Proxies = append(its.Proxies, join.Proxy{Name: a.name, Feeds: a.epoch != 0, Connections: len(a.connections),
-			Transactions: a.received, Heard: time.Since(a.heard)})
+			Transactions: a.arrived, Heard: time.Since(a.heard)})
 	}
 	sort.Slice(its.Proxies, func(i, j int) bool { return its.Proxies[i].Name < its.Proxies[j].Name })
 	return its

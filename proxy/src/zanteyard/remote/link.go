@@ -4,6 +4,7 @@ import (
 	"context"
 	"errors"
 	"fmt"
+	"net/url"
 	"strconv"
 	"strings"
 	"time"
@@ -33,12 +34,36 @@ func (l *link) do(waits time.Duration, command string, arguments ...any) (any, e
 	return reply, err
 }
 
-func dial(url string) (redis.Conn, error) {
+// dial connects to a Redis by a URL as redis-py has them: redis://, rediss:// (TLS) or unix:///socket?db=0.
+func dial(text string) (redis.Conn, error) {
 	options := []redis.DialOption{redis.DialConnectTimeout(patience), redis.DialReadTimeout(patience), redis.DialWriteTimeout(patience)}
-	if path := strings.TrimPrefix(url, "unix://"); path != url {
-		return redis.Dial("unix", path, options...)
+	its, err := url.Parse(text)
+	if err != nil || its.Scheme != "unix" {
+		return redis.DialURL(text, options...)
 	}
-	return redis.DialURL(url, options...)
+	if number := its.Query().Get("db"); number != "" {
+		database, err := strconv.Atoi(number)
+		if err != nil {
+			return nil, fmt.Errorf("the database %q of Redis: %w", number, err)
+		}
+		options = append(options, redis.DialDatabase(database))
+	}
+	if password, is := its.User.Password(); is {
+		options = append(options, redis.DialUsername(its.User.Username()), redis.DialPassword(password))
+	}
+	return redis.Dial("unix", its.Path, options...)
+}
+
+// CheckURL says what is wrong with a Redis's URL, as far as that shows without connecting.
+func CheckURL(text string) error {
+	its, err := url.Parse(text)
+	switch {
+	case err != nil:
+		return errors.New("the URL of Redis can't be read") // the error would show a password
+	case its.Scheme != "redis" && its.Scheme != "rediss" && its.Scheme != "unix":
+		return errors.New("the URL of Redis begins with redis://, rediss:// or unix://")
+	}
+	return nil
 }
 
 func (l *link) close() {
@@ -106,18 +131,57 @@ func (l *link) read(stream, after string) ([]entry, error) {
 	return entries, nil
 }
 
+// begunAnew says that what a stream has begins before an id: Redis has lost what it had, and its ids are those of another
+// clock.
+func (l *link) begunAnew(stream, after string) (bool, error) {
+	reply, err := l.do(0, "XREVRANGE", stream, "+", "-", "COUNT", 1)
+	if err != nil {
+		return false, err
+	}
+	list, _ := redis.Values(reply, nil)
+	if len(list) != 1 {
+		return false, nil
+	}
+	parts, _ := redis.Values(list[0], nil)
+	if len(parts) != 2 {
+		return false, errReply
+	}
+	latest, err := redis.String(parts[0], nil)
+	if err != nil {
+		return false, errReply
+	}
+	a, b := idOf(latest), idOf(after)
+	return a[0] < b[0] || a[0] == b[0] && a[1] < b[1], nil
+}
+
+// idOf is an id's two numbers.
+func idOf(text string) (its [2]uint64) {
+	head, tail, _ := strings.Cut(text, "-")
+	its[0], _ = strconv.ParseUint(head, 10, 64)
+	its[1], _ = strconv.ParseUint(tail, 10, 64)
+	return its
+}
+
 // stream reads a stream from now on, until ctx ends. take gets what came at once. Redis may have lost what it had, and
-// its ids may begin anew: so where nothing has come for a while, all that it has is read. lost is told what goes wrong,
-// and nil when it goes well again.
+// its ids may begin anew: that is looked at where nothing has come for a while. lost is told what goes wrong, and nil when
+// it goes well again.
 func stream(ctx context.Context, o *Options, name string, take func(*link, []entry), lost func(error)) {
 	l := &link{url: o.Redis}
 	defer l.close()
 	after, heard, failing := "$", time.Now(), false
 	for ctx.Err() == nil {
-		if time.Since(heard) > time.Second {
-			after, heard = "0-0", time.Now()
+		var anew bool
+		var err error
+		if after != "$" && time.Since(heard) > time.Second {
+			heard = time.Now()
+			if anew, err = l.begunAnew(name, after); anew {
+				after = "0-0"
+			}
 		}
-		entries, err := l.read(name, after)
+		var entries []entry
+		if err == nil {
+			entries, err = l.read(name, after)
+		}
 		if err != nil {
 			lost(err)
 			failing = true
@@ -161,10 +225,6 @@ func (c *complaints) say(text string) {
 
 // behind is the id after one.
 func behind(id string) string {
-	head, tail, _ := strings.Cut(id, "-")
-	n, err := strconv.ParseUint(tail, 10, 63)
-	if err != nil {
-		return id
-	}
-	return head + "-" + strconv.FormatUint(n+1, 10)
+	its := idOf(id)
+	return strconv.FormatUint(its[0], 10) + "-" + strconv.FormatUint(its[1]+1, 10)
 }

@@ -54,6 +54,22 @@ func (m *Meeter) Fence(ctx context.Context, connection uint64) error {
 	return nil
 }
 
+// Unaudited says which connections have no session of the auditor, ours and others.
+func (m *Meeter) Unaudited(connections []uint64) {
+	its := map[uint64][]uint64{}
+	m.hub.lock.Lock()
+	defer m.hub.lock.Unlock()
+	for _, number := range connections {
+		if one, is := m.hub.of[number]; is {
+			its[one.epoch] = append(its[one.epoch], one.connection)
+		}
+	}
+	if len(its) > 0 || m.hub.left {
+		m.hub.left = len(its) > 0
+		m.hub.say(fromHub{Unaudited: its})
+	}
+}
+
 // Remotes is how the other proxies are, for the coverage that the joiner tells.
 func (m *Meeter) Remotes() join.Remotes { return m.hub.Remotes() }
 

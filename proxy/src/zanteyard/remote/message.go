@@ -65,6 +65,8 @@ type fromHub struct {
 	Answer *answer
 	Gone   uint64 // this attachment has ended
 	Fence  *order
+	// Unaudited are the connections of each attachment that have no session: of these no reads and statements need be sent.
+	Unaudited map[uint64][]uint64
 }
 
 // answer is that to a hello.
@@ -73,6 +75,7 @@ type answer struct {
 	Try     uint64
 	Epoch   uint64
 	Mark    int64  // the lock by which the server is known
+	Redacts bool   // constants and parameters aren't to be sent
 	Refused string // why there is no attachment
 }
 
@@ -113,4 +116,5 @@ func (o *Options) open(direction string, text, signature []byte, to any) error {
 }
 
 func (o *Options) proxies() string { return "zanteyard watch " + o.Audit + ":proxies" }
+func (o *Options) owner() string   { return "zanteyard watch " + o.Audit + ":owner" }
 func (o *Options) watch() string   { return "zanteyard watch " + o.Audit + ":watch" }

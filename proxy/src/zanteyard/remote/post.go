@@ -5,8 +5,11 @@ import (
 	"errors"
 	"strings"
 	"sync"
+	"sync/atomic"
 	"time"
 
+	"zanteyard/feed"
+	"zanteyard/plan"
 	"zanteyard/record"
 )
 
@@ -26,6 +29,7 @@ type Post struct {
 	held    int // bytes that may wait
 	logs    complaints
 	wake    chan struct{}
+	takes   atomic.Bool // what is told is taken: there is an attachment, and an audit
 
 	lock    sync.Mutex
 	live    map[uint64]record.Connection
@@ -36,9 +40,10 @@ type Post struct {
 	try     uint64
 	tried   time.Time
 	epoch   uint64 // of the attachment, 0 without one
-	idle    bool   // the watch has no audit
-	next    uint64 // number of the next message
-	sent    uint64 // transactions in messages
+	redacts bool
+	beyond  map[uint64]bool // connections that aren't audited
+	next    uint64          // number of the next message
+	sent    uint64          // transactions in messages
 	dropped uint64
 	items   []item
 	bytes   int
@@ -61,11 +66,7 @@ func NewPost(options Options, name string, held int, room Room) (*Post, error) {
 }
 
 // Auditing says whether a watch takes what is told.
-func (p *Post) Auditing() bool {
-	p.lock.Lock()
-	defer p.lock.Unlock()
-	return p.epoch != 0 && !p.idle
-}
+func (p *Post) Auditing() bool { return p.takes.Load() }
 
 // Connection implements record.Sink.
 func (p *Post) Connection(it record.Connection) {
@@ -81,11 +82,19 @@ func (p *Post) Connection(it record.Connection) {
 
 // Transaction implements record.Sink.
 func (p *Post) Transaction(it record.Transaction) {
-	size := sizeOf(&it)
 	p.lock.Lock()
 	defer p.lock.Unlock()
 	switch {
 	case p.epoch == 0:
+		return
+	case p.beyond[it.Connection] && len(it.Reads)+len(it.Absent) > 0:
+		it.Unsent = len(it.Reads) + len(it.Absent)
+		it.Reads, it.Absent, it.Statements, it.Snapshot = nil, nil, nil, ""
+	case p.redacts:
+		redact(&it)
+	}
+	size := sizeOf(&it)
+	switch {
 	case p.bytes+size > p.held, size > mostOfOne:
 		p.dropped++
 	default:
@@ -103,6 +112,16 @@ func (p *Post) Unseen(shape, reason string, reads bool) {
 		key = unseen{Shape: "others", Reason: "more shapes than are told apart", Reads: reads}
 	}
 	p.unseen[key]++
+}
+
+// redact leaves out the constants and parameters of statements.
+func redact(it *record.Transaction) {
+	its := make([]record.Statement, len(it.Statements))
+	for i, one := range it.Statements {
+		one.Text, one.Parameters = plan.Redacted(one.Text)+feed.Origin(one.Text), nil
+		its[i] = one
+	}
+	it.Statements = its
 }
 
 func sizeOf(it *record.Transaction) int {
@@ -197,9 +216,15 @@ func (p *Post) one(ctx context.Context, m *fromHub, isNew bool) {
 	case m.Number <= p.number:
 		return // once more
 	}
-	p.number, p.heard, p.idle = m.Number, now, m.Idle
+	p.number, p.heard = m.Number, now
+	p.takes.Store(p.epoch != 0 && !m.Idle)
 	p.ticks.add(now, m.Tick)
 	switch {
+	case m.Unaudited != nil:
+		p.beyond = map[uint64]bool{}
+		for _, connection := range m.Unaudited[p.epoch] {
+			p.beyond[connection] = true
+		}
 	case m.Bye:
 		p.detach()
 		p.run, p.heard = "", time.Time{}
@@ -238,6 +263,7 @@ func (p *Post) detach() {
 		p.options.Log("the audit isn't told of this proxy any more; everything is passed on without looking")
 	}
 	p.epoch, p.wanted, p.meeting = 0, nil, 0
+	p.takes.Store(false)
 	for _, it := range p.items {
 		if it.Transaction != nil {
 			p.dropped++
@@ -250,8 +276,10 @@ func (p *Post) detach() {
 
 // attach begins one: all connections that are there are told first. Called with lock held.
 func (p *Post) attach(it *answer) {
+	p.takes.Store(true)
+	p.redacts = p.options.Redacts || it.Redacts
 	p.epoch, p.mark, p.looked, p.next, p.wanted = it.Epoch, it.Mark, time.Now(), 0, nil
-	p.items, p.bytes = nil, 0
+	p.items, p.bytes, p.beyond = nil, 0, nil
 	for _, one := range p.live {
 		one := one
 		p.put(item{Connection: &one}, 0)

@@ -43,7 +43,9 @@ type Options struct {
 	Key    []byte // with which messages are signed
 	Server *pgconn.Config
 	Fence  string // the fences' table
-	Log    func(string)
+	// Redacts has no constants and parameters of statements be sent. If the hub has it all proxies do so.
+	Redacts bool
+	Log     func(string)
 }
 
 // ErrKey is the reason why a key isn't taken.

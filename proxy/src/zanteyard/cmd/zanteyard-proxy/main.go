@@ -50,7 +50,7 @@ type flags struct {
 	tables            catalog.Filter
 	redis, audit      string
 	shared, name      string
-	remote            bool
+	remote, redact    bool
 	records           string
 	passing           bool
 	version           bool
@@ -89,6 +89,7 @@ func parse(args []string, errors io.Writer) (flags, error) {
 	set.StringVar(&f.audit, "audit", "", "the audit's `name` in that Redis")
 	set.StringVar(&f.shared, "key", "", "`file` with the key that all of them share")
 	set.BoolVar(&f.remote, "remote", false, "audit nothing here: what sessions saw is sent to the audit of that name")
+	set.BoolVar(&f.redact, "redact", false, "no constants and parameters of statements leave a proxy for that Redis")
 	set.StringVar(&f.name, "name", "", "what people call this proxy; its machine's name if it is left out")
 	set.StringVar(&f.records, "records", "", "write what sessions saw to this `file`, as JSON, and audit nothing")
 	set.BoolVar(&f.passing, "pass", false, "pass all on without looking, and audit nothing")
@@ -236,8 +237,12 @@ func beside(all *sync.WaitGroup, f func()) {
 
 // sharing is what several proxies of one audit need to know.
 func sharing(f flags, config *pgconn.Config, log func(string)) (remote.Options, error) {
+	if err := remote.CheckURL(f.redis); err != nil {
+		return remote.Options{}, err
+	}
 	key, err := remote.ReadKey(f.shared)
-	return remote.Options{Redis: f.redis, Audit: f.audit, Key: key, Server: config, Fence: f.fence, Log: log}, err
+	return remote.Options{Redis: f.redis, Audit: f.audit, Key: key, Server: config, Fence: f.fence, Log: log,
+		Redacts: f.redact}, err
 }
 
 // post has what sessions saw be sent to an audit elsewhere.

@@ -250,7 +250,7 @@ func refused(t *testing.T, p *program, source string, more ...string) {
 		t.Fatal(err)
 	}
 	defer conn.Close(context.Background())
-	for begun := time.Now(); time.Since(begun) < 1500*time.Millisecond; time.Sleep(20 * time.Millisecond) {
+	for begun := time.Now(); time.Since(begun) < 700*time.Millisecond; time.Sleep(20 * time.Millisecond) {
 		if sql(t, conn, "SELECT 7") != "7" {
 			t.Error("a client sees something")
 		}

@@ -1,0 +1,71 @@
+"""`zanteyard proxy`: a proxy beside another application server. What its applications read and
+wrote is checked by the audit of `zanteyard watch`, which is told of it over a Redis."""
+
+from __future__ import annotations
+
+import argparse
+import os
+import sys
+from typing import Any
+
+from ._command import LISTEN, MISTAKE, URL, call_of, place
+from ._patterns import add_tables_option
+from ._proxy import find_proxy
+from ._sharing import add_sharing, mistake_of
+
+EXAMPLE = """\
+One audit of two application servers, each with a proxy of its own:
+
+  (umask 077; head -c 32 /dev/urandom | base64 > audit.key)     and copy it to the other one
+  first$  zanteyard watch postgresql://admin@db.example/shop \\
+              --redis rediss://redis.example --audit shop --key audit.key
+  second$ zanteyard proxy postgresql://admin@db.example/shop \\
+              --redis rediss://redis.example --audit shop --key audit.key
+
+It passes everything on until SIGTERM or SIGINT, also while there is no audit. The exit status is 0
+after these, 1 if it can't listen, and 2 after a mistake in the call."""
+
+
+def add_arguments(command: argparse.ArgumentParser) -> None:
+    command.epilog = EXAMPLE
+    command.formatter_class = argparse.RawDescriptionHelpFormatter
+    command.add_argument(
+        "url",
+        metavar="URL",
+        nargs="?",
+        default=os.environ.get(URL),
+        help=f"the server, as postgresql://user@server/database (or the environment's {URL})",
+    )
+    command.add_argument(
+        "--listen", type=place, metavar="HOST:PORT", default=LISTEN,
+        help=f"where applications connect ({LISTEN}); a socket's path if there is a / in it",
+    )
+    add_sharing(command)
+    command.add_argument(
+        "--name", metavar="NAME", help="what the audit calls this proxy (its machine's name)"
+    )
+    add_tables_option(command, "sees only these tables, as public.*,shop.orders")
+    command.add_argument(
+        "--redact", action="store_true",
+        help="sends no parameters and no constants of statements",
+    )
+    command.set_defaults(sample=None)
+
+
+def run(asked: Any) -> int:
+    """Becomes the proxy's program; gives an exit status only if it can't."""
+    if not asked.url:
+        return _mistake(f"no server is named: give its URL, or set {URL}")
+    told = mistake_of(asked, True)
+    if told is not None:
+        return _mistake(told)
+    program = find_proxy()
+    call, environment = call_of(program, asked)
+    more = ["--remote"] if asked.name is None else ["--remote", "--name", asked.name]
+    sys.stdout.flush()
+    os.execve(program, [*call, *more], environment)
+
+
+def _mistake(told: str) -> int:
+    print(f"mistake: {told}", file=sys.stderr, flush=True)
+    return MISTAKE

@@ -1,0 +1,52 @@
+"""How several proxies feed one audit over a Redis: the options that `watch` and `proxy` have alike,
+and what the proxy's program is given for them."""
+
+from __future__ import annotations
+
+import argparse
+import os
+import stat
+from typing import Any, Dict, List, Optional
+
+REDIS = "ZANTEYARD_REDIS"  # the environment's name for its URL, as `serve` has it
+LEAST = 16  # bytes of a key
+MAKE = "(umask 077; head -c 32 /dev/urandom | base64 > FILE) makes one"
+
+
+def add_sharing(command: argparse.ArgumentParser) -> None:
+    command.add_argument(
+        "--redis", metavar="URL", default=os.environ.get(REDIS),
+        help=f"the Redis by which proxies feed one audit (or the environment's {REDIS})",
+    )
+    command.add_argument("--audit", metavar="NAME", help="the audit's name in that Redis")
+    command.add_argument(
+        "--key", metavar="FILE", help="the key by which they know each other, for its owner alone"
+    )
+
+
+def mistake_of(asked: Any, is_needed: bool = False) -> Optional[str]:
+    """What is wrong with these options, if anything is."""
+    if not (is_needed or asked.audit or asked.key):
+        return None  # a URL in the environment alone may be meant for something else
+    for name, value in (("--redis", asked.redis), ("--audit", asked.audit), ("--key", asked.key)):
+        if not value:
+            return f"{name} is missing: --redis, --audit and --key belong together"
+    try:
+        state = os.stat(asked.key)
+    except OSError as error:
+        return f"the key {asked.key} can't be read: {error.strerror}. {MAKE}"
+    if stat.S_IMODE(state.st_mode) & 0o077:
+        return f"others than its owner may use the key {asked.key}: chmod 600 {asked.key}"
+    if state.st_size < LEAST:
+        return f"the key {asked.key} has fewer than {LEAST} bytes. {MAKE}"
+    return None
+
+
+def words_of(asked: Any, environment: Dict[str, str]) -> List[str]:
+    """For the proxy's program. The URL is put in the environment, which others can't look at."""
+    if not asked.audit:
+        environment.pop(REDIS, None)
+        return []
+    environment[REDIS] = asked.redis
+    words = ["--audit", asked.audit, "--key", asked.key]
+    return [*words, "--redact"] if asked.redact else words

@@ -1,0 +1,25 @@
+package plan
+
+import "strings"
+
+// Redacted is a statement with a question mark for each constant, and without comments.
+func Redacted(text string) string {
+	var s scanner
+	if !s.scan(text) {
+		return "(a very long or unfinished text)"
+	}
+	var out strings.Builder
+	behind := int32(0)
+	for i, t := range s.tokens {
+		if i > 0 && t.start > behind {
+			out.WriteByte(' ')
+		}
+		if t.kind == stringToken || t.kind == numberToken {
+			out.WriteByte('?')
+		} else {
+			out.WriteString(text[t.start:t.end])
+		}
+		behind = t.last
+	}
+	return out.String()
+}

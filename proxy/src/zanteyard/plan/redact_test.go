@@ -1,0 +1,17 @@
+package plan
+
+import "testing"
+
+func TestRedacted(t *testing.T) {
+	for text, want := range map[string]string{
+		"SELECT qty FROM stock WHERE id = 8 AND name='it''s' -- 5":     "SELECT qty FROM stock WHERE id = ? AND name=?",
+		`UPDATE "t 1" SET a=E'x\'y', b=$1, c = $$5$$ /* b='secret' */`: `UPDATE "t 1" SET a=?, b=$1, c = ?`,
+		"SELECT -1.5e3, B'01', U&'d\\0061'":                            "SELECT -?, ?, ?",
+		"":                                                             "",
+		"SELECT 'unfinished":                                           "(a very long or unfinished text)",
+	} {
+		if got := Redacted(text); got != want {
+			t.Errorf("%s: %s, and not %s", text, got, want)
+		}
+	}
+}
