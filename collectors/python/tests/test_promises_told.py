@@ -4,6 +4,8 @@ import contextlib
 import io
 import os
 import random
+import subprocess
+import sys
 import tempfile
 import threading
 import unittest
@@ -17,6 +19,7 @@ from zanteyard.program._auditor import PROGRAM
 from zanteyard.promises._kinds import ALL, GENERALIZED, PREFIX, SERIALIZABLE, SESSIONLESS, SNAPSHOT
 from zanteyard.promises._kinds import STRICT, STRONG_SNAPSHOT
 from zanteyard.stores.memory import MemoryStore
+from zanteyard.trial import postgres_server
 
 TOP = os.path.normpath(os.path.join(os.path.dirname(os.path.abspath(__file__)), "../../.."))
 WORKED = os.path.join(TOP, "examples/promises")
@@ -255,6 +258,22 @@ class Live(unittest.TestCase):
             Auditor(1, promise="strict")
         with self.assertRaisesRegex(ValueError, "journal"):
             Auditor(1, promise="snapshot", journal="nowhere")
+
+
+@unittest.skipUnless(os.path.isfile(PROGRAM), f"{PROGRAM} is not built")
+class OfPostgres(unittest.TestCase):
+    def test_which_promise_each_level_keeps(self):
+        """As docs/STORES.md has it."""
+        if not postgres_server.program("initdb"):
+            self.skipTest("PostgreSQL isn't installed")
+        example = os.path.join(TOP, "examples/store_faults.py")
+        asked = [sys.executable, example, "postgres", "--promises"]
+        ran = subprocess.run(asked, capture_output=True, text=True, timeout=600)
+        if "psycopg2 is wanted" in ran.stderr:
+            self.skipTest("psycopg2 isn't installed")
+        self.assertEqual((ran.returncode, ran.stderr), (0, ""))
+        with open(os.path.join(TOP, "docs/STORES.md"), encoding="utf-8") as file:
+            self.assertIn(ran.stdout.split("\n", 1)[1], file.read())
 
 
 if __name__ == "__main__":
