@@ -1,6 +1,7 @@
 pub mod Added
 pub mod Closures
 pub mod Counts
+pub mod Dropped
 pub mod Firsts
 pub mod Kept
 pub mod LineLists

@@ -3,6 +3,7 @@ use Rattle.std.proofs.Common.{◌≡◌, ◌≢◌, ℕ, zero, suc, ◌<◌, ◌
 use Rattle.std.proofs.lemmas.Bool.{cases_eq}
 use Rattle.std.specs.Vec.{with_items}
 use Rattle.std.proofs.lemmas.List.{with_items_is, length_push}
+use Rattle.session_clocks.specs.Drops.{IsDropped}
 use Rattle.session_clocks.specs.Lines.{AreEmptyLines, IsSameList, AreSameNumbers, HasFirstRow, HasCountRow}
 use Rattle.session_clocks.specs.Rows.{line_at, IsOneLine, IsFirstRow, IsCountRow}
 
@@ -53,7 +54,7 @@ module _ (lines : List (Vec ℕ Global)) (i : ℕ) (d : Vec ℕ Global) (words s
 
 -- a line is written over another one
 module _ (lines : List (Vec ℕ Global)) (i : ℕ) (d line : Vec ℕ Global) (within : i < length lines) where
-  one_line : IsOneLine lines (set lines i line) i
+  pub one_line : IsOneLine lines (set lines i line) i
   one_line = record {
     sessions = omega (arith, length-set {A = Vec ℕ Global});
     others = λ k apart. line_at-set_other lines i k line apart;
@@ -70,6 +71,9 @@ module _ (lines : List (Vec ℕ Global)) (i : ℕ) (d line : Vec ℕ Global) (wi
     row = subst₂ (λ old new. IsCountRow old new width i number) (line_at-get lines i d within) (sym (line_at-set_same lines i line within)) is;
     others = one_line;
   }
+
+  pub IsDropped-set : (count : ℕ) → IsDropped (get_or lines i d).items line.items count → IsDropped (line_at lines i) (line_at (set lines i line) i) count
+  IsDropped-set count is = subst₂ (λ old new. IsDropped old new count) (line_at-get lines i d within) (sym (line_at-set_same lines i line within)) is
 
   pub AreSameNumbers-set : IsSameList (get_or lines i d).items line.items → AreSameNumbers lines (set lines i line)
   AreSameNumbers-set is = record {

@@ -1,5 +1,6 @@
 pub mod Additions
 pub mod Clocks
+pub mod Drops
 pub mod Graphs
 pub mod Lines
 pub mod Reach

@@ -1,10 +1,12 @@
-ghost use Rattle.std.specs.Prelude.{◌≡◌, ◌≢◌, ◌⊎◌, ◌↔◌, ℕ, [], ◌∷◌, ◌++◌, ◌+◌, ◌-◌, ◌*◌, ◌^◌, ◌<◌, ◌≤◌, IsTrue, IfOk, OnOk, OnErr, length, slice_index};
+ghost use Rattle.std.specs.Prelude.{◌≡◌, ◌≢◌, ◌⊎◌, ◌↔◌, ℕ, [], ◌∷◌, ◌++◌, ◌+◌, ◌-◌, ◌*◌, ◌^◌, ◌<◌, ◌≤◌, IsTrue, filter, IfOk, OnOk, OnErr, length, slice_index};
 ghost use Rattle.txn.specs.declared.transactions.TxnId.{TxnId};
 ghost use Rattle.txn.specs.Arcs.{start_of, end_of};
 ghost use Rattle.session_clocks.specs.Additions.{IsAddition};
+ghost use Rattle.session_clocks.specs.Drops.{arc_stays};
 ghost use Rattle.session_clocks.specs.Graphs.{HasNode, IsOneMore};
 ghost use Rattle.session_clocks.specs.Reach.{IsThere, Reaches, IsOrReaches};
 
+use crate::drops::{drop_arcs, drop_rows};
 use crate::lines::{no_lines, push_rows};
 use crate::rows::{clock, count_row, first_row};
 use crate::sweeps::{lower_all, raise_all};
@@ -213,5 +215,25 @@ impl Graph {
             &tops,
         );
         Ok(addition)
+    }
+
+    /// Drops the first transactions of each session, up to these numbers, which none that stays reaches, with the arcs that
+    /// touch them. It takes no memory.
+    pub fn drop_fronts(&mut self, gone: &[u64])
+        requires sessions { length gone.now ≡ length self.old.gone }
+        requires more { (session : ℕ) → slice_index self.old.gone session ≤ slice_index gone.now session }
+        requires within { (session : ℕ) → slice_index gone.now session ≤ slice_index self.old.received session }
+        requires before { (id other : TxnId) → IsThere gone.now self.old.received id → ¬ IsThere gone.now self.old.received other → ¬ Reaches self.old.gone self.old.received self.old.arcs id other }
+        ensures gone { self.new.gone ≡ gone.now }
+        ensures received { self.new.received ≡ self.old.received }
+        ensures arcs { self.new.arcs ≡ filter (arc_stays gone.now) self.old.arcs }
+        // Among the rest all stays as it was.
+        ensures rest { (a b : TxnId) → Reaches self.new.gone self.new.received self.new.arcs a b
+            ↔ (Reaches self.old.gone self.old.received self.old.arcs a b × HasNode self.new a × HasNode self.new b) }
+    {
+        drop_rows(&mut self.first, &self.gone, gone);
+        drop_rows(&mut self.count, &self.gone, gone);
+        drop_arcs(&mut self.arcs, gone);
+        self.gone.copy_from_slice(gone);
     }
 }

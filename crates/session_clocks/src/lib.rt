@@ -2,6 +2,7 @@
 //! clocks: two numbers a transaction and session.
 #![tactic(auto)]
 
+mod drops;
 mod graph;
 mod lines;
 mod rows;
