@@ -1,0 +1,11 @@
+pub mod Added
+pub mod Closures
+pub mod Counts
+pub mod Dropped
+pub mod Firsts
+pub mod Kept
+pub mod LineLists
+pub mod Next
+pub mod Orders
+pub mod Places
+pub mod Steps

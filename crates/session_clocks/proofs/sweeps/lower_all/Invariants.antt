@@ -1,0 +1,12 @@
+use Rattle.std.proofs.Common.{◌≡◌, ℕ, ◌-◌, ◌<◌, ◌≤◌, get_or}
+use Rattle.session_clocks.specs.Rows.{line_at}
+use Rattle.session_clocks.specs.Tails.{IsLowered}
+use Rattle.session_clocks.specs.Sweeps.{AreAsLong}
+use Rattle.session_clocks.proofs.sweeps.lower_all.Given as goal
+
+abbrev pub invariant-loop-line : goal.invariant-loop-line
+invariant-loop-line l = record {
+  long : AreAsLong l.initial.lines l.lines;
+  done : (k : ℕ) → k < l.line → IsLowered (line_at l.initial.lines k) (line_at l.lines k) l.end.session l.end.number l.row (get_or l.tops k 0 - get_or l.gone k 0);
+  rest : (k : ℕ) → l.line ≤ k → line_at l.lines k ≡ line_at l.initial.lines k;
+}

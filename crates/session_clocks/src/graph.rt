@@ -1,0 +1,239 @@
+ghost use Rattle.std.specs.Prelude.{◌≡◌, ◌≢◌, ◌⊎◌, ◌↔◌, ℕ, [], ◌∷◌, ◌++◌, ◌+◌, ◌-◌, ◌*◌, ◌^◌, ◌<◌, ◌≤◌, IsTrue, filter, IfOk, OnOk, OnErr, length, slice_index};
+ghost use Rattle.txn.specs.declared.transactions.TxnId.{TxnId};
+ghost use Rattle.txn.specs.Arcs.{start_of, end_of};
+ghost use Rattle.session_clocks.specs.Additions.{IsAddition};
+ghost use Rattle.session_clocks.specs.Drops.{arc_stays};
+ghost use Rattle.session_clocks.specs.Graphs.{HasNode, IsOneMore};
+ghost use Rattle.session_clocks.specs.Reach.{IsThere, Reaches, IsOrReaches};
+
+use crate::drops::{drop_arcs, drop_rows};
+use crate::lines::{no_lines, push_rows};
+use crate::rows::{clock, count_row, first_row};
+use crate::sweeps::{lower_all, raise_all};
+use std::alloc::Global;
+use std::marker::Model;
+use txn::{Arc, NoMemory, TxnId};
+
+/// What became of an arc.
+#[derive(Clone, Copy, Debug, PartialEq, Eq)]
+pub enum Addition {
+    /// It closed no cycle.
+    Added,
+    /// It is added too, and closed a cycle.
+    Cycle,
+}
+
+/// Transactions in sessions with arcs between them, and which of them reaches which.
+#[derive(Drop, Debug)]
+pub struct Graph {
+    /// How many of each session are gone.
+    gone: Vec<u64>,
+    /// How many of each session were received, the gone ones among them.
+    received: Vec<u64>,
+    /// For each session a row for each transaction that is there: the first one of each session that it reaches.
+    first: Vec<Vec<u64>>,
+    /// For each session a row for each transaction that is there: how many of each session reach it.
+    count: Vec<Vec<u64>>,
+    arcs: Vec<Arc>,
+}
+
+impl Model for Graph {
+    ghost use Rattle.session_clocks.specs.Clocks.{IsKept};
+    ghost use Rattle.session_clocks.specs.Graphs.{GraphState};
+
+    ghost Value = { GraphState };
+
+    ghost view = { λ graph. record { gone = graph.gone.items; received = graph.received.items; arcs = graph.arcs.items } };
+
+    ghost invariant = { λ graph. IsKept graph.gone.items graph.received.items graph.arcs.items graph.first.items graph.count.items };
+}
+
+/// Whether a transaction is there.
+fn is_there(gone: &[u64], received: &[u64], id: TxnId) -> bool
+    requires { length received.now ≡ length gone.now }
+    ensures { IsTrue result ↔ IsThere gone.now received.now id }
+{
+    let session = usize::from(id.session);
+    session < gone.len() && gone[session] <= id.number && id.number < received[session]
+}
+
+/// Whether both are.
+fn are_there(gone: &[u64], received: &[u64], a: TxnId, b: TxnId) -> bool
+    requires { length received.now ≡ length gone.now }
+    ensures { IsTrue result ↔ (IsThere gone.now received.now a × IsThere gone.now received.now b) }
+{
+    is_there(gone, received, a) && is_there(gone, received, b)
+}
+
+impl Graph {
+    /// A graph with no transaction, of whose sessions so many are gone.
+    pub fn new(alloc: Global, gone: &[u64]) -> Result<Self, NoMemory>
+        ensures gone { IfOk result (λ graph. graph.gone ≡ gone.now) }
+        ensures received { IfOk result (λ graph. graph.received ≡ gone.now) }
+        ensures arcs { IfOk result (λ graph. graph.arcs ≡ []) }
+    {
+        let sessions = gone.len();
+        let received = Vec::from_slice(alloc, gone)?;
+        let gone = Vec::from_slice(alloc, gone)?;
+        let first = no_lines(alloc, sessions)?;
+        let count = no_lines(alloc, sessions)?;
+        let arcs = Vec::new(alloc);
+        Ok(Graph {
+            gone,
+            received,
+            first,
+            count,
+            arcs,
+        })
+    }
+
+    pub fn contains(&self, id: TxnId) -> bool
+        ensures { IsTrue result ↔ HasNode self.now id }
+    {
+        is_there(&self.gone, &self.received, id)
+    }
+
+    /// Whether one or more steps lead from the one to the other, each an arc or one to a later one of the session. It takes no
+    /// memory.
+    pub fn reaches(&self, from: TxnId, to: TxnId) -> bool
+        ensures exact { IsTrue result ↔ Reaches self.now.gone self.now.received self.now.arcs from to }
+        ensures there { IsTrue result → HasNode self.now from × HasNode self.now to }
+    {
+        if !are_there(&self.gone, &self.received, from, to) {
+            return false;
+        }
+        clock(&self.first, &self.gone, from, usize::from(to.session)) <= to.number
+    }
+
+    /// How many of a session reach the transaction, the gone ones among them: of those that are there, the ones with a lower
+    /// number.
+    pub fn before(&self, id: TxnId, session: u8) -> u64
+        requires there { HasNode self.now id }
+        requires session { session < length self.now.gone }
+        ensures low { slice_index self.now.gone session ≤ result }
+        ensures high { result ≤ slice_index self.now.received session }
+        ensures exact { (other : TxnId) → other.session ≡ session → HasNode self.now other → (other.number < result) ↔ Reaches self.now.gone self.now.received self.now.arcs other id }
+    {
+        let line = usize::from(session);
+        clock(&self.count, &self.gone, id, line).max(self.gone[line])
+    }
+
+    /// The number of the first of a session that the transaction reaches, and how many were received where it reaches none.
+    pub fn after(&self, id: TxnId, session: u8) -> u64
+        requires there { HasNode self.now id }
+        requires session { session < length self.now.gone }
+        ensures low { slice_index self.now.gone session ≤ result }
+        ensures high { result ≤ slice_index self.now.received session }
+        ensures exact { (other : TxnId) → other.session ≡ session → HasNode self.now other → (result ≤ other.number) ↔ Reaches self.now.gone self.now.received self.now.arcs id other }
+    {
+        let line = usize::from(session);
+        clock(&self.first, &self.gone, id, line).min(self.received[line])
+    }
+
+    /// For each session how many of it are gone.
+    pub fn gone(&self) -> &[u64]
+        ensures { result.now ≡ self.now.gone }
+    {
+        self.gone.as_slice()
+    }
+
+    /// For each session how many were received, the gone ones among them: the number of its next transaction.
+    pub fn received(&self) -> &[u64]
+        ensures numbers { result.now ≡ self.now.received }
+        ensures sessions { length result.now ≡ length self.now.gone }
+    {
+        self.received.as_slice()
+    }
+
+    /// The arcs, in the order in which they were added.
+    pub fn arcs(&self) -> &[Arc]
+        ensures { result.now ≡ self.now.arcs }
+    {
+        self.arcs.as_slice()
+    }
+
+    /// Adds the next transaction of a session, which all of its session reach.
+    pub fn add_node(&mut self, session: u8) -> Result<TxnId, NoMemory>
+        requires session { session < length self.old.gone }
+        requires number { slice_index self.old.received session < 2 ^ 64 - 1 }
+        ensures session { IfOk result (λ id. id.session ≡ session) }
+        ensures number { IfOk result (λ id. id.number ≡ slice_index self.old.received session) }
+        ensures received { OnOk result (IsOneMore self.old.received self.new.received session) }
+        ensures gone { self.new.gone ≡ self.old.gone }
+        ensures arcs { self.new.arcs ≡ self.old.arcs }
+        ensures err { OnErr result (self.new ≡ self.old) }
+    {
+        let line = usize::from(session);
+        let number = self.received[line];
+        push_rows(
+            &mut self.first,
+            &mut self.count,
+            self.gone.len(),
+            line,
+            number,
+        )?;
+        self.received[line] = number + 1;
+        Ok(TxnId { session, number })
+    }
+
+    /// Whether one more arc closes a cycle.
+    fn outcome(&self, arc: Arc) -> Addition
+        ensures { IsAddition self.now.gone self.now.received self.now.arcs arc result }
+    {
+        if arc.end() == arc.start() || self.reaches(arc.end(), arc.start()) {
+            Addition::Cycle
+        } else {
+            Addition::Added
+        }
+    }
+
+    /// Adds an arc, also where it closes a cycle.
+    pub fn add_arc(&mut self, alloc: Global, arc: Arc) -> Result<Addition, NoMemory>
+        requires start { HasNode self.old (start_of arc) }
+        requires end { HasNode self.old (end_of arc) }
+        ensures gone { self.new.gone ≡ self.old.gone }
+        ensures received { self.new.received ≡ self.old.received }
+        ensures arcs { OnOk result (self.new.arcs ≡ self.old.arcs ++ arc ∷ []) }
+        ensures addition { IfOk result (IsAddition self.old.gone self.old.received self.old.arcs arc) }
+        ensures err { OnErr result (self.new ≡ self.old) }
+    {
+        let addition = self.outcome(arc);
+        if self.reaches(arc.start(), arc.end()) {
+            self.arcs.push(arc)?;
+            return Ok(addition);
+        }
+        let tops = count_row(alloc, &self.count, &self.gone, arc.start())?;
+        let starts = first_row(alloc, &self.first, &self.gone, arc.end())?;
+        self.arcs.push(arc)?;
+        lower_all(&mut self.first, &self.gone, &tops, arc.end(), &starts);
+        raise_all(
+            &mut self.count,
+            &self.gone,
+            &self.received,
+            &starts,
+            arc.start(),
+            &tops,
+        );
+        Ok(addition)
+    }
+
+    /// Drops the first transactions of each session, up to these numbers, which none that stays reaches, with the arcs that
+    /// touch them. It takes no memory.
+    pub fn drop_fronts(&mut self, gone: &[u64])
+        requires sessions { length gone.now ≡ length self.old.gone }
+        requires more { (session : ℕ) → slice_index self.old.gone session ≤ slice_index gone.now session }
+        requires within { (session : ℕ) → slice_index gone.now session ≤ slice_index self.old.received session }
+        requires before { (id other : TxnId) → IsThere gone.now self.old.received id → ¬ IsThere gone.now self.old.received other → ¬ Reaches self.old.gone self.old.received self.old.arcs id other }
+        ensures gone { self.new.gone ≡ gone.now }
+        ensures received { self.new.received ≡ self.old.received }
+        ensures arcs { self.new.arcs ≡ filter (arc_stays gone.now) self.old.arcs }
+        // Among the rest all stays as it was.
+        ensures rest { (a b : TxnId) → Reaches self.new.gone self.new.received self.new.arcs a b
+            ↔ (Reaches self.old.gone self.old.received self.old.arcs a b × HasNode self.new a × HasNode self.new b) }
+    {
+        drop_rows(&mut self.first, &self.gone, gone);
+        drop_rows(&mut self.count, &self.gone, gone);
+        drop_arcs(&mut self.arcs, gone);
+        self.gone.copy_from_slice(gone);
+    }
+}

@@ -1,0 +1,12 @@
+//! A directed graph of transactions in which each session is a chain, with its reachability kept up to date by session
+//! clocks: two numbers a transaction and session.
+#![tactic(auto)]
+
+mod drops;
+mod graph;
+mod lines;
+mod rows;
+mod sweeps;
+mod tails;
+
+pub use graph::{Addition, Graph};
