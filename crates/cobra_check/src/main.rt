@@ -2,13 +2,17 @@
 //! output what it finds of each report.
 #![tactic(auto)]
 
-ghost use Rattle.std.specs.Prelude.{OnOk};
-ghost use Rattle.std.specs.Io.KnownBytes.{Appends};
+ghost use Rattle.std.specs.Prelude.{◌≡◌, Ok, Some, IfSome, OnOk, OnErr, option_map};
+ghost use Rattle.std.specs.Io.KnownBytes.{Appends, Keeps};
+ghost use Rattle.report_checking.specs.Checking.{IsAllRight};
+ghost use Rattle.report_checking.specs.RightReports.{StopsAtWrong};
 
 use cobra::{
-    Asked, ByteSink, Exit, Failure, ReaderSource, WriterSink, asked_of, exit_of, write_all,
+    Asked, ByteSink, ByteSource, Exit, Failure, ReaderSource, WriterSink, asked_of, exit_of,
+    write_all,
 };
 use report_checking::{check_replies, exit_of_check};
+use std::alloc::Global;
 use std::env;
 use std::io::ErrorKind;
 use std::process::ExitCode;
@@ -54,20 +58,40 @@ fn told<W: ByteSink>(sink: &mut W, text: &str) -> Result<(), Failure>
     Ok(())
 }
 
-fn main(rt: HostRuntime) -> ExitCode {
-    let mut input = ReaderSource::new(rt.stdin());
-    let mut output = WriterSink::new(rt.stdout());
-    let alloc = rt.alloc();
-    let exit = match asked(&rt) {
-        Ok(Asked::Work) => exit_of_check(check_replies(alloc, &mut input, &mut output)),
-        Ok(Asked::Help) => exit_of(told(&mut output, HELP)),
-        Ok(Asked::Version) => exit_of(told(&mut output, VERSION)),
+/// Does what the arguments ask for, and says how the program ends.
+fn run<R: ByteSource, W: ByteSink>(
+    alloc: Global,
+    asked: Result<Asked, Failure>,
+    input: &mut R,
+    output: &mut W,
+) -> Exit
+    // Status 0 says that all replies are right, and 3 that one is wrong.
+    ensures right { asked ≡ Ok Asked.Work → result.status ≡ 0 → IfSome (R.remaining input.old) IsAllRight }
+    ensures wrong { asked ≡ Ok Asked.Work → result.status ≡ 3 → IfSome (R.remaining input.old) StopsAtWrong }
+
+    ensures help { asked ≡ Ok Asked.Help → result.status ≡ 0 → Appends (W.contents output.old) (W.contents output.new) HELP.now }
+    ensures version { asked ≡ Ok Asked.Version → result.status ≡ 0 → Appends (W.contents output.old) (W.contents output.new) VERSION.now }
+
+    // Other arguments: nothing is written but how the program is used.
+    ensures unknown { asked ≡ Ok Asked.Unknown → (result.status ≡ 2) × (option_map (λ words. words.now) result.words ≡ Some USAGE.now) × Keeps (W.contents output.old) (W.contents output.new) }
+    ensures failed { OnErr asked ((result.status ≡ 1) × Keeps (W.contents output.old) (W.contents output.new)) }
+{
+    match asked {
+        Ok(Asked::Work) => exit_of_check(check_replies(alloc, input, output)),
+        Ok(Asked::Help) => exit_of(told(output, HELP)),
+        Ok(Asked::Version) => exit_of(told(output, VERSION)),
         Ok(Asked::Unknown) => Exit {
             status: 2,
             words: Some(USAGE),
         },
         Err(failure) => exit_of(Err(failure)),
-    };
+    }
+}
+
+fn main(rt: HostRuntime) -> ExitCode {
+    let mut input = ReaderSource::new(rt.stdin());
+    let mut output = WriterSink::new(rt.stdout());
+    let exit = run(rt.alloc(), asked(&rt), &mut input, &mut output);
     if let Some(words) = exit.words {
         let _ = eprintln!(rt; "{words}");
     }

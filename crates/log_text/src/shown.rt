@@ -1,5 +1,5 @@
 //! What is handed in to be judged: an order, or a tree that refutes.
-ghost use Rattle.std.specs.Prelude.{◌≡◌, Option, IfOk, MatchOption, codes};
+ghost use Rattle.std.specs.Prelude.{◌≡◌, Option, IfOk, MatchOption, OnErr, IsUtf8, codes};
 ghost use Rattle.serde_json.specs.Data.{string};
 ghost use Rattle.serde_json.specs.View.{view, items_view};
 ghost use Rattle.refutation.specs.declared.trees.Tree.{Tree};
@@ -140,10 +140,12 @@ fn report_of(alloc: Global, value: &Value) -> Result<Option<Shown>, NoMemory>
 }
 
 /// What the text of a reply shows, where it is a report's: the order or the tree that it ends in. It is the only one that the text shows,
-/// and is none the truer for that.
+/// and is none the truer for that. NoMemory may take its place where the text is UTF-8: it is answered where room for what is read of
+/// the text is refused.
 pub fn read_shown(alloc: Global, reply: &[u8]) -> Result<Option<Shown>, NoMemory>
     ensures shown { IfOk result (IsShownIn reply.now) }
     ensures only { IfOk result (λ found. (other : Option Shown) → IsShownIn reply.now other → IsSameShown found other) }
+    ensures err { OnErr result (IsUtf8 reply.now) }
 {
     let Ok(text) = std::str::from_utf8(reply) else {
         return Ok(None);

@@ -1,6 +1,9 @@
 pub mod CheckedLines
 pub mod EarnedReports
 pub mod NoBraces
+pub mod OtherReplies
 pub mod OwedReplies
 pub mod RightReports
+pub mod SaidOnce
+pub mod Stopping
 pub mod ToldLines

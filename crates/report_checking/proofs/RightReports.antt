@@ -31,11 +31,8 @@ use Rattle.log_text.specs.declared.replies.Reply.{Reply}
 use Rattle.log_text.specs.declared.replies.Reply.TheVariants as told
 use Rattle.log_text.specs.declared.shown.Shown.{Shown}
 use Rattle.log_text.specs.declared.shown.Shown.TheVariants as shown
-use Rattle.byte_lines.specs.LineReaders.{IsNextOf}
 use Rattle.byte_lines.specs.declared.lines.Next.{Next}
-use Rattle.byte_lines.specs.declared.lines.Next.TheVariants.{Line, TooLong, End}
 use Rattle.round_state.specs.EngineState.{EngineState}
-use Rattle.round_state.specs.Legal.{State}
 use Rattle.round_state.specs.Solving.{IsRight, IsWrong, IsReportOn}
 use Rattle.round_state.specs.Steps.{StepsTo, IsFinishRefusal, IsHeldAfter, answer_told}
 use Rattle.round_state.specs.declared.reports.Certificate.{Certificate}
@@ -46,9 +43,9 @@ use Rattle.round_state.specs.declared.steps.StepReply.{StepReply}
 use Rattle.round_state.specs.declared.steps.StepReply.TheVariants as reply
 use Rattle.cobra.specs.Outputs.{Asks, IsTold}
 use Rattle.cobra.specs.StepReplies.{certificate_of, certified, report_of, reply_of}
-use Rattle.report_checking.specs.Owing.{IsEarned, ScriptState}
-use Rattle.report_checking.specs.Reading.{HoldsScript, IsAnswerOf, IsToldOf, OwesText, Earns, EarnsScript, OfRight, IsFair, IsFairTo, IsFairNext, IsFoundBy, IsFoundOf, IsRead, StopsOn}
-use Rattle.report_checking.specs.RightReports.{shown_of, OwesReport, TellsRightReport, MayBeWrong}
+use Rattle.report_checking.specs.Owing.{IsEarned}
+use Rattle.report_checking.specs.Reading.{IsAnswerOf, IsToldOf, OwesText, Earns, EarnsScript, OfRight, IsFair, IsFairTo, IsFoundBy, IsFoundOf}
+use Rattle.report_checking.specs.RightReports.{shown_of}
 use Rattle.report_checking.specs.declared.findings.Found.{Found}
 use Rattle.report_checking.specs.declared.findings.Found.TheVariants as found
 use Rattle.report_checking.specs.declared.findings.Fault.{Fault}
@@ -56,7 +53,6 @@ use Rattle.report_checking.specs.declared.findings.Fault.TheVariants as fault
 use Rattle.report_checking.specs.declared.pairs.OpenScript.{OpenScript}
 use Rattle.report_checking.specs.declared.findings.Owed.{Owed}
 use Rattle.report_checking.specs.declared.findings.Owed.TheVariants as owed
-use Rattle.report_checking.proofs.CheckedLines.{next_line}
 
 -- ---- what is shown, as an answer
 
@@ -101,7 +97,7 @@ same_refutes parts (Split' choice p first q second) (Split' choice' p' first' q'
     (here.0, same_refutes parts first first' (first_side choice ∷ taken) same.1 here.1, same_refutes parts second second' (second_side choice ∷ taken) same.2 here.2)
 same_refutes parts tree other taken same right = absurd same
 
-same_refutation : (parts : Parts) (tree other : Tree) → IsSameTree tree other → IsRefutation parts other → IsRefutation parts tree
+pub same_refutation : (parts : Parts) (tree other : Tree) → IsSameTree tree other → IsRefutation parts other → IsRefutation parts tree
 same_refutation parts tree other same right = record {
   right = same_refutes parts tree other [] same right.right;
   shallow = subst (λ n. n ≤ 4096) (sym (same_depth tree other same)) right.shallow;
@@ -242,7 +238,7 @@ pub right_begun : (old mid : EngineState) (stored : List ℕ) (given : Owed) →
 right_begun old mid stored given first right begun second =
     subst (λ (e : EngineState). OfRight (IsEarned e) stored (λ text. OwesText text given)) (first.1 ∙ sym second.1) right
 
-none_and_some : (asked : Option Parts) → asked ≡ None → IsSome asked → ⊥
+pub none_and_some : (asked : Option Parts) → asked ≡ None → IsSome asked → ⊥
 none_and_some None none some = let no : ⊥ = cc in no
 none_and_some (Some parts) none some = cc
 
@@ -263,7 +259,7 @@ same_self (Close leaf) = refl
 same_self (Force' steps p rest) = (refl, same_self rest)
 same_self (Split' choice p first q second) = (refl, same_self first, same_self second)
 
-shown_self : (it : Shown) → IsSameShown (Some it) (Some it)
+pub shown_self : (it : Shown) → IsSameShown (Some it) (Some it)
 shown_self (shown.Order order) = refl
 shown_self (shown.Refuted tree) = same_self tree
 
@@ -279,7 +275,7 @@ same_then (Split' h p a q b) (Split' h' p' a' q' b') (Close c) x y = absurd y
 same_then (Split' h p a q b) (Split' h' p' a' q' b') (Force' ss r c) x y = absurd y
 same_then one two three x y = absurd x
 
-shown_then : (one two three : Shown) → IsSameShown (Some one) (Some two) → IsSameShown (Some two) (Some three) → IsSameShown (Some one) (Some three)
+pub shown_then : (one two three : Shown) → IsSameShown (Some one) (Some two) → IsSameShown (Some two) (Some three) → IsSameShown (Some one) (Some three)
 shown_then (shown.Order a) (shown.Order b) (shown.Order c) x y = x ∙ y
 shown_then (shown.Refuted a) (shown.Refuted b) (shown.Refuted c) x y = same_then a b c x y
 shown_then (shown.Order a) (shown.Order b) (shown.Refuted c) x y = absurd y
@@ -343,7 +339,7 @@ no_other : (items : Items) (it : Shown) → HandsIn items it → command_of (arr
 no_other (item name (item word (item given no_items))) it hands = ap (λ d. command_of (array (item d (item word (item given no_items))))) hands.0 ∙ refl
 no_other items it hands = absurd hands
 
-no_command : (said : Data) (it : Shown) → IsAnswer said it → command_of said ≡ None
+pub no_command : (said : Data) (it : Shown) → IsAnswer said it → command_of said ≡ None
 no_command (array items) it hands = no_other items it hands
 no_command said it hands = absurd hands
 
@@ -363,11 +359,11 @@ same_handed : (items : Items) (one two : Shown) → HandsIn items one → HandsI
 same_handed (item name (item word (item given no_items))) one two a b = same_given word given one two a.1 b.1
 same_handed items one two a b = absurd a
 
-same_answer : (said : Data) (one two : Shown) → IsAnswer said one → IsAnswer said two → IsSameShown (Some one) (Some two)
+pub same_answer : (said : Data) (one two : Shown) → IsAnswer said one → IsAnswer said two → IsSameShown (Some one) (Some two)
 same_answer (array items) one two a b = same_handed items one two a b
 same_answer said one two a b = absurd a
 
-is_said : (line : List ℕ) (asked other : Command) → Asks line asked → (a : Asks line other) → Says a.is.said asked
+pub is_said : (line : List ℕ) (asked other : Command) → Asks line asked → (a : Asks line other) → Says a.is.said asked
 is_said line asked other one two =
     let same : Some one.is.said ≡ Some two.is.said = sym one.is.reads ∙ two.is.reads in
     subst (λ (d : Data). Says d asked) (let e : one.is.said ≡ two.is.said = cc in e) one.is.is
@@ -394,40 +390,3 @@ pub fair_none : (old : Option OpenScript) (next : Next) (stored : List ℕ) → 
 fair_none old next stored none (found.Right what) = tt
 fair_none old next stored none found.Unchecked = tt
 fair_none old next stored none (found.Wrong why) = λ line said other again. absurd (none line said other again)
-
--- ---- where the check stops
-
-earns_of : (before : State) (asked : Command) (report : Report) (new : State) → OwesReport before asked report new → Earns before.engine asked report new.engine
-earns_of before (command.Finish budget depth workers search) report new owes = owes.earned
-earns_of before (command.Round budget depth workers search) report new owes = (owes.0.engine, owes.1.engine, owes.2.earned)
-earns_of before (command.Answer it) report new owes = (it, shown_self it, owes.engine)
-earns_of before asked report new owes = absurd owes
-
-no_right_report : (script : Option OpenScript) (state : Option ScriptState) (next : Next) (line stored : List ℕ) (why : Fault) → HoldsScript script state → IsTold line next → IsFairTo script next stored (found.Wrong why) → ¬ TellsRightReport state line stored
-no_right_report script None next line stored why holds said fair right = right
-no_right_report None (Some before) next line stored why holds said fair right = holds
-no_right_report (Some script) (Some before) next line stored why holds said fair right =
-    fair line said right.command right.asks right.report right.new.engine
-    (subst (λ (e : EngineState). Earns e right.command right.report right.new.engine) holds.0.same (earns_of before.state right.command right.report right.new right.owed)) right.shows right.text_is
-
--- what was read behind the line
-wrong_behind : (limit : ℕ) (left : List (List ℕ)) (after : Option (List (List ℕ))) (line : List ℕ) (next stored : Next) (script : Option OpenScript) (state : Option ScriptState) (why : Fault) → limit ≡ 1073741824 → HoldsScript script state → IsTold line next → IsNextOf limit (Some left) stored after
-    → IsFairNext script next stored (found.Wrong why) → MayBeWrong state (line ∷ left)
-wrong_behind limit left after line next (Line bytes) script state why long holds said is fair =
-    subst (λ ls. MayBeWrong state (line ∷ ls)) (sym is.2) (inr (no_right_report script state next line bytes.items why holds said fair))
-wrong_behind limit left after line next TooLong script state why long holds said is fair =
-    subst (λ ls. MayBeWrong state (line ∷ ls)) (sym is.3) (inl (omega (arith, is.4, long)))
-wrong_behind limit left after line next End script state why long holds said is fair =
-    subst (λ ls. MayBeWrong state (line ∷ ls)) (sym is.1) tt
-
-pub stops_at : (limit : ℕ) (b c : Option (List (List ℕ))) (next line stored : Next) (got : Found) (old : Option OpenScript) → limit ≡ 1073741824 → ((bytes : List ℕ) → IsRead bytes next → IsTold bytes line) → IsNextOf limit b stored c → IsFairNext old line stored got → StopsOn limit b next old got
-stops_at limit b c next line stored got old long told second fair input a s is some why wrong =
-    let one = next_line limit s.left b next (omega (arith, long)) (subst (λ (o : Option (List (List ℕ))). IsNextOf limit o next b) s.left_is is) some in record {
-      front = s.front;
-      left = one.0 ∷ one.1;
-      split = s.split ∙ ap (λ ls. s.front ++ ls) one.3;
-      state = s.state;
-      checks = s.checks;
-      wrong = wrong_behind limit one.1 c one.0 line stored old s.state why long s.holds (told one.0 one.4)
-          (subst (λ (o : Option (List (List ℕ))). IsNextOf limit o stored c) one.2 second) (subst (IsFairNext old line stored) wrong fair);
-    }

@@ -1,9 +1,10 @@
 -- For private clauses: what single calls of the checker come to, whatever histories its engine stood for.
-use Rattle.std.specs.Prelude.{◌≡◌, ◌≢◌, ℕ, ◌<◌, ◌⊎◌, ⊤, Bool, nat_eq, List, ◌++◌, length, Option, Some, None}
+use Rattle.std.specs.Prelude.{◌≡◌, ◌≢◌, ℕ, ◌<◌, ◌⊎◌, ⊤, Bool, true, false, nat_eq, List, ◌++◌, length, Option, Some, None}
 use Rattle.std.specs.List.{list_any}
-use Rattle.txn.specs.declared.refusals.Refusal.TheVariants.{NoMemory}
+use Rattle.txn.specs.declared.refusals.Refusal.{Refusal}
+use Rattle.txn.specs.declared.refusals.Refusal.TheVariants.{NoMemory, NoRound, BadLine}
 use Rattle.log_text.specs.declared.commands.Command.{Command}
-use Rattle.log_text.specs.declared.commands.Command.TheVariants.{Finish, Round, Answer}
+use Rattle.log_text.specs.declared.commands.Command.TheVariants.{Start, Offer, Join, Close, Begin, Finish, Round, Truncate, Rebuild, Show, Resume, Save, Answer}
 use Rattle.polygraph.specs.declared.solving.Answer as solved
 use Rattle.polygraph.specs.declared.solving.Answer.TheVariants as answers
 use Rattle.log_text.specs.declared.replies.Reply.{Reply}
@@ -13,12 +14,16 @@ use Rattle.log_text.specs.ReadBack.{IsSameTree, IsSameShown}
 use Rattle.log_text.specs.Shown.{IsShownIn}
 use Rattle.log_text.specs.declared.shown.Shown.{Shown}
 use Rattle.log_text.specs.declared.shown.Shown.TheVariants as shown
+use Rattle.log_text.specs.Versions.{has_form}
+use Rattle.log_text.specs.declared.versions.Version.{Version}
+use Rattle.logged_fragments.specs.declared.logged.LoggedFragment.{LoggedFragment}
 use Rattle.byte_lines.specs.declared.lines.Next.{Next}
 use Rattle.byte_lines.specs.declared.lines.Next.TheVariants.{Line, TooLong, End}
 use Rattle.byte_lines.specs.LineReaders.{IsNextOf}
 use Rattle.byte_lines.specs.Lines.{lines}
 use Rattle.round_state.specs.EngineState.{EngineState}
 use Rattle.round_state.specs.Legal.{State}
+use Rattle.round_state.specs.Opening.{IsSessions, IsLimit, IsOpenRefusal}
 use Rattle.round_state.specs.Runs.{Holds}
 use Rattle.round_state.specs.Steps.{StepsTo}
 use Rattle.round_state.specs.declared.reports.Report.{Report}
@@ -27,6 +32,8 @@ use Rattle.round_state.specs.declared.steps.Step.TheVariants as step
 use Rattle.round_state.specs.declared.steps.StepReply.{StepReply}
 use Rattle.round_state.specs.declared.steps.StepReply.TheVariants as reply
 use Rattle.cobra.specs.Outputs.{Asks, IsTold}
+use Rattle.cobra.specs.Saving.{saved_told}
+use Rattle.cobra.specs.Scripts.{state_told}
 use Rattle.cobra.specs.StepReplies.{certificate_of, report_of, reply_of}
 use Rattle.report_checking.specs.Checking.{IsRightReply, IsUnchecked, TakesMemory, Checks, IsAllRight}
 use Rattle.report_checking.specs.Owing.{IsEarned, Owes, ScriptState}
@@ -183,3 +190,75 @@ IsFairNext old line other given = ⊤
 -- Where what was found of the reply behind a line is wrong, the script stops there.
 abbrev pub StopsOn : ℕ → Option (List (List ℕ)) → Next → Option OpenScript → Found → Type 0
 StopsOn limit b next old given = (input : List ℕ) (a : Option (List (List ℕ))) → IsChecking input a old → IsNextOf limit a next b → next ≢ End → (why : Fault) → given ≡ found.Wrong why → StopsAtWrong input
+
+-- ---- Of right replies that are no reports.
+
+-- By the engine alone, the reply to the step is told so.
+abbrev pub IsStepTold : EngineState → Step → Reply → Type 0
+IsStepTold old asked answer = (said : StepReply) × (new : EngineState) × StepsTo old asked said new × (answer ≡ reply_of said)
+
+-- a fragment for which the version has a form is taken by the step, and another one isn't
+abbrev pub IsTakenTold : Version → EngineState → LoggedFragment → Step → Reply → Type 0
+IsTakenTold version old logged asked answer =
+    ((has_form version logged ≡ true) × IsStepTold old asked answer) ⊎ ((has_form version logged ≡ false) × (answer ≡ told.No BadLine))
+
+-- a step is refused
+abbrev pub IsRefusedBy : EngineState → Step → Reply → Type 0
+IsRefusedBy old asked answer = (refusal : Refusal) × (new : EngineState) × StepsTo old asked (reply.Refused refusal) new × (answer ≡ told.No refusal)
+
+-- By the engine alone: a right reply to the command that is no report.
+abbrev pub Gives : Version → EngineState → Command → Reply → Type 0
+Gives version old (Offer logged) answer = IsTakenTold version old logged (step.Offer logged) answer
+Gives version old (Join logged) answer = IsTakenTold version old logged (step.Join logged) answer
+Gives version old (Close session) answer = IsStepTold old (step.Close session) answer
+Gives version old Begin answer = IsStepTold old step.Begin answer
+Gives version old (Finish budget depth workers search) answer = (old.asked ≡ None) × (answer ≡ told.No NoRound)
+Gives version old (Round budget depth workers search) answer = IsRefusedBy old step.Begin answer
+Gives version old (Answer handed) answer = (other : Shown) × IsSameShown (Some handed) (Some other) × IsRefusedBy old (step.Judge (certificate_of other)) answer
+Gives version old Truncate answer = IsStepTold old step.Truncate answer
+Gives version old Rebuild answer = IsStepTold old step.Rebuild answer
+Gives version old Show answer = answer ≡ state_told old
+Gives version old (Save wanted) answer = answer ≡ saved_told old.parts wanted
+Gives version old command answer = answer ≡ told.No BadLine
+
+-- the same where no engine is open
+abbrev pub GivesFirst : Command → Reply → Type 0
+GivesFirst (Start sessions limit version) told.Done = IsSessions sessions × IsLimit limit
+GivesFirst (Start sessions limit version) (told.No refusal) = IsOpenRefusal sessions limit refusal
+GivesFirst (Start sessions limit version) answer = ⊥
+GivesFirst (Resume sessions limit version) answer = ⊥
+GivesFirst command answer = answer ≡ told.No BadLine
+
+-- the same of a script
+abbrev pub GivesScript : Option OpenScript → Command → Reply → Type 0
+GivesScript None command answer = GivesFirst command answer
+GivesScript (Some old) command answer = Gives old.version old.engine command answer
+
+-- What is owed is the one right reply of these, want of memory apart.
+abbrev pub IsAlone : (Reply → Type 0) → Owed → Type 0
+IsAlone P (owed.Reply given) = (answer : Reply) → P answer → (answer ≡ told.No NoMemory) ⊎ ((given ≡ told.No NoMemory) ⊎ (given ≡ answer))
+IsAlone P (owed.Nothing why) = (answer : Reply) → P answer → answer ≡ told.No NoMemory
+
+-- what is owed to a fragment is the reply to the step that takes it, or BadLine
+abbrev pub IsTakenAs : Version → EngineState → LoggedFragment → Step → Owed → Type 0
+IsTakenAs version old logged asked given =
+    ((has_form version logged ≡ true) × IsToldOf old asked given) ⊎ ((has_form version logged ≡ false) × (given ≡ owed.Reply (told.No BadLine)))
+
+-- A reply to the command that is found wrong is the text of no right reply that isn't a report, and doesn't say that memory was wanting where
+-- that is left out.
+abbrev pub IsOtherwise : Option OpenScript → Command → List ℕ → Found → Type 0
+IsOtherwise old command stored (found.Wrong why) =
+    ((answer : Reply) → GivesScript old command answer → stored ≢ text_of answer) × (TakesMemory old command → stored ≢ text_of (told.No NoMemory))
+IsOtherwise old command stored given = ⊤
+
+-- the same of a reply to what was read
+abbrev pub IsOtherwiseTo : Option OpenScript → Next → List ℕ → Found → Type 0
+IsOtherwiseTo old next stored (found.Wrong why) = (line : List ℕ) → IsTold line next →
+    ((command : Command) → Asks line command → IsOtherwise old command stored (found.Wrong why))
+    × (((command : Command) → ¬ Asks line command) → stored ≢ text_of (told.No BadLine))
+IsOtherwiseTo old next stored given = ⊤
+
+-- and of what was read behind it
+abbrev pub IsOtherwiseNext : Option OpenScript → Next → Next → Found → Type 0
+IsOtherwiseNext old line (Line stored) given = IsOtherwiseTo old line stored.items given
+IsOtherwiseNext old line other given = ⊤

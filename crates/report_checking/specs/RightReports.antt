@@ -1,7 +1,9 @@
--- Scripts of which a stored reply is told wrong: the first such reply isn't a right report.
+-- Scripts of which a stored reply is told wrong: the first such reply isn't a right one.
 use Rattle.std.specs.Prelude.{◌≡◌, ◌<◌, ◌⊎◌, ⊤, ℕ, List, [], ◌∷◌, ◌++◌, length, Option, Some, None}
 use Rattle.log_text.specs.declared.commands.Command.{Command}
 use Rattle.log_text.specs.declared.commands.Command.TheVariants.{Finish, Round, Answer}
+use Rattle.log_text.specs.declared.replies.Reply.{Reply}
+use Rattle.log_text.specs.declared.replies.Reply.TheVariants as told
 use Rattle.log_text.specs.declared.shown.Shown.{Shown}
 use Rattle.log_text.specs.declared.shown.Shown.TheVariants as shown
 use Rattle.log_text.specs.Replies.{text_of}
@@ -15,8 +17,8 @@ use Rattle.round_state.specs.declared.steps.Step.TheVariants as step
 use Rattle.round_state.specs.declared.steps.StepReply.TheVariants as reply
 use Rattle.cobra.specs.Outputs.{Asks}
 use Rattle.cobra.specs.StepReplies.{certificate_of, report_of}
-use Rattle.report_checking.specs.Checking.{Checks}
-use Rattle.report_checking.specs.Owing.{IsOwedReport, ScriptState}
+use Rattle.report_checking.specs.Checking.{Checks, IsUnchecked}
+use Rattle.report_checking.specs.Owing.{IsOwedReport, OwesLine, ScriptState}
 
 -- what the text of a report with this certificate is to show
 abbrev pub shown_of : Certificate → Option Shown
@@ -47,12 +49,34 @@ abbrev pub TellsRightReport : Option ScriptState → List ℕ → List ℕ → T
 TellsRightReport None line stored = ⊥
 TellsRightReport (Some old) line stored = IsRightReport old.state line stored
 
--- What may be wrong with the next line and its reply: the line has no reply, or one that is longer than any that is read (1 GiB), or one
--- that isn't a right report.
-abbrev pub MayBeWrong : Option ScriptState → List (List ℕ) → Type 0
-MayBeWrong state [] = ⊥
-MayBeWrong state (line ∷ []) = ⊤
-MayBeWrong state (line ∷ stored ∷ left) = (1073741824 < length stored) ⊎ (¬ TellsRightReport state line stored)
+-- the reply isn't a report
+abbrev pub IsNoReport : Reply → Type 0
+IsNoReport (told.Order round kind counts order) = ⊥
+IsNoReport (told.Violated round counts tree) = ⊥
+IsNoReport (told.Spent round counts) = ⊥
+IsNoReport answer = ⊤
+
+-- The stored reply to the line is right, and no report: it is the text of one that is owed.
+pub record IsRightOther (old : Option ScriptState) (line stored : List ℕ) : Type 0 where
+  pub answer : Reply
+  pub new : Option ScriptState
+  pub no_report : IsNoReport answer
+  pub owed : OwesLine old line answer new
+  pub text_is : stored ≡ text_of answer
+
+-- The stored reply to the line is wrong: it is no right report, it is no other right reply, and it doesn't say that memory was wanting where
+-- that is left out.
+pub record IsWrongReply (old : Option ScriptState) (line stored : List ℕ) : Type 0 where
+  pub report : ¬ TellsRightReport old line stored
+  pub other : ¬ IsRightOther old line stored
+  pub checked : (new : Option ScriptState) → ¬ IsUnchecked old line stored new
+
+-- What is wrong with the next line and its reply: the line has no reply, or one that is longer than any that is read (1 GiB), or one that is
+-- wrong.
+abbrev pub HasWrongNext : Option ScriptState → List (List ℕ) → Type 0
+HasWrongNext state [] = ⊥
+HasWrongNext state (line ∷ []) = ⊤
+HasWrongNext state (line ∷ stored ∷ left) = (1073741824 < length stored) ⊎ IsWrongReply state line stored
 
 -- The input's lines were checked up to a reply that is wrong.
 pub record StopsAtWrong (input : List ℕ) : Type 0 where
@@ -61,4 +85,4 @@ pub record StopsAtWrong (input : List ℕ) : Type 0 where
   pub split : lines input ≡ front ++ left
   pub state : Option ScriptState
   pub checks : Checks front state
-  pub wrong : MayBeWrong state left
+  pub wrong : HasWrongNext state left

@@ -2,7 +2,7 @@ ghost use Rattle.std.specs.Prelude.{◌≡◌, ℕ, ◌<◌, ◌++◌, List, [],
 ghost use Rattle.std.specs.Io.KnownBytes.{Appends};
 ghost use Rattle.byte_lines.specs.LineReaders.{lines_ahead, lines_left};
 ghost use Rattle.report_checking.specs.Checking.{IsAllRight};
-ghost use Rattle.report_checking.specs.Reading.{IsRead, IsFine, FindsNext, LeadsOn, Advances, IsFairNext, StopsOn};
+ghost use Rattle.report_checking.specs.Reading.{IsRead, IsFine, FindsNext, LeadsOn, Advances, IsFairNext, IsOtherwiseNext, StopsOn};
 ghost use Rattle.report_checking.specs.RightReports.{StopsAtWrong};
 ghost use Rattle.report_checking.specs.Telling.{Tells, TellsNext, last_line, no_tally};
 ghost use Rattle.report_checking.specs.declared.texts.Tally.{Tally};
@@ -43,6 +43,7 @@ fn found_behind(
 ) -> Result<Found, NoMemory>
     ensures finds { IfOk result (λ found. FindsNext replay.old.script line.now stored.now found replay.new.script) }
     ensures fair { IfOk result (λ found. IsFairNext replay.old.script line.now stored.now found) }
+    ensures otherwise { IfOk result (λ found. IsOtherwiseNext replay.old.script line.now stored.now found) }
 {
     match stored {
         Next::Line(text) => replay.check(alloc, line, text.as_slice()),
@@ -156,7 +157,7 @@ fn check_all<R: ByteSource, W: ByteSink>(
 
 /// Checks what an auditor replied to a script: the input has the script's lines and the replies by turns. It writes a line for each report,
 /// each cut and each reply that isn't right or isn't checked, and a last one that counts them. Answers whether all replies are right; what
-/// comes behind the first that is wrong isn't read. A right report, as an auditor writes it, is never told wrong.
+/// comes behind the first that is wrong isn't read. A right reply is never told wrong, a report as an auditor writes it.
 pub fn check_replies<R: ByteSource, W: ByteSink>(
     alloc: Global,
     source: &mut R,

@@ -1,4 +1,4 @@
-ghost use Rattle.std.specs.Prelude.{◌≡◌, IfOk};
+ghost use Rattle.std.specs.Prelude.{◌≡◌, IfOk, None};
 ghost use Rattle.log_text.specs.Commands.{HasLimits};
 ghost use Rattle.log_text.specs.Replies.{HasKindOfOrder};
 ghost use Rattle.round_state.specs.EngineState.{EngineState};
@@ -6,7 +6,7 @@ ghost use Rattle.round_state.specs.Runs.{Holds};
 ghost use Rattle.round_state.specs.Steps.{StepsTo};
 ghost use Rattle.cobra.specs.Scripts.{IsTakenIn};
 ghost use Rattle.report_checking.specs.Owing.{IsEarned, IsPlain, IsStep, OwesFinish, OwesRound, OwesOpen};
-ghost use Rattle.report_checking.specs.Reading.{Leads, IsOwedBy, IsToldOf, Earns, OfRight, OwesText};
+ghost use Rattle.report_checking.specs.Reading.{Leads, IsOwedBy, IsToldOf, Earns, OfRight, OwesText, IsTakenAs, IsRefusedBy, Gives, IsAlone};
 
 use crate::certificates::answer_told;
 use crate::findings::{Owed, Unshown};
@@ -41,6 +41,7 @@ fn owed_step(engine: &mut Replayed, alloc: Global, step: Step) -> Result<Owed, N
 fn owed_finish(engine: &mut Replayed, alloc: Global, stored: &[u8]) -> Result<Owed, NoMemory>
     ensures owed { IfOk result (IsOwedBy (λ answer. Leads engine.old engine.new (λ before after. OwesFinish before answer after))) }
     ensures right { IfOk result (λ owed. OfRight (IsEarned engine.old) stored.now (λ text. OwesText text owed)) }
+    ensures none { IfOk result (λ owed. engine.old.asked ≡ None → owed ≡ Owed.Reply (Reply.No Refusal.NoRound)) }
 {
     let answer = answer_told(alloc, stored)?;
     let unshown = unshown_by(&answer);
@@ -55,6 +56,7 @@ fn owed_finish(engine: &mut Replayed, alloc: Global, stored: &[u8]) -> Result<Ow
 fn owed_round(engine: &mut Replayed, alloc: Global, stored: &[u8]) -> Result<Owed, NoMemory>
     ensures owed { IfOk result (IsOwedBy (λ answer. Leads engine.old engine.new (λ before after. OwesRound before answer after))) }
     ensures right { IfOk result (λ owed. (begun : EngineState) → StepsTo engine.old Step.Begin StepReply.Done begun → OfRight (IsEarned begun) stored.now (λ text. OwesText text owed)) }
+    ensures refused { IfOk result (IsAlone (IsRefusedBy engine.old Step.Begin)) }
 {
     match engine.step(alloc, Step::Begin) {
         StepReply::Done => owed_finish(engine, alloc, stored),
@@ -69,7 +71,8 @@ fn owed_offer(
     version: Version,
     logged: LoggedFragment,
 ) -> Result<Owed, NoMemory>
-    ensures { IfOk result (IsOwedBy (λ answer. Leads engine.old engine.new (λ before after. IsTakenIn version logged before answer after (IsStep before (Step.Offer logged) answer after)))) }
+    ensures owed { IfOk result (IsOwedBy (λ answer. Leads engine.old engine.new (λ before after. IsTakenIn version logged before answer after (IsStep before (Step.Offer logged) answer after)))) }
+    ensures told { IfOk result (IsTakenAs version engine.old logged (Step.Offer logged)) }
 {
     if version.has_form(&logged) {
         owed_step(engine, alloc, Step::Offer(logged))
@@ -85,7 +88,8 @@ fn owed_join(
     version: Version,
     logged: LoggedFragment,
 ) -> Result<Owed, NoMemory>
-    ensures { IfOk result (IsOwedBy (λ answer. Leads engine.old engine.new (λ before after. IsTakenIn version logged before answer after (IsStep before (Step.Join logged) answer after)))) }
+    ensures owed { IfOk result (IsOwedBy (λ answer. Leads engine.old engine.new (λ before after. IsTakenIn version logged before answer after (IsStep before (Step.Join logged) answer after)))) }
+    ensures told { IfOk result (IsTakenAs version engine.old logged (Step.Join logged)) }
 {
     if version.has_form(&logged) {
         owed_step(engine, alloc, Step::Join(logged))
@@ -104,6 +108,7 @@ pub(crate) fn owed_open(
 ) -> Result<Owed, NoMemory>
     ensures owed { IfOk result (IsOwedBy (λ answer. Leads engine.old engine.new (λ before after. OwesOpen version before command answer after))) }
     ensures right { IfOk result (λ owed. OfRight (Earns engine.old command) stored.now (λ text. OwesText text owed)) }
+    ensures alone { IfOk result (IsAlone (Gives version engine.old command)) }
 {
     match command {
         Command::Offer(logged) => owed_offer(engine, alloc, version, logged),

@@ -1,11 +1,11 @@
-ghost use Rattle.std.specs.Prelude.{◌≡◌, ◌↔◌, true, None, IfOk, IsTrue};
+ghost use Rattle.std.specs.Prelude.{◌≡◌, ◌≢◌, ◌↔◌, true, None, IfOk, IsTrue};
 ghost use Rattle.log_text.specs.declared.replies.Reply.TheVariants as told;
 ghost use Rattle.log_text.specs.Replies.{text_of, HasKindOfOrder};
 ghost use Rattle.txn.specs.declared.refusals.Refusal.TheVariants as refusals;
 ghost use Rattle.report_checking.specs.Checking.{TakesMemory};
 ghost use Rattle.report_checking.specs.Owing.{Owes};
 ghost use Rattle.report_checking.specs.Telling.{IsWhatOf};
-ghost use Rattle.report_checking.specs.Reading.{LeadsScript, IsOwedBy, IsOfKind, Finds, FindsFor, IsFoundBy, IsFoundOf, EarnsScript, OfRight, OwesText, IsFair, IsFairTo, has_brace};
+ghost use Rattle.report_checking.specs.Reading.{LeadsScript, IsOwedBy, IsOfKind, Finds, FindsFor, IsFoundBy, IsFoundOf, EarnsScript, OfRight, OwesText, IsFair, IsFairTo, GivesScript, IsAlone, IsOtherwise, IsOtherwiseTo, has_brace};
 
 use crate::findings::{Fault, Found, Owed, Unshown, what_of};
 use crate::owed::owed_open;
@@ -49,7 +49,7 @@ impl Replay {
 
     /// Whether the command may be refused for want of memory.
     fn takes_memory(&self, command: &Command) -> bool
-        ensures { IsTrue result → TakesMemory self.now.script command.now }
+        ensures { IsTrue result ↔ TakesMemory self.now.script command.now }
     {
         match command {
             Command::Start { .. } => self.script.is_none(),
@@ -68,6 +68,7 @@ impl Replay {
         requires { self.old.script ≡ None }
         ensures owed { LeadsScript self.old.script self.new.script (λ before after. Owes before (Command.Start sessions limit version) result after) }
         ensures kind { HasKindOfOrder result }
+        ensures alone { IsAlone (GivesScript self.old.script (Command.Start sessions limit version)) (Owed.Reply result) }
     {
         match Replayed::open(alloc, sessions, limit) {
             Ok(engine) => {
@@ -82,6 +83,7 @@ impl Replay {
     fn owed(&mut self, alloc: Global, command: Command, stored: &[u8]) -> Result<Owed, NoMemory>
         ensures owed { IfOk result (IsOwedBy (λ answer. LeadsScript self.old.script self.new.script (λ before after. Owes before command answer after))) }
         ensures right { IfOk result (λ owed. OfRight (EarnsScript self.old.script command) stored.now (λ text. OwesText text owed)) }
+        ensures alone { IfOk result (IsAlone (GivesScript self.old.script command)) }
     {
         if let Some(script) = &mut self.script {
             let version = script.version;
@@ -102,6 +104,7 @@ impl Replay {
     fn is_left_out(&self, alloc: Global, command: &Command, stored: &[u8]) -> Result<bool, NoMemory>
         ensures takes { IfOk result (λ is. IsTrue is → TakesMemory self.now.script command.now) }
         ensures text { IfOk result (λ is. IsTrue is → stored.now ≡ text_of (told.No refusals.NoMemory)) }
+        ensures none { IfOk result (λ is. ¬ IsTrue is → TakesMemory self.now.script command.now → stored.now ≢ text_of (told.No refusals.NoMemory)) }
     {
         if !self.takes_memory(command) {
             return Ok(false);
@@ -116,9 +119,11 @@ impl Replay {
         command: Command,
         stored: &[u8],
     ) -> Result<Found, NoMemory>
-        requires { has_brace stored.now ≡ true }
+        requires brace { has_brace stored.now ≡ true }
+        requires checked { TakesMemory self.old.script command → stored.now ≢ text_of (told.No refusals.NoMemory) }
         ensures finds { IfOk result (λ found. FindsFor self.old.script command stored.now found self.new.script) }
         ensures fair { IfOk result (λ found. IsFair self.old.script command stored.now found) }
+        ensures otherwise { IfOk result (λ found. IsOtherwise self.old.script command stored.now found) }
     {
         let owed = self.owed(alloc, command, &[])?;
         found_of(alloc, owed, stored)
@@ -133,6 +138,7 @@ impl Replay {
     ) -> Result<Found, NoMemory>
         ensures finds { IfOk result (λ found. FindsFor self.old.script command stored.now found self.new.script) }
         ensures fair { IfOk result (λ found. IsFair self.old.script command stored.now found) }
+        ensures otherwise { IfOk result (λ found. IsOtherwise self.old.script command stored.now found) }
     {
         if self.is_left_out(alloc, &command, stored)? {
             return Ok(Found::Unchecked);
@@ -153,6 +159,7 @@ impl Replay {
     ) -> Result<Found, NoMemory>
         ensures finds { IfOk result (λ found. Finds self.old.script next.now stored.now found self.new.script) }
         ensures fair { IfOk result (λ found. IsFairTo self.old.script next.now stored.now found) }
+        ensures otherwise { IfOk result (λ found. IsOtherwiseTo self.old.script next.now stored.now found) }
     {
         match command_in(alloc, next)? {
             Some(command) => self.check_command(alloc, command, stored),

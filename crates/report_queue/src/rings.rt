@@ -83,11 +83,12 @@ pub fn ring(alloc: Global, capacity: usize) -> Result<(ReportSender, ReportReade
 }
 
 impl ReportSender {
-    /// Sends the entry; where the ring is full, gives it back. It never comes back where a place was known to be free.
+    /// Sends the entry; where the ring is full, gives it back. It never comes back where a place was known to be free, and where it does
+    /// none is known to be. That the ring is full then is tested: no clause knows how far the reader is.
     pub fn send(&mut self, entry: Entry) -> Result<(), Entry>
         ensures ring { self.new.ring ≡ self.old.ring }
         ensures free { (0 < self.old.free → IsOk result) × (self.old.free ≤ self.new.free + 1) }
-        ensures sent { MatchResult result (λ _. self.new.sent ≡ self.old.sent ++ entry ∷ []) (λ e. (e ≡ entry) × (self.new.sent ≡ self.old.sent)) }
+        ensures sent { MatchResult result (λ _. self.new.sent ≡ self.old.sent ++ entry ∷ []) (λ e. (e ≡ entry) × (self.new.sent ≡ self.old.sent) × (self.new.free ≡ 0)) }
     {
         match self.producer.push(entry) {
             Ok(()) => Ok(()),
@@ -107,11 +108,12 @@ impl ReportSender {
 }
 
 impl ReportReader {
-    /// The next entry. `None` says nothing of what is still to come, and never comes where an entry was known to wait.
+    /// The next entry. `None` says nothing of what is still to come, and never comes where an entry was known to wait; where it does none is
+    /// known to.
     pub fn next(&mut self) -> Option<Entry>
         ensures ring { self.new.ring ≡ self.old.ring }
         ensures waiting { (0 < length self.old.waiting → IsSome result) × IfSome result (λ e. IsPrefix self.old.waiting (e ∷ self.new.waiting)) }
-        ensures received { MatchOption result (self.new.received ≡ self.old.received) (λ e. self.new.received ≡ self.old.received ++ e ∷ []) }
+        ensures received { MatchOption result ((self.new.received ≡ self.old.received) × (self.new.waiting ≡ [])) (λ e. self.new.received ≡ self.old.received ++ e ∷ []) }
     {
         match self.consumer.pop() {
             Ok(entry) => Some(entry),

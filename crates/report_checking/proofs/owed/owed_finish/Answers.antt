@@ -1,8 +1,10 @@
-use Rattle.std.proofs.Common.{sym, subst}
+use Rattle.std.proofs.Common.{◌+◌, sym, subst, ap, ◌∙◌}
 use Rattle.log_text.specs.Replies.{HasKindOfOrder}
 use Rattle.report_checking.proofs.EarnedReports.{earned_kind}
 use Rattle.report_checking.proofs.OwedReplies.{report_owed, no_round_owed}
 use Rattle.report_checking.proofs.RightReports.{right_finished, never_none, never_bad}
+use Rattle.round_state.specs.Solving.{IsReportOn, IsWrong}
+use Rattle.report_checking.proofs.OtherReplies.{open_and_none}
 use Rattle.report_checking.proofs.owed.owed_finish.Goals as goal
 
 pub returns-in-Ok-clause-owed : goal.returns-in-Ok-clause-owed
@@ -29,3 +31,11 @@ pub returns-in-Err-BadCertificate-clause-right : goal.returns-in-Err-BadCertific
 returns-in-Err-BadCertificate-clause-right c =
     let why = rw c.in-Err-BadCertificate.field-0-is at c.in-Err-BadCertificate.ensures.err in
     λ report new earned shows. absurd (never_bad c.args.engine.now c.args.stored.now c.in_ok-answer.answer c.in_ok-answer.ensures why.0 report new earned shows)
+
+pub returns-in-Ok-clause-none : goal.returns-in-Ok-clause-none
+returns-in-Ok-clause-none c = λ none. absurd (open_and_none c.args.engine.now.asked (λ parts. IsReportOn parts (c.args.engine.now.rounds + 1) c.in_ok-answer.answer c.in-Ok.report) none c.in-Ok.ensures.answered)
+
+pub returns-in-Err-BadCertificate-clause-none : goal.returns-in-Err-BadCertificate-clause-none
+returns-in-Err-BadCertificate-clause-none c =
+    let why = rw c.in-Err-BadCertificate.field-0-is at c.in-Err-BadCertificate.ensures.err in
+    λ none. absurd (open_and_none c.args.engine.now.asked (λ parts. IsWrong parts c.in_ok-answer.answer) none why.0)

@@ -1,17 +1,18 @@
-use Rattle.std.proofs.Common.{subst}
+use Rattle.std.proofs.Common.{subst, sym, ◌∙◌, inr}
 use Rattle.std.proofs.lemmas.Result.{IfOk-weaker}
 use Rattle.round_state.specs.declared.reports.Certificate.{Certificate}
 use Rattle.round_state.specs.declared.steps.Step.TheVariants as step
 use Rattle.report_checking.specs.Reading.{IsToldOf}
 use Rattle.report_checking.proofs.RightReports.{right_judged}
 use Rattle.report_checking.proofs.OwedReplies.{show_owed, saved_owed, out_of_place}
+use Rattle.report_checking.proofs.OtherReplies.{told_alone, taken_alone, judged_alone, finish_alone, one_alone}
 use Rattle.report_checking.proofs.owed.owed_open.Goals as goal
 
 pub returns-in-Offer-clause-owed : goal.returns-in-Offer-clause-owed
-returns-in-Offer-clause-owed c = rw c.in-Offer.is c.owed_offer.ensures
+returns-in-Offer-clause-owed c = rw c.in-Offer.is c.owed_offer.ensures.owed
 
 pub returns-in-Join-clause-owed : goal.returns-in-Join-clause-owed
-returns-in-Join-clause-owed c = rw c.in-Join.is c.owed_join.ensures
+returns-in-Join-clause-owed c = rw c.in-Join.is c.owed_join.ensures.owed
 
 pub returns-in-Close-clause-owed : goal.returns-in-Close-clause-owed
 returns-in-Close-clause-owed c = rw c.in-Close.is c.owed_step.ensures.owed
@@ -60,10 +61,10 @@ pub returns-clause-owed : goal.returns-clause-owed
 returns-clause-owed c = rw c.in-Resumed.is (tt, out_of_place c.args.engine.now)
 
 pub returns-in-Offer-clause-right : goal.returns-in-Offer-clause-right
-returns-in-Offer-clause-right c = rw c.in-Offer.is (IfOk-weaker c.owed_offer.result _ _ (λ given owes report new earned shows. absurd earned) c.owed_offer.ensures)
+returns-in-Offer-clause-right c = rw c.in-Offer.is (IfOk-weaker c.owed_offer.result _ _ (λ given owes report new earned shows. absurd earned) c.owed_offer.ensures.owed)
 
 pub returns-in-Join-clause-right : goal.returns-in-Join-clause-right
-returns-in-Join-clause-right c = rw c.in-Join.is (IfOk-weaker c.owed_join.result _ _ (λ given owes report new earned shows. absurd earned) c.owed_join.ensures)
+returns-in-Join-clause-right c = rw c.in-Join.is (IfOk-weaker c.owed_join.result _ _ (λ given owes report new earned shows. absurd earned) c.owed_join.ensures.owed)
 
 pub returns-in-Close-clause-right : goal.returns-in-Close-clause-right
 returns-in-Close-clause-right c = rw c.in-Close.is (IfOk-weaker c.owed_step.result _ _ (λ given owes report new earned shows. absurd earned) c.owed_step.ensures.owed)
@@ -108,3 +109,57 @@ returns-in-Last-clause-right c = rw c.in-Last.is (λ report new earned shows. ab
 
 pub returns-clause-right : goal.returns-clause-right
 returns-clause-right c = rw c.in-Resumed.is (λ report new earned shows. absurd earned)
+
+pub returns-in-Offer-clause-alone : goal.returns-in-Offer-clause-alone
+returns-in-Offer-clause-alone c = rw c.in-Offer.is (IfOk-weaker c.owed_offer.result _ _ (λ given is. taken_alone c.args.version c.args.engine.now c.in-Offer.logged (step.Offer c.in-Offer.logged) tt given is) c.owed_offer.ensures.told)
+
+pub returns-in-Join-clause-alone : goal.returns-in-Join-clause-alone
+returns-in-Join-clause-alone c = rw c.in-Join.is (IfOk-weaker c.owed_join.result _ _ (λ given is. taken_alone c.args.version c.args.engine.now c.in-Join.logged (step.Join c.in-Join.logged) tt given is) c.owed_join.ensures.told)
+
+pub returns-in-Close-clause-alone : goal.returns-in-Close-clause-alone
+returns-in-Close-clause-alone c = rw c.in-Close.is (IfOk-weaker c.owed_step.result _ _ (λ given is. told_alone c.args.engine.now (step.Close c.in-Close.session) tt given is) c.owed_step.ensures.told)
+
+pub returns-in-Begin-clause-alone : goal.returns-in-Begin-clause-alone
+returns-in-Begin-clause-alone c = rw c.in-Begin.is (IfOk-weaker c.owed_step-in-Begin.result _ _ (λ given is. told_alone c.args.engine.now step.Begin tt given is) c.owed_step-in-Begin.ensures.told)
+
+pub returns-in-Finish-clause-alone : goal.returns-in-Finish-clause-alone
+returns-in-Finish-clause-alone c = rw c.in-Finish.is (IfOk-weaker c.owed_finish.result _ _ (λ given none. finish_alone c.args.engine.now given none) c.owed_finish.ensures.none)
+
+pub returns-in-Round-clause-alone : goal.returns-in-Round-clause-alone
+returns-in-Round-clause-alone c = rw c.in-Round.is c.owed_round.ensures.refused
+
+pub returns-in-Answer-clause-alone : goal.returns-in-Answer-clause-alone
+returns-in-Answer-clause-alone c =
+    rw c.in-Answer.is
+    (IfOk-weaker c.owed_step-in-Answer.result _ _ (λ given told. judged_alone c.args.version c.args.engine.now c.in-Answer.shown given (subst (λ (it : Certificate). IsToldOf c.args.engine.now (step.Judge it) given) c.certificate_of.ensures told)) c.owed_step-in-Answer.ensures.told)
+
+pub returns-in-Truncate-clause-alone : goal.returns-in-Truncate-clause-alone
+returns-in-Truncate-clause-alone c = rw c.in-Truncate.is (IfOk-weaker c.owed_step-in-Truncate.result _ _ (λ given is. told_alone c.args.engine.now step.Truncate tt given is) c.owed_step-in-Truncate.ensures.told)
+
+pub returns-in-Rebuild-clause-alone : goal.returns-in-Rebuild-clause-alone
+returns-in-Rebuild-clause-alone c = rw c.in-Rebuild.is (IfOk-weaker c.owed_step-in-Rebuild.result _ _ (λ given is. told_alone c.args.engine.now step.Rebuild tt given is) c.owed_step-in-Rebuild.ensures.told)
+
+pub returns-in-Show-clause-alone : goal.returns-in-Show-clause-alone
+returns-in-Show-clause-alone c =
+    let is = rw c.engine.ensures at c.in_ok-state_told-in-Show.ensures in
+    rw c.in-Show.is (λ answer told. inr (inr (is ∙ sym told)))
+
+pub returns-in-Save-clause-alone : goal.returns-in-Save-clause-alone
+returns-in-Save-clause-alone c =
+    let is = rw c.engine-in-Save.ensures at c.in_ok-saved_told-in-Save.ensures in
+    rw c.in-Save.is (λ answer told. inr (inr (is ∙ sym told)))
+
+pub returns-in-Start-clause-alone : goal.returns-in-Start-clause-alone
+returns-in-Start-clause-alone c = rw c.in-Start.is (λ answer told. inr (inr (sym told)))
+
+pub returns-in-Resume-clause-alone : goal.returns-in-Resume-clause-alone
+returns-in-Resume-clause-alone c = rw c.in-Resume.is (λ answer told. inr (inr (sym told)))
+
+pub returns-in-Marks-clause-alone : goal.returns-in-Marks-clause-alone
+returns-in-Marks-clause-alone c = rw c.in-Marks.is (λ answer told. inr (inr (sym told)))
+
+pub returns-in-Last-clause-alone : goal.returns-in-Last-clause-alone
+returns-in-Last-clause-alone c = rw c.in-Last.is (λ answer told. inr (inr (sym told)))
+
+pub returns-clause-alone : goal.returns-clause-alone
+returns-clause-alone c = rw c.in-Resumed.is (λ answer told. inr (inr (sym told)))

@@ -3,6 +3,7 @@ use Rattle.report_checking.specs.Owing.{OwesFinish, OwesRound}
 use Rattle.report_checking.specs.Reading.{Leads, IsOwedBy}
 use Rattle.report_checking.proofs.OwedReplies.{round_owed_by, begin_refused}
 use Rattle.report_checking.proofs.RightReports.{right_begun, right_not_begun}
+use Rattle.report_checking.proofs.OtherReplies.{begun_alone, refused_alone}
 use Rattle.report_checking.proofs.owed.owed_round.Goals as goal
 
 pub returns-in-Done-clause-owed : goal.returns-in-Done-clause-owed
@@ -21,3 +22,11 @@ returns-in-Done-clause-right c =
 pub returns-in_ok-reply_of-in_default-clause-right : goal.returns-in_ok-reply_of-in_default-clause-right
 returns-in_ok-reply_of-in_default-clause-right c =
     right_not_begun c.args.engine.now c.step.new.self c.args.stored.now c.step.result c.in_ok-reply_of-in_default.field-0 c.step.ensures.right c.in_default.not-Done c.in_ok-reply_of-in_default.ensures
+
+pub returns-in-Done-clause-refused : goal.returns-in-Done-clause-refused
+returns-in-Done-clause-refused c =
+    IfOk-weaker c.owed_finish.result _ _ (λ given right. begun_alone c.args.engine.now c.step.new.self given c.in-Done.ensures.right) c.owed_finish.ensures.right
+
+pub returns-in_ok-reply_of-in_default-clause-refused : goal.returns-in_ok-reply_of-in_default-clause-refused
+returns-in_ok-reply_of-in_default-clause-refused c =
+    refused_alone c.args.engine.now c.step.new.self c.step.result c.in_ok-reply_of-in_default.field-0 c.step.ensures.right c.in_ok-reply_of-in_default.ensures

@@ -2,6 +2,7 @@ use Rattle.std.proofs.lemmas.Result.{IfOk-weaker}
 use Rattle.report_checking.specs.Reading.{Finds, FindsFor}
 use Rattle.report_checking.proofs.CheckedLines.{finds_asked, finds_none}
 use Rattle.report_checking.proofs.RightReports.{fair_asked, fair_none}
+use Rattle.report_checking.proofs.OtherReplies.{otherwise_asked, otherwise_none}
 use Rattle.report_checking.proofs.pairs.Replay.check.Goals as goal
 
 pub returns-in-Some-clause-finds : goal.returns-in-Some-clause-finds
@@ -24,3 +25,13 @@ pub returns-in-None-clause-fair : goal.returns-in-None-clause-fair
 returns-in-None-clause-fair c =
     let none = rw c.in-None.is at c.in_ok-command.ensures.none in
     IfOk-weaker c.found_by.result _ _ (λ got is. fair_none c.args.self.now.script c.args.next.now c.args.stored.now none got) c.found_by.ensures.found
+
+pub returns-in-Some-clause-otherwise : goal.returns-in-Some-clause-otherwise
+returns-in-Some-clause-otherwise c =
+    let asks = rw c.in-Some.is at c.in_ok-command.ensures.some in
+    IfOk-weaker c.check_command.result _ _ (otherwise_asked c.args.self.now.script c.args.next.now c.in-Some.command c.args.stored.now asks) c.check_command.ensures.otherwise
+
+pub returns-in-None-clause-otherwise : goal.returns-in-None-clause-otherwise
+returns-in-None-clause-otherwise c =
+    let none = rw c.in-None.is at c.in_ok-command.ensures.none in
+    IfOk-weaker c.found_by.result _ _ (otherwise_none c.args.self.now.script c.args.next.now c.args.stored.now none) c.found_by.ensures.found

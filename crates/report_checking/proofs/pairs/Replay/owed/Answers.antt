@@ -16,3 +16,6 @@ returns-in-Some-clause-owed c =
 
 pub returns-in-Some-clause-right : goal.returns-in-Some-clause-right
 returns-in-Some-clause-right c = rw c.in-Some.is c.owed_open.ensures.right
+
+pub returns-in-Some-clause-alone : goal.returns-in-Some-clause-alone
+returns-in-Some-clause-alone c = rw c.in-Some.is c.owed_open.ensures.alone

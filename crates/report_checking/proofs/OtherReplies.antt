@@ -1,0 +1,394 @@
+-- Right replies that are no reports are told right: what is owed is the one right reply, want of memory apart.
+use Rattle.std.proofs.Common.{◌≡◌, ◌≢◌, ℕ, ◌+◌, List, length, Option, Some, None, true, false, refl, ap, sym, ◌∙◌, subst, inl, inr}
+use Rattle.std.specs.Prelude.{Bool, if◌then◌else◌, ◌⊎◌, IsSomeAnd, nat_lt}
+use Rattle.serde_json.specs.Data.{Data}
+use Rattle.txn.specs.declared.refusals.Refusal.{Refusal}
+use Rattle.txn.specs.declared.refusals.Refusal.TheVariants.{BadLine, BadSession, TooLong, NoRound, BadCertificate, NoMemory}
+use Rattle.logged_fragments.specs.declared.logged.LoggedFragment.{LoggedFragment}
+use Rattle.order_check.specs.declared.remainder.Kind.{Kind}
+use Rattle.order_check.specs.declared.remainder.Parts.{Parts}
+use Rattle.order_check.specs.Explains.{Explains}
+use Rattle.refutation.specs.declared.trees.Tree.{Tree, Close, Force', Split'}
+use Rattle.log_text.specs.declared.saved.Saved.{Saved}
+use Rattle.log_text.specs.declared.saved.Saved.TheVariants as saved
+use Rattle.polygraph.specs.declared.solving.Answer.{Answer}
+use Rattle.polygraph.specs.declared.solving.Answer.TheVariants as answers
+use Rattle.settle.specs.declared.cuts.Cut.{Cut}
+use Rattle.log_text.specs.Commands.{Says}
+use Rattle.log_text.specs.ReadBack.{IsSameTree, IsSameShown}
+use Rattle.log_text.specs.Replies.{text_of}
+use Rattle.log_text.specs.declared.commands.Command.{Command}
+use Rattle.log_text.specs.declared.commands.Command.TheVariants as command
+use Rattle.log_text.specs.declared.commands.Wanted.{Wanted}
+use Rattle.log_text.specs.declared.commands.Wanted.TheVariants as wanted
+use Rattle.log_text.specs.declared.replies.Reply.{Reply}
+use Rattle.log_text.specs.declared.replies.Reply.TheVariants as told
+use Rattle.log_text.specs.declared.shown.Shown.{Shown}
+use Rattle.log_text.specs.declared.shown.Shown.TheVariants as shown
+use Rattle.log_text.specs.declared.versions.Version.{Version}
+use Rattle.byte_lines.specs.declared.lines.Next.{Next}
+use Rattle.round_state.specs.EngineState.{EngineState}
+use Rattle.round_state.specs.Legal.{State, Legal}
+use Rattle.round_state.specs.Opening.{IsSessions, IsLimit, IsOpenRefusal}
+use Rattle.round_state.specs.Solving.{IsRight, IsWrong, IsReportOn}
+use Rattle.round_state.specs.Steps.{StepsTo, IsCloseRefusal, IsFinishRefusal, IsHeldAfter, answer_told}
+use Rattle.round_state.specs.declared.reports.Certificate.{Certificate}
+use Rattle.round_state.specs.declared.reports.Certificate.TheVariants.{Order, Refuted, Nothing}
+use Rattle.round_state.specs.declared.reports.Report.{Report}
+use Rattle.round_state.specs.declared.steps.Step.{Step}
+use Rattle.round_state.specs.declared.steps.Step.TheVariants as step
+use Rattle.round_state.specs.declared.steps.StepReply.{StepReply}
+use Rattle.round_state.specs.declared.steps.StepReply.TheVariants as reply
+use Rattle.cobra.specs.Outputs.{Asks, IsTold}
+use Rattle.cobra.specs.Saving.{saved_told, fragment_told}
+use Rattle.cobra.specs.Scripts.{IsTakenIn}
+use Rattle.cobra.specs.StepReplies.{certificate_of, certified, report_of, reply_of}
+use Rattle.report_checking.specs.Checking.{AsksOfMemory, OpensEngine, TakesMemory, IsUnchecked}
+use Rattle.report_checking.specs.Owing.{IsStep, Owes, OwesFinish, OwesRound, OwesOpen, OwesFirst, OwesLine, ScriptState}
+use Rattle.report_checking.specs.Reading.{HoldsScript, IsToldOf, IsStepTold, IsTakenTold, IsTakenAs, IsRefusedBy, Gives, GivesFirst, GivesScript, IsAlone, IsOtherwise, IsOtherwiseTo, IsFoundBy, IsFoundOf}
+use Rattle.report_checking.specs.RightReports.{IsNoReport, IsRightOther}
+use Rattle.report_checking.specs.declared.findings.Fault.{Fault}
+use Rattle.report_checking.specs.declared.findings.Fault.TheVariants as fault
+use Rattle.report_checking.specs.declared.findings.Found.{Found}
+use Rattle.report_checking.specs.declared.findings.Found.TheVariants as found
+use Rattle.report_checking.specs.declared.findings.Owed.{Owed}
+use Rattle.report_checking.specs.declared.findings.Owed.TheVariants as owed
+use Rattle.report_checking.specs.declared.pairs.OpenScript.{OpenScript}
+use Rattle.report_checking.proofs.RightReports.{shown_then, shown_self, same_refutation, same_answer, no_command, is_said}
+use Rattle.report_checking.proofs.SaidOnce.{IsOne, IsSaidOnce, IsOneWay, said_once, begun_anyway}
+
+-- ---- what is owed is the one right reply
+
+pub told_alone : (old : EngineState) (asked : Step) → IsOneWay asked → (given : Owed) → IsToldOf old asked given → IsAlone (IsStepTold old asked) given
+told_alone old asked one given is = subst (λ (g : Owed). IsAlone (IsStepTold old asked) g) (sym is.3) (λ answer other. by_once answer other.0 other.3 (said_once old asked is.0 other.0 is.1 other.1 one is.2 other.2))
+  where
+    by_once : (answer : Reply) (t : StepReply) → answer ≡ reply_of t → IsSaidOnce is.0 t → (answer ≡ told.No NoMemory) ⊎ ((reply_of is.0 ≡ told.No NoMemory) ⊎ (reply_of is.0 ≡ answer))
+    by_once answer t told_so (inl none) = inr (inl (ap reply_of none))
+    by_once answer t told_so (inr (inl none)) = inl (told_so ∙ ap reply_of none)
+    by_once answer t told_so (inr (inr same)) = inr (inr (ap reply_of same ∙ sym told_so))
+
+pub taken_alone : (version : Version) (old : EngineState) (logged : LoggedFragment) (asked : Step) → IsOneWay asked → (given : Owed) → IsTakenAs version old logged asked given → IsAlone (IsTakenTold version old logged asked) given
+taken_alone version old logged asked one (owed.Reply given) (inl is) = by_taken
+  where
+    by_taken : (answer : Reply) → IsTakenTold version old logged asked answer → (answer ≡ told.No NoMemory) ⊎ ((given ≡ told.No NoMemory) ⊎ (given ≡ answer))
+    by_taken answer (inl tells) = told_alone old asked one (owed.Reply given) is.1 answer tells.1
+    by_taken answer (inr none) = absurd (let no : true ≡ false = sym is.0 ∙ none.0 in cc)
+taken_alone version old logged asked one (owed.Reply given) (inr is) = by_taken
+  where
+    same : given ≡ told.No BadLine
+    same = let e = is.1 in cc
+
+    by_taken : (answer : Reply) → IsTakenTold version old logged asked answer → (answer ≡ told.No NoMemory) ⊎ ((given ≡ told.No NoMemory) ⊎ (given ≡ answer))
+    by_taken answer (inl tells) = absurd (let no : true ≡ false = sym tells.0 ∙ is.0 in cc)
+    by_taken answer (inr none) = inr (inr (same ∙ sym none.1))
+taken_alone version old logged asked one (owed.Nothing why) (inl is) = absurd (let e = is.1.3 in cc)
+taken_alone version old logged asked one (owed.Nothing why) (inr is) = absurd (let e = is.1 in cc)
+
+-- a round is begun, or its begin is refused
+pub begun_alone : (old mid : EngineState) (given : Owed) → StepsTo old step.Begin reply.Done mid → IsAlone (IsRefusedBy old step.Begin) given
+begun_alone old mid (owed.Reply given) begun = λ answer other. inl (other.3 ∙ ap told.No (begun_anyway old other.0 begun.0 other.2.0))
+begun_alone old mid (owed.Nothing why) begun = λ answer other. other.3 ∙ ap told.No (begun_anyway old other.0 begun.0 other.2.0)
+
+pub refused_alone : (old new : EngineState) (said : StepReply) (given : Reply) → StepsTo old step.Begin said new → given ≡ reply_of said → IsAlone (IsRefusedBy old step.Begin) (owed.Reply given)
+refused_alone old new said given right is answer other =
+    told_alone old step.Begin tt (owed.Reply given) (said, new, right, ap owed.Reply is) answer (reply.Refused other.0, other.1, other.2, other.3)
+
+-- the same of a finish: a right reply to it that is no report says that no round is open
+pub finish_alone : (old : EngineState) (given : Owed) → (old.asked ≡ None → given ≡ owed.Reply (told.No NoRound)) → IsAlone (λ answer. (old.asked ≡ None) × (answer ≡ told.No NoRound)) given
+finish_alone old (owed.Reply given) none = λ answer is. inr (inr (let e = none is.0 in let same : given ≡ told.No NoRound = cc in same ∙ sym is.1))
+finish_alone old (owed.Nothing why) none = λ answer is. absurd (let e = none is.0 in cc)
+
+-- the same of one reply
+pub one_alone : (P : Reply → Type 0) (given : Reply) → ((answer : Reply) → P answer → answer ≡ given) → IsAlone P (owed.Reply given)
+one_alone P given one answer is = inr (inr (sym (one answer is)))
+
+-- ---- an answer that is handed in
+
+same_back : (one two : Tree) → IsSameTree one two → IsSameTree two one
+same_back (Close a) (Close b) x = sym x
+same_back (Force' ss p a) (Force' ss' q b) x = (sym x.0, same_back a b x.1)
+same_back (Split' h p a q b) (Split' h' p' a' q' b') x = (sym x.0, same_back a a' x.1, same_back b b' x.2)
+same_back one two x = absurd x
+
+wrong_shown : (parts : Parts) (it other : Shown) → IsSameShown (Some it) (Some other) → IsWrong parts (answer_told (certificate_of other)) → IsWrong parts (answer_told (certificate_of it))
+wrong_shown parts (shown.Order order) (shown.Order order') same wrong = λ explains. wrong (subst (Explains parts) same explains)
+wrong_shown parts (shown.Refuted tree) (shown.Refuted tree') same wrong = λ refutes. wrong (same_refutation parts tree' tree (same_back tree tree' same) refutes)
+wrong_shown parts it other same wrong = absurd same
+
+right_not_wrong : (parts : Parts) (answer : Answer) (kind : Kind) (certificate : Certificate) → IsRight parts answer kind certificate → IsWrong parts answer → ⊥
+right_not_wrong parts (answers.Yes order) kind (Order it) right wrong = wrong right.1
+right_not_wrong parts (answers.No tree) kind (Refuted it) right wrong = wrong right.2
+right_not_wrong parts answers.Spent kind certificate right wrong = wrong
+right_not_wrong parts answers.NoMemory kind certificate right wrong = wrong
+right_not_wrong parts answer kind certificate right wrong = absurd right
+
+-- a round is open, or it isn't
+pub open_and_none : (asked : Option Parts) (P : Parts → Type 0) → asked ≡ None → IsSomeAnd asked P → ⊥
+open_and_none None P none is = is
+open_and_none (Some parts) P none is = let no : Some parts ≡ None = none in cc
+
+reported_not_wrong : (old new : EngineState) (asked : Option Parts) (it other : Shown) (report : Report) → IsSameShown (Some it) (Some other) → IsSomeAnd asked (λ parts. IsReportOn parts (old.rounds + 1) (answer_told (certificate_of it)) report × IsHeldAfter parts report.kind old.held new.held) → IsSomeAnd asked (λ parts. IsWrong parts (answer_told (certificate_of other))) → ⊥
+reported_not_wrong old new None it other report same is wrong = is
+reported_not_wrong old new (Some parts) it other report same is wrong =
+    right_not_wrong parts (answer_told (certificate_of it)) report.kind report.certificate is.0.right (wrong_shown parts it other same wrong)
+
+-- a refusal of the other one, where this one is reported or refused
+abbrev JudgesAlone : Reply → Refusal → Type 0
+JudgesAlone given q = (told.No q ≡ told.No NoMemory) ⊎ ((given ≡ told.No NoMemory) ⊎ (given ≡ told.No q))
+
+judged_reported : (old new after : EngineState) (it other : Shown) (report : Report) (q : Refusal) → IsSameShown (Some it) (Some other) → StepsTo old (step.Judge (certificate_of it)) (reply.Report report) new → IsFinishRefusal old (answer_told (certificate_of other)) q → JudgesAlone (report_of report) q
+judged_reported old new after it other report NoRound same steps is = absurd (open_and_none old.asked (λ parts. IsReportOn parts (old.rounds + 1) (answer_told (certificate_of it)) report × IsHeldAfter parts report.kind old.held new.held) is steps.0)
+judged_reported old new after it other report BadCertificate same steps is = absurd (reported_not_wrong old new old.asked it other report same steps.0 is)
+judged_reported old new after it other report NoMemory same steps is = inl refl
+judged_reported old new after it other report q same steps is = absurd is
+
+judged_refused : (old : EngineState) (it other : Shown) (r q : Refusal) → IsFinishRefusal old (answer_told (certificate_of it)) r → IsFinishRefusal old (answer_told (certificate_of other)) q → JudgesAlone (told.No r) q
+judged_refused old it other NoMemory q a b = inr (inl refl)
+judged_refused old it other r NoMemory a b = inl refl
+judged_refused old it other NoRound NoRound a b = inr (inr refl)
+judged_refused old it other NoRound BadCertificate a b = absurd (open_and_none old.asked (λ parts. IsWrong parts (answer_told (certificate_of other))) a b)
+judged_refused old it other NoRound q a b = absurd b
+judged_refused old it other BadCertificate NoRound a b = absurd (open_and_none old.asked (λ parts. IsWrong parts (answer_told (certificate_of it))) b a)
+judged_refused old it other BadCertificate BadCertificate a b = inr (inr refl)
+judged_refused old it other BadCertificate q a b = absurd b
+judged_refused old it other r q a b = absurd a
+
+judged_once : (old new after : EngineState) (it other : Shown) (said : StepReply) (q : Refusal) → IsSameShown (Some it) (Some other) → StepsTo old (step.Judge (certificate_of it)) said new → IsFinishRefusal old (answer_told (certificate_of other)) q → JudgesAlone (reply_of said) q
+judged_once old new after it other (reply.Report report) q same steps is = judged_reported old new after it other report q same steps is
+judged_once old new after it other (reply.Refused r) q same steps is = judged_refused old it other r q steps.0 is
+judged_once old new after it other reply.Done q same steps is = absurd steps
+judged_once old new after it other (reply.Cut cut) q same steps is = absurd steps
+
+judged_answer : (given answer : Reply) (q : Refusal) → answer ≡ told.No q → JudgesAlone given q → (answer ≡ told.No NoMemory) ⊎ ((given ≡ told.No NoMemory) ⊎ (given ≡ answer))
+judged_answer given answer q is (inl none) = inl (is ∙ none)
+judged_answer given answer q is (inr (inl none)) = inr (inl none)
+judged_answer given answer q is (inr (inr same)) = inr (inr (same ∙ sym is))
+
+pub judged_alone : (version : Version) (old : EngineState) (it : Shown) (given : Owed) → IsToldOf old (step.Judge (certificate_of it)) given → IsAlone (Gives version old (command.Answer it)) given
+judged_alone version old it given is = subst (λ (g : Owed). IsAlone (Gives version old (command.Answer it)) g) (sym is.3) (λ answer gives.
+    judged_answer (reply_of is.0) answer gives.2.0 gives.2.3 (judged_once old is.1 gives.2.1 it gives.0 is.0 gives.2.0 gives.1 is.2 gives.2.2.0))
+
+-- ---- what may want memory
+
+no_memory_saved : (b : Bool) (fragment : Saved) → told.No NoMemory ≡ (if b then told.Saved fragment else told.No BadSession) → ⊥
+no_memory_saved true fragment is = cc
+no_memory_saved false fragment is = cc
+
+never_saved : (parts : Parts) (asked : Wanted) → told.No NoMemory ≡ saved_told parts asked → ⊥
+never_saved parts wanted.Marks is = cc
+never_saved parts (wanted.Last key) is = cc
+never_saved parts (wanted.Remain s n) is = no_memory_saved (nat_lt s (length parts.remain)) (saved.Offer (fragment_told parts s n)) is
+
+never_closed : (old new : EngineState) (session : ℕ) (said : StepReply) → StepsTo old (step.Close session) said new → told.No NoMemory ≡ reply_of said → ⊥
+never_closed old new session reply.Done steps is = cc
+never_closed old new session (reply.Refused r) steps is =
+    let same : NoMemory ≡ r = cc in
+    subst (IsCloseRefusal old.parts session) (sym same) steps.0
+never_closed old new session (reply.Report report) steps is = steps
+never_closed old new session (reply.Cut cut) steps is = steps
+
+other_refusal : told.No NoMemory ≡ told.No BadLine → ⊥
+other_refusal is = cc
+
+takes_open : (version : Version) (old : EngineState) (asked : Command) → Gives version old asked (told.No NoMemory) → AsksOfMemory asked
+takes_open version old (command.Start sessions limit lines) is = other_refusal is
+takes_open version old (command.Close session) is = never_closed old is.1 session is.0 is.2 is.3
+takes_open version old command.Show is = let no : ⊥ = cc in no
+takes_open version old (command.Save asked) is = never_saved old.parts asked is
+takes_open version old (command.Resume sessions limit lines) is = other_refusal is
+takes_open version old (command.Marks marks closed) is = other_refusal is
+takes_open version old (command.Last last) is = other_refusal is
+takes_open version old command.Resumed is = other_refusal is
+takes_open version old asked is = tt
+
+takes_first : (asked : Command) → GivesFirst asked (told.No NoMemory) → OpensEngine asked
+takes_first (command.Start sessions limit lines) is = tt
+takes_first (command.Resume sessions limit lines) is = is
+takes_first asked is = other_refusal is
+
+takes_if : (old : Option OpenScript) (asked : Command) → GivesScript old asked (told.No NoMemory) → TakesMemory old asked
+takes_if None asked is = takes_first asked is
+takes_if (Some old) asked is = takes_open old.version old.engine asked is
+
+-- ---- what is found
+
+other_wrong : (old : Option OpenScript) (asked : Command) (stored : List ℕ) (given right : Reply) (text : List ℕ) → GivesScript old asked right → (TakesMemory old asked → stored ≢ text_of (told.No NoMemory)) → (given ≡ told.No NoMemory → ⊥) → stored ≢ text → text ≡ text_of given
+    → (right ≡ told.No NoMemory) ⊎ ((given ≡ told.No NoMemory) ⊎ (given ≡ right)) → stored ≢ text_of right
+other_wrong old asked stored given right text gives checked enough other is (inl none) same =
+    checked (takes_if old asked (subst (λ (r : Reply). GivesScript old asked r) none gives)) (same ∙ ap text_of none)
+other_wrong old asked stored given right text gives checked enough other is (inr (inl none)) same = enough none
+other_wrong old asked stored given right text gives checked enough other is (inr (inr alone)) same = other (same ∙ ap text_of (sym alone) ∙ sym is)
+
+other_of_reply : (old : Option OpenScript) (asked : Command) (stored : List ℕ) (given : Reply) (why : Fault) → IsAlone (GivesScript old asked) (owed.Reply given) → (TakesMemory old asked → stored ≢ text_of (told.No NoMemory)) → IsFoundBy given stored (found.Wrong why) → (given ≡ told.No NoMemory → ⊥) → IsOtherwise old asked stored (found.Wrong why)
+other_of_reply old asked stored given (fault.Other text) alone checked is enough =
+    (λ right gives. other_wrong old asked stored given right text.items gives checked enough is.0 is.1 (alone right gives), checked)
+other_of_reply old asked stored given (fault.Unshown it) alone checked is enough = absurd is
+other_of_reply old asked stored given fault.Missing alone checked is enough = absurd is
+other_of_reply old asked stored given fault.TooLong alone checked is enough = absurd is
+
+pub other_found : (old : Option OpenScript) (asked : Command) (stored : List ℕ) (given : Owed) → IsAlone (GivesScript old asked) given → (TakesMemory old asked → stored ≢ text_of (told.No NoMemory)) → (got : Found) → IsFoundOf given stored got → IsOtherwise old asked stored got
+other_found old asked stored given alone checked (found.Right what) is = tt
+other_found old asked stored given alone checked found.Unchecked is = tt
+other_found old asked stored (owed.Reply given) alone checked (found.Wrong why) is = other_of_reply old asked stored given why alone checked is.0 is.1
+other_found old asked stored (owed.Nothing it) alone checked (found.Wrong why) is =
+    (λ right gives same. checked (takes_if old asked (subst (λ (r : Reply). GivesScript old asked r) (alone right gives) gives)) (same ∙ ap text_of (alone right gives)), checked)
+
+-- ---- a line is one command
+
+gives_answer : (old : Option OpenScript) (it other : Shown) (answer : Reply) → IsSameShown (Some it) (Some other) → GivesScript old (command.Answer other) answer → GivesScript old (command.Answer it) answer
+gives_answer None it other answer same is = is
+gives_answer (Some old) it other answer same is = (is.0, shown_then it other is.0 same is.1, is.2)
+
+otherwise_answer : (old : Option OpenScript) (it other : Shown) (stored : List ℕ) (why : Fault) → IsSameShown (Some it) (Some other) → IsOtherwise old (command.Answer it) stored (found.Wrong why) → IsOtherwise old (command.Answer other) stored (found.Wrong why)
+otherwise_answer None it other stored why same is = is
+otherwise_answer (Some old) it other stored why same is = (λ right gives. is.0 right (gives_answer (Some old) it other right same gives), is.1)
+
+otherwise_said : (old : Option OpenScript) (said : Data) (asked other : Command) (stored : List ℕ) (why : Fault) → Says said asked → Says said other → IsOtherwise old asked stored (found.Wrong why) → IsOtherwise old other stored (found.Wrong why)
+otherwise_said old said asked other stored why (inl one) (inl two) is =
+    let same : Some asked ≡ Some other = sym one ∙ two in
+    subst (λ (c : Command). IsOtherwise old c stored (found.Wrong why)) (let e : asked ≡ other = cc in e) is
+otherwise_said old said asked other stored why (inl one) (inr two) is = let no : Some asked ≡ None = sym one ∙ no_command said two.0 two.1 in absurd (let it : ⊥ = cc in it)
+otherwise_said old said asked other stored why (inr one) (inl two) is = let no : Some other ≡ None = sym two ∙ no_command said one.0 one.1 in absurd (let it : ⊥ = cc in it)
+otherwise_said old said asked other stored why (inr one) (inr two) is =
+    let first : IsOtherwise old (command.Answer one.0) stored (found.Wrong why) = subst (λ (c : Command). IsOtherwise old c stored (found.Wrong why)) one.2 is in
+    subst (λ (c : Command). IsOtherwise old c stored (found.Wrong why)) (sym two.2) (otherwise_answer old one.0 two.0 stored why (same_answer said one.0 two.0 one.1 two.1) first)
+
+pub otherwise_asked : (old : Option OpenScript) (next : Next) (asked : Command) (stored : List ℕ) → ((line : List ℕ) → IsTold line next → Asks line asked) → (got : Found) → IsOtherwise old asked stored got → IsOtherwiseTo old next stored got
+otherwise_asked old next asked stored asks (found.Right what) is = tt
+otherwise_asked old next asked stored asks found.Unchecked is = tt
+otherwise_asked old next asked stored asks (found.Wrong why) is = λ line said. (
+  λ other again. let here = asks line said in otherwise_said old here.is.said asked other stored why here.is.is (is_said line other asked again here) is,
+  λ none. absurd (none asked (asks line said)),
+)
+
+pub otherwise_none : (old : Option OpenScript) (next : Next) (stored : List ℕ) → ((line : List ℕ) → IsTold line next → (asked : Command) → ¬ Asks line asked) → (got : Found) → IsFoundBy (told.No BadLine) stored got → IsOtherwiseTo old next stored got
+otherwise_none old next stored none (found.Right what) is = tt
+otherwise_none old next stored none found.Unchecked is = tt
+otherwise_none old next stored none (found.Wrong (fault.Other text)) is = λ line said. (
+  λ asked asks. absurd (none line said asked asks),
+  λ no same. is.0 (same ∙ sym is.1),
+)
+otherwise_none old next stored none (found.Wrong why) is = absurd is
+
+-- ---- where the check stops
+
+no_report_of : (report : Report) (certificate : Certificate) → IsNoReport (certified report certificate) → ⊥
+no_report_of report (Order order) is = is
+no_report_of report (Refuted tree) is = is
+no_report_of report Nothing is = is
+
+no_report : (report : Report) (answer : Reply) → answer ≡ report_of report → IsNoReport answer → ⊥
+no_report report answer is none = no_report_of report report.certificate (subst IsNoReport is none)
+
+step_told : (old new : State) (asked : Step) (answer : Reply) → IsStep old asked answer new → IsStepTold old.engine asked answer
+step_told old new asked answer is = (is.0, new.engine, is.1.engine, is.2)
+
+taken_told : (version : Version) (old new : State) (logged : LoggedFragment) (asked : Step) (answer : Reply) → IsTakenIn version logged old answer new (IsStep old asked answer new) → IsTakenTold version old.engine logged asked answer
+taken_told version old new logged asked answer (inl is) = inl (is.0, step_told old new asked answer is.1)
+taken_told version old new logged asked answer (inr is) = inr (is.0, is.1.0)
+
+finish_told : (old new : State) (answer : Reply) → OwesFinish old answer new → IsNoReport answer → (old.engine.asked ≡ None) × (answer ≡ told.No NoRound)
+finish_told old new answer (inl is) none = absurd (no_report is.0 answer is.2 none)
+finish_told old new answer (inr is) none = (is.0, is.1)
+
+none_begun : (old begun : State) → Legal old step.Begin reply.Done begun → begun.engine.asked ≡ None → ⊥
+none_begun old begun legal none = let no : Some old.engine.parts ≡ None = sym (ap (λ (e : EngineState). e.asked) legal.engine.1) ∙ none in cc
+
+round_told : (old new : State) (answer : Reply) → OwesRound old answer new → IsNoReport answer → IsRefusedBy old.engine step.Begin answer
+round_told old new answer (inl is) none = (is.0, new.engine, is.1.engine, is.2)
+round_told old new answer (inr is) none = absurd (none_begun old is.0 is.1 (finish_told is.0 new answer is.2 none).0)
+
+judge_told : (old new : State) (it : Shown) (said : StepReply) (answer : Reply) → StepsTo old.engine (step.Judge (certificate_of it)) said new.engine → answer ≡ reply_of said → IsNoReport answer → (other : Shown) × IsSameShown (Some it) (Some other) × IsRefusedBy old.engine (step.Judge (certificate_of other)) answer
+judge_told old new it (reply.Refused r) answer steps is none = (it, shown_self it, (r, new.engine, steps, is))
+judge_told old new it (reply.Report report) answer steps is none = absurd (no_report report answer is none)
+judge_told old new it reply.Done answer steps is none = absurd steps
+judge_told old new it (reply.Cut cut) answer steps is none = absurd steps
+
+gives_open : (version : Version) (old new : State) (asked : Command) (answer : Reply) → OwesOpen version old asked answer new → IsNoReport answer → Gives version old.engine asked answer
+gives_open version old new (command.Offer logged) answer is none = taken_told version old new logged (step.Offer logged) answer is
+gives_open version old new (command.Join logged) answer is none = taken_told version old new logged (step.Join logged) answer is
+gives_open version old new (command.Close session) answer is none = step_told old new (step.Close session) answer is
+gives_open version old new command.Begin answer is none = step_told old new step.Begin answer is
+gives_open version old new (command.Finish budget depth workers search) answer is none = finish_told old new answer is none
+gives_open version old new (command.Round budget depth workers search) answer is none = round_told old new answer is none
+gives_open version old new (command.Answer it) answer is none = judge_told old new it is.0 answer is.1.engine is.2 none
+gives_open version old new command.Truncate answer is none = step_told old new step.Truncate answer is
+gives_open version old new command.Rebuild answer is none = step_told old new step.Rebuild answer is
+gives_open version old new command.Show answer is none = is.0
+gives_open version old new (command.Save asked) answer is none = is.0
+gives_open version old new asked answer is none = is.0
+
+gives_first : (asked : Command) (answer : Reply) (new : Option ScriptState) → OwesFirst asked answer new → GivesFirst asked answer
+gives_first (command.Start sessions limit version) told.Done new is = (is.0, is.1)
+gives_first (command.Start sessions limit version) (told.No refusal) new is = is.0
+gives_first (command.Start sessions limit version) answer new is = absurd is
+gives_first (command.Resume sessions limit version) answer new is = absurd is
+gives_first asked answer new is = is.0
+
+gives_owed : (script : Option OpenScript) (old new : Option ScriptState) (asked : Command) (answer : Reply) → HoldsScript script old → Owes old asked answer new → IsNoReport answer → GivesScript script asked answer
+gives_owed None None new asked answer holds is none = gives_first asked answer new is
+gives_owed (Some script) (Some old) (Some new) asked answer holds is none =
+    let gives = gives_open old.version old.state new.state asked answer is.0 none in
+    subst (λ (v : Version). Gives v script.engine asked answer) (sym holds.1) (subst (λ (e : EngineState). Gives old.version e asked answer) holds.0.same gives)
+gives_owed (Some script) (Some old) None asked answer holds is none = absurd is
+gives_owed None (Some old) new asked answer holds is none = absurd holds
+gives_owed (Some script) None new asked answer holds is none = absurd holds
+
+line_owed : (script : Option OpenScript) (old new : Option ScriptState) (next : Next) (line stored : List ℕ) (why : Fault) (answer : Reply) → HoldsScript script old → IsTold line next → IsOtherwiseTo script next stored (found.Wrong why) → IsNoReport answer → OwesLine old line answer new → stored ≢ text_of answer
+line_owed script old new next line stored why answer holds said is none (inl owes) =
+    ((is line said).0 owes.0 owes.1).0 answer (gives_owed script old new owes.0 answer holds owes.2 none)
+line_owed script old new next line stored why answer holds said is none (inr owes) = λ same. (is line said).1 owes.0 (same ∙ ap text_of owes.1.0)
+
+pub no_right_other : (script : Option OpenScript) (old : Option ScriptState) (next : Next) (line stored : List ℕ) (why : Fault) → HoldsScript script old → IsTold line next → IsOtherwiseTo script next stored (found.Wrong why) → ¬ IsRightOther old line stored
+no_right_other script old next line stored why holds said is right = line_owed script old right.new next line stored why right.answer holds said is right.no_report right.owed right.text_is
+
+takes_back : (script : Option OpenScript) (old : Option ScriptState) (asked : Command) → HoldsScript script old → TakesMemory old asked → TakesMemory script asked
+takes_back None None asked holds takes = takes
+takes_back (Some script) (Some old) asked holds takes = takes
+takes_back None (Some old) asked holds takes = absurd holds
+takes_back (Some script) None asked holds takes = absurd holds
+
+pub no_unchecked : (script : Option OpenScript) (old : Option ScriptState) (next : Next) (line stored : List ℕ) (why : Fault) → HoldsScript script old → IsTold line next → IsOtherwiseTo script next stored (found.Wrong why) → (new : Option ScriptState) → ¬ IsUnchecked old line stored new
+no_unchecked script old next line stored why holds said is new un = ((is line said).0 un.command un.asks).1 (takes_back script old un.command holds un.takes) un.text_is
+
+-- ---- an engine is opened
+
+same_opening : (sessions limit : ℕ) (r q : Refusal) → IsOpenRefusal sessions limit r → IsOpenRefusal sessions limit q → IsOne r q
+same_opening sessions limit NoMemory q a b = inl refl
+same_opening sessions limit r NoMemory a b = inr (inl refl)
+same_opening sessions limit BadSession BadSession a b = inr (inr refl)
+same_opening sessions limit BadSession TooLong a b = absurd (a b.0)
+same_opening sessions limit BadSession q a b = absurd b
+same_opening sessions limit TooLong BadSession a b = absurd (b a.0)
+same_opening sessions limit TooLong TooLong a b = inr (inr refl)
+same_opening sessions limit TooLong q a b = absurd b
+same_opening sessions limit r q a b = absurd a
+
+opened_anyway : (sessions limit : ℕ) (r : Refusal) → IsSessions sessions → IsLimit limit → IsOpenRefusal sessions limit r → r ≡ NoMemory
+opened_anyway sessions limit BadSession some few is = absurd (is some)
+opened_anyway sessions limit TooLong some few is = absurd (is.1 few)
+opened_anyway sessions limit NoMemory some few is = refl
+opened_anyway sessions limit r some few is = absurd is
+
+refused_first : (r q : Refusal) → IsOne r q → (told.No q ≡ told.No NoMemory) ⊎ ((told.No r ≡ told.No NoMemory) ⊎ (told.No r ≡ told.No q))
+refused_first r q (inl is) = inr (inl (ap told.No is))
+refused_first r q (inr (inl is)) = inl (ap told.No is)
+refused_first r q (inr (inr is)) = inr (inr (ap told.No is))
+
+first_done : (sessions limit : ℕ) (version : Version) → IsSessions sessions → IsLimit limit → IsAlone (GivesFirst (command.Start sessions limit version)) (owed.Reply told.Done)
+first_done sessions limit version some few told.Done is = inr (inr refl)
+first_done sessions limit version some few (told.No q) is = inl (ap told.No (opened_anyway sessions limit q some few is))
+first_done sessions limit version some few answer is = absurd is
+
+first_refused : (sessions limit : ℕ) (version : Version) (r : Refusal) → IsOpenRefusal sessions limit r → IsAlone (GivesFirst (command.Start sessions limit version)) (owed.Reply (told.No r))
+first_refused sessions limit version r why told.Done is = inr (inl (ap told.No (opened_anyway sessions limit r is.0 is.1 why)))
+first_refused sessions limit version r why (told.No q) is = refused_first r q (same_opening sessions limit r q why is)
+first_refused sessions limit version r why answer is = absurd is
+
+pub opened_alone : (old : Option OpenScript) (sessions limit : ℕ) (version : Version) → old ≡ None → IsSessions sessions × IsLimit limit → IsAlone (GivesScript old (command.Start sessions limit version)) (owed.Reply told.Done)
+opened_alone old sessions limit version none numbers =
+    subst (λ (o : Option OpenScript). IsAlone (GivesScript o (command.Start sessions limit version)) (owed.Reply told.Done)) (sym none) (first_done sessions limit version numbers.0 numbers.1)
+
+pub unopened_alone : (old : Option OpenScript) (sessions limit : ℕ) (version : Version) (r : Refusal) → old ≡ None → IsOpenRefusal sessions limit r → IsAlone (GivesScript old (command.Start sessions limit version)) (owed.Reply (told.No r))
+unopened_alone old sessions limit version r none why =
+    subst (λ (o : Option OpenScript). IsAlone (GivesScript o (command.Start sessions limit version)) (owed.Reply (told.No r))) (sym none) (first_refused sessions limit version r why)

@@ -1,0 +1,64 @@
+-- Where the check of a script stops.
+use Rattle.std.proofs.Common.{◌≡◌, ℕ, ◌+◌, List, ◌∷◌, ◌++◌, Option, Some, None, ap, sym, ◌∙◌, subst, arith, inl, inr}
+use Rattle.std.specs.Prelude.{◌⊎◌}
+use Rattle.polygraph.specs.declared.solving.Answer.{Answer}
+use Rattle.log_text.specs.declared.commands.Command.{Command}
+use Rattle.log_text.specs.declared.commands.Command.TheVariants as command
+use Rattle.byte_lines.specs.LineReaders.{IsNextOf}
+use Rattle.byte_lines.specs.declared.lines.Next.{Next}
+use Rattle.byte_lines.specs.declared.lines.Next.TheVariants.{Line, TooLong, End}
+use Rattle.round_state.specs.EngineState.{EngineState}
+use Rattle.round_state.specs.Legal.{State}
+use Rattle.round_state.specs.declared.reports.Report.{Report}
+use Rattle.cobra.specs.Outputs.{IsTold}
+use Rattle.report_checking.specs.Owing.{ScriptState}
+use Rattle.report_checking.specs.Reading.{HoldsScript, Earns, IsFairTo, IsFairNext, IsOtherwiseNext, IsRead, StopsOn}
+use Rattle.report_checking.specs.RightReports.{OwesReport, TellsRightReport, HasWrongNext}
+use Rattle.report_checking.specs.declared.findings.Found.{Found}
+use Rattle.report_checking.specs.declared.findings.Found.TheVariants as found
+use Rattle.report_checking.specs.declared.findings.Fault.{Fault}
+use Rattle.report_checking.specs.declared.pairs.OpenScript.{OpenScript}
+use Rattle.report_checking.proofs.CheckedLines.{next_line}
+use Rattle.report_checking.proofs.OtherReplies.{no_right_other, no_unchecked}
+use Rattle.report_checking.proofs.RightReports.{shown_self}
+
+-- ---- where the check stops
+
+earns_of : (before : State) (asked : Command) (report : Report) (new : State) → OwesReport before asked report new → Earns before.engine asked report new.engine
+earns_of before (command.Finish budget depth workers search) report new owes = owes.earned
+earns_of before (command.Round budget depth workers search) report new owes = (owes.0.engine, owes.1.engine, owes.2.earned)
+earns_of before (command.Answer it) report new owes = (it, shown_self it, owes.engine)
+earns_of before asked report new owes = absurd owes
+
+no_right_report : (script : Option OpenScript) (state : Option ScriptState) (next : Next) (line stored : List ℕ) (why : Fault) → HoldsScript script state → IsTold line next → IsFairTo script next stored (found.Wrong why) → ¬ TellsRightReport state line stored
+no_right_report script None next line stored why holds said fair right = right
+no_right_report None (Some before) next line stored why holds said fair right = holds
+no_right_report (Some script) (Some before) next line stored why holds said fair right =
+    fair line said right.command right.asks right.report right.new.engine
+    (subst (λ (e : EngineState). Earns e right.command right.report right.new.engine) holds.0.same (earns_of before.state right.command right.report right.new right.owed)) right.shows right.text_is
+
+-- what was read behind the line
+wrong_behind : (limit : ℕ) (left : List (List ℕ)) (after : Option (List (List ℕ))) (line : List ℕ) (next stored : Next) (script : Option OpenScript) (state : Option ScriptState) (why : Fault) → limit ≡ 1073741824 → HoldsScript script state → IsTold line next → IsNextOf limit (Some left) stored after
+    → IsFairNext script next stored (found.Wrong why) → IsOtherwiseNext script next stored (found.Wrong why) → HasWrongNext state (line ∷ left)
+wrong_behind limit left after line next (Line bytes) script state why long holds said is fair otherwise =
+    subst (λ ls. HasWrongNext state (line ∷ ls)) (sym is.2) (inr (record {
+      report = no_right_report script state next line bytes.items why holds said fair;
+      other = no_right_other script state next line bytes.items why holds said otherwise;
+      checked = no_unchecked script state next line bytes.items why holds said otherwise;
+    }))
+wrong_behind limit left after line next TooLong script state why long holds said is fair otherwise =
+    subst (λ ls. HasWrongNext state (line ∷ ls)) (sym is.3) (inl (omega (arith, is.4, long)))
+wrong_behind limit left after line next End script state why long holds said is fair otherwise =
+    subst (λ ls. HasWrongNext state (line ∷ ls)) (sym is.1) tt
+
+pub stops_at : (limit : ℕ) (b c : Option (List (List ℕ))) (next line stored : Next) (got : Found) (old : Option OpenScript) → limit ≡ 1073741824 → ((bytes : List ℕ) → IsRead bytes next → IsTold bytes line) → IsNextOf limit b stored c → IsFairNext old line stored got → IsOtherwiseNext old line stored got → StopsOn limit b next old got
+stops_at limit b c next line stored got old long told second fair otherwise input a s is some why wrong =
+    let one = next_line limit s.left b next (omega (arith, long)) (subst (λ (o : Option (List (List ℕ))). IsNextOf limit o next b) s.left_is is) some in record {
+      front = s.front;
+      left = one.0 ∷ one.1;
+      split = s.split ∙ ap (λ ls. s.front ++ ls) one.3;
+      state = s.state;
+      checks = s.checks;
+      wrong = wrong_behind limit one.1 c one.0 line stored old s.state why long s.holds (told one.0 one.4)
+          (subst (λ (o : Option (List (List ℕ))). IsNextOf limit o stored c) one.2 second) (subst (IsFairNext old line stored) wrong fair) (subst (IsOtherwiseNext old line stored) wrong otherwise);
+    }
