@@ -1,12 +1,18 @@
 //! The auditor: reads a script on standard input, and writes the reply to each of its lines on standard output.
 #![tactic(auto)]
 
+ghost use Rattle.std.specs.Prelude.{◌≡◌, ℕ, List, Ok, Some, IfSome, OnOk, OnErr, option_map};
+ghost use Rattle.std.specs.Io.KnownBytes.{Appends, Keeps};
+ghost use Rattle.cobra.specs.Outputs.{IsOutput};
+
 use cobra::{
-    Asked, ByteSink, Exit, Failure, ReaderSource, Solvers, WriterSink, asked_of, exit_of, serve,
-    write_all,
+    Asked, ByteSink, ByteSource, Exit, Failure, ReaderSource, Solvers, WriterSink, asked_of,
+    exit_of, serve, write_all,
 };
 use guided_search::{Conflicts, Guided};
+use polygraph::{PlainSolver, Solver};
 use shared_search::{OpenGate, Shared};
+use std::alloc::Global;
 use std::env;
 use std::io::ErrorKind;
 use std::process::ExitCode;
@@ -63,29 +69,54 @@ fn asked(rt: &HostRuntime) -> Result<Asked, Failure> {
     }
 }
 
-fn told<W: ByteSink>(sink: &mut W, text: &str) -> Result<(), Failure> {
+fn told<W: ByteSink>(sink: &mut W, text: &str) -> Result<(), Failure>
+    ensures { OnOk result (Appends (W.contents sink.old) (W.contents sink.new) text.now) }
+{
     write_all(sink, text.as_bytes())?;
     Ok(())
 }
 
-fn main(rt: HostRuntime) -> ExitCode {
-    let mut input = ReaderSource::new(rt.stdin());
-    let mut output = WriterSink::new(rt.stdout());
-    let alloc = rt.alloc();
-    let solvers = Solvers {
-        plain: Shared::new(&rt, OpenGate),
-        guided: Guided::new(Conflicts, Shared::new(&rt, OpenGate)),
-    };
-    let exit = match asked(&rt) {
-        Ok(Asked::Work) => exit_of(serve(alloc, &mut input, &mut output, &solvers)),
-        Ok(Asked::Help) => exit_of(told(&mut output, HELP)),
-        Ok(Asked::Version) => exit_of(told(&mut output, VERSION)),
+/// Does what the arguments ask for, and says how the program ends.
+fn run<R: ByteSource, W: ByteSink, P: PlainSolver, S: Solver>(
+    alloc: Global,
+    asked: Result<Asked, Failure>,
+    input: &mut R,
+    output: &mut W,
+    solvers: &Solvers<P, S>,
+) -> Exit
+    requires plain { P.ready }
+    requires guided { S.ready }
+
+    // Status 0 says that the script was served to its end.
+    ensures served { asked ≡ Ok Asked.Work → result.status ≡ 0 → IfSome (R.remaining input.old) (λ script. (replies : List ℕ) × IsOutput script replies × Appends (W.contents output.old) (W.contents output.new) replies) }
+
+    ensures help { asked ≡ Ok Asked.Help → result.status ≡ 0 → Appends (W.contents output.old) (W.contents output.new) HELP.now }
+    ensures version { asked ≡ Ok Asked.Version → result.status ≡ 0 → Appends (W.contents output.old) (W.contents output.new) VERSION.now }
+
+    // Other arguments: nothing is written but how the program is used.
+    ensures unknown { asked ≡ Ok Asked.Unknown → (result.status ≡ 2) × (option_map (λ words. words.now) result.words ≡ Some USAGE.now) × Keeps (W.contents output.old) (W.contents output.new) }
+    ensures failed { OnErr asked ((result.status ≡ 1) × Keeps (W.contents output.old) (W.contents output.new)) }
+{
+    match asked {
+        Ok(Asked::Work) => exit_of(serve(alloc, input, output, solvers)),
+        Ok(Asked::Help) => exit_of(told(output, HELP)),
+        Ok(Asked::Version) => exit_of(told(output, VERSION)),
         Ok(Asked::Unknown) => Exit {
             status: 2,
             words: Some(USAGE),
         },
         Err(failure) => exit_of(Err(failure)),
+    }
+}
+
+fn main(rt: HostRuntime) -> ExitCode {
+    let mut input = ReaderSource::new(rt.stdin());
+    let mut output = WriterSink::new(rt.stdout());
+    let solvers = Solvers {
+        plain: Shared::new(&rt, OpenGate),
+        guided: Guided::new(Conflicts, Shared::new(&rt, OpenGate)),
     };
+    let exit = run(rt.alloc(), asked(&rt), &mut input, &mut output, &solvers);
     if let Some(words) = exit.words {
         let _ = eprintln!(rt; "{words}");
     }
