@@ -265,10 +265,29 @@ fn is_told_again(alloc: Global, shown: Option<Shown>) -> Result<bool, NoMemory> 
     Ok(write_reply(alloc, &reply)?.as_slice() == VIOLATED.as_bytes())
 }
 
+/// Texts that show nothing: no JSON, which isn't told to be want of memory, no UTF-8, and JSON that is no report.
+fn no_reports() -> &'static [&'static [u8]] {
+    &[
+        b"",
+        b"[",
+        b"[\"report\",1,\"serial\",[1],[[0,0]]",
+        b"[\"report\",1,\"serial\",[1],[[0,0]]]]",
+        b"\xff",
+        b"\"\xff\"",
+        b"[\"report\",1,\"serial\",[1],[[0,256]],0]",
+        b"[\"report\",1,\"spent\",[1]]",
+        b"[\"answer\",\"order\",[[0,0]]]",
+        b"{\"report\":1}",
+    ]
+}
+
 #[test]
 fn trees_are_read_as_they_were_written(rt: HostRuntime) -> Result<(), Fail> {
     let alloc = rt.alloc();
     assert!(rt; is_told_again(alloc, read_in_line(alloc)?)?);
     assert!(rt; is_told_again(alloc, read_shown(alloc, VIOLATED.as_bytes())?)?);
+    for text in no_reports() {
+        assert!(rt; read_shown(alloc, text)?.is_none());
+    }
     Ok(())
 }

@@ -228,6 +228,26 @@ const REPLIES: &str = r#"["ok"]
 ["report",3,"violated",[1,2],[["cycle",[["read",5,0,0,1,0],["session",1,0,1,1],["base",5,1,1,0,0]]]]]
 "#;
 
+/// The script `first_cut.jsonl` of the examples.
+const CUT_SCRIPT: &str = r#"["open",2,16]
+["offer",0,0,[[[],[5]],[[[0,"init"]],[0]]]]
+["offer",1,0,[[[[0,0,1]],[0]]]]
+["round",32,0,1]
+["truncate"]
+["show"]
+["truncate"]
+"#;
+
+/// The replies to it.
+const CUT_REPLIES: &str = r#"["ok"]
+["ok"]
+["ok"]
+["report",1,"serial",[2,1],[[0,0],[0,1],[1,0]]]
+["cut",[0,1],[[0,0],[0,1]],[[0,0,1],[5,0,0]]]
+["show",[2,0],[2,1],[false,false],[[0,0,1],[5,0,0]],1]
+["no",13,"NoCut"]
+"#;
+
 /// How the script is served, and what is written, where the devices move so many bytes a call and one call of each fails.
 fn served(
     alloc: Global,
@@ -293,19 +313,25 @@ fn are_lines(bytes: &[u8]) -> bool {
 
 /// Each read, or each write, fails in turn: a front of the replies is written, after a failed read whole lines. Answers the
 /// first call that isn't made.
-fn fails_in_turn(rt: &(impl AllocGlobal + Abort), most: usize, is_read: bool) -> u64
+fn fails_in_turn(
+    rt: &(impl AllocGlobal + Abort),
+    script: &str,
+    replies: &str,
+    most: usize,
+    is_read: bool,
+) -> u64
     requires { 0 < most }
 {
     for call in 1..1000 {
         let (read, write) = if is_read { (call, 0) } else { (0, call) };
-        let (end, written) = served(rt.alloc(), SCRIPT.as_bytes(), most, read, write);
+        let (end, written) = served(rt.alloc(), script.as_bytes(), most, read, write);
         if end == Ok(()) {
-            assert!(rt; written.as_slice() == REPLIES.as_bytes(), "by {most}");
+            assert!(rt; written.as_slice() == replies.as_bytes(), "by {most}");
             return call;
         }
         assert_eq!(rt; end, Err(Failure::Device), "at call {call} by {most}");
         assert!(rt;
-            REPLIES.as_bytes().starts_with(&written),
+            replies.as_bytes().starts_with(&written),
             "at call {call} by {most}"
         );
         assert!(rt; !is_read || are_lines(&written), "at call {call} by {most}");
@@ -316,9 +342,16 @@ fn fails_in_turn(rt: &(impl AllocGlobal + Abort), most: usize, is_read: bool) ->
 #[test]
 fn stops_at_a_failure(rt: HostRuntime) {
     // The last read finds the end, and the call after the last one can't fail.
-    for (most, reads, writes) in [(1, 157, 210), (7, 25, 32), (4096, 3, 8)] {
-        assert_eq!(rt; fails_in_turn(&rt, most, true), reads);
-        assert_eq!(rt; fails_in_turn(&rt, most, false), writes);
+    for (script, replies, most, reads, writes) in [
+        (SCRIPT, REPLIES, 1, 157, 210),
+        (SCRIPT, REPLIES, 7, 25, 32),
+        (SCRIPT, REPLIES, 4096, 3, 8),
+        (CUT_SCRIPT, CUT_REPLIES, 1, 144, 189),
+        (CUT_SCRIPT, CUT_REPLIES, 7, 23, 29),
+        (CUT_SCRIPT, CUT_REPLIES, 4096, 3, 8),
+    ] {
+        assert_eq!(rt; fails_in_turn(&rt, script, replies, most, true), reads);
+        assert_eq!(rt; fails_in_turn(&rt, script, replies, most, false), writes);
     }
 }
 

@@ -44,6 +44,12 @@ impl Store {
         }
     }
 
+    pub fn fault(&self) -> Fault
+        ensures { result ≡ self.now.fault }
+    {
+        self.fault
+    }
+
     /// What was executed, in order.
     pub fn log(&self) -> &[Executed]
         ensures { result.now ≡ self.now.log }

@@ -1,5 +1,6 @@
 -- What a run comes to.
 use Rattle.std.specs.Prelude.{◌≡◌, true, List, [], ◌∷◌, length, map, All}
+use Rattle.demo_store.specs.Logs.{StoreState}
 use Rattle.fragment_intake.specs.Collectors.{AreCollectorsOf, Collector, Counts}
 use Rattle.fragment_intake.specs.declared.rules.Parcel.{Parcel}
 use Rattle.report_queue.specs.Rings.{Receiving}
@@ -26,9 +27,10 @@ pub record HasAudited (taken : List Parcel) (sent : List Entry) : Type 0 where
   pub reports : All (IsTrueEntry (accepted_history 4 taken sent)) sent
   pub last : IsLastCount (map length (accepted_history 4 taken sent)) sent
 
--- What is shown of a run whose auditor sent these entries: each collector submitted its 11 items, of which so many were taken; the auditor audited
--- these; the last of its reports has this kind.
-pub record IsRunOf (sent : List Entry) (shown : Shown) : Type 0 where
+-- What is shown of a run of this store whose auditor sent these entries: the fault is the store's; each collector submitted its 11 items, of which so
+-- many were taken; the auditor audited these; the last of its reports has this kind.
+pub record IsRunOf (store : StoreState) (sent : List Entry) (shown : Shown) : Type 0 where
+  pub fault : store.fault ≡ shown.fault
   pub taken : List Parcel
   pub submitted : shown.tally.submitted ≡ 11 ∷ 11 ∷ 11 ∷ 11 ∷ []
   pub counts : Counts shown.tally.taken taken
@@ -37,7 +39,7 @@ pub record IsRunOf (sent : List Entry) (shown : Shown) : Type 0 where
 
 -- what is shown of some run
 abbrev pub IsRun : Shown → Type 0
-IsRun shown = (sent : List Entry) × IsRunOf sent shown
+IsRun shown = (store : StoreState) × (sent : List Entry) × IsRunOf store sent shown
 
 -- For private clauses.
 

@@ -1,9 +1,11 @@
 -- What a collector has the store execute.
-use Rattle.std.specs.Prelude.{◌≡◌, ℕ, ◌+◌, ◌*◌, Bool, true, false, List, [], ◌∷◌, map, slice_get, Some, ⊤}
+use Rattle.std.specs.Prelude.{◌≡◌, ℕ, ◌+◌, ◌*◌, Bool, true, false, List, [], ◌∷◌, length, map, slice_get, Some, ⊤}
 use Rattle.txn.specs.declared.transactions.Txn.{Txn}
 use Rattle.logged_fragments.specs.declared.logged.LoggedFragment.{LoggedFragment}
 use Rattle.fragment_intake.specs.declared.rules.Item.TheVariants as item
 use Rattle.fragment_intake.specs.declared.rules.Parcel.{Parcel}
+use Rattle.demo_store.specs.Logs.{IsExecuted, of_session}
+use Rattle.demo_store.specs.declared.requests.Executed.{Executed}
 use Rattle.demo_store.specs.declared.requests.Request.{Request}
 
 -- two keys that no other session reads or writes
@@ -28,6 +30,15 @@ pub record IsHandedIn (session step : ℕ) (logged : LoggedFragment) : Type 0 wh
   pub abort : Bool
   pub aborted : logged.aborted ≡ abort ∷ []
   pub work : slice_get (work_of session) step ≡ Some (map (λ read. read.0) txn.reads, txn.writes, abort)
+
+-- What is handed in of a request that was executed: its session's next transaction in the log, which is told to have aborted where the request does.
+pub record IsNextInLog (request : Request) (old new : List Executed) (logged : LoggedFragment) : Type 0 where
+  pub txn : Txn
+  pub executed : IsExecuted request old txn new
+  pub session_is : logged.fragment.session ≡ request.session
+  pub number : logged.fragment.first ≡ length (of_session request.session old)
+  pub alone : logged.fragment.txns ≡ txn ∷ []
+  pub aborted : logged.aborted ≡ request.abort ∷ []
 
 -- the parcel has what is handed in of this step
 abbrev pub IsStepOf : ℕ → ℕ → Parcel → Type 0

@@ -1,7 +1,6 @@
-ghost use Rattle.std.specs.Prelude.{◌≡◌, ◌+◌, ◌<◌, ◌^◌, ◌++◌, ◌∷◌, [], length, IfOk, OnErr, OnOk};
-ghost use Rattle.demo_store.specs.Logs.{IsExecuted, of_session};
+ghost use Rattle.std.specs.Prelude.{◌≡◌, ◌+◌, ◌<◌, ◌^◌, ◌++◌, ◌∷◌, [], length, IfOk, OnOk};
 ghost use Rattle.demonstration.specs.Runs.{HasCollected};
-ghost use Rattle.demonstration.specs.Work.{AreStepsFrom, IsHandedIn};
+ghost use Rattle.demonstration.specs.Work.{AreStepsFrom, IsHandedIn, IsNextInLog};
 ghost use Rattle.fragment_intake.specs.Collectors.{parcel};
 
 use crate::halls::Hall;
@@ -14,7 +13,7 @@ use std::snapshot::Snapshot;
 use std::sync::{Mutex, Wait};
 use std::thread;
 use std::thread::Promise;
-use txn::{Fragment, NoMemory, Sequence, Txn};
+use txn::{Fragment, NoMemory, Sequence};
 
 /// What a collector comes back with: its pass, and whether it did all of its work.
 #[derive(Drop)]
@@ -36,23 +35,32 @@ impl Promise<Collected> for CollectionOf {
 /// More transactions of a session than the store takes.
 const TOO_MANY: u64 = 1 << 48;
 
-/// Has the request executed, and tells the transaction's number in its session.
-fn execute(alloc: Global, store: &mut Store, request: Request) -> Result<(u64, Txn), NoMemory>
+/// Has the request executed, and makes a fragment of what was, which says whether it aborted.
+fn execute(alloc: Global, store: &mut Store, request: Request) -> Result<LoggedFragment, NoMemory>
     requires { request.session < 64 }
-    ensures done { IfOk result (λ told. IsExecuted request store.old.log told.1 store.new.log) }
-    ensures number { IfOk result (λ told. told.0 ≡ length (of_session request.session store.old.log)) }
+    ensures done { IfOk result (IsNextInLog request store.old.log store.new.log) }
     ensures fault { store.new.fault ≡ store.old.fault }
-    ensures err { OnErr result (store.new ≡ store.old) }
 {
-    let number = store.executed(request.session);
-    if number >= TOO_MANY {
+    let session = request.session;
+    let first = store.executed(session);
+    if first >= TOO_MANY {
         return Err(AllocError);
     }
-    let txn = store.exec(alloc, request)?;
-    Ok((number, txn))
+    let mut txns = Vec::with_capacity(alloc, 1)?;
+    let aborted = vec![in alloc; request.abort]?;
+    txns.push(store.exec(alloc, request)?)?;
+    let fragment = Fragment {
+        session,
+        first,
+        txns: Sequence::new(txns),
+    };
+    Ok(LoggedFragment {
+        fragment,
+        aborted: Sequence::new(aborted),
+    })
 }
 
-/// Has the store execute the request of this step, and makes a fragment of it, which says whether it aborted.
+/// Has the store execute the request of this step, and makes a fragment of it.
 fn fragment<R: Wait>(
     rt: &R,
     alloc: Global,
@@ -64,19 +72,7 @@ fn fragment<R: Wait>(
     ensures { IfOk result (IsHandedIn session step) }
 {
     let request = request_of(alloc, session, step)?;
-    let aborted = vec![in alloc; request.abort]?;
-    let mut txns = Vec::with_capacity(alloc, 1)?;
-    let (first, txn) = execute(alloc, &mut *store.lock(rt), request)?;
-    txns.push(txn)?;
-    let fragment = Fragment {
-        session,
-        first,
-        txns: Sequence::new(txns),
-    };
-    Ok(LoggedFragment {
-        fragment,
-        aborted: Sequence::new(aborted),
-    })
+    execute(alloc, &mut *store.lock(rt), request)
 }
 
 /// Submits the item, once there is room for it.

@@ -1,4 +1,4 @@
-ghost use Rattle.std.specs.Prelude.{◌≡◌, ◌≤◌, None, [], IfOk, IsTrue};
+ghost use Rattle.std.specs.Prelude.{◌≡◌, ◌≤◌, None, [], IfOk, IsTrue, option_map};
 ghost use Rattle.round_state.specs.Opening.{fresh_state};
 ghost use Rattle.round_state.specs.Runs.{Holds};
 ghost use Rattle.demonstration.specs.Reading.{last_kind};
@@ -8,7 +8,7 @@ use crate::halls::Hall;
 use crate::starting::Start;
 use crate::texts::Shown;
 use crate::threads::{Returned, run_threads};
-use demo_store::{Executed, Fault, Store};
+use demo_store::{Fault, Store};
 use fragment_intake::Desk;
 use live_audit::AuditorSide;
 use order_check::Kind;
@@ -32,10 +32,10 @@ fn open_engine(alloc: Global) -> Result<Engine, NoMemory>
 }
 
 /// The kind of the latest report.
-fn latest_kind(latest: &Latest, seat: &mut ReaderSeat) -> Option<Kind>
-    requires { seat.old.word ≡ latest.now }
+fn kind_of(latest: Option<(u64, Kind)>) -> Option<Kind>
+    ensures { result ≡ option_map (λ told. told.1) latest }
 {
-    let (_, kind) = latest.latest(seat)?;
+    let (_, kind) = latest?;
     Some(kind)
 }
 
@@ -51,28 +51,31 @@ fn has_heard_all(sender: ReportSender, reader: &mut ReportReader) -> bool
     }
 }
 
-/// What a run came to: what is shown of it, the entries that the auditor sent, and what the store executed, in order.
+/// What a run came to: what is shown of it, the entries that the auditor sent, the round and kind of the latest report, and the store, with what it
+/// executed.
 #[derive(Drop)]
 pub struct Outcome {
     pub shown: Shown,
     pub entries: Sequence<Entry>,
-    pub executed: Sequence<Executed>,
+    pub latest: Option<(u64, Kind)>,
+    pub store: Store,
 }
 
-/// What the store executed, in order.
-fn executed<R: Wait>(
-    rt: &R,
-    alloc: Global,
-    store: &Mutex<Store>,
-) -> Result<Sequence<Executed>, NoMemory> {
-    let log = store.lock(rt).log().to_vec(alloc)?;
-    Ok(Sequence::new(log))
+/// The store that the threads shared, which has this fault. What a lock holds no contract says, so that the fault is looked at once more.
+fn store_of(store: Mutex<Store>, fault: Fault) -> Result<Store, NoMemory>
+    ensures { IfOk result (λ store. store.fault ≡ fault) }
+{
+    let store = store.into_inner();
+    if store.fault() == fault {
+        Ok(store)
+    } else {
+        Err(AllocError)
+    }
 }
 
 /// What a run came to, once its threads have ended.
 fn outcome_of<R: Wait>(
     rt: &R,
-    alloc: Global,
     fault: Fault,
     hall: Hall,
     returned: Returned,
@@ -85,7 +88,8 @@ fn outcome_of<R: Wait>(
     requires entries { returned.entries ≡ returned.reader.received }
     requires word { seat.old.word ≡ hall.latest }
     ensures fault { IfOk result (λ outcome. outcome.shown.fault ≡ fault) }
-    ensures run { IfOk result (λ outcome. IsRunOf outcome.entries outcome.shown) }
+    ensures run { IfOk result (λ outcome. IsRunOf outcome.store outcome.entries outcome.shown) }
+    ensures latest { IfOk result (λ outcome. outcome.shown.latest ≡ option_map (λ told. told.1) outcome.latest) }
 {
     let Returned {
         passes,
@@ -94,22 +98,29 @@ fn outcome_of<R: Wait>(
         last,
         entries,
     } = returned;
-    let latest = latest_kind(&hall.latest, seat);
+    let latest = hall.latest.latest(seat);
     if !has_heard_all(side.sender, &mut reader) {
         return Err(AllocError);
     }
-    let executed = executed(rt, alloc, &hall.store)?;
-    let tally = hall.desk.tally(rt, passes, side.pass);
+    let Hall {
+        start: _,
+        store,
+        desk,
+        latest: _,
+    } = hall;
+    let tally = desk.tally(rt, passes, side.pass);
+    let store = store_of(store, fault)?;
     let shown = Shown {
         fault,
         tally,
         last,
-        latest,
+        latest: kind_of(latest),
     };
     Ok(Outcome {
         shown,
         entries,
-        executed,
+        latest,
+        store,
     })
 }
 
@@ -126,7 +137,8 @@ pub fn run<R: Threads + Wait + Sync, S: Solver + Sync>(
     requires desk { (1 ≤ desk_capacity) × (desk_capacity ≤ 1024) }
     requires ring { (1 ≤ ring_capacity) × (ring_capacity ≤ 1024) }
     ensures fault { IfOk result (λ outcome. outcome.shown.fault ≡ fault) }
-    ensures run { IfOk result (λ outcome. IsRunOf outcome.entries outcome.shown) }
+    ensures run { IfOk result (λ outcome. IsRunOf outcome.store outcome.entries outcome.shown) }
+    ensures latest { IfOk result (λ outcome. outcome.shown.latest ≡ option_map (λ told. told.1) outcome.latest) }
 {
     let (desk, passes, pass) = Desk::new(alloc, desk_capacity)?;
     let (sender, reader) = ring(alloc, ring_capacity)?;
@@ -145,5 +157,5 @@ pub fn run<R: Threads + Wait + Sync, S: Solver + Sync>(
         stops: None,
     };
     let returned = run_threads(rt, alloc, &hall, engine, solver, passes, side, reader)?;
-    outcome_of(rt, alloc, fault, hall, returned, &mut seats[0])
+    outcome_of(rt, fault, hall, returned, &mut seats[0])
 }

@@ -8,6 +8,7 @@ use demonstration::{DemoFailure, Outcome, Shown, demo, demo_run, run};
 use fragment_intake::Tally;
 use order_check::Kind;
 use polygraph::Single;
+use report_queue::Entry;
 use std::alloc::Global;
 use std::process::Abort;
 use std::str;
@@ -34,6 +35,17 @@ fn wanted(fault: Fault) -> Shown {
     }
 }
 
+/// The round and kind of the last report that was sent.
+fn last_report(entries: &[Entry]) -> Option<(u64, Kind)> {
+    let mut last = None;
+    for entry in entries {
+        if let Entry::Report(report) = entry {
+            last = Some((report.round, report.kind));
+        }
+    }
+    last
+}
+
 /// Each entry is judged, the last report is of all that was executed, and what is shown is what is wanted.
 fn judge_outcome(
     rt: &impl Abort,
@@ -42,15 +54,12 @@ fn judge_outcome(
     outcome: &Outcome,
 ) -> Result<(), NoMemory> {
     assert_eq!(rt; outcome.shown, wanted(fault));
-    assert_eq!(rt; outcome.executed.len(), 36);
-    let told = judge(
-        rt,
-        alloc,
-        outcome.executed.as_slice(),
-        outcome.entries.as_slice(),
-    )?;
+    let executed = outcome.store.log();
+    assert_eq!(rt; executed.len(), 36);
+    let told = judge(rt, alloc, executed, outcome.entries.as_slice())?;
     assert_eq!(rt; told.counts, [9; 4]);
     assert_eq!(rt; told.kind, outcome.shown.last);
+    assert_eq!(rt; outcome.latest, last_report(outcome.entries.as_slice()));
     Ok(())
 }
 
