@@ -3,7 +3,8 @@ use settle::Cut;
 use txn::Refusal;
 
 /// What the auditor tells, in order: what became of each parcel, by its collector and its place among that one's parcels;
-/// what each round found; what was cut away; a cut that was left out, and why; and that nothing more comes.
+/// what each round found; what was cut away; a round that was refused at its begin or abandoned, and why; and that nothing
+/// more comes.
 #[derive(Drop, Debug)]
 pub enum Entry {
     Accepted {

@@ -1,6 +1,6 @@
 -- Fronts that known relations are kept of: they stay behind the parts, and are caught up.
 use Rattle.std.proofs.Common.{◌≡◌, ◌≢◌, ℕ, zero, suc, ◌+◌, ◌<◌, ◌≤◌, Bool, true, false, List, [], ◌∷◌, ◌++◌, length, drop, Option, Some, None, refl, sym, ap, ◌∙◌, subst, inl, inr, arith, get_or, append-nil, length-append, length-set, get_or-set_same, get_or-set_other}
-use Rattle.std.specs.Prelude.{IfSome, slice_get, slice_set, sum_by}
+use Rattle.std.specs.Prelude.{IfSome, IsSomeAnd, slice_get, slice_set, sum_by}
 use Rattle.std.specs.FinMap as map
 use Rattle.std.proofs.lemmas.Bool.{cases_eq, cases_lt}
 use Rattle.std.proofs.lemmas.List.{same_lists, get_or_append_left, get_or_default}
@@ -24,58 +24,69 @@ use Rattle.forced_choices.specs.SaturatedState.{SaturatedState}
 use Rattle.settle.specs.declared.cuts.Cut.{Cut}
 use Rattle.round_state.specs.Behind.{IsBehind, AreKnownBehind, IsCaughtBelow, IsClosedBelow, fragment_behind}
 use Rattle.round_state.specs.Kept.{IsFitting}
+use Rattle.round_state.specs.OpenRounds.{IsOpenOn}
+use Rattle.round_state.specs.declared.snapshots.OpenRound.{OpenRound}
 
 -- what stays behind
 
 behind_itself : FrontOfItself → (front parts : Parts) → front ≡ parts → IsBehind front parts
 behind_itself law front parts e = subst (λ (p : Parts). IsBehind p parts) (sym e) (record { kept = law parts; limit = refl })
 
-pub known_with : FragmentKeepsFront → (parts new : Parts) (asked : Option Parts) (kept : Option SaturatedState) (f : Fragment) → new ≡ parts_with parts f → IsOpenSession parts f.session → AreKnownBehind parts asked kept → AreKnownBehind new asked kept
-known_with law parts new asked kept f e receives known = subst (λ (p : Parts). AreKnownBehind p asked kept) (sym e) (record {
-  round = IfSome_then asked known.round (λ snapshot behind. record { kept = law snapshot parts f behind.kept receives; limit = behind.limit });
-  last = IfSome_then kept known.last (λ one behind. record { kept = law one.parts parts f behind.kept receives; limit = behind.limit });
+pub known_with : FragmentKeepsFront → (parts new : Parts) (asked : Option OpenRound) (known : Option SaturatedState) (f : Fragment) → new ≡ parts_with parts f → IsOpenSession parts f.session → AreKnownBehind parts asked known → AreKnownBehind new asked known
+known_with law parts new asked known f e receives are = subst (λ (p : Parts). AreKnownBehind p asked known) (sym e) (record {
+  last = IfSome_then known are.last (λ one behind. record { kept = law one.parts parts f behind.kept receives; limit = behind.limit });
+  round = are.round;
 })
 
-pub known_closed : CloseKeepsFront → (parts : Parts) (asked : Option Parts) (kept : Option SaturatedState) (s : ℕ) (closed : List Bool) → closed ≡ slice_set parts.closed s true → AreKnownBehind parts asked kept → AreKnownBehind (record parts { closed = closed }) asked kept
-known_closed law parts asked kept s closed e known = subst (λ (flags : List Bool). AreKnownBehind (record parts { closed = flags }) asked kept) (sym e) (record {
-  round = IfSome_then asked known.round (λ snapshot behind. record { kept = law snapshot parts s behind.kept; limit = behind.limit });
-  last = IfSome_then kept known.last (λ one behind. record { kept = law one.parts parts s behind.kept; limit = behind.limit });
+pub known_closed : CloseKeepsFront → (parts : Parts) (asked : Option OpenRound) (known : Option SaturatedState) (s : ℕ) (closed : List Bool) → closed ≡ slice_set parts.closed s true → AreKnownBehind parts asked known → AreKnownBehind (record parts { closed = closed }) asked known
+known_closed law parts asked known s closed e are = subst (λ (flags : List Bool). AreKnownBehind (record parts { closed = flags }) asked known) (sym e) (record {
+  last = IfSome_then known are.last (λ one behind. record { kept = law one.parts parts s behind.kept; limit = behind.limit });
+  round = are.round;
 })
 
 -- parts as they were
-pub known_parts : (old new : Parts) (asked : Option Parts) (kept : Option SaturatedState) → new ≡ old → AreKnownBehind old asked kept → AreKnownBehind new asked kept
-known_parts old new asked kept e known = subst (λ (parts : Parts). AreKnownBehind parts asked kept) (sym e) known
+pub known_parts : (old new : Parts) (asked : Option OpenRound) (known : Option SaturatedState) → new ≡ old → AreKnownBehind old asked known → AreKnownBehind new asked known
+known_parts old new asked known e are = subst (λ (parts : Parts). AreKnownBehind parts asked known) (sym e) are
+
+-- where no round is open
+
+no_round : (asked : Option OpenRound) (known : Option SaturatedState) → asked ≡ None → (one : OpenRound) → asked ≡ Some one → IsSomeAnd known (λ relation. IsOpenOn relation.parts one)
+no_round asked known none one some = absurd (not_some one (sym none ∙ some))
+  where
+    not_some : (one : OpenRound) → None ≡ Some one → ⊥
+    not_some one h = cc
 
 -- nothing is kept
-pub known_none : (parts : Parts) (asked : Option Parts) (kept : Option SaturatedState) → kept ≡ None → IfSome asked (λ snapshot. IsBehind snapshot parts) → AreKnownBehind parts asked kept
-known_none parts asked kept none round = record { round = round; last = subst (λ (k : Option SaturatedState). IfSome k (λ known. IsBehind known.parts parts)) (sym none) tt }
-
-no_round : (parts : Parts) (asked : Option Parts) → asked ≡ None → IfSome asked (λ snapshot. IsBehind snapshot parts)
-no_round parts asked none = subst (λ (a : Option Parts). IfSome a (λ snapshot. IsBehind snapshot parts)) (sym none) tt
-
-pub known_joined : (parts : Parts) (asked : Option Parts) (kept : Option SaturatedState) → asked ≡ None → kept ≡ None → AreKnownBehind parts asked kept
-known_joined parts asked kept open_none none = known_none parts asked kept none (no_round parts asked open_none)
-
-pub known_begun : FrontOfItself → (parts snapshot : Parts) (kept : Option SaturatedState) → snapshot ≡ parts → kept ≡ None → AreKnownBehind parts (Some snapshot) kept
-known_begun law parts snapshot kept e none = known_none parts (Some snapshot) kept none (behind_itself law snapshot parts e)
-
--- a round that ends leaves its relation
-pub known_ended : (parts : Parts) (asked told rest : Option Parts) (kept new : Option SaturatedState) → told ≡ asked → rest ≡ None → IfSome new (λ known. told ≡ Some known.parts) → AreKnownBehind parts asked kept → AreKnownBehind parts rest new
-known_ended parts asked told rest kept new e none is known = record {
-  round = no_round parts rest none;
-  last = IfSome_then new is (λ one same. subst (λ (a : Option Parts). IfSome a (λ snapshot. IsBehind snapshot parts)) (sym e ∙ same) known.round);
+pub known_none : (parts : Parts) (asked : Option OpenRound) (known : Option SaturatedState) → known ≡ None → asked ≡ None → AreKnownBehind parts asked known
+known_none parts asked known none no_open = record {
+  last = subst (λ (k : Option SaturatedState). IfSome k (λ one. IsBehind one.parts parts)) (sym none) tt;
+  round = no_round asked known no_open;
 }
 
+-- a round that begins is about the parts, as is the relation
+pub known_begun : FrontOfItself → (parts : Parts) (one : OpenRound) (relation : SaturatedState) → relation.parts ≡ parts → IsOpenOn relation.parts one → AreKnownBehind parts (Some one) (Some relation)
+known_begun law parts one relation e on = record {
+  last = behind_itself law relation.parts parts e;
+  round = λ other same. subst (λ (o : OpenRound). IsOpenOn relation.parts o) (same_round one other same) on;
+}
+  where
+    same_round : (a b : OpenRound) → Some a ≡ Some b → a ≡ b
+    same_round a b h = cc
+
+-- a round that ends leaves its relation
+pub known_ended : (parts : Parts) (asked : Option OpenRound) (known : Option SaturatedState) → AreKnownBehind parts asked known → AreKnownBehind parts None known
+known_ended parts asked known are = record { last = are.last; round = no_round None known refl }
+
 -- what is the parts' own relation is behind them
-pub known_whole : FrontOfItself → (parts : Parts) (asked : Option Parts) (kept : Option SaturatedState) → asked ≡ None → IfSome kept (λ known. known.parts ≡ parts) → AreKnownBehind parts asked kept
-known_whole law parts asked kept none is = record {
-  round = no_round parts asked none;
-  last = IfSome_then kept is (λ one same. behind_itself law one.parts parts same);
+pub known_whole : FrontOfItself → (parts : Parts) (asked : Option OpenRound) (known : Option SaturatedState) → asked ≡ None → IfSome known (λ one. one.parts ≡ parts) → AreKnownBehind parts asked known
+known_whole law parts asked known none is = record {
+  last = IfSome_then known is (λ one same. behind_itself law one.parts parts same);
+  round = no_round asked known none;
 }
 
 -- what is kept is behind, wherever it is taken from
-pub last_behind : (parts : Parts) (asked : Option Parts) (kept taken : Option SaturatedState) → taken ≡ kept → AreKnownBehind parts asked kept → IfSome taken (λ known. IsBehind known.parts parts)
-last_behind parts asked kept taken e known = subst (λ (k : Option SaturatedState). IfSome k (λ one. IsBehind one.parts parts)) (sym e) known.last
+pub last_behind : (parts : Parts) (asked : Option OpenRound) (known taken : Option SaturatedState) → taken ≡ known → AreKnownBehind parts asked known → IfSome taken (λ one. IsBehind one.parts parts)
+last_behind parts asked known taken e are = subst (λ (k : Option SaturatedState). IfSome k (λ one. IsBehind one.parts parts)) (sym e) are.last
 
 -- a cut that fits the parts cuts what is known of them
 pub known_cut : (old new : Parts) (cut : Cut) (gone : List TxnId) (whole : Option SaturatedState) → gone ≡ cut.gone → IsFitting old cut → IsCutOf old new cut.gone cut.last → IfSome whole (λ known. known.parts ≡ old) → IfSome whole (λ known. IsContentCutOff known.parts gone new)

@@ -1,7 +1,7 @@
 -- How many were received of each session, one session after another.
 use Rattle.std.proofs.Common.{◌≡◌, ℕ, zero, suc, ◌+◌, ◌<◌, ◌≤◌, List, [], ◌∷◌, ◌++◌, length, map, take, refl, sym, ap, ◌∙◌, arith, get_or, take_all}
 use Rattle.std.specs.FinMap as finite
-use Rattle.std.proofs.lemmas.List.{take_more, ext_get_or, length-map, get_or-map}
+use Rattle.std.proofs.lemmas.List.{ext_get_or, length-map, get_or-map}
 use Rattle.txn.specs.declared.transactions.Txn.{Txn}
 use Rattle.txn.specs.History.{History, session_of}
 use Rattle.order_check.specs.declared.remainder.Parts.{Parts}
@@ -24,20 +24,6 @@ counts_at [] (txns ∷ remain) s e = absurd (omega arith)
 counts_at (mark ∷ marks) [] s e = absurd (omega arith)
 counts_at (mark ∷ marks) (txns ∷ remain) zero e = refl
 counts_at (mark ∷ marks) (txns ∷ remain) (suc s) e = let e' : length marks ≡ length remain = omega arith in counts_at marks remain s e'
-
--- the counts of one session more
-pub counts_more : (parts : Parts) (s : ℕ) → IsGood parts → s < length parts.remain → take (s + 1) (received_counts parts) ≡ take s (received_counts parts) ++ received_count parts s ∷ []
-counts_more parts s good within =
-    let size = counts_length parts.base.marks parts.remain good.marks in
-    let inside : s < length (received_counts parts) = omega (arith, size) in
-    take_more (received_counts parts) s 0 inside ∙ ap (λ (n : ℕ). take s (received_counts parts) ++ n ∷ []) (counts_at parts.base.marks parts.remain s good.marks)
-
--- the counts of all sessions
-pub counts_all : (parts : Parts) (n : ℕ) → IsGood parts → n ≡ length parts.remain → take n (received_counts parts) ≡ received_counts parts
-counts_all parts n good e =
-    let size = counts_length parts.base.marks parts.remain good.marks in
-    let low : length (received_counts parts) ≤ n = omega (arith, size) in
-    take_all n (received_counts parts) low
 
 -- where as much was received as a history has, the counts are the lengths of its sessions
 pub counts_of : (parts : Parts) (history : History) → IsGood parts → length history ≡ length parts.remain → ((s : ℕ) → received_count parts s ≡ length (session_of history s)) → received_counts parts ≡ map length history

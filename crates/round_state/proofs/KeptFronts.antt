@@ -29,9 +29,9 @@ same_parts : (a b : Parts) → Some a ≡ Some b → a ≡ b
 same_parts a b e = cc
 
 -- no round is open where the test finds none
-pub none_open : (asked : Option Parts) (found : Bool) → found ≡ is_some asked → found ≡ false → asked ≡ None
+pub none_open : {X : Type 0} (asked : Option X) (found : Bool) → found ≡ is_some asked → found ≡ false → asked ≡ None
 none_open None found told failed = refl
-none_open (Some snapshot) found told failed = absurd (false≢true (sym failed ∙ told))
+none_open (Some one) found told failed = absurd (false≢true (sym failed ∙ told))
 
 -- a round that begins is about what there is
 pub kept_begun : FrontOfItself → (parts : Parts) (marks : List SessionMark) (waits : Index) (asked : Option Parts) (held : Option Cut) (rounds : ℕ) (snapshot : Parts) → snapshot ≡ parts → rounds < 2 ^ 48 - 1 → IsKept parts marks waits asked held rounds → IsKept parts marks waits (Some snapshot) held rounds

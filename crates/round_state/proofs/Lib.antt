@@ -9,6 +9,7 @@ pub mod Keeping
 pub mod KeptFronts
 pub mod LetIn
 pub mod Marked
+pub mod OpenSnapshots
 pub mod Raised
 pub mod Replies
 pub mod Running

@@ -2,7 +2,6 @@
 use Rattle.std.proofs.Common.{◌≡◌, ◌≢◌, ℕ, zero, suc, ◌+◌, ◌<◌, ◌≤◌, Bool, true, false, List, [], ◌∷◌, ◌++◌, length, Some, sym, ap, ◌∙◌, subst, inl, inr, arith, length-append, length-set, get_or, get_or-set_same, get_or-set_other}
 use Rattle.std.specs.Prelude.{slice_get, slice_set, sum_by}
 use Rattle.std.proofs.lemmas.Bool.{cases_eq, false≢true}
-use Rattle.std.proofs.lemmas.List.{ext_get_or, length-map, get_or-map}
 use Rattle.std.proofs.lemmas.Option.{get_or_from_slice_get}
 use Rattle.txn.specs.declared.transactions.Txn.{Txn}
 use Rattle.txn.specs.declared.transactions.Fragment.{Fragment}
@@ -12,14 +11,12 @@ use Rattle.txn.specs.History.{session_of}
 use Rattle.txn.specs.Transactions.{IsWellFormedFragment}
 use Rattle.session_marks.specs.declared.marks.SessionMark.{SessionMark}
 use Rattle.session_marks.specs.Marks.{fresh, mark_at, IsOpen, IsClosed, IsNext, AdmitFault, CloseFault, with_received, with_closed, with_flag}
-use Rattle.session_marks.specs.Marks.{received_counts as counts_of_marks}
 use Rattle.order_check.specs.declared.remainder.Parts.{Parts}
-use Rattle.order_check.specs.Based.{mark_of, received_count, received_counts}
+use Rattle.order_check.specs.Based.{mark_of, received_count}
 use Rattle.order_check.specs.Good.{IsGood}
 use Rattle.order_check.specs.StandsFor.{IsOpenSession, parts_with, parts_closed}
 use Rattle.round_state.specs.Steps.{IsAdmitted, IntakeFault, IsClosedSession, IsCloseRefusal}
 use Rattle.round_state.specs.Tracked.{AreMarksOf}
-use Rattle.round_state.proofs.Counts.{counts_length, counts_at}
 
 flag_at : (flags : List Bool) (s : ℕ) → s < length flags → get_or flags s false ≡ true → slice_get flags s ≡ Some true
 flag_at [] s within is = absurd (omega arith)
@@ -134,12 +131,3 @@ marks_flagged marks parts s flag are good within = record {
 
 pub marks_closed : (marks : List SessionMark) (parts : Parts) (s : ℕ) → AreMarksOf marks parts → IsGood parts → s < length parts.remain → AreMarksOf (with_closed marks s) (parts_closed parts s)
 marks_closed marks parts s are good within = marks_flagged marks parts s true are good within
-
--- the counts that the marks tell are those of the parts
-pub counts_told : (marks : List SessionMark) (parts : Parts) → AreMarksOf marks parts → IsGood parts → counts_of_marks marks ≡ received_counts parts
-counts_told marks parts are good =
-    let size = counts_length parts.base.marks parts.remain good.marks in
-    let same : length (counts_of_marks marks) ≡ length (received_counts parts) = length-map marks (λ (m : SessionMark). m.received) ∙ are.sessions ∙ sym size in
-    ext_get_or 0 (counts_of_marks marks) (received_counts parts) same (λ s within.
-    let inside : s < length marks = omega (arith, within, length-map marks (λ (m : SessionMark). m.received)) in
-    get_or-map (λ (m : SessionMark). m.received) marks s fresh 0 inside ∙ are.received s ∙ sym (counts_at parts.base.marks parts.remain s good.marks))

@@ -1,20 +1,22 @@
 -- For private clauses: known relations that an engine keeps, of fronts of its parts, and what catches one up.
-use Rattle.std.specs.Prelude.{◌≡◌, ℕ, ◌<◌, Option, IfSome, Some, true, drop, length, slice_get}
+use Rattle.std.specs.Prelude.{◌≡◌, ℕ, ◌<◌, Option, IfSome, IsSomeAnd, Some, true, drop, length, slice_get}
 use Rattle.txn.specs.declared.transactions.Fragment.{Fragment}
 use Rattle.order_check.specs.declared.remainder.Parts.{Parts}
 use Rattle.order_check.specs.Based.{received_count, remaining_of}
 use Rattle.order_check.specs.Cuts.{IsKeptFront}
 use Rattle.forced_choices.specs.SaturatedState.{SaturatedState}
+use Rattle.round_state.specs.OpenRounds.{IsOpenOn}
+use Rattle.round_state.specs.declared.snapshots.OpenRound.{OpenRound}
 
 -- the front is kept while the parts go on, under the same limit
 pub record IsBehind (front parts : Parts) : Type 0 where
   pub kept : IsKeptFront front parts
   pub limit : front.limit ≡ parts.limit
 
--- the snapshot of the open round is behind the parts, and so are those of the relation that is kept
-pub record AreKnownBehind (parts : Parts) (asked : Option Parts) (kept : Option SaturatedState) : Type 0 where
-  pub round : IfSome asked (λ snapshot. IsBehind snapshot parts)
-  pub last : IfSome kept (λ known. IsBehind known.parts parts)
+-- The relation that is kept is that of a front of the parts; and while a round is open, that of its snapshot.
+pub record AreKnownBehind (parts : Parts) (asked : Option OpenRound) (known : Option SaturatedState) : Type 0 where
+  pub last : IfSome known (λ one. IsBehind one.parts parts)
+  pub round : (one : OpenRound) → asked ≡ Some one → IsSomeAnd known (λ relation. IsOpenOn relation.parts one)
 
 -- what came of a session behind the front
 abbrev pub fragment_behind : Parts → Parts → ℕ → Fragment

@@ -4,6 +4,7 @@ pub mod EngineState
 pub mod Joining
 pub mod Kept
 pub mod Legal
+pub mod OpenRounds
 pub mod Opening
 pub mod Runs
 pub mod Solving

@@ -8,7 +8,7 @@ use Rattle.session_marks.specs.Marks.{mark_at}
 use Rattle.pending_reads.specs.Waiting.{Index, Waits}
 use Rattle.order_check.specs.declared.remainder.Parts.{Parts}
 use Rattle.order_check.specs.Good.{IsGood}
-use Rattle.order_check.specs.Based.{mark_of, received_count, received_counts, remaining_at, IsReceived, HasPending}
+use Rattle.order_check.specs.Based.{mark_of, received_count, remaining_at, IsReceived}
 
 -- The marks tell of each session of the parts how many are gone, how many were received, and whether it is closed.
 pub record AreMarksOf (marks : List SessionMark) (parts : Parts) : Type 0 where
@@ -51,9 +51,3 @@ pub record IsTracked (marks : List SessionMark) (index : Index) (parts : Parts) 
   pub good : IsGood parts
   pub marks_fit : AreMarksOf marks parts
   pub waits_fit : IsIndexOf index parts
-
--- What is kept with a snapshot of good parts: how many were received of each session, and whether a read was pending.
-pub record IsSnapshot (parts : Parts) (told : List ℕ) (some : Bool) : Type 0 where
-  pub good : IsGood parts
-  pub counts : told ≡ received_counts parts
-  pub pending : IsTrue some ↔ HasPending parts

@@ -6,10 +6,10 @@ ghost use Rattle.round_state.specs.Steps.{IsHeldAfter};
 ghost use Rattle.round_state.specs.Solving.{IsRight, IsReportOn, IsReportRefusal, IsShown, IsHeldBy};
 
 use crate::snapshots::Snapshot;
-use order_check::{Kind, Parts, explains};
+use order_check::{Kind, Parts};
 use polygraph::Answer;
-use refutation::{Tree, check};
-use settle::{Cut, find};
+use refutation::Tree;
+use settle::{Cut, find_in};
 use std::alloc::Global;
 use txn::{NoMemory, Refusal, Sequence, TxnId};
 
@@ -36,20 +36,15 @@ pub struct Report {
 }
 
 /// How many were received of each session.
-#[tactic(auto, using(crate::proofs::Counts::counts_more, crate::proofs::Counts::counts_all))]
 pub fn received_counts(alloc: Global, parts: &Parts) -> Result<Sequence<u64>, NoMemory>
     requires { IsGood parts.now }
     ensures { IfOk result (λ counts. counts ≡ received_counts parts.now) }
 {
-    let mut counts = Vec::with_capacity(alloc, parts.sessions())?;
-    for session in 0..parts.sessions() as u8 {
-        counts.push(parts.received_count(session))?;
-    }
-    Ok(Sequence::new(counts))
+    parts.received_counts(alloc)
 }
 
 /// The kind of a snapshot that some order explains.
-fn kind_of_explained(snapshot: &Snapshot) -> Kind
+fn kind_of_explained(snapshot: &Snapshot<'_>) -> Kind
     ensures { HasOrder snapshot.now → IsVerdict snapshot.now result }
 {
     if snapshot.has_pending() {
@@ -60,18 +55,22 @@ fn kind_of_explained(snapshot: &Snapshot) -> Kind
 }
 
 /// Checks the answer. A right one earns its kind and its certificate.
-fn judge(alloc: Global, snapshot: &Snapshot, answer: Answer) -> Result<(Kind, Certificate), Refusal>
+fn judge(
+    alloc: Global,
+    snapshot: &Snapshot<'_>,
+    answer: Answer,
+) -> Result<(Kind, Certificate), Refusal>
     ensures { MatchResult result (λ judged. IsRight snapshot.now answer judged.0 judged.1) (IsReportRefusal snapshot.now answer) }
 {
     match answer {
         Answer::Yes(order) => {
-            if !explains(alloc, snapshot.parts(), order.as_slice())? {
+            if !snapshot.is_explained_by(alloc, order.as_slice())? {
                 return Err(Refusal::BadCertificate);
             }
             Ok((kind_of_explained(snapshot), Certificate::Order(order)))
         }
         Answer::No(tree) => {
-            if !check(alloc, snapshot.parts(), &tree)? {
+            if !snapshot.is_refuted_by(alloc, &tree)? {
                 return Err(Refusal::BadCertificate);
             }
             Ok((Kind::Violated, Certificate::Refuted(tree)))
@@ -84,7 +83,7 @@ fn judge(alloc: Global, snapshot: &Snapshot, answer: Answer) -> Result<(Kind, Ce
 /// Makes the held cut that which is found in a snapshot that an order was shown to explain, or none. Without an order it stays.
 fn hold_found(
     alloc: Global,
-    snapshot: &Snapshot,
+    snapshot: &Snapshot<'_>,
     certificate: &Certificate,
     held: &mut Option<Cut>,
 ) -> Result<(), NoMemory>
@@ -93,7 +92,7 @@ fn hold_found(
     ensures err { OnErr result (held.new ≡ held.old) }
 {
     if let Certificate::Order(order) = certificate {
-        *held = find(alloc, snapshot.problem(), order.as_slice())?;
+        *held = find_in(alloc, snapshot.known(), order.as_slice())?;
     }
     Ok(())
 }
@@ -102,7 +101,7 @@ fn hold_found(
 /// report is serial or pending. A refusal leaves it.
 pub(crate) fn report_on(
     alloc: Global,
-    snapshot: &Snapshot,
+    snapshot: &Snapshot<'_>,
     round: u64,
     answer: Answer,
     held: &mut Option<Cut>,

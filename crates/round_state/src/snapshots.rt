@@ -1,128 +1,140 @@
-ghost use Rattle.std.specs.Prelude.{◌≡◌, ◌↔◌, IfOk, IfSome, IsTrue};
+ghost use Rattle.std.specs.Prelude.{◌≡◌, ◌↔◌, map, not, IfOk, IsSome, IsTrue, Some};
+ghost use Rattle.order_check.specs.declared.remainder.Parts.{Parts};
 ghost use Rattle.order_check.specs.Based.{received_counts, HasPending};
+ghost use Rattle.order_check.specs.Explains.{Explains};
 ghost use Rattle.order_check.specs.Good.{IsGood};
-ghost use Rattle.round_state.specs.Tracked.{AreMarksOf, IsIndexOf};
+ghost use Rattle.refutation.specs.Refutes.{IsRefutation};
+ghost use Rattle.round_state.specs.OpenRounds.{IsOpenOn, IsSnapshotOf};
 
 use forced_choices::Saturated;
-use order_check::Parts;
-use pending_reads::PendingReads;
+use order_check::{Parts, explains_front};
 use polygraph::Problem;
-use session_marks::Marks;
+use refutation::{Tree, check_front};
 use std::alloc::Global;
 use std::marker::Model;
-use txn::{NoMemory, Sequence};
+use txn::{NoMemory, Sequence, TxnId};
 
-/// What a round is about: the parts when it began. Contracts see the parts.
+/// What is held of a round that is open: how many had been received of each session when it began, and which sessions were open. It is
+/// about the front of the parts up to these counts, since no cut is made while it is open.
 #[derive(Drop, Debug)]
-pub struct Snapshot {
-    /// Its known relation has the parts.
-    problem: Problem,
-    counts: Sequence<u64>,
-    pending: bool,
+pub struct OpenRound {
+    pub counts: Sequence<u64>,
+    pub live: Sequence<bool>,
 }
 
-impl Model for Snapshot {
+/// What an open round is about, for as long as an answer is judged. Contracts see the parts when it began.
+#[derive(Drop, Debug)]
+pub struct Snapshot<'a> {
+    parts: &'a Parts,
+    begun: &'a OpenRound,
+    /// The relation of the snapshot.
+    known: &'a Saturated,
+}
+
+impl<'a> Model for Snapshot<'a> {
     ghost use Rattle.std.specs.Coded.{codes};
     ghost use Rattle.order_check.specs.Codes.{coded_last};
     ghost use Rattle.order_check.specs.declared.remainder.Parts.{Parts};
-    ghost use Rattle.round_state.specs.Tracked.{IsSnapshot};
+    ghost use Rattle.round_state.specs.OpenRounds.{IsSnapshotOf};
 
     ghost Value = { Parts };
 
     ghost coded = { Prim.hlevel (codes, coded_last) };
 
-    ghost view = { λ s. s.problem.known.parts };
+    ghost view = { λ s. s.known.now.parts };
 
-    ghost invariant = { λ s. IsSnapshot s.problem.known.parts s.counts s.pending };
+    ghost invariant = { λ s. IsSnapshotOf s.parts.now s.begun.now s.known.now.parts };
 }
 
-/// A snapshot of the parts that the relation is about, and their problem.
+/// Which sessions are open.
+fn live_flags(alloc: Global, closed: &[bool]) -> Result<Sequence<bool>, NoMemory>
+    ensures { IfOk result (λ live. live ≡ map not closed.now) }
+{
+    let mut live = Vec::with_capacity(alloc, closed.len())?;
+    for is_closed in closed {
+        live.push(!*is_closed)?;
+    }
+    Ok(Sequence::new(live))
+}
+
+/// A round on the parts that the relation is about.
+fn open_on(alloc: Global, known: &Saturated) -> Result<OpenRound, NoMemory>
+    ensures { IfOk result (IsOpenOn known.now.parts) }
+{
+    let parts = known.parts();
+    let counts = parts.received_counts(alloc)?;
+    let live = live_flags(alloc, parts.closed.as_slice())?;
+    Ok(OpenRound { counts, live })
+}
+
+/// A round on the parts that the relation is about, the relation, and the problem of these parts.
 pub(crate) fn asked_of(
     alloc: Global,
     known: Saturated,
-    marks: &Marks,
-    waits: &PendingReads,
-) -> Result<(Snapshot, Problem), NoMemory>
-    requires good { IsGood known.parts }
-    requires marks { AreMarksOf marks.now known.parts }
-    requires index { IsIndexOf waits.now known.parts }
-    ensures snapshot { IfOk result (λ asked. asked.0 ≡ known.parts) }
-    ensures problem { IfOk result (λ asked. asked.1.known.parts ≡ known.parts) }
+) -> Result<(OpenRound, Saturated, Problem), NoMemory>
+    ensures begun { IfOk result (λ asked. IsOpenOn known.parts asked.0) }
+    ensures known { IfOk result (λ asked. asked.1.parts ≡ known.parts) }
+    ensures problem { IfOk result (λ asked. asked.2.known.parts ≡ known.parts) }
 {
-    let kept = Problem::about(alloc, known)?;
-    let problem = kept.clone()?;
-    let snapshot = Snapshot::of(alloc, kept, marks, waits)?;
-    Ok((snapshot, problem))
+    let begun = open_on(alloc, &known)?;
+    let first = Problem::about(alloc, known)?;
+    let problem = first.clone()?;
+    Ok((begun, first.into_known(), problem))
 }
 
-impl Snapshot {
-    /// A snapshot of the parts that the problem is about. How many were received is told by the marks, and whether a read
-    /// is pending by the index.
-    pub fn of(
-        alloc: Global,
-        problem: Problem,
-        marks: &Marks,
-        waits: &PendingReads,
-    ) -> Result<Snapshot, NoMemory>
-        requires good { IsGood problem.known.parts }
-        requires marks { AreMarksOf marks.now problem.known.parts }
-        requires index { IsIndexOf waits.now problem.known.parts }
-        ensures { IfOk result (λ snapshot. snapshot ≡ problem.known.parts) }
+/// The relation that is kept while a round is open.
+pub(crate) fn relation_in(known: &Option<Saturated>) -> &Saturated
+    requires { IsSome known.now }
+    ensures { known.now ≡ Some result.now }
+{
+    match known {
+        Some(relation) => relation,
+        None => unreachable!(),
+    }
+}
+
+impl<'a> Snapshot<'a> {
+    pub fn new(parts: &'a Parts, begun: &'a OpenRound, known: &'a Saturated) -> Snapshot<'a>
+        requires { IsSnapshotOf parts.now begun.now known.now.parts }
+        ensures { result ≡ known.now.parts }
     {
-        Ok(Snapshot {
-            problem,
-            counts: marks.received_counts(alloc)?,
-            pending: waits.any(),
-        })
+        Snapshot {
+            parts,
+            begun,
+            known,
+        }
     }
 
-    /// The problem of the parts.
-    pub fn problem(&self) -> &Problem
-        ensures { result.now.known.parts ≡ self.now }
+    /// The known relation of the snapshot.
+    pub fn known(&self) -> &Saturated
+        ensures { result.now.parts ≡ self.now }
     {
-        &self.problem
-    }
-
-    /// The known relation of the parts.
-    pub fn into_known(self) -> Saturated
-        ensures { result.parts ≡ self }
-    {
-        let Snapshot {
-            problem,
-            counts: _,
-            pending: _,
-        } = self;
-        problem.into_known()
-    }
-
-    pub fn parts(&self) -> &Parts
-        ensures value { result.now ≡ self.now }
-        ensures good { IsGood result.now }
-    {
-        self.problem.parts()
+        self.known
     }
 
     /// How many had been received of each session.
     pub fn counts(&self) -> Result<Sequence<u64>, NoMemory>
         ensures { IfOk result (λ counts. counts ≡ received_counts self.now) }
     {
-        self.counts.clone()
+        self.begun.counts.clone()
     }
 
     /// Whether some read waited for an id that wasn't received.
     pub fn has_pending(&self) -> bool
         ensures { IsTrue result ↔ HasPending self.now }
     {
-        self.pending
+        self.known.parts().has_pending()
     }
-}
 
-/// The known relation of a round that ends, if one was open.
-pub(crate) fn relation_of(asked: Option<Snapshot>) -> Option<Saturated>
-    ensures { IfSome result (λ known. asked ≡ Some known.parts) }
-{
-    match asked {
-        Some(snapshot) => Some(snapshot.into_known()),
-        None => None,
+    pub fn is_explained_by(&self, alloc: Global, order: &[TxnId]) -> Result<bool, NoMemory>
+        ensures { IfOk result (λ found. IsTrue found ↔ Explains self.now order.now) }
+    {
+        explains_front(alloc, self.parts, self.begun.counts.as_slice(), order)
+    }
+
+    pub fn is_refuted_by(&self, alloc: Global, tree: &Tree) -> Result<bool, NoMemory>
+        ensures { IfOk result (λ found. IsTrue found ↔ IsRefutation self.now tree.now) }
+    {
+        check_front(alloc, self.parts, self.begun.counts.as_slice(), tree)
     }
 }

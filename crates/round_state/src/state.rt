@@ -1,4 +1,4 @@
-ghost use Rattle.std.specs.Prelude.{◌≡◌, ◌+◌, length, sum_by, Some, None, IfOk, IfErr, OnErr, OnOk, IsSome, IsSomeAnd};
+ghost use Rattle.std.specs.Prelude.{◌≡◌, ◌+◌, length, sum_by, Some, None, IfOk, IfErr, OnErr, OnOk, IsSome, IsSomeAnd, MatchBool};
 ghost use Rattle.txn.specs.History.{History};
 ghost use Rattle.txn.specs.Transactions.{IsWellFormedFragment};
 ghost use Rattle.logged_fragments.specs.Effects.{effects};
@@ -18,12 +18,13 @@ use crate::intake::{admit, effects_of, take_in};
 use crate::joining::{join_with, let_in};
 use crate::opening::{empty_parts, is_limit, is_sessions};
 use crate::reports::{Report, report_on};
-use crate::snapshots::{Snapshot, asked_of, relation_of};
+use crate::snapshots::{OpenRound, Snapshot, asked_of, relation_in};
 use crate::tracking::{raise_all, tracks_of};
 use forced_choices::Saturated;
 use logged_fragments::LoggedFragment;
 use order_check::{
-    Parts, close_keeps_front, fragment_keeps_front, front_of_itself, stands_for_what_remains,
+    Parts, close_keeps_front, fragment_keeps_front, front_of_itself, kept_fronts_are_counted,
+    stands_for_what_remains,
 };
 use pending_reads::PendingReads;
 use polygraph::{Answer, Problem};
@@ -32,7 +33,7 @@ use settle::Cut;
 use std::alloc::Global;
 use std::marker::Model;
 use truncate::apply;
-use txn::{NoMemory, Refusal};
+use txn::{NoMemory, Refusal, Sequence};
 
 /// The number of the last round.
 const LAST_ROUND: u64 = (1 << 48) - 1;
@@ -46,14 +47,14 @@ pub struct Engine {
     marks: Marks,
     /// The pending reads.
     waits: PendingReads,
-    /// The open round's snapshot.
-    asked: Option<Snapshot>,
+    /// The open round.
+    asked: Option<OpenRound>,
     /// The cut that the last yes found.
     held: Option<Cut>,
     /// The number of the last finished round.
     round: u64,
-    /// The known relation of a front of the parts, left by the last round that ended. That of an open round is in its snapshot.
-    kept: Option<Saturated>,
+    /// The known relation of a front of the parts: while a round is open that of its snapshot, and between rounds that of the last one's.
+    known: Option<Saturated>,
 }
 
 impl Model for Engine {
@@ -62,14 +63,15 @@ impl Model for Engine {
     ghost use Rattle.round_state.specs.EngineState.{EngineState};
     ghost use Rattle.round_state.specs.Behind.{AreKnownBehind};
     ghost use Rattle.round_state.specs.Kept.{IsKept};
+    ghost use Rattle.round_state.specs.OpenRounds.{snapshot_in};
 
     ghost Value = { EngineState };
 
     ghost coded = { Prim.hlevel (codes, coded_last) };
 
-    ghost view = { λ e. record { parts = e.parts; asked = e.asked; held = e.held; rounds = e.round } };
+    ghost view = { λ e. record { parts = e.parts; asked = snapshot_in e.parts e.asked; held = e.held; rounds = e.round } };
 
-    ghost invariant = { λ e. IsKept e.parts e.marks e.waits e.asked e.held e.round × AreKnownBehind e.parts e.asked e.kept };
+    ghost invariant = { λ e. IsKept e.parts e.marks e.waits (snapshot_in e.parts e.asked) e.held e.round × AreKnownBehind e.parts e.asked e.known };
 }
 
 impl Engine {
@@ -94,7 +96,7 @@ impl Engine {
             asked: None,
             held: None,
             round: 0,
-            kept: None,
+            known: None,
         })
     }
 
@@ -114,7 +116,7 @@ impl Engine {
                 asked: None,
                 held: None,
                 round: 0,
-                kept: None,
+                known: None,
             }),
             Err(refused) => Err((parts, Refusal::from(refused))),
         }
@@ -134,6 +136,13 @@ impl Engine {
         &self.parts
     }
 
+    /// Whether a round is open.
+    fn is_open(&self) -> bool
+        ensures { MatchBool result (IsSome self.now.asked) (self.now.asked ≡ None) }
+    {
+        self.asked.is_some()
+    }
+
     /// Takes a fragment in, whether or not a round is open. Beside memory it takes time of the sessions, and of the fragment's
     /// reads and transactions times the logarithm of the pending reads, however much remains. What a transaction that aborted has read
     /// and written is judged as that of any other; then it counts as one that did nothing.
@@ -142,6 +151,7 @@ impl Engine {
         ensures err { IfErr result (λ refusal. IsOfferRefusal self.old.parts logged refusal × (self.new ≡ self.old)) }
     {
         fragment_keeps_front();
+        kept_fronts_are_counted();
         let fragment = effects_of(logged)?;
         admit(&self.parts, &self.marks, &fragment)?;
         take_in(
@@ -163,7 +173,7 @@ impl Engine {
         ensures err { IfErr result (λ refusal. IsJoinRefusal self.old logged refusal × (self.new ≡ self.old)) }
     {
         let fragment = effects_of(logged)?;
-        if self.asked.is_some() {
+        if self.is_open() {
             return Err(Refusal::RoundOpen);
         }
         let_in(&self.parts, &fragment)?;
@@ -175,7 +185,7 @@ impl Engine {
             fragment,
         )?;
         self.held = None; // It was settled without this session.
-        self.kept = None;
+        self.known = None;
         Ok(())
     }
 
@@ -195,16 +205,18 @@ impl Engine {
         ensures ok { IfOk result (λ problem. MayBegin self.old × (problem.known.parts ≡ self.old.parts) × (self.new ≡ engine_begun self.old)) }
         ensures err { IfErr result (λ refusal. IsBeginRefusal self.old refusal × (self.new ≡ self.old)) }
     {
-        if self.asked.is_some() {
+        if self.is_open() {
             return Err(Refusal::RoundOpen);
         }
         if self.round >= LAST_ROUND {
             return Err(Refusal::TooLong);
         }
         front_of_itself();
-        let known = known_of(alloc, self.kept.take(), &self.parts)?;
-        let (snapshot, problem) = asked_of(alloc, known, &self.marks, &self.waits)?;
-        self.asked = Some(snapshot);
+        kept_fronts_are_counted();
+        let last = known_of(alloc, self.known.take(), &self.parts)?;
+        let (begun, known, problem) = asked_of(alloc, last)?;
+        self.asked = Some(begun);
+        self.known = Some(known);
         Ok(problem)
     }
 
@@ -214,11 +226,14 @@ impl Engine {
         ensures ok { IfOk result (λ report. IsSomeAnd self.old.asked (λ parts. IsReportOn parts (self.old.rounds + 1) answer report × IsHeldAfter parts report.kind self.old.held self.new.held) × IsFinished self.old self.new) }
         ensures err { IfErr result (λ refusal. IsFinishRefusal self.old answer refusal × (self.new ≡ self.old)) }
     {
-        let Some(snapshot) = &self.asked else {
+        kept_fronts_are_counted();
+        let Some(begun) = &self.asked else {
             return Err(Refusal::NoRound);
         };
-        let report = report_on(alloc, snapshot, self.round + 1, answer, &mut self.held)?;
-        self.kept = relation_of(self.asked.take());
+        let known = relation_in(&self.known);
+        let snapshot = Snapshot::new(&self.parts, begun, known);
+        let report = report_on(alloc, &snapshot, self.round + 1, answer, &mut self.held)?;
+        self.asked = None;
         self.round += 1;
         Ok(report)
     }
@@ -227,19 +242,21 @@ impl Engine {
     pub fn open_problem(&self, alloc: Global) -> Result<Option<Problem>, NoMemory>
         ensures { IfOk result (λ problem. parts_asked problem ≡ self.now.asked) }
     {
-        match &self.asked {
-            Some(snapshot) => Ok(Some(Problem::of(alloc, snapshot.problem().known())?)),
-            None => Ok(None),
+        kept_fronts_are_counted();
+        if !self.is_open() {
+            return Ok(None);
         }
+        let known = relation_in(&self.known);
+        let problem = Problem::of(alloc, known)?;
+        Ok(Some(problem))
     }
 
     /// The snapshot of the round that is open keeps the rules.
     pub(crate) fn has_good_snapshot(&self)
         ensures { (parts : Parts) → self.now.asked ≡ Some parts → IsGood parts }
     {
-        if let Some(snapshot) = &self.asked {
-            let _ = snapshot.parts();
-        }
+        kept_fronts_are_counted();
+        let _ = self.asked.is_some();
     }
 
     /// Ends the open round without a report; its number isn't used up.
@@ -247,10 +264,10 @@ impl Engine {
         ensures ok { OnOk result (IsSome self.old.asked × (self.new ≡ engine_abandoned self.old)) }
         ensures err { IfErr result (λ refusal. IsAbandonRefusal self.old refusal × (self.new ≡ self.old)) }
     {
-        if self.asked.is_none() {
+        if !self.is_open() {
             return Err(Refusal::NoRound);
         }
-        self.kept = relation_of(self.asked.take());
+        self.asked = None;
         Ok(())
     }
 
@@ -268,7 +285,7 @@ impl Engine {
         ensures keeps { OnOk result ((history : History) → StandsFor self.old.parts history → StandsFor self.new.parts history) }
         ensures err { IfErr result (λ refusal. IsTruncateRefusal self.old refusal × (self.new ≡ self.old)) }
     {
-        if self.asked.is_some() {
+        if self.is_open() {
             return Err(Refusal::RoundOpen);
         }
         front_of_itself();
@@ -276,13 +293,13 @@ impl Engine {
         let Some(cut) = self.held.take() else {
             return Err(Refusal::NoCut);
         };
-        let whole = known_to_cut(alloc, self.kept.take(), &self.parts, cut.gone.len());
+        let whole = known_to_cut(alloc, self.known.take(), &self.parts, cut.gone.len());
         if let Err(refused) = apply(alloc, &mut self.parts, cut.gone.as_slice(), &cut.last) {
             self.held = Some(cut);
             return Err(Refusal::from(refused));
         }
         raise_all(&mut self.marks, &self.parts);
-        self.kept = known_after_cut(alloc, whole, cut.gone.as_slice(), &self.parts);
+        self.known = known_after_cut(alloc, whole, cut.gone.as_slice(), &self.parts);
         Ok(cut)
     }
 
@@ -292,7 +309,7 @@ impl Engine {
         ensures keeps { OnOk result ((history : History) → StandsFor self.old.parts history → StandsFor self.new.parts history) }
         ensures err { IfErr result (λ refusal. IsRebuildRefusal self.old refusal × (self.new ≡ self.old)) }
     {
-        if self.asked.is_some() {
+        if self.is_open() {
             return Err(Refusal::RoundOpen);
         }
         let (marks, waits) = tracks_of(alloc, &self.parts)?;
@@ -300,7 +317,7 @@ impl Engine {
         self.waits = waits;
         self.held = None;
         self.round = 0;
-        self.kept = None;
+        self.known = None;
         Ok(())
     }
 
@@ -312,6 +329,12 @@ impl Engine {
     }
 }
 
+/// All that an open round has: with one field more, as for a copy of what remains, this doesn't compile.
+fn round_fields(begun: OpenRound) -> (Sequence<u64>, Sequence<bool>) {
+    let OpenRound { counts, live } = begun;
+    (counts, live)
+}
+
 /// All that an engine has: with one field more, as for what is gone, this doesn't compile. The relation that is kept is of a front of the parts,
 /// so of nothing but what remains.
 fn engine_fields(engine: Engine) -> Parts
@@ -319,12 +342,20 @@ fn engine_fields(engine: Engine) -> Parts
 {
     let Engine {
         parts,
-        marks: _,
-        waits: _,
-        asked: _,
-        held: _,
-        round: _,
-        kept: _,
+        marks,
+        waits,
+        asked,
+        held,
+        round,
+        known,
     } = engine;
+    drop(marks);
+    drop(waits);
+    drop(held);
+    drop(round);
+    drop(known);
+    if let Some(begun) = asked {
+        drop(round_fields(begun));
+    }
     parts
 }

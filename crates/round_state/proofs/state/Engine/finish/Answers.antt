@@ -1,20 +1,33 @@
-use Rattle.std.proofs.Common.{◌+◌, Option, None, refl, sym, subst}
+use Rattle.std.proofs.Common.{◌≡◌, ◌∙◌, ◌+◌, Option, Some, None, ap, refl, sym, subst}
 use Rattle.std.specs.Prelude.{IsSomeAnd}
 use Rattle.order_check.specs.declared.remainder.Parts.{Parts}
 use Rattle.round_state.specs.EngineState.{EngineState}
+use Rattle.round_state.specs.OpenRounds.{snapshot_in}
 use Rattle.round_state.specs.Solving.{IsReportOn}
 use Rattle.round_state.specs.Steps.{IsFinished, IsHeldAfter}
 use Rattle.round_state.proofs.Behind.{known_ended}
-use Rattle.round_state.proofs.KeptFronts.{kept_asked, kept_finished}
+use Rattle.round_state.proofs.KeptFronts.{kept_finished}
+use Rattle.round_state.proofs.OpenSnapshots.{relation_some, snapshot_is, snapshot_of}
 use Rattle.round_state.proofs.state.Engine.finish.Goals as goal
+
+pub relation_in-known-requires : goal.relation_in-known-requires
+relation_in-known-requires c = let e = c.self.inside in relation_some e.parts e.asked e.known c.in-Some.begun c.self.invariant.1 c.in-Some.is
+
+pub new-snapshot-requires : goal.new-snapshot-requires
+new-snapshot-requires c =
+    let e = c.self.inside in
+    snapshot_of c.kept_fronts_are_counted.ensures e.parts e.asked e.known c.in-Some.begun c.relation_in-known.result.now c.self.invariant.0.good c.self.invariant.1 c.in-Some.is c.relation_in-known.ensures
 
 pub invariant_of-self-2 : goal.invariant_of-self-2
 invariant_of-self-2 c =
     let e = c.self.inside in
-    let told = c.in_ok-report.ensures.ok in (
-      kept_asked e.parts e.marks e.waits None c.take.new.self c.report_on.new.held (e.round + 1) c.take.ensures.after
-          (kept_finished e.parts e.marks e.waits e.asked e.held c.report_on.new.held e.round c.in-Some.snapshot (e.round + 1) c.args.answer c.in_ok-report.report c.in-Some.is told.0 told.1 c.self.invariant.0),
-      known_ended e.parts e.asked c.take.result c.take.new.self e.kept c.relation_of.result c.take.ensures.value c.take.ensures.after c.relation_of.ensures c.self.invariant.1,
+    let told = c.in_ok-report.ensures.ok in
+    let snapshot : Parts = c.new-snapshot.result in
+    let is : snapshot_in e.parts e.asked ≡ Some snapshot =
+    snapshot_is c.kept_fronts_are_counted.ensures e.parts e.asked e.known c.in-Some.begun c.relation_in-known.result.now c.self.invariant.0.good c.self.invariant.1 c.in-Some.is c.relation_in-known.ensures
+    ∙ ap (λ (p : Parts). Some p) (sym c.new-snapshot.ensures) in (
+      kept_finished e.parts e.marks e.waits (snapshot_in e.parts e.asked) e.held c.report_on.new.held e.round snapshot (e.round + 1) c.args.answer c.in_ok-report.report is told.0 told.1 c.self.invariant.0,
+      known_ended e.parts e.asked e.known c.self.invariant.1,
     )
 
 -- answered here, so that a wrong body is refused at once
@@ -23,8 +36,15 @@ returns-clause-ok c =
     let e = c.self.inside in
     let told = c.in_ok-report.ensures.ok in
     let report = c.in_ok-report.report in
-    let new : EngineState = record { parts = e.parts; asked = c.take.new.self; held = c.report_on.new.held; rounds = e.round + 1 } in
+    let snapshot : Parts = c.new-snapshot.result in
+    let is : snapshot_in e.parts e.asked ≡ Some snapshot =
+    snapshot_is c.kept_fronts_are_counted.ensures e.parts e.asked e.known c.in-Some.begun c.relation_in-known.result.now c.self.invariant.0.good c.self.invariant.1 c.in-Some.is c.relation_in-known.ensures
+    ∙ ap (λ (p : Parts). Some p) (sym c.new-snapshot.ensures) in
+    let new : EngineState = record { parts = e.parts; asked = None; held = c.report_on.new.held; rounds = e.round + 1 } in
     subst (λ (old : EngineState). IsSomeAnd old.asked (λ parts. IsReportOn parts (old.rounds + 1) c.args.answer report × IsHeldAfter parts report.kind old.held new.held) × IsFinished old new) c.self.view_is (
-      subst (λ (asked : Option Parts). IsSomeAnd asked (λ parts. IsReportOn parts (e.round + 1) c.args.answer report × IsHeldAfter parts report.kind e.held new.held)) (sym c.in-Some.is) told,
-      record { parts = refl; none_open = c.take.ensures.after; rounds = refl },
+      subst (λ (asked : Option Parts). IsSomeAnd asked (λ parts. IsReportOn parts (e.round + 1) c.args.answer report × IsHeldAfter parts report.kind e.held new.held)) (sym is) told,
+      record { parts = refl; none_open = refl; rounds = refl },
     )
+
+pub returns-in_err-report-clause-err : goal.returns-in_err-report-clause-err
+returns-in_err-report-clause-err c = ?

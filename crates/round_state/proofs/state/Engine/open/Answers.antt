@@ -10,7 +10,7 @@ pub invariant_of-result : goal.invariant_of-result
 invariant_of-result c = (
   subst (λ (index : Index). IsKept c.in_ok-empty_parts.field-0 c.in_ok-new.field-0 index None None 0) (sym c.new-2.ensures)
       (kept_fresh c.args.sessions c.args.limit c.in_ok-empty_parts.field-0 c.in_ok-new.field-0 c.in_ok-empty_parts.ensures c.in_ok-new.ensures (c.if-not-is_sessions.ensures.0 refl) (c.if-not-is_limit.ensures.0 refl)),
-  known_none c.in_ok-empty_parts.field-0 None None refl tt,
+  known_none c.in_ok-empty_parts.field-0 None None refl refl,
 )
 
 pub returns-clause-holds : goal.returns-clause-holds

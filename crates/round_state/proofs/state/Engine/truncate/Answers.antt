@@ -9,10 +9,12 @@ use Rattle.order_check.specs.Settled.{IsCutOf}
 use Rattle.order_check.specs.StandsFor.{StandsFor}
 use Rattle.settle.specs.declared.cuts.Cut.{Cut}
 use Rattle.round_state.specs.EngineState.{EngineState}
-use Rattle.round_state.specs.Kept.{IsFitting}
+use Rattle.round_state.specs.Kept.{IsFitting, IsKept}
+use Rattle.round_state.specs.OpenRounds.{snapshot_in}
 use Rattle.round_state.specs.Steps.{IsTruncateRefusal}
 use Rattle.round_state.proofs.Behind.{known_cut, known_none, known_parts, known_whole, last_behind}
-use Rattle.round_state.proofs.KeptFronts.{kept_holding, kept_parts, kept_truncated, none_open, raised_start}
+use Rattle.round_state.proofs.KeptFronts.{kept_asked, kept_holding, kept_truncated, raised_start}
+use Rattle.round_state.proofs.OpenSnapshots.{no_snapshot, not_open}
 use Rattle.round_state.proofs.state.Engine.truncate.Goals as goal
 
 pub apply-requires-clause-can : goal.apply-requires-clause-can
@@ -26,9 +28,9 @@ pub invariant_of-self-in-Err : goal.invariant_of-self-in-Err
 invariant_of-self-in-Err c =
     let e = c.self.inside in
     let held : e.held ≡ Some c.in-Some.cut = sym c.take.ensures.value ∙ c.in-Some.is in (
-      kept_parts e.parts c.apply.new.parts e.marks e.waits e.asked (Some c.in-Some.cut) e.round c.in-Err.ensures.err
-          (kept_holding e.parts e.marks e.waits e.asked e.held (Some c.in-Some.cut) e.round (sym held) c.self.invariant.0),
-      known_parts e.parts c.apply.new.parts e.asked c.take-2.new.self c.in-Err.ensures.err (known_none e.parts e.asked c.take-2.new.self c.take-2.ensures.after c.self.invariant.1.round),
+      subst (λ (p : Parts). IsKept p e.marks e.waits (snapshot_in p e.asked) (Some c.in-Some.cut) e.round) (sym c.in-Err.ensures.err)
+          (kept_holding e.parts e.marks e.waits (snapshot_in e.parts e.asked) e.held (Some c.in-Some.cut) e.round (sym held) c.self.invariant.0),
+      known_parts e.parts c.apply.new.parts e.asked c.take-2.new.self c.in-Err.ensures.err (known_none e.parts e.asked c.take-2.new.self c.take-2.ensures.after (not_open e.parts e.asked c.args.self.now.asked (ap (λ (engine : EngineState). engine.asked) c.self.view_is) c.if-is_open.ensures)),
     )
 
 pub raise_all-requires-clause-before : goal.raise_all-requires-clause-before
@@ -47,9 +49,12 @@ invariant_of-self-2 c =
     let cut : Cut = c.in-Some.cut in
     let held : e.held ≡ Some cut = sym c.take.ensures.value ∙ c.in-Some.is in
     let leaves : IsCutOf e.parts c.apply.new.parts cut.gone cut.last = subst (λ (gone : List TxnId). IsCutOf e.parts c.apply.new.parts gone cut.last) c.as_slice.ensures c.in_default-apply.ensures.ok in
-    let open_none = none_open e.asked c.is_some.result c.is_some.ensures c.if-is_some.false in (
-      kept_holding c.apply.new.parts c.raise_all.new.marks e.waits e.asked None c.take.new.self e.round c.take.ensures.after
-          (kept_truncated e.parts c.apply.new.parts e.marks c.raise_all.new.marks e.waits e.asked e.held e.round cut open_none c.self.invariant.0 (fits cut held) leaves c.in_default-apply.ensures.good c.raise_all.ensures),
+    let open_none = not_open e.parts e.asked c.args.self.now.asked (ap (λ (engine : EngineState). engine.asked) c.self.view_is) c.if-is_open.ensures in
+    let none = no_snapshot e.parts e.asked open_none in
+    let new_none = no_snapshot c.apply.new.parts e.asked open_none in (
+      kept_holding c.apply.new.parts c.raise_all.new.marks e.waits (snapshot_in c.apply.new.parts e.asked) None c.take.new.self e.round c.take.ensures.after
+          (kept_asked c.apply.new.parts c.raise_all.new.marks e.waits (snapshot_in e.parts e.asked) (snapshot_in c.apply.new.parts e.asked) None e.round (new_none ∙ sym none)
+          (kept_truncated e.parts c.apply.new.parts e.marks c.raise_all.new.marks e.waits (snapshot_in e.parts e.asked) e.held e.round cut none c.self.invariant.0 (fits cut held) leaves c.in_default-apply.ensures.good c.raise_all.ensures)),
       known_whole c.front_of_itself.ensures c.apply.new.parts e.asked c.known_after_cut.result open_none c.known_after_cut.ensures,
     )
 
@@ -64,7 +69,7 @@ returns-clause-keeps c history stands =
     (fits cut held).stands c.apply.new.parts history leaves before
 
 pub known_to_cut-whole-requires-clause-behind : goal.known_to_cut-whole-requires-clause-behind
-known_to_cut-whole-requires-clause-behind c = last_behind c.self.inside.parts c.self.inside.asked c.self.inside.kept c.take-2.result c.take-2.ensures.value c.self.invariant.1
+known_to_cut-whole-requires-clause-behind c = last_behind c.self.inside.parts c.self.inside.asked c.self.inside.known c.take-2.result c.take-2.ensures.value c.self.invariant.1
 
 pub known_after_cut-requires-clause-cut_off : goal.known_after_cut-requires-clause-cut_off
 known_after_cut-requires-clause-cut_off c =
@@ -81,10 +86,10 @@ returns-in-Err-clause-err c =
     let e = c.self.inside in
     let cut : Cut = c.in-Some.cut in
     let held : e.held ≡ Some cut = sym c.take.ensures.value ∙ c.in-Some.is in
-    let none : e.asked ≡ None = none_open e.asked c.is_some.result c.is_some.ensures c.if-is_some.false in
+    let none : snapshot_in e.parts e.asked ≡ None = no_snapshot e.parts e.asked (not_open e.parts e.asked c.args.self.now.asked (ap (λ (engine : EngineState). engine.asked) c.self.view_is) c.if-is_open.ensures) in
     let here : IsSome (Some cut) = search rules in
     let some : IsSome e.held = subst (λ (found : Option Cut). IsSome found) (sym held) here in
-    let state_of : Parts → Option Cut → EngineState = λ parts found. record { parts = parts; asked = e.asked; held = found; rounds = e.round } in
+    let state_of : Parts → Option Cut → EngineState = λ parts found. record { parts = parts; asked = snapshot_in parts e.asked; held = found; rounds = e.round } in
     let why : IsTruncateRefusal (state_of e.parts e.held) NoMemory = (none, some) in (
       subst (λ (refusal : Refusal). IsTruncateRefusal c.args.self.now refusal) (sym c.from.ensures) (subst (λ (engine : EngineState). IsTruncateRefusal engine NoMemory) c.self.view_is why),
       ap (λ parts. state_of parts (Some cut)) c.in-Err.ensures.err ∙ ap (λ found. state_of e.parts found) (sym held) ∙ c.self.view_is,
