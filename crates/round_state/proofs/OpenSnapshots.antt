@@ -1,6 +1,6 @@
 -- The snapshot of the round that is open.
-use Rattle.std.proofs.Common.{◌≡◌, ◌↔◌, ℕ, Bool, true, false, List, Option, Some, None, map, not, refl, sym, ap, subst, ◌∙◌, IsTrue}
-use Rattle.std.specs.Prelude.{IfSome, IsSome, IsSomeAnd, MatchBool}
+use Rattle.std.proofs.Common.{◌≡◌, ◌↔◌, ℕ, Bool, true, false, List, Option, Some, None, Result, Ok, Err, map, not, refl, sym, ap, subst, ◌∙◌, IsTrue}
+use Rattle.std.specs.Prelude.{IfErr, IfSome, IsErrAnd, IsSome, IsSomeAnd, MatchBool}
 use Rattle.std.specs.Option.{is_some}
 use Rattle.std.proofs.lemmas.Bool.{false≢true}
 use Rattle.txn.specs.declared.transactions.TxnId.{TxnId}
@@ -135,3 +135,8 @@ pub finish_refused : (old : EngineState) (answer : Answer) (refusal : Refusal) (
 finish_refused old answer refusals.BadCertificate snapshot e why = subst (λ (asked : Option Parts). IsSomeAnd asked (λ parts. IsWrong parts answer)) (sym e) why
 finish_refused old answer refusals.NoMemory snapshot e why = subst (λ (asked : Option Parts). IsSome asked) (sym e) refl
 finish_refused old answer refusal snapshot e why = absurd why
+
+-- what holds of the error that a result has
+pub err_has : {T : Type 0} (P : Refusal → Type 0) (r : Result T Refusal) (given : Refusal) → IsErrAnd r (λ e. e ≡ given) → P given → IfErr r P
+err_has P (Ok x) given same h = tt
+err_has P (Err e) given same h = subst P (sym same) h

@@ -1,13 +1,15 @@
 use Rattle.std.proofs.Common.{◌≡◌, ◌∙◌, ◌+◌, Option, Some, None, ap, refl, sym, subst}
 use Rattle.std.specs.Prelude.{IsSomeAnd}
+use Rattle.txn.specs.declared.refusals.Refusal.{Refusal}
 use Rattle.order_check.specs.declared.remainder.Parts.{Parts}
+use Rattle.settle.specs.declared.cuts.Cut.{Cut}
 use Rattle.round_state.specs.EngineState.{EngineState}
 use Rattle.round_state.specs.OpenRounds.{snapshot_in}
 use Rattle.round_state.specs.Solving.{IsReportOn}
-use Rattle.round_state.specs.Steps.{IsFinished, IsHeldAfter}
+use Rattle.round_state.specs.Steps.{IsFinished, IsFinishRefusal, IsHeldAfter}
 use Rattle.round_state.proofs.Behind.{known_ended}
 use Rattle.round_state.proofs.KeptFronts.{kept_finished}
-use Rattle.round_state.proofs.OpenSnapshots.{relation_some, snapshot_is, snapshot_of}
+use Rattle.round_state.proofs.OpenSnapshots.{err_has, finish_refused, relation_some, snapshot_is, snapshot_of}
 use Rattle.round_state.proofs.state.Engine.finish.Goals as goal
 
 pub relation_in-known-requires : goal.relation_in-known-requires
@@ -47,4 +49,15 @@ returns-clause-ok c =
     )
 
 pub returns-in_err-report-clause-err : goal.returns-in_err-report-clause-err
-returns-in_err-report-clause-err c = ?
+returns-in_err-report-clause-err c =
+    let e = c.self.inside in
+    let snapshot : Parts = c.new-snapshot.result in
+    let is : snapshot_in e.parts e.asked ≡ Some snapshot =
+    snapshot_is c.kept_fronts_are_counted.ensures e.parts e.asked e.known c.in-Some.begun c.relation_in-known.result.now c.self.invariant.0.good c.self.invariant.1 c.in-Some.is c.relation_in-known.ensures
+    ∙ ap (λ (p : Parts). Some p) (sym c.new-snapshot.ensures) in
+    let asked : c.args.self.now.asked ≡ Some snapshot = sym (ap (λ (engine : EngineState). engine.asked) c.self.view_is) ∙ is in
+    let engine_of : Option Cut → EngineState = λ held. record { parts = e.parts; asked = snapshot_in e.parts e.asked; held = held; rounds = e.round } in
+    err_has (λ (refusal : Refusal). IsFinishRefusal c.args.self.now c.args.answer refusal × (engine_of c.report_on.new.held ≡ c.args.self.now)) c.from_residual.result c.in_err-report.field-0.0 c.from_residual.ensures.1 (
+      finish_refused c.args.self.now c.args.answer c.in_err-report.field-0.0 snapshot asked c.in_err-report.ensures.err.0,
+      ap engine_of c.in_err-report.ensures.err.1 ∙ c.self.view_is,
+    )
