@@ -1,5 +1,5 @@
 -- The snapshot of the round that is open.
-use Rattle.std.proofs.Common.{◌≡◌, ◌↔◌, ℕ, Bool, true, false, List, Option, Some, None, Result, Ok, Err, map, not, refl, sym, ap, subst, ◌∙◌, IsTrue}
+use Rattle.std.proofs.Common.{◌≡◌, ◌↔◌, ℕ, Bool, List, Option, Some, None, Result, Ok, Err, refl, sym, ap, subst, ◌∙◌, IsTrue}
 use Rattle.std.specs.Prelude.{IfErr, IfSome, IsErrAnd, IsSome, IsSomeAnd, MatchBool}
 use Rattle.std.specs.Option.{is_some}
 use Rattle.std.proofs.lemmas.Bool.{false≢true}
@@ -15,10 +15,9 @@ use Rattle.order_check.specs.Good.{IsGood}
 use Rattle.forced_choices.specs.SaturatedState.{SaturatedState}
 use Rattle.refutation.specs.Refutes.{IsRefutation}
 use Rattle.refutation.specs.declared.trees.Tree.{Tree}
-use Rattle.polygraph.specs.ProblemState.{ProblemState}
 use Rattle.polygraph.specs.declared.solving.Answer.{Answer}
 use Rattle.round_state.specs.Behind.{AreKnownBehind, IsBehind}
-use Rattle.round_state.specs.EngineState.{EngineState, parts_asked}
+use Rattle.round_state.specs.EngineState.{EngineState}
 use Rattle.round_state.specs.OpenRounds.{IsOpenOn, IsSnapshotOf, snapshot_in}
 use Rattle.round_state.specs.Solving.{IsReportRefusal, IsWrong}
 use Rattle.round_state.specs.Steps.{IsFinishRefusal}

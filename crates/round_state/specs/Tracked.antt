@@ -1,5 +1,5 @@
 -- For private clauses: what an engine keeps beside its parts, and finds in them too: how far each session is, and which reads are pending.
-use Rattle.std.specs.Prelude.{◌≡◌, ◌↔◌, ℕ, ◌<◌, ◌≤◌, Bool, false, List, length, slice_index_or, IsTrue}
+use Rattle.std.specs.Prelude.{◌≡◌, ◌↔◌, ℕ, ◌<◌, ◌≤◌, false, List, length, slice_index_or}
 use Rattle.txn.specs.declared.transactions.TxnId.{TxnId}
 use Rattle.txn.specs.declared.transactions.Source.TheVariants.{By}
 use Rattle.txn.specs.History.{Reads}

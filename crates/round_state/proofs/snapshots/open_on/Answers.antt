@@ -1,4 +1,4 @@
-use Rattle.std.proofs.Common.{◌≡◌, ◌∙◌, Bool, List, map, not, ap, subst}
+use Rattle.std.proofs.Common.{◌∙◌, Bool, List, map, not, ap, subst}
 use Rattle.order_check.specs.declared.remainder.Parts.{Parts}
 use Rattle.order_check.specs.Based.{received_counts}
 use Rattle.order_check.specs.Good.{IsGood}

@@ -1,4 +1,3 @@
-use Rattle.std.proofs.Common.{None}
 use Rattle.round_state.specs.OpenRounds.{snapshot_in}
 use Rattle.round_state.proofs.Behind.{known_ended}
 use Rattle.round_state.proofs.KeptFronts.{kept_abandoned}

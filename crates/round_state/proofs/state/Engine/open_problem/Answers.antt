@@ -1,5 +1,4 @@
-use Rattle.std.proofs.Common.{◌∙◌, Some, ap, refl, sym}
-use Rattle.order_check.specs.declared.remainder.Parts.{Parts}
+use Rattle.std.proofs.Common.{◌∙◌, Some, ap, sym}
 use Rattle.forced_choices.specs.SaturatedState.{SaturatedState}
 use Rattle.round_state.specs.EngineState.{EngineState}
 use Rattle.round_state.proofs.OpenSnapshots.{relation_is, relation_seen}
