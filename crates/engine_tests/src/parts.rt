@@ -6,7 +6,7 @@ use round_state::Engine;
 use std::alloc::Global;
 use std::process::Abort;
 use std::test::*;
-use txn::Refusal::{self, BadParts, TooLong};
+use txn::Refusal::{self, BadParts, NoCut, NoRound, Repeat, TooLong};
 use txn::Source::{By, Init};
 use txn::{NoMemory, Sequence, Txn, TxnId};
 
@@ -227,5 +227,70 @@ fn bad_parts_come_back(rt: HostRuntime) -> Result<(), Fail> {
     for case in cases() {
         assert_case(&rt, rt.alloc(), case)?;
     }
+    Ok(())
+}
+
+const FENCE_OF_INIT: Content = (&[(0, Init)], &[0]);
+
+const FENCE_OF_0_1: Content = (&[(0, By(ID_0_1))], &[0]);
+
+/// A cut is held, and the next round is open.
+static BEFORE: [(Act, Want); 6] = [
+    (Act::Offer(0, 0, WRITES_5), Want::Done),
+    (Act::Offer(0, 1, FENCE_OF_INIT), Want::Done),
+    (Act::Offer(1, 0, FENCE_OF_0_1), Want::Done),
+    (Act::Begin, Want::Done),
+    (
+        Act::Finish,
+        Want::Report(1, Serial, &[2, 1], &[ID_0_0, ID_0_1, ID_1_0]),
+    ),
+    (Act::Begin, Want::Done),
+];
+
+/// Neither is any more, and nothing else is lost: the same round, by its first number, finds the same cut.
+static AFTER: [(Act, Want); 7] = [
+    (Act::Finish, Want::No(NoRound)),
+    (Act::Truncate, Want::No(NoCut)),
+    (Act::Offer(0, 0, WRITES_5), Want::No(Repeat)),
+    (Act::Begin, Want::Done),
+    (
+        Act::Finish,
+        Want::Report(1, Serial, &[2, 1], &[ID_0_0, ID_0_1, ID_1_0]),
+    ),
+    (
+        Act::Truncate,
+        Want::Cut(ID_0_1, &[ID_0_0, ID_0_1], &[(0, ID_0_1), (5, ID_0_0)]),
+    ),
+    (Act::Offer(0, 2, READS_5_OF_0_0), Want::Done),
+];
+
+fn before() -> Row {
+    &BEFORE
+}
+
+fn after() -> Row {
+    &AFTER
+}
+
+/// What is left of an engine with an open round and a held cut.
+fn handed_on(rt: &impl Abort, alloc: Global) -> Result<Parts, Refusal> {
+    let mut engine = Engine::open(alloc, 2, 8)?;
+    assert_run(rt, alloc, &mut engine, before())?;
+    Ok(engine.into_parts())
+}
+
+/// An engine that goes on from what is left of another.
+fn goes_on(rt: &impl Abort, alloc: Global) -> Result<Engine, Refusal> {
+    let parts = handed_on(rt, alloc)?;
+    match Engine::from_parts(alloc, parts) {
+        Ok(engine) => Ok(engine),
+        Err(back) => Err(back.1),
+    }
+}
+
+#[test]
+fn an_engine_goes_on_from_the_parts_of_another(rt: HostRuntime) -> Result<(), Fail> {
+    let mut engine = goes_on(&rt, rt.alloc())?;
+    assert_run(&rt, rt.alloc(), &mut engine, after())?;
     Ok(())
 }

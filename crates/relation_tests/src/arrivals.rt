@@ -69,7 +69,9 @@ pub fn add_all(
     alloc: Global,
     saturated: &mut Saturated,
     fragment: &Fragment,
-) -> Result<(), NoMemory> {
+) -> Result<(), NoMemory>
+    ensures { OnOk result (saturated.new.parts ≡ parts_with saturated.old.parts fragment.now) }
+{
     may_come(rt, saturated, fragment)?;
     saturated.add_all(alloc, fragment)
 }

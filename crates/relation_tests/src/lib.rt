@@ -8,6 +8,8 @@ mod cuts;
 #[cfg(test)]
 mod fences;
 #[cfg(test)]
+mod orders;
+#[cfg(test)]
 mod relations;
 #[cfg(test)]
 mod settled;

@@ -24,7 +24,8 @@ fn in_turns(alloc: Global) -> Result<Vec<TxnId>, NoMemory> {
     Ok(ids)
 }
 
-fn give(
+/// Adds the transaction that has the id in the whole.
+pub fn give(
     rt: &impl Abort,
     alloc: Global,
     whole: &Parts,

@@ -419,11 +419,15 @@ fn rows() -> &'static [Row] {
     &ROWS
 }
 
+fn is_force(tree: &Tree) -> bool {
+    matches!(tree, Tree::Force { .. })
+}
+
 /// Whether each node of steps has some.
 fn is_neat(tree: &Tree) -> bool {
     match tree {
         Tree::Close(_) => true,
-        Tree::Force { steps, rest } => !steps.is_empty() && is_neat(rest),
+        Tree::Force { steps, rest } => !steps.is_empty() && !is_force(rest) && is_neat(rest),
         Tree::Split {
             choice: _,
             first,
