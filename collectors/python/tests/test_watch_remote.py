@@ -19,7 +19,7 @@ from zanteyard.watch import _facts as facts
 from zanteyard.watch import _figures as figures
 from zanteyard.watch import _live_page as live_page
 from zanteyard.watch._database import Database
-from zanteyard.watch._feed import seen_of
+from zanteyard.watch._feed import command, seen_of
 from zanteyard.watch._proxy import proxy_path
 from zanteyard.watch._run import Plan, Run
 
@@ -184,9 +184,15 @@ class OneAudit(unittest.TestCase):
         return write
 
     def until(self, go_on, is_done):
-        ends = time.monotonic() + LIMIT
+        """Rounds are asked for, which would come later by themselves."""
+        now = time.monotonic()
+        ends, asks = now + LIMIT, now + 1.0
         while not is_done(self.watch.board.status()):
-            self.assertLess(time.monotonic(), ends, "it hasn't come to that in time")
+            now = time.monotonic()
+            self.assertLess(now, ends, "it hasn't come to that in time")
+            if now >= asks:
+                asks = now + 1.0
+                self.watch._to_proxy(command("round"))
             go_on()
 
     def feeds(self, status):
