@@ -184,15 +184,9 @@ class OneAudit(unittest.TestCase):
         return write
 
     def until(self, go_on, is_done):
-        """Rounds are asked for, which would come later by themselves."""
-        now = time.monotonic()
-        ends, asks = now + LIMIT, now + 1.0
+        ends = time.monotonic() + LIMIT
         while not is_done(self.watch.board.status()):
-            now = time.monotonic()
-            self.assertLess(now, ends, "it hasn't come to that in time")
-            if now >= asks:
-                asks = now + 1.0
-                self.watch._to_proxy(command("round"))
+            self.assertLess(time.monotonic(), ends, "it hasn't come to that in time")
             go_on()
 
     def feeds(self, status):
@@ -250,12 +244,10 @@ class OneAudit(unittest.TestCase):
         def checked(more):
             before = self.watch.board.status()
 
-            def is_done(status):
-                seen = status.seen
-                have = self.feeds(status) and status.rounds_count >= before.rounds_count + 1
-                return have and seen.reads >= before.seen.reads + more
-
-            self.until(both, is_done)
+            self.until(both, lambda it: self.feeds(it) and it.seen.reads >= before.seen.reads + more)
+            rounds = self.watch.board.status().rounds_count
+            self.watch._to_proxy(command("round"))
+            self.until(both, lambda it: it.rounds_count > rounds)
 
         checked(20)
         self.redis.stop()
