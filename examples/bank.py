@@ -29,7 +29,7 @@ sys.path.insert(0, PACKAGE)
 import psycopg2
 
 from zanteyard import comments
-from zanteyard.trial.postgres_server import PostgresServer
+from zanteyard.trial.postgres_server import PostgresServer, ended_by_signals
 
 CUSTOMERS, WORKERS = 20, 4
 PORT = 6432  # of the proxy's socket
@@ -170,24 +170,23 @@ class Watch:
                 self.has_found.set()
 
     def wait(self):
-        """Until it listens. Raises OSError if it doesn't."""
+        """Until it listens. Ends the program if it can't begin: it has said why."""
         ends = time.monotonic() + LISTENING
         while not os.path.exists(self.socket):
             if self.process.poll() is not None or time.monotonic() > ends:
-                raise OSError("the audit hasn't begun")
+                sys.exit("the audit hasn't begun")
             time.sleep(0.05)
 
     def end(self):
-        """After a last round; gives its status."""
-        self.process.send_signal(signal.SIGINT)
+        """After a last round, which ends the proxy too; gives its status."""
+        self.process.send_signal(signal.SIGTERM)
         status = self.process.wait(ENDING)
         self.printing.join()
         return status
 
     def __exit__(self, *_):
         if self.process.poll() is None:
-            self.process.kill()
-        self.printing.join()
+            self.end()
 
 
 def connected(dsn, asked):
@@ -231,7 +230,7 @@ def main():
     asked.add_argument("--seconds", type=float, default=10.0)
     asked = asked.parse_args()
     asked.level = levels[asked.level]
-    with PostgresServer() as cluster:
+    with ended_by_signals(), PostgresServer() as cluster:
         begin_server(cluster)
         open_bank(cluster.dsn)
         return run(cluster, asked)

@@ -1,12 +1,13 @@
 """Which level of a store has which fault: clients are driven in lockstep at each, and audited.
 
     python3 examples/store_faults.py mariadb|redis|sqlite [--journal wal|delete] [--dsn DSN]
-        [--level LEVEL --fault FAULT | --at-once SECONDS]
+        [--level LEVEL --fault FAULT | --at-once SECONDS | --promises]
 
 It starts a server of its own in a folder that is thrown away, or uses what --dsn names. With a
 level and a fault it tells that one in words; with --at-once four clients run each workload at the
-same time, for so many seconds or until it is violated. The status is 0, or 2 where something is
-wanting.
+same time, for so many seconds or until it is violated; with --promises the table tells which
+promise each level kept (docs/PROMISES.md), also of PostgreSQL. The status is 0, or 2 where
+something is wanting.
 """
 import argparse
 import os
@@ -17,7 +18,8 @@ sys.path.insert(0, os.path.join(TOP, "collectors/python"))
 from zanteyard.trial.under_load import CLIENTS, at_once_table
 from zanteyard.trial.postgres_server import ended_by_signals
 from zanteyard.core.errors import ZanteyardError
-from zanteyard.trial.lockstep import FAULTS, SESSIONS, about, run_lockstep, table_lines, table_of
+from zanteyard.trial.lockstep import FAULTS, SESSIONS, about, promise_lines, run_lockstep
+from zanteyard.trial.lockstep import table_lines, table_of
 from zanteyard.trial.store_kinds import KINDS, kind_named
 
 
@@ -32,6 +34,12 @@ def in_lockstep(kind, asked, server, level):
 
 
 def tell_table(kind, asked, server):
+    if asked.promises:
+        make_stores = lambda level: in_lockstep(kind, asked, server, level)
+        found = table_of(make_stores, [*kind.levels], asks_promises=True)
+        for line in promise_lines(found, [*kind.levels.values()]):
+            print(line)
+        return
     if asked.at_once is None:
         found = table_of(lambda level: in_lockstep(kind, asked, server, level), [*kind.levels])
     else:
@@ -54,14 +62,16 @@ def main():
     whole = argparse.ArgumentParser(description=__doc__.splitlines()[0])
     commands = whole.add_subparsers(metavar="STORE", required=True)
     for kind in KINDS:
-        if kind.command != "postgres":
-            one = commands.add_parser(kind.command)
-            one.set_defaults(kind=kind.command)
-            one.add_argument("--level", choices=kind.levels)
-            one.add_argument("--fault", choices=FAULTS)
-            one.add_argument("--at-once", type=float, metavar="SECONDS")
-            kind.add_arguments(one)
+        one = commands.add_parser(kind.command)
+        one.set_defaults(kind=kind.command)
+        one.add_argument("--level", choices=kind.levels)
+        one.add_argument("--fault", choices=FAULTS)
+        one.add_argument("--at-once", type=float, metavar="SECONDS")
+        one.add_argument("--promises", action="store_true")
+        kind.add_arguments(one)
     asked = whole.parse_args()
+    if asked.kind == "postgres" and not asked.promises:
+        whole.error("of PostgreSQL it tells --promises alone")
     if (asked.level is None) != (asked.fault is None):
         whole.error("--level and --fault go together")
     kind = kind_named(asked.kind)

@@ -13,6 +13,7 @@ from zanteyard.explain._shrinking import name
 from zanteyard.explain._charts import RoundSeen
 from zanteyard.explain._html import page_of
 from zanteyard.explain._report import Story, story_of
+from zanteyard.promises._kinds import SNAPSHOT
 
 BROWSER = shutil.which("chromium") or shutil.which("chromium-browser")
 STATEMENT = "SELECT value FROM t WHERE key = '<x>' & 1"
@@ -66,6 +67,24 @@ class Page(unittest.TestCase):
         self.assertEqual({"script", "link", "img", "iframe"} & {*tags.seen}, set())
         self.assertEqual(re.findall(r"@import|url\((?!#)", text), [])
         self.assertNotIn("http", text)
+
+    def test_a_transaction_reaches_from_its_begin_to_its_commit(self):
+        """Under snapshot isolation, where arrows lead between these."""
+        text = page_of(story_of(history(), name, "", promise=SNAPSHOT), "a bank", "proved")
+        tags = Tags(text)
+        self.assertEqual((tags.open, tags.wrong, tags.asked), ([], [], []))
+        self.assertEqual(text.count('class="edge"'), 6)  # of three transactions
+        for wanted in (
+            "can't have run on snapshots",
+            ">begin</text>",
+            ">commit</text>",
+            "0.1 begins before 1.0 commits</strong>",
+            "A box reaches from the transaction’s begin to its commit.",
+            " begin → ",
+        ):
+            with self.subTest(wanted=wanted):
+                self.assertIn(wanted, text)
+        self.assertNotIn("class=\"edge\"", page())
 
     def test_what_is_on_it(self):
         text = page()

@@ -10,7 +10,7 @@ from zanteyard.core._own_keys import FENCE
 from zanteyard.core._records import ABORTED, Logged
 from zanteyard.core.errors import CantBeAskedError, ScriptMistakeError
 from zanteyard.explain._scripts import ScriptRun
-from zanteyard.explain._script_times import ScriptTimes
+from zanteyard.explain._script_times import ScriptTimes, read_times
 from zanteyard.explain._shrinking import audited
 from zanteyard.program._auditor import PROGRAM
 from zanteyard.promises._kinds import ALL, ASKED, IMPLIED, SERIALIZABLE, SNAPSHOT, STRICT, weaker
@@ -233,6 +233,21 @@ class ByTheAuditor(unittest.TestCase):
                 self.assertEqual(kind_told([*lines, ROUND], SERIALIZABLE).kind, by_order)
                 self.assertEqual(kind_told([*lines, ROUND], SNAPSHOT).kind, by_snapshot)
 
+    def test_the_worked_histories_of_the_document(self):
+        """Each row of docs/PROMISES.md, and of no script is there none."""
+        with open(os.path.join(TOP, "docs/PROMISES.md"), encoding="utf-8") as file:
+            rows = re.findall(r"^\| `(\w+)` \| .* \| (\w+) \| (\w+) \|$", file.read(), re.MULTILINE)
+        folder = os.path.join(TOP, "examples/promises")
+        names = sorted(name[: -len(".jsonl")] for name in os.listdir(folder) if name.endswith(".jsonl"))
+        self.assertEqual(sorted(name for name, _, _ in rows), names)
+        for name, *owed in rows:
+            lines = lines_of(folder, name)
+            for promise, kind in zip((SERIALIZABLE, SNAPSHOT), owed):
+                with self.subTest(name=name, promise=promise.name):
+                    self.assertEqual(kind_told(lines, promise).kind, kind)
+        times = read_times(os.path.join(folder, "stale_read.jsonl"))
+        self.assertEqual(kind_told(lines_of(folder, "stale_read"), STRICT, times.spans).kind, "violated")
+
     def test_what_cant_be_asked_is_refused_in_words(self):
         opened = ["open", 2, 4096]
         rows = (
@@ -255,6 +270,11 @@ class ByTheAuditor(unittest.TestCase):
         lines = [["open", 1, 4096], *too_many()[:-1], ["show"], ROUND]
         verdict = kind_told(lines, SNAPSHOT)
         self.assertEqual((verdict.kind, verdict.counts), ("serial", [2048]))
+
+
+def lines_of(folder, name):
+    with open(os.path.join(folder, f"{name}.jsonl"), encoding="utf-8") as file:
+        return [*map(json.loads, file)]
 
 
 def too_many():

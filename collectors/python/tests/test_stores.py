@@ -21,7 +21,7 @@ from zanteyard.trial.under_load import CLIENTS, run_at_once
 from zanteyard.core._own_keys import FENCE
 from zanteyard.program._auditor import PROGRAM
 from zanteyard.core.errors import StoreUnfitError
-from zanteyard.trial.lockstep import run_lockstep, table_lines, table_of
+from zanteyard.trial.lockstep import promise_lines, run_lockstep, table_lines, table_of
 from zanteyard.trial.mariadb_server import MariaDBServer, mariadbd
 from zanteyard.core._outcome import RATHER_WAIT
 from zanteyard.trial.redis_server import RedisServer, redis_server
@@ -96,14 +96,17 @@ class Each:
         return found and found[0]
 
     def test_which_level_has_which_fault(self):
-        found = table_of(lambda level: [self.store(level) for _ in range(3)], self.levels)
+        make_stores = lambda level: [self.store(level) for _ in range(3)]
+        found = table_of(make_stores, self.levels, asks_promises=True)
         for fault, seen in found.items():
             name, allowed = self.faults[fault]
             for level, one in zip(self.levels, seen):
                 with self.subTest(fault=fault, level=level):
                     self.assertEqual(str(one), name if level in allowed else "serial")
         with open(os.path.join(PLACE, "../../docs/STORES.md"), encoding="utf-8") as file:
-            self.assertIn("\n".join(table_lines(found, self.levels)), file.read())
+            text = file.read()
+        self.assertIn("\n".join(table_lines(found, self.levels)), text)
+        self.assertIn("\n".join(promise_lines(found, self.levels)), text)
 
     def test_clients_at_once(self):
         for workload, serial, violated in self.by_load:

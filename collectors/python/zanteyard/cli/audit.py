@@ -18,6 +18,7 @@ from ..explain._shrinking import from_start, refuted
 from ..explain._violation_text import tell_violation
 from ..live._live_auditor import LiveAuditor
 from ..program._subprocess import AuditorApart
+from ..promises._kinds import SERIALIZABLE, SNAPSHOT
 from ..remote._server import AuditServer
 from ..session._session import Session
 from ..trial._throwaway_folder import ThrowawayFolder
@@ -26,6 +27,7 @@ from ..trial.store_kinds import POSTGRES, MakesStore, StoreKind
 from ..trial.store_kinds import CantAuditError as CantAuditError
 from ..trial.workloads import EVERY_WORKLOAD, ChurningClients, ClientProcesses, Clients, Nothing
 
+PROMISES = (SERIALIZABLE.name, SNAPSHOT.name)  # that can be asked for while clients run
 PAGE_SECONDS = 5.0  # that finding the reasons for the page may take
 STAYING, CHURNING = 8, 16  # clients at a time, where nothing else is asked for
 logger = logging.getLogger("zanteyard")
@@ -135,7 +137,8 @@ def audited_run(
     rounds, story = _Rounds(), None
     if asked.churn:
         _tell_clients()
-    with AuditorApart(asked.clients, journal=asked.audit_journal) as auditor:
+    promise = asked.promise
+    with AuditorApart(asked.clients, journal=asked.audit_journal, promise=promise) as auditor:
         live = LiveAuditor(auditor, every=asked.every, policy=policy, tell=rounds.tell)
         rounds.live = live
         clients = _beside(asked, make_store, live)
@@ -143,9 +146,12 @@ def audited_run(
         if live.is_violated:
             history, called = from_start(auditor)
             known = refuted(auditor, live.report.certificate if live.report else ())
-            small = tell_violation(history, "violation", called, known=known)
+            small = tell_violation(
+                history, "violation", called, known=known, promise=auditor.promise
+            )
             if asked.html:
-                story = story_of(small, called, _script(), outcome.counts or (), PAGE_SECONDS)
+                about = (_script(), outcome.counts or (), PAGE_SECONDS, auditor.promise)
+                story = story_of(small, called, *about)
         return live, outcome, clients, story, tuple(rounds.seen)
 
 
@@ -204,6 +210,8 @@ def add_arguments(asked: argparse.ArgumentParser, kind: StoreKind = POSTGRES) ->
     kind.add_arguments(asked)
     about = "goes on by this file where the auditor is killed; one that isn't there yet"
     asked.add_argument("--audit-journal", metavar="FILE", help=about)
+    about = "what the store promises at that level (serializable; docs/PROMISES.md)"
+    asked.add_argument("--promise", choices=PROMISES, default=PROMISES[0], help=about)
     asked.add_argument("--html", metavar="FILE", help="writes a page to look at")
 
 
@@ -211,6 +219,8 @@ def run(asked: Any) -> LiveRun:
     """Runs the clients as asked, and tells each round. Raises CantAuditError."""
     kind = kind_of(asked)
     asked.clients = asked.clients or (CHURNING if asked.churn else STAYING)
+    if asked.promise != PROMISES[0] and asked.audit_journal:
+        raise CantAuditError("an audit with a journal is of serializability")
     if asked.churn and asked.processes:
         raise CantAuditError("--churn has each client in a thread, and not in a process")
     with ended_by_signals(), kind.server(asked) as used:

@@ -10,7 +10,7 @@ from ..core._records import ABORTED
 from ..core._version import VERSION
 from ._anomalies import meaning_of
 from ._charts import RoundSeen, draw_rounds
-from ._report import SHOWN, Step, Story
+from ._report import SHOWN, Step, Story, line_of
 from ._timeline_svg import draw_story
 
 STYLE = """
@@ -36,6 +36,7 @@ svg.timeline { max-width: none; }
 svg text { font: 13px system-ui, "Helvetica Neue", Arial, sans-serif; fill: var(--ink); }
 svg .name { font-weight: 700; } svg .session, svg .tick { fill: var(--soft); font-size: 12px; }
 svg .label { font-weight: 600; } svg .end { text-anchor: end; }
+svg .edge { stroke: #51749e; stroke-width: 3; }
 svg .lane { stroke: var(--line); stroke-width: 2; stroke-dasharray: 3 4; }
 svg .transaction rect { fill: var(--box); stroke: #9aa7b6; stroke-width: 1.2; }
 svg .transaction.aborted rect { stroke-dasharray: 7 5; }
@@ -92,7 +93,8 @@ def page_of(story: Story, about: str, origin: str, rounds: Sequence[RoundSeen] =
     """The whole page. `about` says in a few words what was audited, `origin` by which program."""
     parts: List[str] = [_head(story, about)]
     if story.kind == "violated":
-        parts += [*picture_part(story), *reasons_part(story), *_table(story.steps), *_again(story)]
+        parts += [*picture_part(story), *reasons_part(story), *_table(story.steps)]
+        parts += [*_others(story), *_again(story)]
     else:
         parts += _order(story)
     parts += _rounds(rounds)
@@ -118,7 +120,7 @@ def _head(story: Story, about: str) -> str:
     count = sum(story.counts)
     of_what = f"{about}: {count:,} transactions of {len(story.counts)} sessions" if count else about
     lines = [
-        f'<h1>{HEADINGS[story.kind]} <span class="verdict {story.kind}">{story.kind}</span></h1>',
+        f'<h1>{_heading(story)} <span class="verdict {story.kind}">{story.kind}</span></h1>',
         f'<p class="soft">{escape(of_what)}</p>',
         f"<p>{escape(_sentence(story))}.</p>",
     ]
@@ -129,7 +131,16 @@ def _head(story: Story, about: str) -> str:
             f'<div class="anomaly"><strong>{escape(_capital(story.anomaly.name))}</strong>{more}'
             f"<br>{escape(_capital(story.anomaly.sentence))}.</div>"
         )
+    lines += [f"<p>It {escape(line)}.</p>" for line in story.standing.lines()]
     return "\n".join(lines)
+
+
+def _heading(story: Story) -> str:
+    if story.kind == "violated" and story.promise.is_split:
+        return "These transactions can't have run on snapshots"
+    if story.kind == "violated" and story.promise.is_timed:
+        return "These transactions can't have run one at a time, when they did"
+    return HEADINGS[story.kind]
 
 
 def _sentence(story: Story) -> str:
@@ -156,6 +167,8 @@ def picture_part(story: Story) -> Iterable[str]:
         )
     else:
         caption += "A grey arrow leads from a writer to who read from it."
+    if story.promise.is_split:
+        caption += " A box reaches from the transaction’s begin to its commit."
     if any(step.outcome == ABORTED for step in story.steps):
         caption += " What was aborted is dashed."
     yield f"<figcaption>{caption}</figcaption></figure>"
@@ -171,13 +184,12 @@ def reasons_part(story: Story) -> Iterable[str]:
                 "another circle closes. The auditor’s refutation goes through these ways.</p>"
             )
         return
-    names = dict(story.names)
     yield '<ol class="reasons">'
     for number, link in enumerate(story.links, 1):
         kind = ' class="circle"' if link.is_of_circle else ""
         yield (
-            f'<li{kind}><span class="mark">{number}</span><strong>{escape(names[link.start])} '
-            f"comes before {escape(names[link.end])}</strong>: {escape(link.why)}.</li>"
+            f'<li{kind}><span class="mark">{number}</span><strong>{escape(link.told)}</strong>: '
+            f"{escape(link.why)}.</li>"
         )
     yield "</ol>"
     around = " → ".join(escape(called) for called in story.circle)
@@ -226,13 +238,27 @@ def _table(steps: Sequence[Step]) -> Iterable[str]:
     yield "</p>"
 
 
+def _others(story: Story) -> Iterable[str]:
+    """The violations that lie apart, a line each."""
+    if story.others:
+        yield "<h2>What else is violated, apart from this</h2><ul>"
+        yield from (f"<li>{escape(line_of(other))}</li>" for other in story.others[: 4 * SHOWN])
+        yield "</ul>"
+        if len(story.others) > 4 * SHOWN:
+            yield f"<p>and {len(story.others) - 4 * SHOWN} more.</p>"
+
+
 def _again(story: Story) -> Iterable[str]:
     if story.script:
+        asked = f"--promise {story.promise.name} " if story.promise.is_split else ""
+        refutation = (
+            "" if asked else ", and <code>cobra_audit &lt; violation.jsonl</code> gives the "
+            "auditor’s own refutation"
+        )
         yield "<h2>See it again</h2>"
         yield (
             "<p>This is the same as a script. Save it as <code>violation.jsonl</code>; "
-            "<code>zanteyard check violation.jsonl</code> says so again, and "
-            "<code>cobra_audit &lt; violation.jsonl</code> gives the auditor’s own refutation.</p>"
+            f"<code>zanteyard check {asked}violation.jsonl</code> says so again{refutation}.</p>"
         )
         yield f"<pre>{escape(story.script)}</pre>"
     yield "<h2>Before you accuse the store</h2>"

@@ -253,12 +253,13 @@ def story_lines(story: Story, tells_all: bool = False) -> Iterator[str]:
             yield f"violation {at}:"
             yield from (f"  {line}" for line in _one_story(other))
         else:
-            yield f"    {_in_a_line(other)}"
+            yield f"    {line_of(other)}"
     if len(story.others) > SHOWN and not tells_all:
         yield f"    and {len(story.others) - SHOWN} more like these"
 
 
-def _in_a_line(story: Story) -> str:
+def line_of(story: Story) -> str:
+    """A violation in a line."""
     if story.anomaly is not None:
         return f"{story.anomaly.name}: {story.anomaly.sentence}"
     return "without a name: " + ", ".join(step.name for step in story.steps)

@@ -330,8 +330,8 @@ class ScriptRun:
             return self._told(text)
         line = _parts_of(text)
         rewritten = self._rewriting.asked(line)
-        if not self._rewriting.room_for(rewritten):
-            return NO_ROOM
+        if not self._rewriting.has_room(rewritten):
+            return self._rewriting.told(line, [NO_ROOM])
         if rewritten == [line]:
             return self._rewriting.told(line, [self._told(text)])
         replies: List[List[Any]] = []

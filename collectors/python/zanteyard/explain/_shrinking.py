@@ -184,9 +184,9 @@ def refuted(auditor: Any, certificate: Iterable[Any]) -> Set[ShownId]:
 def is_collectors_own(auditor: Any, program: str = PROGRAM) -> bool:
     """Whether the collector's own transactions have no order by themselves, and the clients' have
     one: then it isn't they who are to look for what went wrong."""
-    history = from_start(auditor)[0]
-    return is_violated(only_keys(history, is_own), program) and not is_violated(
-        only_keys(history, lambda key: not is_own(key)), program
+    history, promise = from_start(auditor)[0], getattr(auditor, "promise", SERIALIZABLE)
+    return is_violated(only_keys(history, is_own), program, promise) and not is_violated(
+        only_keys(history, lambda key: not is_own(key)), program, promise
     )
 
 

@@ -1,6 +1,7 @@
 """A story's transactions on a time line by session, as SVG: a lane for each session, time to the
 right, and an arc from what comes before to what comes after. What was aborted is dashed, and so is
-a read of it. Nothing in it is from outside."""
+a read of it. Where a transaction's begin and commit are told apart, these are the left and the
+right edge of its box. Nothing in it is from outside."""
 
 from __future__ import annotations
 
@@ -13,6 +14,7 @@ from ._report import IN_ONE_SESSION, Link, Step, Story
 
 WIDTH, GAP, LANE_GAP = 264.0, 120.0, 76.0  # of a box, and between boxes, in the picture's units
 LINE, PADDING, LEFT = 18.0, 8.0, 100.0
+APART = 9.0  # half of what lies between arcs that leave an edge and those that come to it
 MOST_LETTERS = 38  # of a line in a box
 Point = Tuple[float, float]
 
@@ -28,6 +30,10 @@ class Box:
     @property
     def middle(self) -> Point:
         return self.left + WIDTH / 2, self.top + self.height / 2
+
+    def edge_of(self, event: str) -> Point:
+        """Where it begins, or commits."""
+        return self.left + (WIDTH if event == "commit" else 0), self.top + self.height / 2
 
     def edge_towards(self, point: Point) -> Point:
         """Where the way from the middle to this point leaves the box."""
@@ -105,7 +111,8 @@ def draw_story(story: Story) -> str:
     for box in boxes.values():
         points += [(box.left, box.top), (box.left + WIDTH, box.top + box.height)]
     left, right = min(x for x, _ in points + [(4.0, 0.0)]) - 8, max(x for x, _ in points) + 24
-    top, bottom = min(y for _, y in points) - 18, max(y for _, y in points) + 18
+    below = 26 if story.promise.is_split else 18
+    top, bottom = min(y for _, y in points) - 18, max(y for _, y in points) + below
     about = "Transactions on a time line by session: " + "; ".join(
         f"{step.name} " + ", ".join(deed.text for deed in step.deeds) for step in story.steps
     )
@@ -117,7 +124,7 @@ def draw_story(story: Story) -> str:
             _ends_of_arcs(),
             *_lanes(story, boxes, right),
             *(text for is_red, text in arcs if not is_red),
-            *(_box(step, boxes[step.id]) for step in story.steps),
+            *(_box(step, boxes[step.id], story.promise.is_split) for step in story.steps),
             *(text for is_red, text in arcs if is_red),
             "</svg>",
         ]
@@ -164,7 +171,7 @@ def _lanes(story: Story, boxes: Mapping[ShownId, Box], right: float) -> List[str
     return lanes
 
 
-def _box(step: Step, box: Box) -> str:
+def _box(step: Step, box: Box, has_events: bool) -> str:
     deeds = _told(step)
     lines = "".join(
         f'<text class="deed" x="{box.left + PADDING:.1f}" '
@@ -179,8 +186,23 @@ def _box(step: Step, box: Box) -> str:
         f'<rect x="{box.left:.1f}" y="{box.top:.1f}" width="{WIDTH:.0f}" '
         f'height="{box.height:.1f}" rx="6"/>'
         f'<text class="name" x="{box.left + PADDING:.1f}" '
-        f'y="{box.top + PADDING + LINE * 0.75:.1f}">{escape(step.name)}</text>{lines}</g>'
+        f'y="{box.top + PADDING + LINE * 0.75:.1f}">{escape(step.name)}</text>{lines}'
+        f"{_edges(box) if has_events else ''}</g>"
     )
+
+
+def _edges(box: Box) -> str:
+    """Its begin and its commit."""
+    bottom = box.top + box.height
+    parts = []
+    for event, place in (("begin", ""), ("commit", " end")):
+        x, _ = box.edge_of(event)
+        parts.append(
+            f'<line class="edge" x1="{x:.1f}" x2="{x:.1f}" y1="{box.top - 5:.1f}" '
+            f'y2="{bottom + 5:.1f}"/><text class="tick{place}" x="{x:.1f}" '
+            f'y="{bottom + 18:.1f}">{event}</text>'
+        )
+    return "".join(parts)
 
 
 def _short(text: str) -> str:
@@ -192,7 +214,9 @@ def _arc(link: Link, boxes: Mapping[ShownId, Box], number: int) -> Tuple[str, Li
     another lane swings over; any other bends to its right, so that opposite ones stand apart."""
     start, end = boxes[link.start], boxes[link.end]
     (x, y), (to_x, to_y) = start.middle, end.middle
-    if to_x > x + WIDTH and abs(to_y - y) > 1:
+    if all(link.events):
+        first, last, way, middle = _between_edges(link, start, end, number)
+    elif to_x > x + WIDTH and abs(to_y - y) > 1:
         first, last = (start.left + WIDTH, y), (end.left, to_y)
         swing = max(70.0, (last[0] - first[0]) * 0.5)
         way = f"C{first[0] + swing:.1f} {y:.1f} {last[0] - swing:.1f} {to_y:.1f}"
@@ -217,6 +241,32 @@ def _arc(link: Link, boxes: Mapping[ShownId, Box], number: int) -> Tuple[str, Li
         f'marker-end="url(#{colour}-head)"/>{badge if number else ""}</g>'
     )
     return text, [first, last, (middle[0] - 12, middle[1] - 12), (middle[0] + 12, middle[1] + 12)]
+
+
+def _between_edges(
+    link: Link, start: Box, end: Box, number: int
+) -> Tuple[Point, Point, str, Point]:
+    """From one begin or commit to another: its ends, the way between these, and where its number
+    stands. It leaves a box on the side of that edge, and comes to one so, above where others leave.
+    """
+    first, last = start.edge_of(link.events[0]), end.edge_of(link.events[1])
+    first, last = (first[0], first[1] + APART), (last[0], last[1] - APART)
+    if link.start == link.end:  # along the box's upper edge
+        top = start.top - 14
+        way = f"C{first[0]:.1f} {top:.1f} {last[0]:.1f} {top:.1f}"
+        return first, last, way, (start.middle[0], start.top - 6)
+    swing = 60 + 0.15 * (abs(last[0] - first[0]) + abs(last[1] - first[1]))
+    out, back = (swing if event == "commit" else -swing for event in link.events)
+    turns = first[0] + out, last[0] + back
+    way = f"C{turns[0]:.1f} {first[1]:.1f} {turns[1]:.1f} {last[1]:.1f}"
+    at = (0.5, 0.36, 0.64)[number % 3]  # so that numbers of arcs that cross stand apart
+    before = 1 - at
+    shares = before**3, 3 * before**2 * at, 3 * before * at**2, at**3
+    middle = (
+        sum(share * x for share, x in zip(shares, (first[0], *turns, last[0]))),
+        (shares[0] + shares[1]) * first[1] + (shares[2] + shares[3]) * last[1],
+    )
+    return first, last, way, middle
 
 
 def _bent(start: Point, end: Point, is_in_one_session: bool) -> Point:

@@ -61,8 +61,10 @@ class LiveAuditor(ForProcesses):
     client when it is forgotten: that one joins, by a fence, as it comes, and so does one for whom a
     session more is made. At most `most` transactions may wait to be taken in before clients wait.
     `policy` says what gives way. `journal` and `round_seconds` are as an Auditor's, for one that
-    has none yet. Where all sessions are `elsewhere`, and what they do is kept there until it is
-    taken in, as behind a StreamServer, the auditor may be one that goes on by a journal.
+    has none yet. What the store promises is what the auditor was told; under snapshot isolation
+    there are twice as many meetings. Where all sessions are `elsewhere`, and what they do is kept
+    there until it is taken in, as behind a StreamServer, the auditor may be one that goes on by a
+    journal.
 
     Each round is a line at level INFO of the log `zanteyard`; `tell` is called with it too, where
     it is given, in the auditor's thread. What fails is told by `outcome`, and never raised to who
@@ -99,6 +101,8 @@ class LiveAuditor(ForProcesses):
         # Has what was logged as bytes while it waits.
         self._packed = auditor.packed if isinstance(auditor, AuditorApart) else None
         self._told_to, self._has_failed_to_tell = tell, False
+        if auditor.promise.is_split:  # there is half the room
+            every = min(every, self.EVERY // 2)
         self._pace = Pace(every, seconds, idle, patience)
         self._backlog, self._pool = Backlog(most), SessionPool(auditor.sessions)
         # This process's clients, and each other process's.

@@ -49,9 +49,12 @@ class Auditor(Lines):
     goes that the program was given, so that it can be given them again. `policy` says how long
     sessions wait. `journal` names a file that isn't there yet (docs/JOURNAL.md): where the program
     dies, or takes more than `round_seconds` for a round, if that is given, another one is brought
-    where it stood. Then all calls raise JournalError where the journal can't be written."""
+    where it stood. Then all calls raise JournalError where the journal can't be written. `promise`
+    is "serializable" or "snapshot" (docs/PROMISES.md); under the latter there is room for half as
+    many, and no journal."""
 
-    rewriting: Optional[Rewriting] = None  # where another promise than serializability is asked for
+    rewriting: Optional[Rewriting] = None  # of a finished history, where it is asked about another
+    # promise than serializability
 
     @classmethod
     def asked(cls, sessions: int, limit: int, program: str, rewriting: Rewriting) -> Auditor:
@@ -124,6 +127,8 @@ class Auditor(Lines):
     def _started(self, journal: Union[str, Reopened, None]) -> Union[Pipes, SupervisedProgram]:
         if journal is None and self.rewriting is not None:
             return RewrittenPipes(self.path, self.rewriting)
+        if journal is None and self.promise != SERIALIZABLE:
+            return RewrittenPipes(self.path, Rewriting(self.promise))
         if journal is None:
             return Pipes(self.path)
         program = journaled(self.path, journal, self._head, self.names, self.round_seconds)
@@ -362,9 +367,12 @@ class Auditor(Lines):
             self.marks[session] += count
         for session, number in begun:  # what these have read is forgotten with their begins
             at = number - self.marks[session]
-            self.history[session][at] = self.history[session][at]._replace(reads=())
+            self.history[session][at] = self._without_reads(self.history[session][at])
         self._tenancy.forget(self.marks)
         return Cut(AuditId((fence[0], fence[1])), len(gone))
+
+    def _without_reads(self, logged: Logged) -> Logged:
+        return logged._replace(reads=())
 
     def called(self, id: AuditId) -> str:
         """How a transaction is told: by what its client began with, where its session had others;

@@ -16,6 +16,7 @@ from ..core._outcome import RATHER_LOSE_THE_AUDIT, VIOLATED, Outcome, Policy, ki
 from ..core._records import AuditId, AuditNaming, History, Logged, Pending, Report
 from ..core._window import Coverage
 from ..core.errors import FullError, ProgramEndedError, ProgramLateError, RefusedError
+from ..promises._kinds import ASKED, SERIALIZABLE
 from ._binaries import PROGRAM
 from ._resuming import Reopened
 
@@ -57,9 +58,17 @@ class Intake:
         policy: Policy = RATHER_LOSE_THE_AUDIT,
         journal: Union[str, Reopened, None] = None,
         round_seconds: Optional[float] = None,
+        promise: str = SERIALIZABLE.name,
     ) -> None:
         if round_seconds is not None and journal is None:
             raise ValueError("round_seconds asks for a journal")
+        self.promise = ASKED[promise]
+        if self.promise.is_timed:
+            raise ValueError(f"{promise}: only finished histories are asked about time")
+        if self.promise.is_split:
+            if journal is not None:
+                raise ValueError("an audit with a journal is of serializability")
+            limit = min(limit, LIMIT // 2)  # each takes the room of two
         self.sessions, self.limit, self.path, self.script_path = sessions, limit, program, script
         self.journal, self.round_seconds = journal, round_seconds
         self.is_resumed = isinstance(journal, Reopened)

@@ -38,8 +38,8 @@ class RewrittenPipes(Pipes):
         for text in lines:
             line = json.loads(text)
             rewritten = self._rewriting.asked(line)
-            if not self._rewriting.room_for(rewritten):
-                asked.append(_Asked(line, 0, NO_ROOM))
+            if not self._rewriting.has_room(rewritten):
+                asked.append(_Asked(line, 0, self._rewriting.told(line, [NO_ROOM])))
                 continue
             asked.append(_Asked(line, len(rewritten)))
             given += [json.dumps(each, separators=(",", ":")).encode() for each in rewritten]

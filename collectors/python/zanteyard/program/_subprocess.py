@@ -28,6 +28,7 @@ from ..core.errors import (
     RefusedError,
     ZanteyardError,
 )
+from ..promises._kinds import SERIALIZABLE
 from ._binaries import PROGRAM, found_live
 from ._intake import EFFORTS, LIMIT, SECONDS, Effort, Fragment, Intake
 from ._pipes import ENDING
@@ -50,9 +51,10 @@ class AuditorApart(Intake):
     another one is started then, where it is a call that waits for it; what goes on there are lines'
     logs, since statements and values are in no journal.
 
-    `running` is the file of a cobra_live, which then makes the rounds; an empty one, as a journal,
-    is for cobra_audit alone. Where none is given it is the one that is there, if there is any and
-    `program` is the one that is used where nothing else is asked for."""
+    `running` is the file of a cobra_live, which then makes the rounds; an empty one, as a journal
+    and another promise than serializability, is for cobra_audit alone. Where none is given it is
+    the one that is there, if there is any and `program` is the one that is used where nothing else
+    is asked for."""
 
     process: Any = None
     _connection: Any = None
@@ -68,10 +70,11 @@ class AuditorApart(Intake):
         journal: Union[str, Reopened, None] = None,
         round_seconds: Optional[float] = None,
         running: Optional[str] = None,
+        promise: str = SERIALIZABLE.name,
     ) -> None:
         self._asked_for = running
         settings = (sessions, limit, program, run_name, script, policy, journal, round_seconds)
-        super().__init__(*settings)
+        super().__init__(*settings, promise)
 
     def _start(self, coverage: Optional[Coverage]) -> None:
         self.remaining, self.can_cut, self.left_out = 0, True, 0
@@ -80,12 +83,12 @@ class AuditorApart(Intake):
         self.audits += 1
         settings = (self.sessions, self.limit, self.path, self.run_name)
         files = (self.script_path, self.journal, self.round_seconds)
-        more = (self.audits, coverage, self.has_sessions, self.running)
+        more = (self.audits, coverage, self.has_sessions, self.running, self.promise.name)
         self._begin_process("open", *settings, *files, *more)
 
     def _found_running(self) -> str:
         """The cobra_live that makes the rounds; an empty string where it is cobra_audit."""
-        if self.journal is not None:
+        if self.journal is not None or self.promise != SERIALIZABLE:
             return ""
         if self._asked_for is not None:
             return self._asked_for

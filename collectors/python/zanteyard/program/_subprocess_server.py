@@ -44,6 +44,9 @@ class OfPacked(Auditor):
     def txn(self, packed: bytes) -> List[Any]:
         return super().txn(unpacked(packed))
 
+    def _without_reads(self, packed: bytes) -> bytes:  # type: ignore[override]
+        return as_bytes(unpacked(packed)._replace(reads=()))
+
     def _writes(self, packed: bytes) -> Sequence[str]:  # type: ignore[override]
         return unpacked(packed).writes
 
@@ -97,11 +100,12 @@ class Served:
         coverage: Optional[Coverage],
         has_sessions: bool,
         running: str,
+        promise: str,
     ) -> None:
         if journal is not None:
             self._tell_log()
         settings: Any = (sessions, limit, program, run_name, script, RATHER_LOSE_THE_AUDIT)
-        settings += (journal, round_seconds)
+        settings += (journal, round_seconds, promise)
         more: Any = {"audits": audits, "coverage": coverage}
         if running:
             self.auditor = OfPackedRunning(*settings, **more, running=running)

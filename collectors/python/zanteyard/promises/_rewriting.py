@@ -33,7 +33,7 @@ class Rewriting:
     ) -> None:
         self.promise = promise
         self._timeline = timeline if promise.is_timed else None
-        self._room = 0  # of the auditor's limit, what is left
+        self._room = 0  # of the auditor's limit, what no line that was asked takes
         self.has_less_room = False  # than the script's `open` asks for
 
     def asked(self, line: List[Any]) -> List[List[Any]]:
@@ -74,6 +74,7 @@ class Rewriting:
             return [[*line[:-1], transactions]]
         if len(transactions) > LONGEST:
             return [line]  # which is too long, as the auditor says
+        self._room -= 2 * len(transactions)
         has_stars = self.promise.has_stars
         halves = [*split_transactions(session, first, transactions, has_stars)]
         place = [] if joins_as_new else [begin_half(first)]
@@ -104,10 +105,10 @@ class Rewriting:
                         f"have to be below {NUMBERS} under this promise"
                     )
 
-    def room_for(self, lines: Sequence[Sequence[Any]]) -> bool:
-        """Whether all that these lines offer would be taken: of several lines either all are, or
-        none is given."""
-        return len(lines) < 2 or sum(len(line[-1]) for line in lines) <= self._room
+    def has_room(self, lines: Sequence[Sequence[Any]]) -> bool:
+        """Whether there is room for all that was asked, where it takes several lines: of these
+        either all are given, or none."""
+        return len(lines) < 2 or self._room >= 0
 
     def told(self, line: Sequence[Any], replies: Sequence[List[Any]]) -> List[Any]:
         """The reply to the line, of those to the lines that were asked for it. That to a cut has
@@ -115,8 +116,9 @@ class Rewriting:
         reply = next((each for each in replies if each[0] == "no"), replies[-1])
         if not self.promise.is_split:
             return reply
-        if reply[0] == "ok" and line[0] in ("offer", "join"):
-            self._room -= 2 * len(line[-1])
+        if reply[0] == "no" and line and line[0] in ("offer", "join"):
+            if is_of_transactions(line) and len(line[-1]) <= LONGEST:
+                self._room += 2 * len(line[-1])
         if reply[0] == "report":
             return self._report(reply)
         if reply[0] == "cut":

@@ -57,7 +57,7 @@ LIVES = """concat_ws(' ', extract(epoch FROM pg_postmaster_start_time()),
     (SELECT extract(epoch FROM stats_reset) FROM pg_stat_bgwriter))"""
 LIFE = f"""SELECT pg_backend_pid(),
     (SELECT {AGE} FROM pg_stat_activity WHERE pid = pg_backend_pid()), {LIVES}"""
-CONFLICTS = (errors.SerializationFailure, errors.DeadlockDetected)
+CONFLICTS = (errors.SerializationFailure, errors.DeadlockDetected, errors.LockNotAvailable)
 PATIENCE = 5.0  # seconds for a connection, and for an outcome
 ATTEMPTS = 10  # at the first row of a key: each fails only where another client has just made it
 RUN = "zanteyard run "  # before a run's name: the key of the row that says whose it is

@@ -15,12 +15,17 @@ from ..core._outcome import RATHER_WAIT, Outcome
 from ..core.errors import AbortedError, OutcomeUnknownError
 from ..explain._anomalies import find_anomaly
 from ..explain._report import story_lines, story_of
+from ..explain._standing import standing
 from ..explain._words import name as plain_name
 from ..program._auditor import Auditor
+from ..program._binaries import PROGRAM
+from ..promises._kinds import PREFIX, SERIALIZABLE, SNAPSHOT, Promise
 from ..session._session import Session
 from ..session._transaction import Transaction
 
 SESSIONS = 3
+PROMISES = (SERIALIZABLE, SNAPSHOT, PREFIX)
+ASKING = 60.0  # seconds to find out what one violation breaks
 Steps = Callable[[Sequence["Client"]], None]
 
 
@@ -171,12 +176,14 @@ FAULTS: Mapping[str, Steps] = {
 @dataclass(frozen=True)
 class Seen:
     """What was said of it: the verdict; the anomaly's name, where it was violated; of each
-    session's transactions how they ended; and the whole in words, where it was asked for."""
+    session's transactions how they ended; and, where it was asked for, the whole in words, and
+    which promises were broken."""
 
     kind: str
     anomaly: str
     outcomes: Sequence[Sequence[str]]
     lines: Sequence[str] = ()
+    broken: Sequence[Promise] = ()
 
     def __str__(self) -> str:
         return self.anomaly or self.kind
@@ -188,7 +195,11 @@ def about(fault: str) -> str:
 
 
 def run_lockstep(
-    fault: str, stores: Sequence[Any], prefix: str = "", tells: bool = False
+    fault: str,
+    stores: Sequence[Any],
+    prefix: str = "",
+    tells: bool = False,
+    asks_promises: bool = False,
 ) -> Seen:
     """Has clients do that over these stores, SESSIONS of them, each with a connection of its own.
     Their keys begin with the prefix, so that none is there before."""
@@ -205,7 +216,10 @@ def run_lockstep(
         anomaly = find_anomaly(history) if outcome.kind == "violated" else None
         lines = [*_told(auditor, outcome)] if tells else []
     named = anomaly.name if anomaly is not None else ""
-    return Seen(outcome.kind, named, ended, lines)
+    broken: Sequence[Promise] = ()
+    if asks_promises and outcome.kind == "violated":
+        broken = standing(history, PROGRAM, seconds=ASKING).broken
+    return Seen(outcome.kind, named, ended, lines, broken)
 
 
 def _told(auditor: Auditor, outcome: Outcome) -> Iterator[str]:
@@ -252,8 +266,26 @@ def table_lines(seen_by_fault: Mapping[str, Sequence[Seen]], levels: Sequence[st
     ]
 
 
+def promise_lines(seen_by_fault: Mapping[str, Sequence[Seen]], levels: Sequence[str]) -> List[str]:
+    """As a table, with a column for each level: which promise was kept whatever the clients did,
+    or what they did as it was first broken."""
+    rows = [["", *levels]]
+    for promise in PROMISES:
+        cells = []
+        for at in range(len(levels)):
+            faults = [fault for fault, its in seen_by_fault.items() if promise in its[at].broken]
+            cells.append(faults[0] if faults else "kept")
+        rows.append([promise.title, *cells])
+    widths = [max(map(len, column)) for column in zip(*rows)]
+    return [
+        "  ".join(text.ljust(width) for text, width in zip(row, widths)).rstrip() for row in rows
+    ]
+
+
 def table_of(
-    make_stores: Callable[[str], Sequence[Any]], levels: Sequence[str]
+    make_stores: Callable[[str], Sequence[Any]],
+    levels: Sequence[str],
+    asks_promises: bool = False,
 ) -> Dict[str, List[Seen]]:
     """Of each fault what was seen at each level; `make_stores` makes SESSIONS stores of a level."""
     seen_by_fault: Dict[str, List[Seen]] = {fault: [] for fault in FAULTS}
@@ -261,7 +293,8 @@ def table_of(
         stores = make_stores(level)
         try:
             for fault, seen in seen_by_fault.items():
-                seen.append(run_lockstep(fault, stores, f"{level}/{fault}/"))
+                asked = (f"{level}/{fault}/", False, asks_promises)
+                seen.append(run_lockstep(fault, stores, *asked))
         finally:
             for store in stores:
                 store.close()

@@ -145,7 +145,21 @@ class _Postgres(StoreKind):
             from ..stores.postgres import prepare
 
             prepare(server.dsn)
-        return MakeStore(self.command, server.dsn, self.levels[asked.level], server.table, **more)
+        dsn = server.dsn
+        if "lock_wait" in more:
+            dsn = f"{dsn} options='-c lock_timeout={more.pop('lock_wait')}'"
+        return MakeStore(self.command, dsn, self.levels[asked.level], server.table, **more)
+
+    no_waiting = {"lock_wait": 20}  # milliseconds; 0 would be for ever
+
+    def version(self, server: Any) -> str:
+        import psycopg2
+
+        connection = psycopg2.connect(server.dsn)
+        version = connection.server_version
+        connection.close()
+        driver = psycopg2.__version__.split()[0]
+        return f"PostgreSQL {version // 10000}.{version % 10000}, psycopg2 {driver}"
 
 
 class _MariaDB(StoreKind):

@@ -9,6 +9,7 @@ import (
 	"testing"
 	"time"
 
+	"zanteyard/cluster"
 	"zanteyard/join"
 	"zanteyard/record"
 	"zanteyard/slot"
@@ -86,7 +87,7 @@ func TestNoAudit(t *testing.T) {
 	if it := await(t, events, "ended"); !strings.Contains(it["reason"].(string), "wal_level") {
 		t.Errorf("the audit has ended: %v", it)
 	}
-	_, events, _, _ = start(t, &server{folder: s.folder + "/nowhere"}, slot.Options{})
+	_, events, _, _ = start(t, &server{&cluster.Cluster{Dir: s.Dir + "/nowhere"}}, slot.Options{})
 	await(t, events, "ended")
 }
 

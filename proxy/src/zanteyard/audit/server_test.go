@@ -3,102 +3,35 @@ package audit
 import (
 	"context"
 	"errors"
-	"fmt"
-	"os"
-	"os/exec"
-	"os/user"
-	"path/filepath"
-	"strconv"
-	"syscall"
 	"testing"
-	"time"
 
 	"github.com/jackc/pgconn"
+
+	"zanteyard/cluster"
 )
 
 // server is a PostgreSQL of the test's own.
-type server struct{ folder string }
-
-const programs = "/usr/lib/postgresql/15/bin"
+type server struct{ *cluster.Cluster }
 
 // startServer starts one that ends with the test, or skips the test where PostgreSQL isn't installed.
 func startServer(t testing.TB, settings ...string) *server {
 	t.Helper()
-	if _, err := os.Stat(filepath.Join(programs, "initdb")); err != nil {
-		t.Skip("PostgreSQL 15 isn't installed")
-	}
-	folder, err := os.MkdirTemp("", "zanteyard-audit-")
-	if err != nil {
-		t.Fatal(err)
-	}
-	t.Cleanup(func() { os.RemoveAll(folder) })
-	owner, err := unprivileged(folder)
-	if err != nil {
+	it, err := cluster.Start(append([]string{"autovacuum=off"}, settings...), nil)
+	if errors.Is(err, cluster.ErrMissing) {
 		t.Skip(err)
 	}
-	data := filepath.Join(folder, "data")
-	run := func(name string, arguments ...string) *exec.Cmd {
-		command := exec.Command(filepath.Join(programs, name), arguments...)
-		command.Dir = folder
-		command.SysProcAttr = &syscall.SysProcAttr{Credential: owner}
-		return command
-	}
-	if out, err := run("initdb", "-D", data, "-A", "trust", "-U", "postgres", "-E", "UTF8", "--locale=C", "--no-sync").
-		CombinedOutput(); err != nil {
-		t.Fatalf("initdb: %v: %s", err, out)
-	}
-	arguments := []string{"-D", data, "-k", folder}
-	for _, setting := range append([]string{"listen_addresses=", "fsync=off", "wal_level=logical", "max_connections=40",
-		"shared_buffers=64MB", "autovacuum=off"}, settings...) {
-		arguments = append(arguments, "-c", setting)
-	}
-	process := run("postgres", arguments...)
-	if err := process.Start(); err != nil {
+	if err != nil {
 		t.Fatal(err)
 	}
-	t.Cleanup(func() {
-		process.Process.Signal(syscall.SIGINT)
-		process.Wait()
-	})
-	s := &server{folder: folder}
-	for begun := time.Now(); ; time.Sleep(20 * time.Millisecond) {
-		conn, err := pgconn.Connect(context.Background(), s.source())
-		if err == nil {
-			conn.Close(context.Background())
-			return s
-		}
-		if time.Since(begun) > time.Minute {
-			t.Fatalf("the server doesn't start: %v", err)
-		}
-	}
+	t.Cleanup(it.Stop)
+	return &server{it}
 }
 
-// unprivileged is a user that the server can run as, and owns the folder: it refuses root.
-func unprivileged(folder string) (*syscall.Credential, error) {
-	if os.Getuid() != 0 {
-		return nil, nil
-	}
-	for _, name := range []string{"postgres", "nobody"} {
-		it, err := user.Lookup(name)
-		if err != nil {
-			continue
-		}
-		uid, err1 := strconv.Atoi(it.Uid)
-		gid, err2 := strconv.Atoi(it.Gid)
-		if err1 == nil && err2 == nil {
-			return &syscall.Credential{Uid: uint32(uid), Gid: uint32(gid)}, os.Chown(folder, uid, gid)
-		}
-	}
-	return nil, errors.New("there is no user without rights who could run PostgreSQL")
-}
-
-func (s *server) source() string {
-	return fmt.Sprintf("host=%s port=5432 user=postgres database=postgres sslmode=disable", s.folder)
-}
+func (s *server) source() string { return s.DSN("postgres", "postgres") }
 
 func (s *server) connect(t testing.TB) *pgconn.PgConn {
 	t.Helper()
-	conn, err := pgconn.Connect(context.Background(), s.source())
+	conn, err := s.Connect(context.Background())
 	if err != nil {
 		t.Fatal(err)
 	}

@@ -12,8 +12,8 @@ import (
 	"github.com/jackc/pgconn"
 
 	"zanteyard/catalog"
+	"zanteyard/cluster"
 	"zanteyard/keys"
-	"zanteyard/pgtest"
 )
 
 const schema = `
@@ -56,11 +56,11 @@ CREATE OPERATOR === (LEFTARG = mood, RIGHTARG = mood, FUNCTION = op);
 `
 
 // server is the one that this package's tests share; nil where PostgreSQL isn't installed.
-var server *pgtest.Server
+var server *cluster.Cluster
 
 func TestMain(m *testing.M) {
-	started, err := pgtest.Start()
-	if err != nil && !errors.Is(err, pgtest.ErrMissing) {
+	started, err := cluster.Start([]string{"autovacuum=off"}, nil)
+	if err != nil && !errors.Is(err, cluster.ErrMissing) {
 		fmt.Fprintln(os.Stderr, err)
 		os.Exit(1)
 	}
@@ -76,7 +76,7 @@ func TestMain(m *testing.M) {
 func open(t *testing.T, database string) *pgconn.PgConn {
 	t.Helper()
 	if server == nil {
-		t.Skip(pgtest.ErrMissing)
+		t.Skip(cluster.ErrMissing)
 	}
 	ctx := context.Background()
 	first, err := server.Connect(ctx)
@@ -96,7 +96,7 @@ func open(t *testing.T, database string) *pgconn.PgConn {
 
 func run(t *testing.T, connection *pgconn.PgConn, sql string) [][]string {
 	t.Helper()
-	rows, err := pgtest.Query(context.Background(), connection)(sql)
+	rows, err := cluster.Query(context.Background(), connection)(sql)
 	if err != nil {
 		t.Fatalf("%s: %v", sql, err)
 	}
@@ -105,7 +105,7 @@ func run(t *testing.T, connection *pgconn.PgConn, sql string) [][]string {
 
 func load(t *testing.T, connection *pgconn.PgConn) *catalog.Catalog {
 	t.Helper()
-	c, err := catalog.Load(context.Background(), pgtest.Query(context.Background(), connection))
+	c, err := catalog.Load(context.Background(), cluster.Query(context.Background(), connection))
 	if err != nil {
 		t.Fatal(err)
 	}

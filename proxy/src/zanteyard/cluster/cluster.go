@@ -1,8 +1,9 @@
 // Package cluster starts a PostgreSQL server of its own for tests and benchmarks, in a folder that is removed
-// afterwards.
+// afterwards. The server ends with the tests, also where these are killed.
 package cluster
 
 import (
+	"context"
 	"errors"
 	"fmt"
 	"net"
@@ -10,10 +11,12 @@ import (
 	"os/exec"
 	"os/user"
 	"path/filepath"
+	"runtime"
 	"sort"
 	"strconv"
 	"strings"
 	"syscall"
+	"time"
 )
 
 // ErrMissing says that PostgreSQL's server isn't installed, or can't be run by this user.
@@ -25,8 +28,9 @@ type Cluster struct {
 	Port int
 	Dir  string
 
-	bin  string
-	cred *syscall.Credential
+	bin   string
+	cred  *syscall.Credential
+	ended chan struct{} // the server's process has
 }
 
 // Start makes and starts a cluster. More lines for postgresql.conf and pg_hba.conf may be given.
@@ -91,7 +95,7 @@ func (c *Cluster) start(settings, hba []string) error {
 			return err
 		}
 	}
-	if err := c.run("initdb", "-D", c.data(), "-A", "trust", "-U", "postgres", "-E", "UTF8", "--locale=C",
+	if err := c.run("initdb", "-D", c.data(), "-A", "trust", "-U", "postgres", "-E", "UTF8", "--locale=C.UTF-8",
 		"--no-sync"); err != nil {
 		return err
 	}
@@ -118,7 +122,54 @@ func (c *Cluster) start(settings, hba []string) error {
 			return err
 		}
 	}
-	return c.run("pg_ctl", "-D", c.data(), "-l", filepath.Join(c.Dir, "log"), "-w", "start")
+	return c.launch()
+}
+
+// launch starts the server, and waits until it takes connections. It is started by a thread that stays for as long, since
+// the server is told to end when its parent's thread does.
+func (c *Cluster) launch() error {
+	output, err := os.OpenFile(filepath.Join(c.Dir, "log"), os.O_APPEND|os.O_CREATE|os.O_WRONLY, 0o644)
+	if err != nil {
+		return err
+	}
+	defer output.Close()
+	server := c.command("postgres", "-D", c.data())
+	server.Stdout, server.Stderr = output, output
+	started, ended := make(chan error), make(chan struct{})
+	go func() {
+		runtime.LockOSThread()
+		defer runtime.UnlockOSThread()
+		err := server.Start()
+		started <- err
+		if err == nil {
+			server.Wait()
+		}
+		close(ended)
+	}()
+	if err := <-started; err != nil {
+		return err
+	}
+	c.ended = ended
+	return c.wait()
+}
+
+// wait waits until the server takes connections.
+func (c *Cluster) wait() error {
+	ctx, cancel := context.WithTimeout(context.Background(), 2*time.Minute)
+	defer cancel()
+	for {
+		conn, err := c.Connect(ctx)
+		if err == nil {
+			return conn.Close(ctx)
+		}
+		select {
+		case <-c.ended:
+			return fmt.Errorf("the server has ended: %s", c.Log())
+		case <-ctx.Done():
+			return fmt.Errorf("the server takes no connections: %w: %s", err, c.Log())
+		case <-time.After(20 * time.Millisecond):
+		}
+	}
 }
 
 func (c *Cluster) data() string { return filepath.Join(c.Dir, "data") }
@@ -147,17 +198,18 @@ func (c *Cluster) Write(name string, content []byte) error {
 
 // run runs one of PostgreSQL's programs as the server's user.
 func (c *Cluster) run(name string, args ...string) error {
-	cmd := exec.Command(filepath.Join(c.bin, name), args...)
-	cmd.Dir = c.Dir
-	cmd.Env = append(os.Environ(), "LC_ALL=C")
-	if c.cred != nil {
-		cmd.SysProcAttr = &syscall.SysProcAttr{Credential: c.cred}
-	}
-	out, err := cmd.CombinedOutput() // pg_ctl's server has its output in a file
-	if err != nil {
+	if out, err := c.command(name, args...).CombinedOutput(); err != nil {
 		return fmt.Errorf("%s: %w: %s", name, err, out)
 	}
 	return nil
+}
+
+func (c *Cluster) command(name string, args ...string) *exec.Cmd {
+	cmd := exec.Command(filepath.Join(c.bin, name), args...)
+	cmd.Dir = c.Dir
+	cmd.Env = append(os.Environ(), "LC_ALL=C.UTF-8", "TZ=UTC")
+	cmd.SysProcAttr = &syscall.SysProcAttr{Credential: c.cred, Pdeathsig: syscall.SIGQUIT}
+	return cmd
 }
 
 // Restart stops and starts the server; fast ends all connections, otherwise it is as if it had crashed.
@@ -169,7 +221,8 @@ func (c *Cluster) Restart(fast bool) error {
 	if err := c.run("pg_ctl", "-D", c.data(), "-m", mode, "-w", "stop"); err != nil {
 		return err
 	}
-	return c.run("pg_ctl", "-D", c.data(), "-l", filepath.Join(c.Dir, "log"), "-w", "start")
+	<-c.ended
+	return c.launch()
 }
 
 // Log is what the server has logged.
@@ -180,6 +233,9 @@ func (c *Cluster) Log() string {
 
 // Stop stops the server and removes its folder.
 func (c *Cluster) Stop() {
-	c.run("pg_ctl", "-D", c.data(), "-m", "immediate", "-w", "stop") // fails if it was never started
+	if c.ended != nil {
+		c.run("pg_ctl", "-D", c.data(), "-m", "immediate", "-w", "stop") // fails if it has ended
+		<-c.ended
+	}
 	os.RemoveAll(c.Dir)
 }

@@ -265,8 +265,8 @@ func (l *life) note() {
 	}
 }
 
-// Whatever happens, the auditor takes every line; each session's transactions follow one another in time; and cuts come,
-// so that few remain.
+// Whatever happens, the auditor takes every line; each session's transactions follow one another in time, the fences
+// apart; and cuts come, so that few remain.
 func TestLives(t *testing.T) {
 	for seed := int64(0); seed < 12; seed++ {
 		r := rand.New(rand.NewSource(seed))
@@ -280,11 +280,16 @@ func TestLives(t *testing.T) {
 		}
 		l.note()
 		for _, s := range l.core.sessions {
-			for n := uint64(1); n < s.written; n++ {
-				last, this := named(s.index, n-1), named(s.index, n)
-				if l.offers[this][0].Before(l.offers[last][1]) {
+			var ended time.Time
+			for n := uint64(0); n < s.written; n++ {
+				this := named(s.index, n)
+				if _, is := l.whose[this]; !is {
+					continue
+				}
+				if l.offers[this][0].Before(ended) {
 					t.Errorf("seed %d: in session %d number %d began before the one before it had ended", seed, s.index, n)
 				}
+				ended = l.offers[this][1]
 			}
 		}
 		if l.missed > 2 || l.core.remaining() > 200 {

@@ -96,7 +96,7 @@ func (c *core) isReady(s *session) bool {
 
 // mayStand says whether a transaction that is no fence may be offered next in the session. follows says that what stands
 // there last is of the same connection. The order of connections, and that of transactions around a fence, are granted
-// by a quiet moment alone.
+// by a quiet moment alone: nothing else is asked of when a fence was made.
 //
 // Each fence belongs to a moment between what is in front of it and what is behind it in its session, and the fences of
 // an earlier moment have to be written before those of a later one. A fence that is followed by something in its
@@ -105,7 +105,7 @@ func (c *core) isReady(s *session) bool {
 func (c *core) mayStand(s *session, it *record.Transaction, follows bool) bool {
 	began, ended := span(it)
 	switch {
-	case c.moments.spanned(began, ended), !follows && began.Before(s.floor):
+	case c.moments.spanned(began, ended):
 		return false
 	case s.fence.IsZero() && follows:
 		return true
@@ -122,15 +122,14 @@ func (c *core) mayStand(s *session, it *record.Transaction, follows bool) bool {
 	return true
 }
 
-// mayFence says whether a fence may be offered next in the session.
-func (c *core) mayFence(s *session, it *record.Transaction, follows bool) bool {
+// mayFence says whether a fence may be offered next in the session. It needn't have begun after what is in front of it
+// had ended, if no moment is between.
+func (c *core) mayFence(s *session, it *record.Transaction) bool {
 	began, _ := span(it)
 	switch {
-	case !follows && began.Before(s.floor):
-		return false
 	case s.last.IsZero() || c.moments.between(s.last, began):
 		return true
-	case began.Before(c.opened):
+	case c.moments.between(began, s.last), began.Before(c.opened):
 		return false
 	}
 	if !c.isReady(s) && (c.closing.IsZero() || began.Before(c.closing)) {
@@ -142,9 +141,6 @@ func (c *core) mayFence(s *session, it *record.Transaction, follows bool) bool {
 // stood notes what was named last in the session.
 func (s *session) stood(it *record.Transaction) {
 	_, ended := span(it)
-	if ended.After(s.floor) {
-		s.floor = ended
-	}
 	if !it.Fence {
 		s.last, s.fence = ended, time.Time{}
 	} else if ended.After(s.fence) {

@@ -15,8 +15,7 @@ type session struct {
 	mark    uint64 // the numbers below it are gone
 	closed  bool
 	tenant  *connection
-	floor   time.Time // when all that is named in it had ended
-	last    time.Time // when the last of these that is no fence had ended
+	last    time.Time // when the last one that is named in it, and is no fence, had ended
 	fence   time.Time // when the last fence behind that had ended
 	own     bool      // what stands last in it is the tenant's
 	had     uint64    // the connection whose transaction was named last

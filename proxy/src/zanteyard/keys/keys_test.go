@@ -11,8 +11,8 @@ import (
 
 	"github.com/jackc/pgconn"
 
+	"zanteyard/cluster"
 	"zanteyard/keys"
-	"zanteyard/pgtest"
 )
 
 // kind is a type with values of it, as SQL writes them; those of one line are equal, and must have one canonical text.
@@ -73,11 +73,11 @@ var sessions = []string{
 	"SET DateStyle = 'Postgres, MDY'; SET TimeZone = 'Asia/Kathmandu'",
 }
 
-var server *pgtest.Server
+var server *cluster.Cluster
 
 func TestMain(m *testing.M) {
-	started, err := pgtest.Start()
-	if err != nil && !errors.Is(err, pgtest.ErrMissing) {
+	started, err := cluster.Start([]string{"autovacuum=off"}, nil)
+	if err != nil && !errors.Is(err, cluster.ErrMissing) {
 		fmt.Fprintln(os.Stderr, err)
 		os.Exit(1)
 	}
@@ -92,7 +92,7 @@ func TestMain(m *testing.M) {
 func connect(t *testing.T) *pgconn.PgConn {
 	t.Helper()
 	if server == nil {
-		t.Skip(pgtest.ErrMissing)
+		t.Skip(cluster.ErrMissing)
 	}
 	connection, err := server.Connect(context.Background())
 	if err != nil {

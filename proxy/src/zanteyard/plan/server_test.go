@@ -10,15 +10,15 @@ import (
 	"github.com/jackc/pgconn"
 
 	"zanteyard/catalog"
-	"zanteyard/pgtest"
+	"zanteyard/cluster"
 )
 
 // server is the one that this package's tests share; nil where PostgreSQL isn't installed.
-var server *pgtest.Server
+var server *cluster.Cluster
 
 func TestMain(m *testing.M) {
-	started, err := pgtest.Start()
-	if err != nil && !errors.Is(err, pgtest.ErrMissing) {
+	started, err := cluster.Start([]string{"autovacuum=off"}, nil)
+	if err != nil && !errors.Is(err, cluster.ErrMissing) {
 		fmt.Fprintln(os.Stderr, err)
 		os.Exit(1)
 	}
@@ -34,7 +34,7 @@ func TestMain(m *testing.M) {
 func connect(t testing.TB, database, schema string) *pgconn.PgConn {
 	t.Helper()
 	if server == nil {
-		t.Skip(pgtest.ErrMissing)
+		t.Skip(cluster.ErrMissing)
 	}
 	ctx := context.Background()
 	first, err := server.Connect(ctx)
@@ -72,7 +72,7 @@ func run(t testing.TB, connection *pgconn.PgConn, sql string) []*pgconn.Result {
 func load(t testing.TB, connection *pgconn.PgConn) *catalog.Catalog {
 	t.Helper()
 	ctx := context.Background()
-	c, err := catalog.Load(ctx, pgtest.Query(ctx, connection))
+	c, err := catalog.Load(ctx, cluster.Query(ctx, connection))
 	if err != nil {
 		t.Fatal(err)
 	}

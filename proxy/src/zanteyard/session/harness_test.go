@@ -191,6 +191,15 @@ type proxied struct {
 
 var connections uint64
 
+// early_ is what the next client sends before the server is ready for it.
+var early_ []byte
+
+// pooler_ is the port of a pooler between sessions and the server, 0 for none.
+var pooler_ int
+
+// shared_ is what all connections of all tests tell one another: what was tried on one is used on the next.
+var shared_ = NewShared()
+
 // through connects by way of a session.
 func through(t testing.TB, user string, change func(*Options)) *proxied {
 	t.Helper()
@@ -199,7 +208,7 @@ func through(t testing.TB, user string, change func(*Options)) *proxied {
 		Plans: definitions_, Sink: p.sink, Policy: Policy{true, true}, ReadLimit: 10000,
 		Fence: NewFence("public.zanteyard_fence", 1000), Auditing: func() bool { return true },
 		Generation: definitions_.Generation, Defined: func() {}, Log: func(s string) { t.Log(s) },
-		Bound: 5 * time.Second,
+		Bound: 5 * time.Second, Shared: shared_,
 	}
 	if change != nil {
 		change(options)
@@ -217,7 +226,11 @@ func through(t testing.TB, user string, change func(*Options)) *proxied {
 	if err != nil {
 		t.Fatal(err)
 	}
-	server, err := net.Dial("tcp", fmt.Sprintf("127.0.0.1:%d", theCluster.Port))
+	port := theCluster.Port
+	if pooler_ != 0 {
+		port = pooler_
+	}
+	server, err := net.Dial("tcp", fmt.Sprintf("127.0.0.1:%d", port))
 	if err != nil {
 		t.Fatal(err)
 	}
@@ -233,6 +246,12 @@ func through(t testing.TB, user string, change func(*Options)) *proxied {
 	})
 	connections++
 	p.session = New(connections, near, server, options)
+	if early := early_; early != nil {
+		early_ = nil
+		if _, err := far.Write(early); err != nil {
+			t.Fatal(err)
+		}
+	}
 	go func() { p.ended <- p.session.Run() }()
 	p.client = newClient(t, far)
 	return p
@@ -247,7 +266,7 @@ func (p *proxied) settle() {
 		if p.session.status != 'I' && p.session.queue.empty() {
 			return true
 		}
-		return p.session.idle() && !p.session.trust.work() && p.session.trial == nil
+		return p.session.idle() && !(p.session.trust.work() && p.session.looking()) && p.session.trial == nil
 	})
 }
 

@@ -21,14 +21,16 @@ const (
 
 	signatureName = prefix + "signature"
 	// All that decides what a name means on a connection and what its user may do, in one text: if it is the same as
-	// before, then so is the meaning of what was tried. The second column is the level that transactions begin at, the
-	// third the search path (catalog.PathSQL).
-	signatureText = "SELECT pg_catalog.concat_ws('|', pg_catalog.current_setting('search_path'), current_user, " +
+	// before, or as on another connection, then so is the meaning of what was tried. It ends with an empty string where
+	// there are no temporary objects. The second column is the level that transactions begin at, the third the search path
+	// (catalog.PathSQL), the fourth the backend's process.
+	signatureText = "SELECT pg_catalog.json_build_array(pg_catalog.current_setting('search_path'), current_user, " +
 		"session_user, pg_catalog.current_setting('role'), pg_catalog.current_setting('row_security'), " +
 		"CASE WHEN pg_catalog.pg_my_temp_schema() OPERATOR(pg_catalog.=) 0::pg_catalog.oid THEN '' ELSE (" +
 		"SELECT pg_catalog.string_agg(oid::pg_catalog.text, ',' ORDER BY oid) FROM pg_catalog.pg_class " +
-		"WHERE relnamespace OPERATOR(pg_catalog.=) pg_catalog.pg_my_temp_schema()) END), " +
-		"pg_catalog.current_setting('default_transaction_isolation'), (" + catalog.PathSQL + ")"
+		"WHERE relnamespace OPERATOR(pg_catalog.=) pg_catalog.pg_my_temp_schema()) END)::pg_catalog.text, " +
+		"pg_catalog.current_setting('default_transaction_isolation'), (" + catalog.PathSQL + "), " +
+		"pg_catalog.pg_backend_pid()"
 
 	// A trial that would wait for a lock fails instead, so that no client waits for it: the setting ends with the
 	// transaction, which is that of the trial's messages up to their Sync.

@@ -102,7 +102,7 @@ func TestRecords(t *testing.T) {
 		x := x
 		t.Run(x.name, func(t *testing.T) {
 			sql(t, fill)
-			p := through(t, "postgres", nil)
+			p := through(t, "postgres", func(o *Options) { o.Shared = nil })
 			p.warm(x.texts...)
 			sql(t, fill)
 			place := p.session.place

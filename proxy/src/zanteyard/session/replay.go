@@ -59,6 +59,7 @@ func (s *Session) again(e *expectation, m []byte) bool {
 	if u := e.use; u != nil {
 		u.state, u.generation = failed, s.trust.generation
 		u.reason = "it failed once, since what it needs had changed"
+		s.options.Shared.drop(s.trust.signature, u.plan)
 	}
 	return true
 }

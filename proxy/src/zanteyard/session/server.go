@@ -2,6 +2,7 @@ package session
 
 import (
 	"bytes"
+	"strconv"
 
 	"zanteyard/plan"
 	"zanteyard/wire"
@@ -99,10 +100,17 @@ func (s *Session) unasked(o *output, m []byte, start, end int) {
 		}
 	case 'S':
 		s.parameter(m)
+	case 'K':
+		if s.status == 0 && len(m) >= wire.Header+4 {
+			s.backend = wire.Int32(m[wire.Header:])
+		}
 	case 'E':
 		s.skipping = s.open && !wire.Fatal(m) // for a Flush, which is owed nothing else
 	case 'Z': // the first one: startup is over
 		if len(m) > wire.Header {
+			if s.status == 0 {
+				s.greet()
+			}
 			s.status = m[wire.Header]
 		}
 	}
@@ -240,7 +248,11 @@ func (s *Session) ownRow(e *expectation, m []byte) {
 	case askRow:
 		s.takeAsk(values)
 	case signatureRow:
-		if s.trial != nil && n == 3 {
+		if s.trial != nil && n == 4 {
+			if string(values[3]) != strconv.Itoa(s.backend) {
+				// What was prepared here may be missing at the next statement.
+				s.trust.pooled, s.trust.broken, s.trial.failed = true, true, true
+			}
 			s.trial.path = string(values[2])
 			s.trial.signature = append(make([]byte, 0, len(values[0])), values[0]...)
 			s.level = settingOf(values[1])

@@ -47,6 +47,7 @@ type Options struct {
 	Defined    func()        // a session is about to change a definition
 	Log        func(string)  // for people who run the proxy
 	Bound      time.Duration // for how long a meeting holds what clients send
+	Shared     *Shared       // nil: each connection tries its plans itself
 }
 
 // Session is one connection. Its methods are safe for use by several goroutines.
@@ -68,6 +69,8 @@ type Session struct {
 	hold  atomic.Pointer[hold]
 	// missed: an idle moment couldn't be used, since writes was held.
 	missed atomic.Bool
+	// greeting is there while the connection's signature is asked for at its first moment.
+	greeting atomic.Pointer[chan struct{}]
 
 	state    sync.Mutex // over all below
 	waiting  sync.Cond  // for a replay to have been sent
@@ -76,6 +79,8 @@ type Session struct {
 	open     bool // messages of the extended protocol were sent since the last Sync
 	skipping bool // the server leaves out what it gets up to the next Sync, after an error, which hasn't been sent yet
 	partial  bool // the server has a part of a message
+	backend  int  // the server's process, as it was told when the connection began
+	early    bool // the client has sent something before the server was ready for it
 	copying  bool
 	replay   replay
 	failure  []byte // the error that the client got in place of the answer to its COMMIT
@@ -103,7 +108,7 @@ func New(number uint64, client, server net.Conn, options *Options) *Session {
 	s := &Session{number: number, options: options, client: client, server: server, names: newNames()}
 	s.waiting.L = &s.state
 	s.encoding, s.standard, s.plain = true, true, true
-	s.trust.uses = map[*plan.Plan]*use{}
+	s.trust.uses, s.trust.shared = map[*plan.Plan]*use{}, options.Shared
 	s.trust.doubtful()
 	s.trust.generation = 1
 	return s
@@ -191,6 +196,9 @@ func (s *Session) forth() error {
 
 // send passes on some messages, or the beginning of a long one and then the rest of it.
 func (s *Session) send(in *wire.Reader, batch []byte, more int) error {
+	if greeting := s.greeting.Load(); greeting != nil {
+		s.waitGreeting(*greeting)
+	}
 	s.writes.Lock()
 	if h := s.hold.Load(); h != nil {
 		s.wait(h)
@@ -227,6 +235,7 @@ func (s *Session) looked(batch []byte, more int) []byte {
 	s.queue.sent = s.sent
 	if s.blind.Load() || s.status == 0 {
 		s.partial = more > 0
+		s.early = s.early || batch[0] != 'p'
 		return batch
 	}
 	if g := s.options.Generation(); g != s.trust.catalog {

@@ -49,7 +49,9 @@ type trust struct {
 	asks      bool     // the ask was prepared and has run in this generation
 	wanted    bool     // the ask is worth preparing
 	broken    bool     // not even the proxy's own questions work here
+	pooled    bool     // a pooler is behind the proxy: statements may reach one backend after another
 	orphans   []string // twins whose statements are gone
+	shared    *Shared
 }
 
 // trial is one series of messages that was sent at an idle moment.
@@ -73,7 +75,7 @@ const (
 func (t *trust) forget() {
 	t.generation++
 	t.queue = t.queue[:0]
-	t.broken = false
+	t.broken = t.pooled
 	t.signature = nil
 	t.doubtful()
 	if len(t.uses) > mostUses {
@@ -118,9 +120,17 @@ func (t *trust) usable(u *use, sample *statement) bool {
 		return false
 	}
 	if u.generation != t.generation || u.state == untried {
-		u.state, u.generation, u.sample, u.delays = waiting, t.generation, sample, 0
-		t.queue = append(t.queue, u)
-		return false
+		own, is := 0, false
+		if !t.doubt {
+			own, is = t.shared.has(t.signature, t.catalog, u.plan)
+		}
+		if is {
+			u.state, u.generation, u.own = tried, t.generation, own
+		} else {
+			u.state, u.generation, u.sample, u.delays = waiting, t.generation, sample, 0
+			t.queue = append(t.queue, u)
+			return false
+		}
 	}
 	if u.state != tried {
 		return false
@@ -133,6 +143,8 @@ func (t *trust) usable(u *use, sample *statement) bool {
 // why says why a plan isn't used.
 func (t *trust) why(u *use) string {
 	switch {
+	case t.pooled:
+		return "a pooler is between the proxy and the server"
 	case t.broken:
 		return "the connection's user can't ask what the proxy has to ask"
 	case u.state == failed:
@@ -273,6 +285,7 @@ func passing(m []byte) bool {
 
 // tryEnd is called when a trial's messages are all answered.
 func (s *Session) tryEnd() {
+	defer s.greeted()
 	t, w := &s.trust, s.trial
 	s.trial = nil
 	if w == nil || w.generation != t.generation {
@@ -303,6 +316,9 @@ func (s *Session) tryEnd() {
 		case u.state != trying:
 		case u.allowed && u.columns && !w.failed:
 			u.state = tried
+			if !t.doubt {
+				t.shared.add(t.signature, t.catalog, u)
+			}
 		case w.failed:
 			u.state = waiting
 			t.queue = append(t.queue, u)

@@ -161,6 +161,7 @@ func run(ctx context.Context, f flags, in io.Reader, out io.Writer) error {
 		ReadLimit: f.reads,
 		Fence:     session.NewFence(f.fence, int(f.bound/time.Millisecond)),
 		Bound:     f.bound,
+		Shared:    session.NewShared(),
 		Log:       func(text string) { log.Print(text) },
 	}
 	go fewProcessors(ctx)

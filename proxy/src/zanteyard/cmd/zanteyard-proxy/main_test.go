@@ -141,10 +141,12 @@ func start(t *testing.T, settings ...string) *cluster.Cluster {
 		t.Fatal(err)
 	}
 	defer conn.Close(context.Background())
-	sql(t, conn, `CREATE TABLE zanteyard_fence (id int PRIMARY KEY, n bigint); INSERT INTO zanteyard_fence VALUES (0, 0);
-		CREATE TABLE account (id int PRIMARY KEY, balance int); INSERT INTO account VALUES (1, 100), (2, 100)`)
+	sql(t, conn, schema)
 	return c
 }
+
+const schema = `CREATE TABLE zanteyard_fence (id int PRIMARY KEY, n bigint); INSERT INTO zanteyard_fence VALUES (0, 0);
+	CREATE TABLE account (id int PRIMARY KEY, balance int); INSERT INTO account VALUES (1, 100), (2, 100)`
 
 // TestAudit has two transactions each read what the other one writes: both reads are offered to the auditor.
 func TestAudit(t *testing.T) {

@@ -1,0 +1,130 @@
+package session
+
+import (
+	"bytes"
+	"sync"
+	"time"
+
+	"zanteyard/plan"
+)
+
+// Shared is what the sessions of a proxy tell one another of the plans that they have tried. What a trial finds out
+// depends on the catalog, and on what the connection's signature has: who its user is, the search path, and whether it
+// has temporary objects. So where these are the same, a plan that was tried on one connection may be used on another
+// one, which need not live long enough to try it. Connections that have temporary objects share nothing. Safe for use by
+// many goroutines.
+type Shared struct {
+	lock  sync.RWMutex
+	kinds map[string]*kind // by signature
+}
+
+// kind is what was tried on connections of one signature.
+type kind struct {
+	catalog uint64
+	tried   map[*plan.Plan]int // and how many columns its statement returns, the hidden ones apart
+}
+
+const (
+	mostKinds  = 256
+	mostShared = 4096 // plans of a kind
+)
+
+// NewShared makes one that knows nothing.
+func NewShared() *Shared { return &Shared{kinds: map[string]*kind{}} }
+
+// shareable says that a signature tells all: there are no temporary objects.
+func shareable(signature []byte) bool { return bytes.HasSuffix(signature, []byte(`, ""]`)) }
+
+// add notes that a plan was tried on a connection.
+func (s *Shared) add(signature []byte, catalog uint64, u *use) {
+	if s == nil || !shareable(signature) {
+		return
+	}
+	s.lock.Lock()
+	defer s.lock.Unlock()
+	k := s.kinds[string(signature)]
+	switch {
+	case k != nil && catalog < k.catalog:
+		return // an old plan's
+	case k == nil || catalog > k.catalog || len(k.tried) >= mostShared:
+		if len(s.kinds) >= mostKinds {
+			s.kinds = map[string]*kind{}
+		}
+		k = &kind{catalog: catalog, tried: map[*plan.Plan]int{}}
+		s.kinds[string(signature)] = k
+	}
+	k.tried[u.plan] = u.own
+}
+
+// drop forgets a plan that has failed.
+func (s *Shared) drop(signature []byte, p *plan.Plan) {
+	if s == nil {
+		return
+	}
+	s.lock.Lock()
+	defer s.lock.Unlock()
+	if k := s.kinds[string(signature)]; k != nil {
+		delete(k.tried, p)
+	}
+}
+
+// has says whether a plan was tried on a connection of this signature, and how many columns its statement returns.
+func (s *Shared) has(signature []byte, catalog uint64, p *plan.Plan) (own int, is bool) {
+	if s == nil || !shareable(signature) {
+		return 0, false
+	}
+	s.lock.RLock()
+	defer s.lock.RUnlock()
+	k := s.kinds[string(signature)]
+	if k == nil || k.catalog != catalog {
+		return 0, false
+	}
+	own, is = k.tried[p]
+	return own, is
+}
+
+// knows says whether anything was tried with this catalog.
+func (s *Shared) knows(catalog uint64) bool {
+	if s == nil {
+		return false
+	}
+	s.lock.RLock()
+	defer s.lock.RUnlock()
+	for _, k := range s.kinds {
+		if k.catalog == catalog && len(k.tried) > 0 {
+			return true
+		}
+	}
+	return false
+}
+
+// greet has the connection's signature be asked for at its first moment, if plans were tried elsewhere that it may use.
+// A client that has sent something before it was told that it may is left alone.
+func (s *Session) greet() {
+	catalog := s.options.Generation()
+	if s.early || !s.looking() || !s.options.Shared.knows(catalog) {
+		return
+	}
+	s.trust.catalog, s.trust.wanted = catalog, true
+	greeting := make(chan struct{})
+	s.greeting.Store(&greeting)
+}
+
+// greeted ends the wait.
+func (s *Session) greeted() {
+	if greeting := s.greeting.Swap(nil); greeting != nil {
+		close(*greeting)
+	}
+}
+
+// waitGreeting holds the client's first message until the connection's signature is there, for the bound at most. The
+// server was asked for it before the client was told that it may begin, so it would answer that first in any case.
+func (s *Session) waitGreeting(greeting chan struct{}) {
+	timer := time.NewTimer(s.options.Bound)
+	defer timer.Stop()
+	select {
+	case <-greeting:
+	case <-timer.C:
+		s.greeted()
+	}
+}

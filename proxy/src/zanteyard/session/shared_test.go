@@ -1,0 +1,99 @@
+package session
+
+import (
+	"testing"
+
+	"github.com/jackc/pgproto3/v2"
+)
+
+// TestShared: what was tried on one connection is used by another one's first statement, if its user, its search path
+// and its temporary objects are the same.
+func TestShared(t *testing.T) {
+	needServer(t)
+	sql(t, fill)
+	sql(t, "GRANT SELECT ON t TO limited; DROP SCHEMA IF EXISTS elsewhere CASCADE; CREATE SCHEMA elsewhere; "+
+		"CREATE TABLE elsewhere.t (id int PRIMARY KEY, v int)")
+	defer sql(t, "DROP SCHEMA elsewhere CASCADE; REVOKE SELECT ON t FROM limited")
+	shared := NewShared()
+	connect := func(user string) *proxied { return through(t, user, func(o *Options) { o.Shared = shared }) }
+	select1 := "SELECT v FROM t WHERE id = 1"
+	connect("postgres").warm(select1)
+	for _, x := range []struct {
+		name, user string
+		before     []string
+		step       step
+		seen       bool
+	}{
+		{"a query", "postgres", nil, query(select1), true},
+		{"an unnamed statement", "postgres", nil, extended(select1, nil), true},
+		{"a named one", "postgres", nil, messages('Z', &pgproto3.Parse{Name: "s", Query: select1},
+			&pgproto3.Bind{PreparedStatement: "s"}, &pgproto3.Execute{}, &pgproto3.Sync{}), true},
+		{"in a block", "postgres", []string{"BEGIN"}, query(select1), true},
+		{"another user", "limited", nil, query(select1), false},
+		{"another search path", "postgres", []string{"SET search_path TO elsewhere"}, query(select1), false},
+		{"a temporary table", "postgres", []string{"CREATE TEMPORARY TABLE t (id int, v int)"}, query(select1), false},
+		{"a temporary object that is no table", "postgres", []string{"CREATE TYPE pg_temp.t AS ENUM ('a')"}, query(select1), false},
+	} {
+		p, one := connect(x.user), direct(t, x.user)
+		for _, text := range x.before {
+			p.query(text)
+			one.query(text)
+		}
+		got, wanted := p.do(x.step), one.do(x.step)
+		mask(got)
+		mask(wanted)
+		if !same(got, wanted) {
+			t.Errorf("%s: got\n%swanted\n%s", x.name, show(got), show(wanted))
+		}
+		if x.before != nil {
+			p.query("COMMIT")
+		}
+		n := 0
+		for _, it := range p.sink.take() {
+			n += len(it.Reads)
+		}
+		if n > 0 != x.seen {
+			t.Errorf("%s: %d reads were seen: %v", x.name, n, p.sink.unseen)
+		}
+	}
+}
+
+// TestSharedIsDropped: a plan that has failed on one connection isn't taken from there any more.
+func TestSharedIsDropped(t *testing.T) {
+	needServer(t)
+	sql(t, fill)
+	shared := NewShared()
+	connect := func() *proxied { return through(t, "limited", func(o *Options) { o.Shared = shared }) }
+	sql(t, "GRANT SELECT ON t TO limited")
+	connect().warm("SELECT v FROM t WHERE id = 1")
+	sql(t, "REVOKE SELECT ON t FROM limited; GRANT SELECT (v, id) ON t TO limited") // xmin can't be read any more
+	defer sql(t, "REVOKE SELECT (v, id) ON t FROM limited")
+	for i := 0; i < 3; i++ {
+		if got := connect().query("SELECT v FROM t WHERE id = 1"); got[0][0] != 'T' || got[1][0] != 'D' {
+			t.Errorf("got %s", show(got))
+		}
+	}
+	for _, k := range shared.kinds {
+		if len(k.tried) > 0 {
+			t.Errorf("a plan that has failed is still shared: %v", k.tried)
+		}
+	}
+}
+
+// TestEarly: a client that sends something before the server is ready isn't asked about itself first.
+func TestEarly(t *testing.T) {
+	needServer(t)
+	sql(t, fill)
+	shared := NewShared()
+	connect := func(early []byte) *proxied {
+		return through(t, "postgres", func(o *Options) { o.Shared = shared; early_ = early })
+	}
+	connect(nil).warm("SELECT v FROM t WHERE id = 1")
+	p := connect(query("SELECT 5").send)
+	if got := p.until('Z'); len(got) != 4 || got[0][0] != 'T' || got[1][0] != 'D' {
+		t.Errorf("got %s", show(got))
+	}
+	if got := p.query("SELECT v FROM t WHERE id = 1"); len(got) != 4 {
+		t.Errorf("got %s", show(got))
+	}
+}
