@@ -19,7 +19,7 @@ from zanteyard.watch import _facts as facts
 from zanteyard.watch import _figures as figures
 from zanteyard.watch import _live_page as live_page
 from zanteyard.watch._database import Database
-from zanteyard.watch._feed import seen_of
+from zanteyard.watch._feed import command, seen_of
 from zanteyard.watch._proxy import proxy_path
 from zanteyard.watch._run import Plan, Run
 
@@ -244,12 +244,10 @@ class OneAudit(unittest.TestCase):
         def checked(more):
             before = self.watch.board.status()
 
-            def is_done(status):
-                seen = status.seen
-                have = self.feeds(status) and status.rounds_count >= before.rounds_count + 1
-                return have and seen.reads >= before.seen.reads + more
-
-            self.until(both, is_done)
+            self.until(both, lambda it: self.feeds(it) and it.seen.reads >= before.seen.reads + more)
+            rounds = self.watch.board.status().rounds_count
+            self.watch._to_proxy(command("round"))
+            self.until(both, lambda it: it.rounds_count > rounds)
 
         checked(20)
         self.redis.stop()

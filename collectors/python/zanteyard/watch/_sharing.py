@@ -16,7 +16,8 @@ MAKE = "(umask 077; head -c 32 /dev/urandom | base64 > FILE) makes one"
 def add_sharing(command: argparse.ArgumentParser) -> None:
     command.add_argument(
         "--redis", metavar="URL", default=os.environ.get(REDIS),
-        help=f"the Redis by which proxies feed one audit (or the environment's {REDIS})",
+        help=f"the Redis by which proxies feed one audit (or the environment's {REDIS}); "
+        "`zanteyard proxy --help` has an example",
     )
     command.add_argument("--audit", metavar="NAME", help="the audit's name in that Redis")
     command.add_argument(

@@ -26,8 +26,11 @@ type Config struct {
 	// Kept is how many bytes of its log the server may have to keep for the slot: beyond it the audit ends, so that it can't
 	// fill the server's disk.
 	Kept uint64
-	In   io.Reader // the parent's commands
-	Out  io.Writer // the feed
+	// Begins is called as the audit begins, with a question for its own connection: whether it sees an advisory lock. nil:
+	// nobody wants to know.
+	Begins func(sees func(context.Context, int64) (bool, error))
+	In     io.Reader // the parent's commands
+	Out    io.Writer // the feed
 }
 
 // Audit is a sink for the sessions' records from the moment it is made.
@@ -93,6 +96,9 @@ func (a *Audit) begin(ctx context.Context) (*running, error) {
 	control, tables, err := slot.NewControl(begin, a.config.Slot)
 	if err != nil {
 		return nil, err
+	}
+	if a.config.Begins != nil {
+		a.config.Begins(control.Sees)
 	}
 	its := &running{audit: a, control: control, tables: tables}
 	if its.reader, err = slot.Open(begin, a.config.Slot, tables); err != nil {

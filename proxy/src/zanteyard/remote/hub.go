@@ -2,6 +2,7 @@ package remote
 
 import (
 	"context"
+	"errors"
 	"fmt"
 	"sort"
 	"sync"
@@ -48,7 +49,10 @@ type Hub struct {
 	refused  uint64
 	down     string // why Redis can't be reached
 	owns     bool   // no other watch has the audit's name
-	left     bool   // proxies were told of connections that aren't audited
+	// sees says whether the audit's connection to the server sees the mark, too: nil before the first audit.
+	sees   func(context.Context, int64) (bool, error)
+	audits int
+	left   bool // proxies were told of connections that aren't audited
 }
 
 // attached is a proxy elsewhere.
@@ -433,17 +437,50 @@ func (h *Hub) keepMark(ctx context.Context) {
 	}
 }
 
+// Begins has an audit's connection asked whether it is to the server that the proxies reach. What is attached by then may
+// be of another one, and attaches anew.
+func (h *Hub) Begins(sees func(context.Context, int64) (bool, error)) {
+	h.lock.Lock()
+	defer h.lock.Unlock()
+	h.sees, h.mark = sees, 0
+	h.audits++
+	for _, a := range h.proxies {
+		h.end(a, "another audit begins")
+	}
+}
+
+// audited says whether the audit's connection sees the mark. Where it can't say so the audit ends, and then it doesn't
+// matter.
+func (h *Hub) audited(ctx context.Context, mark int64) error {
+	h.lock.Lock()
+	sees := h.sees
+	h.lock.Unlock()
+	if sees == nil {
+		return nil
+	}
+	ctx, cancel := context.WithTimeout(ctx, patience)
+	defer cancel()
+	if is, err := sees(ctx, mark); err == nil && !is {
+		return errors.New("the audit reads the log of another server than they reach")
+	}
+	return nil
+}
+
 func (h *Hub) keep(ctx context.Context, s *server) error {
 	h.lock.Lock()
-	mark := h.mark
+	mark, audits := h.mark, h.audits
 	h.lock.Unlock()
 	if mark != 0 {
 		sees, err := s.sees(ctx, mark)
 		if err == nil && !sees {
-			err = fmt.Errorf("the lock by which they know the server is gone")
+			err = errors.New("the lock by which they know the server is gone")
+		}
+		if err == nil {
+			err = h.audited(ctx, mark)
 		}
 		return err
 	}
+	s.close() // with the lock of an earlier mark
 	who, err := s.identity(ctx)
 	if err != nil {
 		return err
@@ -451,9 +488,14 @@ func (h *Hub) keep(ctx context.Context, s *server) error {
 	if mark, err = s.setMark(ctx); err != nil {
 		return err
 	}
+	if err = h.audited(ctx, mark); err != nil {
+		return err
+	}
 	h.lock.Lock()
 	defer h.lock.Unlock()
-	h.who, h.mark = who, mark
+	if h.audits == audits { // else another audit has begun, which has to be asked
+		h.who, h.mark = who, mark
+	}
 	return nil
 }
 

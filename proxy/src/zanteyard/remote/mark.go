@@ -8,6 +8,8 @@ import (
 	"time"
 
 	"github.com/jackc/pgconn"
+
+	"zanteyard/slot"
 )
 
 // The mark is an advisory lock with a number drawn by chance, which the hub has in the audit's database. Who sees it is
@@ -79,8 +81,6 @@ func (s *server) setMark(ctx context.Context) (int64, error) {
 
 // sees says whether the lock is there.
 func (s *server) sees(ctx context.Context, mark int64) (bool, error) {
-	texts, err := s.ask(ctx, fmt.Sprintf("SELECT count(*) FROM pg_catalog.pg_locks WHERE locktype = 'advisory' AND granted "+
-		"AND classid = %d AND objid = %d AND objsubid = 1 AND database = "+
-		"(SELECT oid FROM pg_catalog.pg_database WHERE datname = pg_catalog.current_database())", uint32(mark>>32), uint32(mark)))
+	texts, err := s.ask(ctx, slot.LockSQL(mark))
 	return err == nil && len(texts) == 1 && texts[0] == "1", err
 }

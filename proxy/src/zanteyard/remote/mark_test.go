@@ -4,6 +4,7 @@ import (
 	"context"
 	"errors"
 	"fmt"
+	"strings"
 	"testing"
 	"time"
 
@@ -52,6 +53,22 @@ func TestMark(t *testing.T) {
 	}
 	if who, err := same.identity(ctx); err != nil || who.database != "postgres" {
 		t.Errorf("it is %+v (%v)", who, err)
+	}
+	h := newTestHub(t, newHeard())
+	h.options.Server, h.mark = audit.config, 0
+	keeper := &server{config: audit.config}
+	t.Cleanup(keeper.close)
+	for name, one := range map[string]*server{"": same, "another server": other} { // whom the audit's log is of
+		h.Begins(one.sees)
+		if err := h.keep(ctx, keeper); (name == "") != (err == nil) || err != nil && !strings.Contains(err.Error(), name) {
+			t.Errorf("%q: %v", name, err)
+		}
+		if (name == "") != (h.mark != 0) {
+			t.Errorf("%q: the mark is %d", name, h.mark)
+		}
+		if name == "" && h.keep(ctx, keeper) != nil {
+			t.Error("the mark doesn't last")
+		}
 	}
 	audit.close()
 	for end := time.Now().Add(time.Minute); ; time.Sleep(10 * time.Millisecond) {

@@ -129,6 +129,20 @@ const stampSQL = `SELECT string_agg(concat_ws(' ', c.oid, n.nspname, c.relname, 
   ORDER BY c.oid) FROM pg_class c JOIN pg_namespace n ON n.oid = c.relnamespace
   LEFT JOIN pg_index i ON i.indrelid = c.oid AND i.indisprimary `
 
+// Sees says whether the server has an advisory lock with this number in the slot's database: who holds it is connected to
+// the same one.
+func (c *Control) Sees(ctx context.Context, lock int64) (bool, error) {
+	text, err := c.one(ctx, LockSQL(lock))
+	return text == "1", err
+}
+
+// LockSQL counts the advisory locks with this number in the connection's database.
+func LockSQL(lock int64) string {
+	return fmt.Sprintf("SELECT count(*) FROM pg_catalog.pg_locks WHERE locktype = 'advisory' AND granted "+
+		"AND classid = %d AND objid = %d AND objsubid = 1 AND database = "+
+		"(SELECT oid FROM pg_catalog.pg_database WHERE datname = pg_catalog.current_database())", uint32(lock>>32), uint32(lock))
+}
+
 // Base implements join.Server.
 func (c *Control) Base(ctx context.Context) (uint32, error) {
 	text, err := c.one(ctx, "SELECT pg_snapshot_xmin(pg_current_snapshot())")

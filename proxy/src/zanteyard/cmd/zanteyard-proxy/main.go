@@ -220,6 +220,7 @@ func look(ctx context.Context, f flags, config *pgconn.Config, options *session.
 		if err != nil {
 			return nil, err
 		}
+		all.config.Begins = hub.Begins
 		all.config.Meeter = remote.NewMeeter(room, hub, f.bound)
 		beside(&running, func() { hub.Run(ctx) })
 	}
