@@ -109,13 +109,15 @@ func (a *Audit) begin(ctx context.Context) (*running, error) {
 		return nil, err
 	}
 	schema, why := control.Inspects(begin)
+	if schema != "" && its.reader.Plugin() != slot.Wal2json {
+		schema, why = "", "only wal2json tells where a commit's record is"
+	}
 	// The table of tables has to be as new as the slot: what was created before it begins is never told as unknown.
 	if err := control.Load(begin); err != nil {
 		its.close()
 		return nil, err
 	}
-	its.joiner = join.New(a.config.Join, a.inbox, tables, control, schema != "" && its.reader.Plugin() == slot.Wal2json,
-		a.config.Meeter, a.writer)
+	its.joiner = join.New(a.config.Join, a.inbox, tables, control, schema != "", a.config.Meeter, a.writer)
 	started, err := control.Started(begin)
 	if err != nil {
 		its.close()

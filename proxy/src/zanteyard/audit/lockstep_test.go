@@ -73,6 +73,9 @@ type lockstepper struct {
 	alone    *client          // the only one to go on
 	owned    map[string]*done // committed transactions by tag
 	oids     map[string]record.Relation
+
+	leaves        bool // reads of savepoints' versions are left out
+	left, counted int
 }
 
 // step is a version: which commit made it, and by whom.

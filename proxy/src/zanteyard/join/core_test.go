@@ -82,6 +82,13 @@ func TestStories(t *testing.T) {
 			b.tell(2, 0, record.Transaction{Reads: []record.Read{read("a", 1002)}})
 			b.settle()
 		}, []string{`["offer",0,0,[[[[1,"init"]],[1]]]]`, `["offer",1,0,[[[[1,0,0]],[]]]]`}, ""},
+		{"a subtransaction that nobody told", func(b *bench) {
+			b.connect(1, 2)
+			b.commit(1001, "a")
+			b.tell(1, 0, record.Transaction{Number: 1001})
+			b.tell(2, 0, record.Transaction{Reads: []record.Read{read("a", 1002)}})
+			b.settle()
+		}, []string{`["offer",0,0,[[[[1,"init"]],[1]]]]`, `["offer",1,0,[[[],[]]]]`}, subUnknown},
 		{"rows that weren't there, by the snapshot", func(b *bench) {
 			b.connect(1, 2)
 			b.commit(1001, "-a", "b")

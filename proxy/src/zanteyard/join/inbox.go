@@ -71,7 +71,7 @@ func (b *Inbox) put(it message, bytes int) {
 	much := b.bytes > b.most/2
 	b.lock.Unlock()
 	if !much {
-		return // the joiner empties it at its next step: to wake it for each transaction costs more than to take it
+		return // the joiner empties it at its next step, before which it would do nothing with it
 	}
 	select {
 	case b.wake <- struct{}{}:

@@ -14,6 +14,7 @@ const mostOfEach = 256
 // Why a read of a transaction that is offered is left out.
 const (
 	versionUnknown = "its version isn't known"
+	subUnknown     = "its version may be a savepoint's, and these can't be looked up"
 	readOfItself   = "its version was written behind its own"
 	absentAtLevel  = "a row that wasn't there, without a snapshot that says so"
 	absentUnknown  = "a row that wasn't there, although its last known version is"
@@ -104,6 +105,8 @@ func (c *core) resolveReads(e *entry, to *resolution) bool {
 			c.add(e, to, id, r, initial)
 		case c.askSubs(r, one.Version):
 			asks = true
+		case !c.inspects && r.mayBeSub(one.Version):
+			to.leave(subUnknown)
 		default:
 			to.leave(versionUnknown)
 		}
@@ -236,6 +239,20 @@ func (c *core) askSubs(r *row, xmin uint32) bool {
 		waits = waits || w.subsAre == asked
 	}
 	return waits
+}
+
+// mayBeSub says that an unknown xmin may be of a subtransaction of one of those who wrote the row: its number is greater
+// than that one's.
+func (r *row) mayBeSub(xmin uint32) bool {
+	if r == nil {
+		return false
+	}
+	for v := r.last; v != nil; v = v.before {
+		if int32(xmin-v.writer.number) > 0 {
+			return true
+		}
+	}
+	return false
 }
 
 // answered takes in the subtransactions that were asked for, in the same order; none where they couldn't be read.

@@ -14,8 +14,9 @@ import (
 // one, which need not live long enough to try it. Connections that have temporary objects share nothing. Safe for use by
 // many goroutines.
 type Shared struct {
-	lock  sync.RWMutex
-	kinds map[string]*kind // by signature
+	lock   sync.RWMutex
+	kinds  map[string]*kind // by signature
+	paused time.Time        // until then nobody is asked for its signature as it begins
 }
 
 // kind is what was tried on connections of one signature.
@@ -83,13 +84,27 @@ func (s *Shared) has(signature []byte, catalog uint64, p *plan.Plan) (own int, i
 	return own, is
 }
 
-// knows says whether anything was tried with this catalog.
+// greetingPause is for how long no connection is asked for its signature as it begins, after the server has taken too
+// long to tell one.
+const greetingPause = time.Second
+
+// pause is called when that has happened.
+func (s *Shared) pause() {
+	s.lock.Lock()
+	defer s.lock.Unlock()
+	s.paused = clock().Add(greetingPause)
+}
+
+// knows says whether anything was tried with this catalog, and the server has the time to say for whom it is good.
 func (s *Shared) knows(catalog uint64) bool {
 	if s == nil {
 		return false
 	}
 	s.lock.RLock()
 	defer s.lock.RUnlock()
+	if clock().Before(s.paused) {
+		return false
+	}
 	for _, k := range s.kinds {
 		if k.catalog == catalog && len(k.tried) > 0 {
 			return true
@@ -125,6 +140,7 @@ func (s *Session) waitGreeting(greeting chan struct{}) {
 	select {
 	case <-greeting:
 	case <-timer.C:
+		s.options.Shared.pause()
 		s.greeted()
 	}
 }

@@ -181,8 +181,10 @@ func (s *Session) try(out []byte) []byte {
 		s.queue.step('C', nil)
 	}
 	t.orphans = t.orphans[:0]
-	out = append(out, impatient...)
-	s.queue.once(expectation{kind: silent})
+	if len(t.queue) > 0 {
+		out = append(out, impatient...)
+		s.queue.once(expectation{kind: silent})
+	}
 	out = append(out, signature...)
 	s.queue.once(expectation{kind: signatureRow})
 	if !t.asks {

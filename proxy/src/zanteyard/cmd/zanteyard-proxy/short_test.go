@@ -146,8 +146,8 @@ func TestShortConnections(t *testing.T) {
 	for _, n := range at.Folded {
 		left += n
 	}
-	t.Logf("%d connections in %v: offered %d, fences %d, folded %v, reads %+v", *short, took, at.Offered, at.Fences, at.Folded,
-		at.Reads)
+	t.Logf("%d connections in %v: offered %d, fences %d, folded %v, reads %+v, unseen %v", *short, took, at.Offered, at.Fences,
+		at.Folded, at.Reads, at.Unseen)
 	if offered := at.Offered - at.Fences; offered+left < uint64(*short) || offered < uint64(*short)/10 {
 		t.Errorf("%d transactions were offered, and %d folded", offered, left)
 	}
@@ -183,6 +183,10 @@ type coverage struct {
 	Committed, Offered, Fences, Pending uint64
 	Folded                              map[string]uint64
 	Reads                               struct{ Seen, Offered uint64 }
+	Unseen                              []struct {
+		Reason string
+		Count  uint64
+	}
 }
 
 // BenchmarkShortConnections: a connection, one update, and its end.
