@@ -60,7 +60,7 @@ func TestElsewhereMakesUpNothing(t *testing.T) {
 
 // The same with the other machine's clock believed is found to be wrong.
 func TestAnotherClock(t *testing.T) {
-	for seed := int64(0); seed < int64(*worlds); seed++ {
+	for seed := int64(0); seed < 20*int64(*worlds); seed++ {
 		w := newWorld(t, seed, false)
 		w.elsewhere, w.trusted = true, true
 		w.live1(12)
