@@ -197,7 +197,8 @@ def _unrepeatable_reads(table: Transactions, _: object, name: Naming) -> Iterato
             other = first.setdefault(key, source)
             if other != source:
                 versions = [version(key, each, name) for each in (other, source)]
-                sentence = f"{name(reader)} read {_told(key)} {versions[0]}, and {versions[1]}"
+                told = " and ".join(sorted(versions, reverse=True))
+                sentence = f"{name(reader)} read {_told(key)} {told}"
                 ids = [each for each in (other, source) if each in table]
                 yield Anomaly(UNREPEATABLE, sentence, (*ids, reader))
 
