@@ -109,9 +109,9 @@ class Shrinking(unittest.TestCase):
     def test_the_whole_is_not_audited_again_where_its_refutation_is_known(self):
         sizes = []
 
-        def audited_here(history, program):
+        def audited_here(history, *more):
             sizes.append(sum(map(len, history)))
-            return audited(history, program)
+            return audited(history, *more)
 
         self.addCleanup(setattr, shrinking, "audited", audited)
         history = history_of(workloads()["counter"], "lost-update", 20, count=100)

@@ -55,6 +55,7 @@ MEANINGS: Mapping[str, str] = {
 
 
 UNREPEATABLE = "non-repeatable read"
+MANY = 256  # transactions; of more some patterns aren't looked for, which would take too long
 
 
 def meaning_of(name: str) -> str:
@@ -136,7 +137,8 @@ def _in_time(table: Transactions) -> Iterator[Edge]:
 def _behind(table: Transactions, is_timed: bool) -> Dict[ShownId, Set[ShownId]]:
     """Of each transaction, those that stand behind it by these arcs."""
     after: Dict[ShownId, List[ShownId]] = {id: [] for id in table}
-    for start, end in [*_plain_arcs(table), *(_in_time(table) if is_timed else ())]:
+    in_time = _in_time(table) if is_timed and len(table) <= MANY else ()
+    for start, end in [*_plain_arcs(table), *in_time]:
         after[start].append(end)
     behind: Dict[ShownId, Set[ShownId]] = {}
     for id in table:
@@ -197,7 +199,8 @@ def _unrepeatable_reads(table: Transactions, _: object, name: Naming) -> Iterato
             other = first.setdefault(key, source)
             if other != source:
                 versions = [version(key, each, name) for each in (other, source)]
-                sentence = f"{name(reader)} read {_told(key)} {versions[0]}, and {versions[1]}"
+                told = " and ".join(sorted(versions, reverse=True))
+                sentence = f"{name(reader)} read {_told(key)} {told}"
                 ids = [each for each in (other, source) if each in table]
                 yield Anomaly(UNREPEATABLE, sentence, (*ids, reader))
 
@@ -207,6 +210,8 @@ def _information_flows(
 ) -> Iterator[Anomaly]:
     """Reads around; what was read may have been handed on by a session."""
     for start in table:
+        if start not in behind[start]:
+            continue
         found: Dict[ShownId, Tuple[ShownId, str]] = {}
         waiting = [start]
         while waiting:
@@ -318,7 +323,7 @@ def _long_forks(
     table: Transactions, behind: Mapping[ShownId, Set[ShownId]], name: Naming
 ) -> Iterator[Anomaly]:
     """Two readers, each of which saw a write that the other one didn't see."""
-    missed = _overwritten(table, behind)
+    missed = _overwritten(table, behind) if len(table) <= MANY else ()
     for first, key, _, unseen in missed:
         for second, other_key, _, other_unseen in missed:
             if first == second or unseen == other_unseen or key == other_key:

@@ -34,6 +34,7 @@ class Arc(NamedTuple):
 
 
 ArcsFrom = Dict[Any, List[Arc]]
+MANY = 512  # transactions; of more there would be too many arcs by time
 SESSION = "they are in one session"
 
 
@@ -57,7 +58,9 @@ def told_later(first: Logged, second: Logged, names: Tuple[str, str]) -> str:
 
 
 def time_arcs(txns: Transactions, name: Naming, ends: float) -> Iterator[Arc]:
-    """From each transaction to those that began when it had ended."""
+    """From each transaction to those that began when it had ended. Raises TooLong for many."""
+    if len(txns) > MANY:
+        raise TooLong
     for first, first_logged in txns.items():
         check(ends)
         for second, second_logged in txns.items():

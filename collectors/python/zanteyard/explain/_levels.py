@@ -87,12 +87,11 @@ class Levels:
     def _note(self, level: Level) -> None:
         """With what follows from it."""
         self._found[level.promise] = level
-        if level.answer in (YES, PENDING):
-            for promise in weaker(level.promise):
-                self._found.setdefault(promise, Level(promise, level.answer, level.why))
-        elif level.answer == NO:
-            for promise in stronger(level.promise):
-                self._found.setdefault(promise, Level(promise, NO, level.why))
+        following = {YES: weaker, PENDING: weaker, NO: stronger}.get(level.answer)
+        for promise in following(level.promise) if following else ():
+            known = self._found.get(promise)
+            if known is None or known.answer == UNKNOWN:
+                self._found[promise] = Level(promise, level.answer, level.why)
 
     def _by_lines(self, promise: Promise) -> Level:
         with ScriptRun(self.program, self.most_nodes, self.names, promise, self.times) as run:
