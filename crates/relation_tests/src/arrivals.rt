@@ -69,9 +69,7 @@ pub fn add_all(
     alloc: Global,
     saturated: &mut Saturated,
     fragment: &Fragment,
-) -> Result<(), NoMemory>
-    ensures { OnOk result (saturated.new.parts ≡ parts_with saturated.old.parts fragment.now) }
-{
+) -> Result<(), NoMemory> {
     may_come(rt, saturated, fragment)?;
     saturated.add_all(alloc, fragment)
 }

@@ -1,24 +1,14 @@
-//! The known relation of four transactions, in each order in which they may arrive; and that of parts that have grown behind the front that
-//! a cut was found in.
-ghost use Rattle.std.specs.Prelude.{◌≡◌, IfOk, OnOk, Some};
-ghost use Rattle.order_check.specs.Cuts.{IsKeptFront};
-ghost use Rattle.order_check.specs.StandsFor.{parts_with};
-ghost use Rattle.settle.specs.Found.{IsFound};
-
-use crate::arrivals::{add_all, saturated_of};
-use crate::cuts::cut_of_front;
-use crate::settled::{is_explained, problem_of};
+//! The known relation of four transactions, in each order in which they may arrive.
+use crate::arrivals::saturated_of;
 use crate::turned::give;
 use forced_choices::Saturated;
-use order_check::{Parts, fragment_keeps_front, front_of_itself};
-use polygraph::Problem;
-use settle::{Cut, find};
+use order_check::Parts;
 use std::alloc::Global;
 use std::process::Abort;
 use std::test::Fail;
-use test_histories::{EMPTY, ID_0_0, ID_0_1, ID_0_2, ID_1_0, ID_1_1, ID_2_0, Table, over};
-use txn::Source::{By, Init};
-use txn::{Choice, Fragment, NoMemory, Sequence, Txn, TxnId};
+use test_histories::{EMPTY, ID_0_0, ID_0_1, ID_1_0, ID_2_0, Table, over};
+use txn::Source::By;
+use txn::{Choice, NoMemory, TxnId};
 
 const FOUR: Table = Table {
     marks: &[0; 3],
@@ -124,99 +114,5 @@ fn four_transactions_are_a_chain_however_they_arrive(rt: HostRuntime) -> Result<
         is_chain(&rt, &known, chain());
         leaves_open(&rt, alloc, &known, &[])?;
     }
-    Ok(())
-}
-
-/// What a round is about: the last transaction is a fence that nothing follows.
-const FRONT: Table = Table {
-    remain: &[
-        &[
-            (&[], &[5]),
-            (&[(5, By(ID_0_0))], &[5]),
-            (&[(0, Init)], &[0]),
-        ],
-        &[(&[(0, By(ID_0_2))], &[0])],
-    ],
-    ..EMPTY
-};
-
-static EXPLAINS: [TxnId; 4] = [ID_0_0, ID_0_1, ID_0_2, ID_1_0];
-
-fn order() -> &'static [TxnId] {
-    &EXPLAINS
-}
-
-/// It comes while the round is open, and reads what was overwritten in front of the fence.
-fn late_reader(alloc: Global) -> Result<Fragment, NoMemory> {
-    let mut txns = Vec::new(alloc);
-    txns.push(Txn {
-        reads: Sequence::new([(5, By(ID_0_0))].to_vec(alloc)?),
-        writes: Sequence::new(Vec::new(alloc)),
-    })?;
-    Ok(Fragment {
-        session: 1,
-        first: 1,
-        txns: Sequence::new(txns),
-    })
-}
-
-/// Stops unless the fragment's session is open.
-fn keeps_front(rt: &impl Abort, front: &Parts, fragment: &Fragment)
-    ensures { IsKeptFront front.now (parts_with front.now fragment.now) }
-{
-    front_of_itself();
-    fragment_keeps_front();
-    assert!(rt; usize::from(fragment.session) < front.sessions());
-    assert!(rt; !front.is_closed(fragment.session));
-}
-
-/// Adds the fragment, behind a front that stays one.
-fn grows(
-    rt: &impl Abort,
-    alloc: Global,
-    known: &mut Saturated,
-    fragment: &Fragment,
-) -> Result<(), NoMemory>
-    ensures { OnOk result (IsKeptFront known.old.parts known.new.parts) }
-{
-    keeps_front(rt, known.parts(), fragment);
-    add_all(rt, alloc, known, fragment)
-}
-
-/// Cuts what has grown as the cut that was found in its front says.
-fn cut_grown(alloc: Global, front: &Parts, known: &mut Saturated, cut: &Cut) -> Result<(), NoMemory>
-    requires behind { IsKeptFront front.now known.old.parts }
-    requires found { IsFound front.now (Some cut.now) }
-{
-    let left = cut_of_front(alloc, front, known.parts(), cut)?;
-    known.cut(alloc, cut.gone.as_slice(), &left)
-}
-
-/// Stops unless a late reader closes a cycle, which a cut takes away with what it read from.
-fn ends_the_cycle(
-    rt: &impl Abort,
-    alloc: Global,
-    problem: &Problem,
-    cut: &Cut,
-) -> Result<(), NoMemory>
-    requires { IsFound problem.now.known.parts (Some cut.now) }
-{
-    let mut known = Saturated::of(alloc, problem.parts())?;
-    grows(rt, alloc, &mut known, &late_reader(alloc)?)?;
-    assert!(rt; known.reaches(ID_1_1, ID_1_1));
-    cut_grown(alloc, problem.parts(), &mut known, cut)?;
-    is_chain(rt, &known, &[ID_1_0, ID_1_1]);
-    Ok(())
-}
-
-#[test]
-fn a_cut_leaves_no_cycle_of_what_is_gone(rt: HostRuntime) -> Result<(), Fail> {
-    let alloc = rt.alloc();
-    let problem = problem_of(&rt, alloc, &FRONT)?;
-    is_explained(&rt, alloc, &problem, order())?;
-    let found = find(alloc, &problem, order())?;
-    let cut = found.expect(&rt, "the fence is settled");
-    assert!(rt; cut.fence == ID_0_2);
-    ends_the_cycle(&rt, alloc, &problem, &cut)?;
     Ok(())
 }
