@@ -1,5 +1,6 @@
 """Clients of several machines, behind streams of a Redis: processes of every kind are killed, and a Redis loses what it had."""
 import dataclasses
+import contextlib
 import os
 import shutil
 import signal
@@ -15,6 +16,12 @@ from .test_restarting_processes import child_of
 
 # Seconds between transactions: while a client that was killed keeps cuts away no more come than one audit holds.
 PAUSE = 0.01
+
+
+def end_if_there(pid):
+    """A stopped process whose parent has died may be ended by the kernel, and be gone."""
+    with contextlib.suppress(ProcessLookupError):
+        os.kill(pid, signal.SIGKILL)
 
 
 class Kills(Machines):
@@ -90,7 +97,7 @@ class Kills(Machines):
         self.begun(self.client(), self.client("in its commit", 4, 0.02))
         auditor = child_of(self.daemons[-1].pid)
         os.kill(auditor, signal.SIGSTOP)
-        self.addCleanup(os.kill, auditor, signal.SIGKILL)
+        self.addCleanup(end_if_there, auditor)
         self.clients[-1].wait(SOON)
         self.wait_for(lambda: "by the store's word" in self.said() and "isn't known, if anything was" in self.said())
         self.kill_daemon()
