@@ -1,6 +1,6 @@
 """Clients of several machines, behind streams of a Redis: processes of every kind are killed, and a Redis loses what it had."""
-import dataclasses
 import contextlib
+import dataclasses
 import os
 import shutil
 import signal
