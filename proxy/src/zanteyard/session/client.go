@@ -223,6 +223,9 @@ func (s *Session) bind(o *output, m []byte, start, end int) {
 		s.fresh(st)
 	}
 	may := s.usable(st)
+	if st.name == "" && !st.altered {
+		may = false // it was prepared as it is: the plan has become usable since then
+	}
 	if n := len(b.Results) / 2; may && n > 1 && n != st.use.own {
 		may = st.plan.AddsReturning // otherwise the server refuses it, and says how many columns there are
 	}

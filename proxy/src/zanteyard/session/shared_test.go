@@ -58,6 +58,31 @@ func TestShared(t *testing.T) {
 	}
 }
 
+// TestSharedBetweenParseAndBind: a plan that becomes usable after an unnamed statement was prepared as it is isn't used
+// for that statement.
+func TestSharedBetweenParseAndBind(t *testing.T) {
+	needServer(t)
+	sql(t, fill)
+	shared := NewShared()
+	connect := func() *proxied { return through(t, "postgres", func(o *Options) { o.Shared = shared }) }
+	const text = "SELECT v, id FROM t WHERE id = 1"
+	p, one := connect(), direct(t, "postgres")
+	p.warm("SELECT id FROM t WHERE id = 2")
+	for _, x := range []step{
+		messages('Z', &pgproto3.Parse{Query: text}, &pgproto3.Describe{ObjectType: 'S'}, &pgproto3.Sync{}),
+		messages('Z', &pgproto3.Bind{ResultFormatCodes: []int16{1, 0}}, &pgproto3.Execute{}, &pgproto3.Sync{}),
+		messages('Z', &pgproto3.Bind{}, &pgproto3.Execute{}, &pgproto3.Sync{}),
+	} {
+		got, wanted := p.do(x), one.do(x)
+		mask(got)
+		mask(wanted)
+		if !same(got, wanted) {
+			t.Errorf("got\n%swanted\n%s", show(got), show(wanted))
+		}
+		connect().warm(text)
+	}
+}
+
 // TestSharedIsDropped: a plan that has failed on one connection isn't taken from there any more.
 func TestSharedIsDropped(t *testing.T) {
 	needServer(t)
