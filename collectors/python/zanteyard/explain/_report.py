@@ -16,7 +16,7 @@ from ._anomalies import Anomaly, find_anomaly, meaning_of, name_circle
 from ._arcs import SESSION, Event, below, told_arc, transaction_of
 from ._reasons import Explanation, explain_history
 from ._scripts import ScriptHistory, Verdict
-from ._shrinking import SECONDS, audited, from_start, refuted, smaller
+from ._shrinking import NAMED, SECONDS, audited, from_start, refuted, smaller
 from ._standing import Apart, Standing, standing
 from ._words import version as version_text
 from ._words import words
@@ -165,14 +165,17 @@ def story_of(
     seconds: float = EXPLAINED,
     promise: Promise = SERIALIZABLE,
 ) -> Story:
-    """Of a violated history that is small already."""
+    """Of a violated history that is small already. One that couldn't be made small in time has no
+    name but that of the circle: to look for an anomaly among many takes minutes."""
     explanation = explain_history(history, names, seconds, promise)
+    is_small = sum(map(len, history)) <= NAMED
+    anomaly = find_anomaly(history, names, promise) if is_small else None
     links = tuple(_links(explanation, names))
     ends = {end for link in links for end in (link.start, link.end)}
     return Story(
         "violated",
         tuple(counts),
-        find_anomaly(history, names, promise) or name_circle(explanation.arcs, names),
+        anomaly or name_circle(explanation.arcs, names),
         tuple(_steps(history, names, ends)),
         links,
         tuple(words(history, names)),
