@@ -22,5 +22,5 @@ loop-preserved g c =
     record {
       ring = c.next-in-loop.ensures.ring ∙ c.loop.invariant.ring;
       notes = look.ensures.ring ∙ c.loop.invariant.notes;
-      told = told_more g.W.ByteSink.contents c.args.notes.now c.loop.notes look.new.notes c.args.sink.now c.loop.sink look.new.sink c.loop.reader.received [] c.next-in-loop.new.self.received c.loop.end look.result.0 (c.in-None-next.ensures.received ∙ sym (append-nil c.loop.reader.received)) c.loop.invariant.told look.ensures.told look.ensures.so_far;
+      told = told_more g.W.ByteSink.contents c.args.notes.now c.loop.notes look.new.notes c.args.sink.now c.loop.sink look.new.sink c.loop.reader.received [] c.next-in-loop.new.self.received c.loop.end look.result.0 (c.in-None-next.ensures.received.0 ∙ sym (append-nil c.loop.reader.received)) c.loop.invariant.told look.ensures.told look.ensures.so_far;
     }
