@@ -10,6 +10,12 @@ if [ ! -e /usr/include/pg_query.h ]; then
     echo "proxy: skipped, libpg_query isn't installed (libpg-query-dev)"
     exit 0
 fi
+for library in github.com/jackc/pgproto3/v2 github.com/jackc/pgconn github.com/gomodule/redigo/redis; do
+    if [ ! -d "/usr/share/gocode/src/$library" ]; then
+        echo "proxy: skipped, Go's library $library isn't installed (packages.txt has its package)"
+        exit 0
+    fi
+done
 . ./env.sh
 unformatted=$(gofmt -l src)
 if [ -n "$unformatted" ]; then

@@ -36,7 +36,10 @@ def proxy_program(folder: str) -> Optional[str]:
     given = os.environ.get("ZANTEYARD_PROXY")
     if given:
         return given
-    if not shutil.which("go") or not os.path.exists("/usr/include/pg_query.h"):
+    libraries = ("jackc/pgproto3/v2", "jackc/pgconn", "gomodule/redigo/redis")
+    needed = ["/usr/include/pg_query.h"]
+    needed += [f"/usr/share/gocode/src/github.com/{each}" for each in libraries]
+    if not shutil.which("go") or not all(map(os.path.exists, needed)):
         return None
     build = os.path.join(TOP, "proxy/build.sh")
     done = subprocess.run([build, folder], capture_output=True, text=True, timeout=600)
