@@ -47,7 +47,7 @@ class Run:
         """Keeps what it says of the explanation."""
         if re.match(r"round \d+: violated", line):
             self.began = time.monotonic()
-        elif line.startswith("  so none can come first of"):
+        elif line.endswith(" can come first"):
             self.took = time.monotonic() - self.began
         elif re.match(r"  (\d+\.\d+|the cut.*) (read|wrote|aborted)", line):
             self.named += 1

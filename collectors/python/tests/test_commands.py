@@ -128,7 +128,7 @@ class Commands(unittest.TestCase):
                 "because",
                 "    0.0 comes before 1.0: 0.0 read key 5 as it was at first, and 1.0 wrote it",
                 "    1.0 comes before 0.0: 1.0 read key 5 as it was at first, and 0.0 wrote it",
-                "    so none can come first of 0.0, 1.0",
+                "    so neither 0.0 nor 1.0 can come first",
                 "breaks serializability and snapshot isolation, also without session order",
                 "leaves prefix consistency standing",
             ],

@@ -122,7 +122,7 @@ class Examples(unittest.TestCase):
         )
         text = "\n".join(lines)
         self.assertEqual(status, 1, text)
-        self.assertIn("so none can come first of", text)
+        self.assertIn(" can come first", text)
         self.assertIn("No space left on device", text)
 
     def test_nothing_is_left_behind_at_sigterm(self):

@@ -16,7 +16,7 @@ class Explaining(unittest.TestCase):
             [
                 "0.0 comes before 0.1: they are in one session",
                 "0.1 comes before 0.0: 0.1 read x as it was at first, and 0.0 wrote it",
-                "so none can come first of 0.0, 0.1",
+                "so neither 0.0 nor 0.1 can come first",
             ],
         )
 
@@ -29,7 +29,7 @@ class Explaining(unittest.TestCase):
                 "0.1 comes before 1.0: 0.1 read x from 0.0, and 1.0, which wrote it too, comes after 0.0",
                 "0.0 comes before 0.1: they are in one session",
                 "1.0 comes before 0.1: 1.0 read x from 0.0, and 0.1, which wrote it too, comes after 0.0",
-                "so none can come first of 0.1, 1.0",
+                "so neither 0.1 nor 1.0 can come first",
             ],
         )
 
@@ -39,7 +39,7 @@ class Explaining(unittest.TestCase):
 
     def test_two_sources(self):
         history = [[txn(writes="x")], [txn(writes="x")], [txn(("x", (0, 0)), ("x", (1, 0)))]]
-        self.assertEqual(reasons(history)[-1], "so none can come first of 0.0, 1.0")
+        self.assertEqual(reasons(history)[-1], "so neither 0.0 nor 1.0 can come first")
 
     def test_what_has_an_order_has_no_circle(self):
         self.assertIsNone(circle([[txn(writes="x")], [txn(("x", "init"))], [txn(("x", (0, 0)), ("y", (7, 7)))]]))

@@ -65,7 +65,7 @@ class Reasons(unittest.TestCase):
                 "0.0 begins before 1.0 commits: 0.0 read x as it was at first, and 1.0 wrote it",
                 "1.0 begins before 0.0 commits: 1.0 read x as it was at first, and 0.0 wrote it",
                 "1.0 commits before 0.0 begins: both wrote x, and 1.0 begins before 0.0 commits",
-                "so none can come first of the begin of 0.0, the commit of 1.0",
+                "so neither the begin of 0.0 nor the commit of 1.0 can come first",
             ),
         )
 

@@ -213,7 +213,7 @@ class Each:
         status, told = self.audit("--level", level, "--workload", workload, "--seconds", "120", "--html", "page.html")
         self.assertEqual(status, 1, told)
         self.assertIn(f"{workload} at ", told)
-        self.assertIn("so none can come first of", told)
+        self.assertIn(" can come first", told)
         self.assertIn("(to look at: page.html)", told)
         status, told = self.audit("--workload", workload, "--seconds", "3", "--processes", "--rather-wait")
         self.assertEqual(status, 0, told)

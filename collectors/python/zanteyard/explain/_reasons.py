@@ -10,7 +10,7 @@ from __future__ import annotations
 
 import time
 from dataclasses import dataclass
-from typing import Dict, Iterable, Iterator, List, Optional, Tuple
+from typing import Dict, Iterable, Iterator, List, Optional, Sequence, Tuple
 
 from ..core._records import History, Naming, ShownId, Transactions
 from ..promises._kinds import SERIALIZABLE, Promise
@@ -159,8 +159,18 @@ def explain_history(
     if around is None:
         return Explanation(("each order fails in its own way",))
     lines = [f"{told_arc(arc, name)}: {arc.why}" for arc in below(around)]
-    last = "so none can come first of " + ", ".join(told_node(arc.start, name) for arc in around)
+    last = none_first([told_node(arc.start, name) for arc in around])
     return Explanation((*lines, last), tuple(around))
+
+
+def none_first(around: Sequence[str]) -> str:
+    """That none of a circle's transactions, as they are called, can come before the others."""
+    *others, last = around
+    if not others:
+        return f"so {last} can't come first"
+    if len(others) == 1:
+        return f"so neither {others[0]} nor {last} can come first"
+    return f"so none of {', '.join(others)} and {last} can come first"
 
 
 def reasons(

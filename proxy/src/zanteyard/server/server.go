@@ -181,11 +181,16 @@ func (s *Server) session(client, server net.Conn, start startup) {
 	}
 }
 
+// address is where a client is, for people. One that connects by a socket of this machine has no name of its own there.
 func address(c net.Conn) string {
-	if a := c.RemoteAddr(); a != nil {
+	switch a := c.RemoteAddr(); {
+	case a == nil:
+		return ""
+	case a.Network() == "unix":
+		return "a local socket"
+	default:
 		return a.String()
 	}
-	return ""
 }
 
 // cancel passes a request to cancel on. Clients have the server's own key, so it means the same there. The server

@@ -176,6 +176,36 @@ func ask(connection, sql string) (string, error) {
 }
 
 // TestPasswords: each way of saying a password passes through, also a wrong one.
+// TestAddress: what people are told of where a client is.
+func TestAddress(t *testing.T) {
+	for _, x := range []struct{ network, at, want string }{
+		{"unix", filepath.Join(t.TempDir(), "socket"), "a local socket"},
+		{"tcp", "127.0.0.1:0", ""},
+	} {
+		listener, err := net.Listen(x.network, x.at)
+		if err != nil {
+			t.Fatal(err)
+		}
+		client, err := net.Dial(x.network, listener.Addr().String())
+		if err != nil {
+			t.Fatal(err)
+		}
+		accepted, err := listener.Accept()
+		if err != nil {
+			t.Fatal(err)
+		}
+		if x.want == "" {
+			x.want = client.LocalAddr().String()
+		}
+		if got := address(accepted); got != x.want {
+			t.Errorf("%s: %q, want %q", x.network, got, x.want)
+		}
+		client.Close()
+		accepted.Close()
+		listener.Close()
+	}
+}
+
 func TestPasswords(t *testing.T) {
 	needServer(t)
 	port, sink := proxy(t, url("postgres", theCluster.Port, "sslmode=disable"), nil)

@@ -10,11 +10,10 @@ import (
 
 const (
 	lookAtUse = 100 * time.Millisecond
-	// busy is the part of its processors above which the program gets one more; calm, the part of one processor less
-	// below which one is given up. One processor fewer needs less time for the same traffic, so what was given up isn't
-	// wanted back at once.
-	busy, calm = 0.75, 0.45
-	calmFor    = 20 // looks in a row
+	// Above this part of its processors the program gets one more. Below the other part of one processor less it gives
+	// one up: with fewer processors the same traffic takes less time, so what was given up isn't wanted back at once.
+	busyPart, calmPart = 0.75, 0.45
+	calmLooks          = 20 // in a row
 )
 
 // fewProcessors has the program use as few processors at once as its traffic needs. While a processor is idle, Go wakes
@@ -37,12 +36,12 @@ func fewProcessors(ctx context.Context) {
 			return
 		case <-tick.C:
 		}
-		now, time := time.Now(), processorTime()
+		now, taken := time.Now(), processorTime()
 		before := p.now
-		if p.look(float64(time-used) / float64(now.Sub(last))); p.now != before {
+		if p.look(float64(taken-used) / float64(now.Sub(last))); p.now != before {
 			runtime.GOMAXPROCS(p.now)
 		}
-		last, used = now, time
+		last, used = now, taken
 	}
 }
 
@@ -55,11 +54,11 @@ type processors struct {
 // look takes how many processors' time the program used since the last look.
 func (p *processors) look(used float64) {
 	switch {
-	case used > busy*float64(p.now) && p.now < p.most:
+	case used > busyPart*float64(p.now) && p.now < p.most:
 		p.now++
 		p.calm = 0
-	case p.now > 1 && used < calm*float64(p.now-1):
-		if p.calm++; p.calm == calmFor {
+	case p.now > 1 && used < calmPart*float64(p.now-1):
+		if p.calm++; p.calm == calmLooks {
 			p.now--
 			p.calm = 0
 		}
