@@ -28,7 +28,7 @@ import subprocess
 import sys
 import tempfile
 import time
-from typing import Any, Dict, List, Optional, Tuple
+from typing import Any, Dict, Iterator, List, Optional, Tuple
 
 TOP = os.path.join(os.path.dirname(os.path.abspath(__file__)), "..")
 sys.path[:0] = [os.path.join(TOP, "collectors/python"), os.path.join(TOP, "collectors/python/tests")]
@@ -243,6 +243,33 @@ def table(asked: Any, folder: str, ways: List[Way]) -> None:
                     print(line, flush=True)
 
 
+@contextlib.contextmanager
+def prepared_server(folder: str, scale: int) -> Iterator[Tuple[Server, str]]:
+    """A server with pgbench's tables, prepared for an audit, and the proxy's program. The folder is
+    removed behind it, if nothing went wrong."""
+    proxy = proxy_program(folder)
+    if proxy is None:
+        raise SystemExit("Go or its libraries are missing")
+    server = Server(os.path.join(folder, "server"))
+    server.initialize()
+    server.start()
+    try:
+        call = [postgres_program("pgbench") or "pgbench", "-i", "-q", "-s", str(scale)]
+        call += ["-h", "127.0.0.1", "-p", str(server.port), "-U", "postgres", "postgres"]
+        subprocess.run(call, check=True, capture_output=True)
+        prepare = [sys.executable, "-m", "zanteyard", "prepare", "--create"]
+        prepare.append(f"postgresql://postgres@127.0.0.1:{server.port}/postgres")
+        environment = dict(os.environ, PYTHONPATH=os.path.join(TOP, "collectors/python"))
+        subprocess.run(prepare, check=False, capture_output=True, env=environment)
+        yield server, proxy
+    except BaseException:
+        print(f"what the programs logged is in {folder}", file=sys.stderr)
+        raise
+    finally:
+        server.stop()
+    shutil.rmtree(folder, ignore_errors=True)
+
+
 def main() -> None:
     parser = argparse.ArgumentParser(description=__doc__.splitlines()[0])
     parser.add_argument("--seconds", type=int, default=5)
@@ -259,31 +286,14 @@ def main() -> None:
     asked = parser.parse_args()
     folder = tempfile.mkdtemp(prefix="proxy_cost")
     os.chmod(folder, 0o777)
-    proxy = proxy_program(folder)
-    if proxy is None:
-        raise SystemExit("Go or its libraries are missing")
     with open(os.path.join(folder, "transfer.sql"), "w", encoding="utf-8") as file:
         file.write(TRANSFER)
-    server = Server(os.path.join(folder, "server"))
-    server.initialize()
-    server.start()
-    started = Started(folder, "127.0.0.1", server.port, proxy)
-    try:
-        call = [postgres_program("pgbench") or "pgbench", "-i", "-q", "-s", str(asked.scale)]
-        call += ["-h", "127.0.0.1", "-p", str(server.port), "-U", "postgres", "postgres"]
-        subprocess.run(call, check=True, capture_output=True)
-        prepare = [sys.executable, "-m", "zanteyard", "prepare", "--create"]
-        prepare.append(f"postgresql://postgres@127.0.0.1:{server.port}/postgres")
-        environment = dict(os.environ, PYTHONPATH=os.path.join(TOP, "collectors/python"))
-        subprocess.run(prepare, check=False, capture_output=True, env=environment)
-        table(asked, folder, [started.way(name) for name in asked.way])
-    finally:
-        started.end()
-        server.stop()
-        if sys.exc_info()[0] is None:
-            shutil.rmtree(folder, ignore_errors=True)
-        else:
-            print(f"what the programs logged is in {folder}", file=sys.stderr)
+    with prepared_server(folder, asked.scale) as (server, proxy):
+        started = Started(folder, "127.0.0.1", server.port, proxy)
+        try:
+            table(asked, folder, [started.way(name) for name in asked.way])
+        finally:
+            started.end()
 
 
 if __name__ == "__main__":

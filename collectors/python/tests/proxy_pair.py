@@ -76,10 +76,13 @@ class Server:
         done = ["cp", "-a", other.data, self.data]
         subprocess.run(done, check=True, timeout=LIMIT, **self.user)
 
-    def start(self) -> None:
-        with socket.socket() as free:
-            free.bind(("127.0.0.1", 0))
-            self.port = free.getsockname()[1]
+    def start(self, port: Optional[int] = None) -> None:
+        """At a port of its own, or at this one."""
+        if port is None:
+            with socket.socket() as free:
+                free.bind(("127.0.0.1", 0))
+                port = free.getsockname()[1]
+        self.port = port
         more = " ".join(f"-c {each}" for each in SETTINGS)
         options = f"-p {self.port} -c unix_socket_directories={self.folder} {more}"
         log = os.path.join(self.folder, "log")

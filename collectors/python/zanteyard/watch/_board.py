@@ -68,6 +68,7 @@ class Board:
                 meetings=status.meetings + 1,
                 meeting_ms=took,
                 longest_meeting_ms=max(took, status.longest_meeting_ms),
+                meetings_ms=status.meetings_ms + took,
                 fences=whole(event.get("fences")),
             )
 

@@ -47,6 +47,8 @@ def families(status: Status) -> Iterator[Family]:
     yield "zanteyard_rounds_total", "counter", "Rounds, by what they said.", rounds
     yield one("cuts_total", "counter", "Times that something was forgotten.", status.cuts)
     yield one("meetings_total", "counter", "Meetings of all connections.", status.meetings)
+    about = "Seconds that all meetings took together."
+    yield one("meeting_seconds_total", "counter", about, status.meetings_ms / 1000)
     about = "Seconds that the longest meeting took."
     yield one("longest_meeting_seconds", "gauge", about, status.longest_meeting_ms / 1000)
     since = max(0.0, status.now - status.told_at) if status.told_at else 0.0

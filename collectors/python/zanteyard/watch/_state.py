@@ -167,6 +167,7 @@ class Status:
     meetings: int = 0
     meeting_ms: float = 0.0  # of the last one
     longest_meeting_ms: float = 0.0
+    meetings_ms: float = 0.0  # of all together
     fences: int = 0  # of the last one
     notes: Tuple[str, ...] = ()  # warnings
     restarts: int = 0

@@ -1,0 +1,117 @@
+"""What the proxy costs applications by their drivers, with the server near and far.
+
+    python3 bench/driver_cost.py [--seconds N] [--times N] [--clients N] [--driver NAME ..]
+        [--way NAME ..] [--delay US ..]
+
+Each transaction is two reads and an update at serializable. It is run by psycopg2, psycopg 3,
+asyncpg and JDBC, in turns in each way: `direct`, `pgbouncer`, `passing`, `audited`, as
+bench/proxy_cost.py has them. With --delay the server is as far away as so many microseconds take
+one way: from the application if it is `direct`, else from what is between, which runs beside the
+application. The table has transactions a second, as medians, and their part of the direct ones.
+
+Runs need a PostgreSQL 15, pgbouncer, Go, the drivers and the proved programs. TMPDIR=/dev/shm has
+the server's folder in memory.
+"""
+
+from __future__ import annotations
+
+import argparse
+import os
+import statistics
+import subprocess
+import sys
+import tempfile
+from typing import Any, Dict, List, Optional, Tuple
+
+from proxy_cost import TOP, WAYS, Started, Way, free_port, prepared_server, wait_for
+
+HERE = os.path.join(TOP, "bench/drivers")
+PYTHON = ("psycopg2", "psycopg", "asyncpg")
+JAR = "/usr/share/java/postgresql.jar"
+
+
+def commands(folder: str, asked: Any) -> Dict[str, List[str]]:
+    """What starts each driver's program, without its port and what follows."""
+    found = {}
+    for driver in asked.driver:
+        if driver in PYTHON:
+            found[driver] = [sys.executable, os.path.join(HERE, "transfer.py"), driver]
+        else:
+            source = os.path.join(HERE, "Transfer.java")
+            subprocess.run(["javac", "-d", folder, source], check=True)
+            found[driver] = ["java", "-cp", f"{folder}:{JAR}", "Transfer"]
+    return found
+
+
+def run(asked: Any, call: List[str], way: Way) -> Tuple[float, float, float]:
+    """Transactions a second, and processor time for each: between and beside, in microseconds."""
+    before = way.used()
+    call = [*call, str(way.port), str(asked.clients), str(asked.seconds), str(100_000 * asked.scale)]
+    done = subprocess.run(call, capture_output=True, text=True, check=False, timeout=600)
+    after = way.used()
+    if done.returncode or not done.stdout.strip().isdigit():
+        raise SystemExit(f"{way.name}: {done.stdout}{done.stderr}")
+    count = max(1, int(done.stdout))
+    return count / asked.seconds, *((b - a) * 1e6 / count for a, b in zip(before, after))
+
+
+def relay(folder: str, port: int, microseconds: int) -> "Tuple[int, subprocess.Popen[bytes]]":
+    program = os.path.join(folder, "delay")
+    if not os.path.exists(program):
+        call = ["go", "build", "-o", program, os.path.join(HERE, "delay.go")]
+        subprocess.run(call, check=True, cwd=folder, env=dict(os.environ, GO111MODULE="off"))
+    listen = free_port()
+    call = [program, f"127.0.0.1:{listen}", f"127.0.0.1:{port}", f"{microseconds}us"]
+    started = subprocess.Popen(call)
+    wait_for("127.0.0.1", listen)
+    return listen, started
+
+
+def table(asked: Any, delay: int, ways: List[Way], calls: Dict[str, List[str]]) -> None:
+    for driver, call in calls.items():
+        runs: Dict[str, List[Any]] = {way.name: [] for way in ways}
+        for _ in range(asked.times):
+            for way in ways:
+                runs[way.name].append(run(asked, call, way))
+        first: Optional[float] = None
+        for way in ways:
+            rate, between, beside = map(statistics.median, zip(*runs[way.name]))
+            first = first or rate
+            print(f"{driver:10}{delay:8}  {way.name:10}{rate:9.0f}{rate / first:10.2f}"
+                  f"{between:9.1f}{beside:8.1f}", flush=True)
+
+
+def main() -> None:
+    parser = argparse.ArgumentParser(description=__doc__.splitlines()[0])
+    parser.add_argument("--seconds", type=float, default=5)
+    parser.add_argument("--times", type=int, default=5)
+    parser.add_argument("--scale", type=int, default=10)
+    parser.add_argument("--clients", type=int, default=8)
+    parser.add_argument("--delay", type=int, nargs="+", default=[0], metavar="US")
+    parser.add_argument(
+        "--driver", nargs="+", choices=(*PYTHON, "jdbc"), default=[*PYTHON, "jdbc"]
+    )
+    parser.add_argument("--way", nargs="+", choices=WAYS, default=list(WAYS))
+    asked = parser.parse_args()
+    folder = tempfile.mkdtemp(prefix="driver_cost")
+    os.chmod(folder, 0o777)
+    print(f"{'driver':10}{'one way':>8}  {'way':10}{'a second':>9}{'of direct':>10}"
+          f"{'between':>9}{'beside':>8}", flush=True)
+    with prepared_server(folder, asked.scale) as (server, proxy):
+        calls = commands(folder, asked)
+        for delay in asked.delay:
+            port, away = server.port, None
+            if delay:
+                port, away = relay(folder, server.port, delay)
+            started = Started(folder, "127.0.0.1", port, proxy)
+            try:
+                table(asked, delay, [started.way(name) for name in asked.way], calls)
+            finally:
+                started.end()
+                if away:
+                    away.kill()
+                    away.wait()
+
+
+if __name__ == "__main__":
+    main()
