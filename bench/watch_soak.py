@@ -5,18 +5,18 @@
 
 Each work is an application with tables of its own: `skew` reads two rows and writes one, `lost`
 reads a quantity and writes it one less, `bank` keeps a rule over a range, `shop` has joins, upserts,
-counts, savepoints, cursors and deletes, `tpcb` and `update` are pgbench's. All run at once, --clients
-connections each, with a pause of up to --pause milliseconds behind each transaction; pgbench makes
---rate transactions a second.
+counts, savepoints, cursors and deletes, `tpcb`, `update` and `mixed` (four of five only read) are
+pgbench's. All run at once, --clients connections each, with a pause of up to --pause milliseconds
+behind each transaction; pgbench makes --rate transactions a second.
 
 Beside them, without the proxy: somebody writes the same rows, columns and indexes come and go,
 tables are rewritten by VACUUM FULL, and connections of the applications are ended by the server. With
 --kill-server the server is killed and started again each S seconds, with --kill-proxy the proxy is.
 
 A line a minute says how the audit stands: what was committed and checked so far, how long a meeting
-took in that minute and at most, memory and processors of each program. At serializable no violation may be found, and each work
-has to get some transactions through: else the exit status is 1. At weaker levels the violations that
-were found are listed by their name.
+took in that minute and at most, memory and processors of each program. At serializable no violation
+may be found, and each work has to get some transactions through: else the exit status is 1. At weaker
+levels the violations that were found are listed by their name.
 
 Runs need a PostgreSQL 15, psycopg2, a built proxy (ZANTEYARD_PROXY, or Go) and the proved programs.
 """
@@ -140,7 +140,11 @@ def shop(cursor: Any, chance: random.Random) -> None:
 WORKS: Dict[str, Callable[[Any, random.Random], None]] = {
     "skew": skew, "lost": lost, "bank": bank, "shop": shop,
 }
-PGBENCH = {"tpcb": "tpcb-like", "update": "simple-update"}
+PGBENCH = {
+    "tpcb": ("-b", "tpcb-like"),
+    "update": ("-b", "simple-update"),
+    "mixed": ("-b", "select-only@4", "-b", "simple-update@1"),
+}
 TABLES = {"skew": "skew_rows", "lost": "lost_stock", "bank": "bank_moves", "shop": "shop_items"}
 AGAIN = (errors.SerializationFailure, errors.DeadlockDetected, errors.UniqueViolation)
 
@@ -326,7 +330,7 @@ def everything(asked: Any, folder: str) -> Iterator[Any]:
 
 def pgbench(asked: Any, work: str, port: int) -> "subprocess.Popen[bytes]":
     call = [postgres_program("pgbench") or "pgbench", "-n", "-M", "prepared", "-c", str(asked.clients)]
-    call += ["-b", PGBENCH[work], "-T", str(int(asked.minutes * 60)), "-R", str(asked.rate), "-j", "2"]
+    call += [*PGBENCH[work], "-T", str(int(asked.minutes * 60)), "-R", str(asked.rate), "-j", "2"]
     call += ["-h", "127.0.0.1", "-p", str(port)]
     call += ["-U", "postgres", "--max-tries", "100", "postgres"]
     level = LEVELS[asked.level].lower().replace(" ", "\\ ")
