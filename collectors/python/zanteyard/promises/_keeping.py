@@ -112,4 +112,3 @@ def _plain(read: Sequence[Any]) -> List[Any]:
         return [*read]
     key, session, number = read
     return [key, session, number // 2]
-

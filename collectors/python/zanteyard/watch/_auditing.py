@@ -40,8 +40,9 @@ class Auditing:
         round_seconds: float = 60.0,
         promise: Promise = SERIALIZABLE,
     ) -> None:
-        """`path` is the program to start; lines and replies are those of docs/PROMISES.md. A journal that is there from an earlier run is set
-        aside. Raises JournalError."""
+        """`path` is the program to start. Lines and replies are of transactions as the proxy has
+        them, whatever the promise. A journal that is there from an earlier run is set aside. Raises
+        JournalError."""
         self.path, self.journal, self.round_seconds = path, journal, round_seconds
         self.promise = promise
         self.audits = 0

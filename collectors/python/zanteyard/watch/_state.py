@@ -189,7 +189,6 @@ class Status:
             return "incomplete"
         return self.kind
 
-
     @property
     def standing(self) -> Standing:
         """What the violations that are explained break together, and what none of them does."""
