@@ -3,10 +3,9 @@ told so."""
 import os
 import random
 import threading
-import time
 import unittest
 
-from zanteyard import Auditor, Session
+from zanteyard import Auditor, AuditorApart, LiveAuditor, Session
 from zanteyard.explain._shrinking import from_start, smaller
 from zanteyard.explain._standing import standing
 from zanteyard.program._auditor import PROGRAM
@@ -17,7 +16,7 @@ from zanteyard.trial.workloads import EVERY_WORKLOAD, Clients
 try:
     import psycopg2
 
-    from zanteyard.stores.postgres import PostgresStore, prepare
+    from zanteyard.stores.postgres import READ, PostgresStore, prepare
 except ImportError:
     psycopg2 = None
 
@@ -41,6 +40,32 @@ class Recorder:
 
     def take_close(self, *_):
         pass
+
+
+if psycopg2:
+
+    class Stale(PostgresStore):
+        """The fault: some transactions read by a snapshot that is older than they are."""
+
+        old, dice, reads_old = None, None, False
+
+        def begin(self, seconds=None):
+            super().begin(seconds)
+            self.reads_old = self.old is not None and self.dice.random() < 0.2
+            if self.old is None or self.dice.random() < 0.1:
+                self.old = self.old or psycopg2.connect(self.dsn)
+                self.old.rollback()
+                self.old.set_session(isolation_level="REPEATABLE READ")
+                self.old.cursor().execute("SELECT 1")
+                self.dice = self.dice or random.Random(1)
+
+        def read(self, key):
+            if self.is_alone or not self.reads_old:
+                return super().read(key)
+            cursor = self.old.cursor()
+            cursor.execute(READ.format(table=self.table), (key,))
+            row = cursor.fetchone()
+            return None if row is None else (row[0], row[1:])
 
 
 @unittest.skipUnless(psycopg2 and program("initdb"), "PostgreSQL or psycopg2 is not installed")
@@ -85,6 +110,30 @@ class OfRepeatableRead(unittest.TestCase):
             found = standing(smaller(history, PROGRAM, 20.0), PROGRAM, seconds=20.0)
             self.assertIn(SNAPSHOT, found.kept)
             self.assertIn(SERIALIZABLE, found.broken)
+
+    def live(self, kinds, seconds, every=100):
+        """The outcome of clients of these stores, beside an audit that asks for snapshot isolation."""
+        with AuditorApart(len(kinds), program=PROGRAM, promise="snapshot") as auditor:
+            live = LiveAuditor(auditor, every=every)
+            stores = [kind(self.server.dsn, "repeatable read") for kind in kinds]
+            sessions = [live.session(store) for store in stores]
+            clients = Clients(sessions, EVERY_WORKLOAD["skew"], seconds, lambda: live.is_over)
+            self.assertEqual(clients.failures, [])
+            outcome = live.stop()
+            for store in stores:
+                store.close()
+                if getattr(store, "old", None) is not None:
+                    store.old.close()
+            return outcome, live
+
+    def test_clients_that_run(self):
+        outcome, live = self.live([PostgresStore] * 3, 3.0)
+        self.assertEqual(outcome.whole.kind, "serial", outcome)
+        self.assertGreater(live.cuts, 0)
+
+    def test_a_stale_snapshot_is_found(self):
+        outcome, _ = self.live([PostgresStore, PostgresStore, Stale], 60.0)
+        self.assertTrue(outcome.is_violated, outcome)
 
 
 if __name__ == "__main__":

@@ -97,7 +97,7 @@ class ByAFeed(test_watch_audit.Audits):
         breaks = "breaks serializability, snapshot isolation and prefix consistency, also without session order"
         text = "\n".join(found.lines())
         self.assertIn("violated: no order of begins and commits keeps snapshot isolation", text)
-        self.assertIn("T2 commits before T3 begins", text)
+        self.assertIn("T3 begins before T2 commits", text)
         broken = "breaks serializability and snapshot isolation, also without session order"
         self.assertTrue(broken in text or breaks in text, text)
         self.assertIn("--promise snapshot", violation_page(found, "shop", "proved"))

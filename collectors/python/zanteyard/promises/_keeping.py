@@ -19,7 +19,7 @@ from ._rewriting import Rewriting, last_writers
 from ._split import LONGEST, begin_half, commit_half, split_transactions, star
 
 MOST = 1 << 48  # numbers of transactions are at most this
-ENDS = ("resumed", "open")  # behind which a hand-over is over
+ENDS = ("resumed", "open")  # with which a hand-over is over
 Halves = Sequence[Any]
 
 
@@ -31,7 +31,7 @@ class KeptRewriting(Rewriting):
     def asked(self, line: List[Any]) -> List[List[Any]]:
         if not self.promise.is_split:
             return super().asked(line)
-        word = line[0]
+        word = line[0] if line and isinstance(line[0], str) else ""
         if word == "save":
             return [_saving(line)]
         if word == "resume":
