@@ -320,7 +320,7 @@ def _journal(asked: Any) -> int:
         print(f"{auditor.run_name}: {count} transactions of {sessions} sessions were taken in")
         report = auditor.last_round()
         if report.kind == "violated":
-            round_told = (report.counts, EXPLAINED, report.certificate)
+            round_told = (report.counts, EXPLAINED, report.certificate, auditor.promise)
             _tell(violation_story(auditor, program, *round_told))
             return STATUSES["violated"]
         outcome = auditor.outcome()

@@ -15,6 +15,7 @@ from urllib.parse import unquote, urlsplit
 
 from ..core.errors import ZanteyardError
 from ..program._binaries import find_program, origin_of
+from ..promises._kinds import ASKED, LIVE, SERIALIZABLE
 from . import _prepare
 from ._database import Database, DatabaseError, DriverMissingError, without_password
 from ._ending import STATUS_WORDS
@@ -67,6 +68,10 @@ def add_arguments(command: argparse.ArgumentParser) -> None:
     )
     add_sharing(command)
     add_tables_option(command, "audits only these tables, as public.*,shop.orders")
+    command.add_argument(
+        "--promise", choices=[*LIVE], default=SERIALIZABLE.name,
+        help="what the application relies on (serializable; docs/PROMISES.md)",
+    )
     command.add_argument(
         "--redact", action="store_true", help="shows no parameters and no constants of statements"
     )
@@ -126,9 +131,11 @@ def run(asked: Any) -> int:
         call, program, title, origin_of(program).sentence(), environment,
         page=asked.page, metrics=asked.metrics, journal=asked.journal, save=asked.save,
         round_seconds=asked.round_seconds, for_seconds=asked.seconds, redacts=asked.redact,
+        promise=ASKED[asked.promise],
     )
     watch = Run(plan, tell)
-    logger.info("applications connect to %s", asked.listen)
+    about = plan.promise.title
+    logger.info("applications connect to %s; they are watched for %s", asked.listen, about)
     with stopped_by_signals(watch):
         try:
             return watch.run()
@@ -179,6 +186,8 @@ def call_of(proxy: str, asked: Any) -> Tuple[Sequence[str], Dict[str, str]]:
         url, environment["PGPASSWORD"] = without_password(url), unquote(password)
     call = [proxy, "--server", url, "--listen", asked.listen]
     call.append(f"--parameters={'false' if asked.redact else 'true'}")
+    if asked.promise != SERIALIZABLE.name:
+        call.append(f"--promise={asked.promise}")
     if asked.sample is not None:
         call.append(f"--sample={asked.sample:g}")
     if asked.tables is not None:

@@ -11,6 +11,7 @@ from dataclasses import dataclass
 from typing import Callable, Iterator, Mapping, Optional, Sequence, Tuple
 
 from ..core.errors import ProgramEndedError
+from ..promises._kinds import SERIALIZABLE, Promise
 from ._auditing import Auditing
 from ._board import Board
 from ._ending import lines_of, status_of
@@ -48,6 +49,7 @@ class Plan:
     round_seconds: float = 60.0
     for_seconds: Optional[float] = None  # then it stops by itself
     redacts: bool = False  # shows no values of statements
+    promise: Promise = SERIALIZABLE  # what the audit asks for
 
 
 class Run:
@@ -58,10 +60,11 @@ class Run:
         self.plan, self._tell = plan, tell
         self.stop = threading.Event()
         self._turn = threading.Lock()
-        self.board = Board(plan.title, plan.origin)
+        self.board = Board(plan.title, plan.origin, plan.promise)
         intake = Intake()
-        explaining = Explaining(plan.auditor, self._explained)
-        auditing = Auditing(plan.auditor, plan.journal, plan.round_seconds)
+        explaining = Explaining(plan.auditor, self._explained, plan.promise)
+        its_promise = plan.promise
+        auditing = Auditing(plan.auditor, plan.journal, plan.round_seconds, its_promise)
         its = (auditing, self.board, intake, self._to_proxy, explaining, plan.redacts)
         self._watching = Watching(*its)
         self._explaining = explaining

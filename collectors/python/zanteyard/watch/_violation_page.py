@@ -60,6 +60,7 @@ def _head(one: Violation) -> Iterator[str]:
     if meaning:
         yield f"<p>{escaped(_capital(meaning))}.</p>"
     yield f"<p>{escaped(_capital(one.sentence), 600)}.</p>"
+    yield from (f"<p>It {escaped(line)}.</p>" for line in one.story.standing.lines())
     yield (
         f'<p class="soft">Found at {clock(one.at)}, in round {one.round}, among '
         f"{counted(sum(one.story.counts), 'transaction')}.</p></section>"
@@ -124,15 +125,20 @@ def _again(one: Violation, is_file: bool) -> Iterator[str]:
     yield "<h2>See it again</h2>"
     yield (
         f"<p>This is the same as a script: {name if is_file else link}. "
-        "<code>zanteyard check</code> reports the same violation, and <code>cobra_audit</code> "
-        "prints its refutation.</p>"
+        f"{AGAIN[one.story.promise.is_split]}</p>"
     )
     yield f"<pre>{escape(one.story.script)}</pre>"
     yield "<h2>Before you accuse the application</h2><ul>"
-    yield "".join(f"<li>{line}</li>" for line in (*QUESTIONS, *BEFORE_YOU_ACCUSE[2:]))
+    questions = SNAPSHOT_QUESTIONS if one.story.promise.is_split else QUESTIONS
+    yield "".join(f"<li>{line}</li>" for line in (*questions, *BEFORE_YOU_ACCUSE[2:]))
     yield "</ul>"
 
 
+AGAIN = {
+    False: "<code>zanteyard check</code> reports the same violation, and "
+    "<code>cobra_audit</code> prints its refutation.",
+    True: "<code>zanteyard check --promise snapshot</code> reports the same violation.",
+}
 QUESTIONS = (
     "Is the isolation level what you meant? At read committed, PostgreSQL’s default, and at "
     "repeatable read the server allows such violations: it keeps its promise, which is a weaker "
@@ -140,4 +146,12 @@ QUESTIONS = (
     "Does it matter here? An application may read something that it doesn’t rely on.",
     "The usual remedies are: serializable for these transactions, with a retry; a lock "
     "(<code>SELECT .. FOR UPDATE</code>); or one statement that reads and writes.",
+)
+SNAPSHOT_QUESTIONS = (
+    "Is the isolation level what you meant? At read committed, PostgreSQL’s default, the server "
+    "allows such violations: it keeps its promise, which is a weaker one. At repeatable read and "
+    "at serializable it promises that there are none.",
+    QUESTIONS[1],
+    "The usual remedies are: repeatable read or serializable for these transactions, with a retry; "
+    "a lock (<code>SELECT .. FOR UPDATE</code>); or one statement that reads and writes.",
 )

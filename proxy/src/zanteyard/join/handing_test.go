@@ -24,13 +24,14 @@ type world struct {
 	versions map[string][]worldVersion
 	locks    map[string]*worldTxn
 	commits  int
-	after    map[int]map[int]bool // of each committed transaction, those that have to come later
+	after    map[int]map[int]bool // of each begin and commit, those that have to come later
 	readers  map[string]map[int][]int
 	live     []*worldConn
 	most     int      // connections at a time
 	untold   []func() // what sessions have seen and the joiner hasn't been told
 	fences   []*worldFence
 	points   bool // the fault: a session is handed on by the clock alone
+	snapshot bool // the store keeps snapshot isolation, and no more
 	aborted  int
 	// elsewhere: connections with an even number are those of another machine's proxy (elsewhere_test.go). trusted: the fault
 	// that its clock is believed.
@@ -182,29 +183,52 @@ func (w *world) reaches(from int, to map[int]bool, seen map[int]bool) bool {
 	return false
 }
 
-// around are the transactions that have to come before this one, and those that have to come behind it.
+// begin and commit are what stands for a transaction in after: one of them, unless the store keeps snapshots alone.
+func (w *world) begin(id int) int { return 2 * id }
+func (w *world) commit2(id int) int {
+	if w.snapshot {
+		return 2*id + 1
+	}
+	return 2 * id
+}
+
+// around are the events that have to come before this transaction begins, and those that have to come behind that.
 func (w *world) around(t *worldTxn) (before, behind map[int]bool) {
 	before, behind = map[int]bool{}, map[int]bool{}
-	if t.conn.last > 0 {
-		before[t.conn.last] = true
+	committed := func(id int) {
+		if id > 0 {
+			before[w.commit2(id)] = true
+		}
 	}
+	committed(t.conn.last)
 	for key, versions := range t.reads {
 		for i := range versions {
-			before[w.versions[key][i].by] = true
+			committed(w.versions[key][i].by)
 			if i+1 < len(w.versions[key]) {
-				behind[w.versions[key][i+1].by] = true
+				behind[w.commit2(w.versions[key][i+1].by)] = true
 			}
 		}
 	}
 	for key := range t.writes {
-		i := len(w.versions[key]) - 1
-		before[w.versions[key][i].by] = true
-		for _, reader := range w.readers[key][i] {
-			before[reader] = true
+		committed(w.versions[key][len(w.versions[key])-1].by)
+	}
+	if !w.snapshot {
+		for one := range w.overwritten(t) {
+			before[one] = true
 		}
 	}
-	delete(before, 0)
 	return before, behind
+}
+
+// overwritten are the begins of those who have read what the transaction overwrites: its commit comes behind them.
+func (w *world) overwritten(t *worldTxn) map[int]bool {
+	its := map[int]bool{}
+	for key := range t.writes {
+		for _, reader := range w.readers[key][len(w.versions[key])-1] {
+			its[w.begin(reader)] = true
+		}
+	}
+	return its
 }
 
 // end commits the transaction, if an order still explains everything.
@@ -244,10 +268,19 @@ func (w *world) end(c *worldConn) {
 func (w *world) committed(t *worldTxn, it *record.Transaction, before, behind map[int]bool) {
 	w.commits++
 	id := w.commits
+	begin, commit := w.begin(id), w.commit2(id)
+	overwritten := w.overwritten(t)
 	for one := range before {
-		w.after[one][id] = true
+		w.after[one][begin] = true
 	}
-	w.after[id] = behind
+	w.after[begin] = behind
+	if w.snapshot {
+		behind[commit] = true
+		w.after[commit] = map[int]bool{}
+		for one := range overwritten {
+			w.after[one][commit] = true
+		}
+	}
 	t.conn.last = id
 	for key, versions := range t.reads {
 		for i := range versions {
@@ -428,9 +461,15 @@ func (w *world) live1(meetings int) {
 }
 
 // cycle looks for transactions of those that were offered which have to come before one another: none, if some order
-// explains all.
-func (m *model) cycle() []string {
+// explains all. With snapshots it looks for such begins and commits.
+func (m *model) cycle(snapshots bool) []string {
 	type id [2]int64
+	type event struct {
+		id
+		commits bool
+	}
+	begin := func(at id) event { return event{at, false} }
+	commit := func(at id) event { return event{at, snapshots} }
 	next := map[int64]map[id]id{} // by key: who wrote the version behind this one's
 	each := func(f func(at id, t modelTxn)) {
 		for s := range m.sessions {
@@ -439,41 +478,48 @@ func (m *model) cycle() []string {
 			}
 		}
 	}
+	after := map[event][]event{}
 	each(func(at id, t modelTxn) {
 		for _, key := range t.writes {
 			if next[key] == nil {
 				next[key] = map[id]id{}
 			}
 			for _, read := range t.reads {
-				if read[0] == key {
-					next[key][id{read[1], read[2]}] = at // of two, one makes a cycle with the other
+				if from := (id{read[1], read[2]}); read[0] == key {
+					if other, is := next[key][from]; is { // of two that overwrite one version neither can come first
+						after[commit(at)] = append(after[commit(at)], commit(other))
+						after[commit(other)] = append(after[commit(other)], commit(at))
+					}
+					next[key][from] = at
 				}
 			}
 		}
 	})
-	after := map[id][]id{}
 	each(func(at id, t modelTxn) {
+		if snapshots {
+			after[begin(at)] = append(after[begin(at)], commit(at))
+		}
 		if n := at[1] + 1; n < int64(len(m.sessions[at[0]].its)) {
-			after[at] = append(after[at], id{at[0], n})
+			after[commit(at)] = append(after[commit(at)], begin(id{at[0], n}))
 		}
 		for _, read := range t.reads {
 			from := id{read[1], read[2]}
 			if read[1] >= 0 {
-				after[from] = append(after[from], at)
+				after[commit(from)] = append(after[commit(from)], begin(at))
 			}
 			if to, is := next[read[0]][from]; is && to != at {
-				after[at] = append(after[at], to)
+				after[begin(at)] = append(after[begin(at)], commit(to))
 			}
 		}
 	})
-	state := map[id]int{}
+	state := map[event]int{}
 	var path []string
-	var visit func(at id) bool
-	visit = func(at id) bool {
+	var visit func(at event) bool
+	visit = func(at event) bool {
 		state[at] = 1
 		for _, to := range after[at] {
 			if state[to] == 1 || state[to] == 0 && visit(to) {
-				path = append(path, fmt.Sprintf("%d.%d %+v", at[0], at[1], m.sessions[at[0]].its[at[1]]))
+				path = append(path, fmt.Sprintf("%d.%d %v %+v", at.id[0], at.id[1], at.commits, m.sessions[at.id[0]].its[at.id[1]]))
 				return true
 			}
 		}
@@ -481,7 +527,9 @@ func (m *model) cycle() []string {
 		return false
 	}
 	found := false
-	each(func(at id, _ modelTxn) { found = found || state[at] == 0 && visit(at) })
+	each(func(at id, _ modelTxn) {
+		found = found || state[begin(at)] == 0 && visit(begin(at)) || state[commit(at)] == 0 && visit(commit(at))
+	})
 	return path
 }
 
@@ -492,7 +540,7 @@ func TestHandingOnMakesUpNothing(t *testing.T) {
 	for seed := int64(0); seed < int64(*worlds); seed++ {
 		w := newWorld(t, seed, false)
 		w.live1(12)
-		if path := w.model.cycle(); path != nil {
+		if path := w.model.cycle(false); path != nil {
 			t.Fatalf("seed %d: what was committed has an order, and what was offered hasn't:\n%s", seed, path)
 		}
 		n := w.core.counts
@@ -516,7 +564,7 @@ func TestHandingOnByTheClock(t *testing.T) {
 	for seed := int64(0); seed < int64(*worlds); seed++ {
 		w := newWorld(t, seed, true)
 		w.live1(12)
-		if path := w.model.cycle(); path != nil {
+		if path := w.model.cycle(false); path != nil {
 			t.Logf("seed %d: %d transactions make a cycle", seed, len(path))
 			return
 		}

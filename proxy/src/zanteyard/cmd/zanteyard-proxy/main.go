@@ -78,6 +78,14 @@ func parse(args []string, errors io.Writer) (flags, error) {
 	set.Int64Var(&f.held, "held", 64<<20, "`bytes` of what sessions saw that may wait for the audit")
 	set.IntVar(&f.join.Sessions, "sessions", 64, "`number` of the auditor's sessions")
 	set.IntVar(&f.join.Limit, "limit", 4096, "`number` of transactions that may remain at a time")
+	set.Func("promise", "serializable, or snapshot: what is audited is asked about snapshot isolation, with half as many "+
+		"transactions", func(text string) error {
+		f.join.Snapshot = text == "snapshot"
+		if text != "snapshot" && text != "serializable" {
+			return fmt.Errorf("serializable or snapshot")
+		}
+		return nil
+	})
 	set.Float64Var(&f.join.Sample, "sample", 1, "the `part` of the connections that is audited")
 	set.DurationVar(&f.join.Between, "between", 2*time.Second, "the least `time` between two meetings")
 	set.Func("tables", "audit only these tables, given as `patterns` such as public.*, shop.orders", func(text string) (err error) {
