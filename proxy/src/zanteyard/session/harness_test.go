@@ -4,6 +4,7 @@ import (
 	"bytes"
 	"context"
 	"errors"
+	"flag"
 	"fmt"
 	"net"
 	"os"
@@ -17,6 +18,7 @@ import (
 
 	"zanteyard/cluster"
 	"zanteyard/definitions"
+	"zanteyard/loop"
 	"zanteyard/record"
 	"zanteyard/wire"
 )
@@ -26,6 +28,9 @@ var (
 	theCluster   *cluster.Cluster
 	definitions_ *definitions.Definitions
 	missing      error
+	// loop_ serves all sessions of the tests, nil if each has goroutines of its own, as connections with TLS have.
+	loop_   *loop.Loop
+	without = flag.Bool("without-loop", false, "have each session be served by goroutines of its own")
 )
 
 const schema = `
@@ -65,6 +70,13 @@ SELECT setval('serials_id_seq', 1, false);
 
 func TestMain(m *testing.M) {
 	os.Exit(func() int {
+		if flag.Parse(); !*without {
+			var err error
+			if loop_, err = loop.New(); err != nil {
+				fmt.Fprintln(os.Stderr, err)
+				return 1
+			}
+		}
 		theCluster, missing = cluster.Start(nil, nil)
 		if missing != nil && !errors.Is(missing, cluster.ErrMissing) {
 			fmt.Fprintln(os.Stderr, missing)
@@ -245,7 +257,7 @@ func through(t testing.TB, user string, change func(*Options)) *proxied {
 		}
 	})
 	connections++
-	p.session = New(connections, near, server, options)
+	p.session = New(connections, taken(near), taken(server), options)
 	if early := early_; early != nil {
 		early_ = nil
 		if _, err := far.Write(early); err != nil {
@@ -255,6 +267,14 @@ func through(t testing.TB, user string, change func(*Options)) *proxied {
 	go func() { p.ended <- p.session.Run() }()
 	p.client = newClient(t, far)
 	return p
+}
+
+// taken is a connection that the loop serves, if there is one.
+func taken(c net.Conn) Conn {
+	if loop_ == nil {
+		return c
+	}
+	return loop_.Take(c)
 }
 
 // settle waits until all that waits for a trial was tried, unless a transaction is open.

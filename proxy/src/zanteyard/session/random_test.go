@@ -86,7 +86,7 @@ func forward(t *testing.T, change func(*Options)) (dial func() (*pgconn.PgConn, 
 			if change != nil {
 				change(options)
 			}
-			New(1, near, far, options).Run()
+			New(1, taken(near), taken(far), options).Run()
 		}()
 		c := config()
 		c.Port = uint16(listener.Addr().(*net.TCPAddr).Port)

@@ -26,6 +26,7 @@ import (
 	"zanteyard/definitions"
 	"zanteyard/join"
 	"zanteyard/keys"
+	"zanteyard/loop"
 	"zanteyard/meeting"
 	"zanteyard/remote"
 	"zanteyard/server"
@@ -171,7 +172,12 @@ func run(ctx context.Context, f flags, in io.Reader, out io.Writer) error {
 		return err
 	}
 	defer end()
+	its, err := loop.New()
+	if err != nil {
+		return err
+	}
 	s := server.New(server.Options{
+		Loop:      its,
 		Server:    config,
 		ClientTLS: clientTLS,
 		Database:  config.Database,
