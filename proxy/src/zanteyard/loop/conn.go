@@ -17,7 +17,6 @@ var ErrWait = errors.New("loop: it would have to wait")
 // Conn is a plain socket that a loop waits for. Read by one goroutine at a time; its other methods are safe for use by
 // several.
 type Conn struct {
-	loop    *Loop
 	fd      int
 	number  uint64
 	network string
@@ -26,8 +25,10 @@ type Conn struct {
 	ended atomic.Bool
 
 	lock    sync.Mutex // over all below
-	asked   uint32     // what the loop waits for
-	ready   func()     // whom it calls when there is something to read
+	loop    *loop
+	freed   bool
+	asked   uint32 // what the loop waits for
+	ready   func() // whom it calls when there is something to read
 	readers chan struct{}
 	writers chan struct{}
 }
@@ -41,8 +42,8 @@ func Plain(c net.Conn) bool {
 	return false
 }
 
-// Take takes a connection's socket out of Go's hands, and closes the connection. It is nil if it is no plain socket.
-func (l *Loop) Take(from net.Conn) *Conn {
+// newConn duplicates a plain connection's socket.
+func newConn(from net.Conn, its *loop, number uint64) *Conn {
 	socket, is := from.(syscall.Conn)
 	if !is || !Plain(from) {
 		return nil
@@ -57,11 +58,48 @@ func (l *Loop) Take(from net.Conn) *Conn {
 	}) != nil || errno != 0 {
 		return nil
 	}
-	c := &Conn{loop: l, fd: int(fd), network: from.RemoteAddr().Network()}
+	c := &Conn{loop: its, fd: int(fd), number: number, network: from.RemoteAddr().Network()}
 	c.uses.Store(1)
-	l.enter(c)
-	from.Close()
+	its.enter(c)
 	return c
+}
+
+// Abandon lets go of the descriptor without an end of the connection.
+func (c *Conn) Abandon() {
+	c.lock.Lock()
+	defer c.lock.Unlock()
+	c.ended.Store(true)
+	c.free()
+}
+
+// free is called with lock held.
+func (c *Conn) free() {
+	if c.freed {
+		return
+	}
+	c.freed = true
+	c.ready = nil
+	c.update()
+	c.loop.leave(c)
+	c.unuse()
+}
+
+// move hands the socket to another loop. Called by its own.
+func (c *Conn) move(to *loop) {
+	c.lock.Lock()
+	defer c.lock.Unlock()
+	if c.freed {
+		return
+	}
+	if c.asked != 0 {
+		c.loop.control(c, c.asked, 0)
+	}
+	c.loop.leave(c)
+	c.loop = to
+	to.enter(c)
+	if c.asked != 0 {
+		to.control(c, 0, c.asked)
+	}
 }
 
 // Serve has f be called by the loop whenever there is something to read, until Leave. It mustn't wait.
@@ -266,13 +304,10 @@ func (c *Conn) Close() error {
 	return nil
 }
 
-// Free ends the connection, and lets go of its descriptor. To be called once, when nothing is called by the loop any more.
+// Free ends the connection, and lets go of its descriptor. To be called when nothing is called by the loop any more.
 func (c *Conn) Free() {
 	c.Close()
 	c.lock.Lock()
-	c.ready = nil
-	c.update()
-	c.lock.Unlock()
-	c.loop.leave(c)
-	c.unuse()
+	defer c.lock.Unlock()
+	c.free()
 }

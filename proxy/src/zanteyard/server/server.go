@@ -27,7 +27,7 @@ type Options struct {
 	Database  string         // that is audited; connections to others are passed on without looking
 	Session   *session.Options
 	Room      *meeting.Room
-	Loop      *loop.Loop // that serves connections without TLS; nil: none
+	Loops     *loop.Loops // that serve connections without TLS; nil: none
 	Log       func(string)
 	// Patience is how long a client may take for its startup, and the proxy to reach the server.
 	Patience time.Duration
@@ -191,16 +191,12 @@ func (s *Server) session(raw, client, server net.Conn, start startup) {
 
 // loops hands a connection's two sockets over to a loop, if both are plain.
 func (s *Server) loops(raw, server net.Conn) (session.Conn, session.Conn) {
-	if s.options.Loop == nil || !loop.Plain(raw) || !loop.Plain(server) {
+	if s.options.Loops == nil {
 		return raw, server
 	}
-	to := s.options.Loop.Take(server)
-	if to == nil {
+	from, to, taken := s.options.Loops.Take(raw, server)
+	if !taken {
 		return raw, server
-	}
-	from := s.options.Loop.Take(raw)
-	if from == nil {
-		return raw, to
 	}
 	s.lock.Lock()
 	defer s.lock.Unlock()

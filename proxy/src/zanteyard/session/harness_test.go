@@ -28,8 +28,8 @@ var (
 	theCluster   *cluster.Cluster
 	definitions_ *definitions.Definitions
 	missing      error
-	// loop_ serves all sessions of the tests, nil if each has goroutines of its own, as connections with TLS have.
-	loop_   *loop.Loop
+	// loops_ serve all sessions of the tests, nil if each has goroutines of its own, as connections with TLS have.
+	loops_  *loop.Loops
 	without = flag.Bool("without-loop", false, "have each session be served by goroutines of its own")
 )
 
@@ -72,7 +72,7 @@ func TestMain(m *testing.M) {
 	os.Exit(func() int {
 		if flag.Parse(); !*without {
 			var err error
-			if loop_, err = loop.New(); err != nil {
+			if loops_, err = loop.New(); err != nil {
 				fmt.Fprintln(os.Stderr, err)
 				return 1
 			}
@@ -242,8 +242,11 @@ func through(t testing.TB, user string, change func(*Options)) *proxied {
 	if pooler_ != 0 {
 		port = pooler_
 	}
-	server, err := net.Dial("tcp", fmt.Sprintf("127.0.0.1:%d", port))
-	if err != nil {
+	var server net.Conn
+	if pieces_ != nil {
+		far = inPieces{far, pieces_}
+		server = behindRelay(t, port)
+	} else if server, err = net.Dial("tcp", fmt.Sprintf("127.0.0.1:%d", port)); err != nil {
 		t.Fatal(err)
 	}
 	if _, err := server.Write(startupMessage(user)); err != nil {
@@ -257,7 +260,8 @@ func through(t testing.TB, user string, change func(*Options)) *proxied {
 		}
 	})
 	connections++
-	p.session = New(connections, taken(near), taken(server), options)
+	a, b := taken(near, server)
+	p.session = New(connections, a, b, options)
 	if early := early_; early != nil {
 		early_ = nil
 		if _, err := far.Write(early); err != nil {
@@ -269,12 +273,13 @@ func through(t testing.TB, user string, change func(*Options)) *proxied {
 	return p
 }
 
-// taken is a connection that the loop serves, if there is one.
-func taken(c net.Conn) Conn {
-	if loop_ == nil {
-		return c
+// taken are two connections that a loop serves, if there is one.
+func taken(client, server net.Conn) (Conn, Conn) {
+	if loops_ == nil {
+		return client, server
 	}
-	return loop_.Take(c)
+	a, b, _ := loops_.Take(client, server)
+	return a, b
 }
 
 // settle waits until all that waits for a trial was tried, unless a transaction is open.

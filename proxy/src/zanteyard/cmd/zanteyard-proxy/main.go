@@ -165,19 +165,19 @@ func run(ctx context.Context, f flags, in io.Reader, out io.Writer) error {
 		Shared:    session.NewShared(),
 		Log:       func(text string) { log.Print(text) },
 	}
-	go fewProcessors(ctx)
+	loops, err := loop.New()
+	if err != nil {
+		return err
+	}
+	go fewProcessors(ctx, loops)
 	room := meeting.NewRoom(f.bound)
 	end, err := look(ctx, f, config, options, room, in, out)
 	if err != nil {
 		return err
 	}
 	defer end()
-	its, err := loop.New()
-	if err != nil {
-		return err
-	}
 	s := server.New(server.Options{
-		Loop:      its,
+		Loops:     loops,
 		Server:    config,
 		ClientTLS: clientTLS,
 		Database:  config.Database,
