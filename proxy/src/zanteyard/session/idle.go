@@ -6,6 +6,7 @@ import (
 	"sync"
 	"time"
 
+	"zanteyard/loop"
 	"zanteyard/record"
 )
 
@@ -47,11 +48,33 @@ func (s *Session) rest() {
 			}
 		}
 		s.missed.Store(false)
-		if out := s.useIdle(); len(out) > 0 {
-			s.server.Write(out) // an error shows at the next read
+		if out := s.useIdle(); len(out) > 0 && !s.sendIdle(out) {
+			return
 		}
 		s.writes.Unlock()
 	}
+}
+
+// sendIdle sends the messages of an idle moment. If that would have a loop wait then somebody else does it, unlocks
+// writes, and uses what idle moment there is then. An error shows at the next read.
+func (s *Session) sendIdle(out []byte) bool {
+	server, is := s.server.(*loop.Conn)
+	if !is {
+		s.server.Write(out)
+		return true
+	}
+	n, err := server.TryWrite(out)
+	if err != loop.ErrWait {
+		return true
+	}
+	go func() {
+		server.Write(out[n:])
+		s.writes.Unlock()
+		if s.missed.Load() {
+			s.rest()
+		}
+	}()
+	return false
 }
 
 // useIdle gives the messages for an idle moment. Called with writes locked.
@@ -177,10 +200,7 @@ func (s *Session) fenceLost() {
 // wait holds what the client has sent, if it has nothing under way. Called with writes locked, without which no fence
 // is begun: so what isn't held is in front of the session's first fence.
 func (s *Session) wait(h *hold) {
-	s.state.Lock()
-	between := s.between()
-	s.state.Unlock()
-	if !between {
+	if !s.holds() {
 		return
 	}
 	s.writes.Unlock()
@@ -192,6 +212,13 @@ func (s *Session) wait(h *hold) {
 	case <-h.released:
 	case <-timer.C:
 	}
+}
+
+// holds says that what the client sends now is held by a meeting.
+func (s *Session) holds() bool {
+	s.state.Lock()
+	defer s.state.Unlock()
+	return s.between()
 }
 
 func itoa(n uint64) string { return strconv.FormatUint(n, 10) }

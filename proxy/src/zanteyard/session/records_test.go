@@ -108,7 +108,9 @@ func TestRecords(t *testing.T) {
 			p := through(t, "postgres", func(o *Options) { o.Shared = nil })
 			p.warm(x.texts...)
 			sql(t, fill)
+			p.session.state.Lock()
 			place := p.session.place
+			p.session.state.Unlock()
 			for _, text := range x.texts {
 				p.query(text)
 			}

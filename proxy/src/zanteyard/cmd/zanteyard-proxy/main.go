@@ -26,6 +26,7 @@ import (
 	"zanteyard/definitions"
 	"zanteyard/join"
 	"zanteyard/keys"
+	"zanteyard/loop"
 	"zanteyard/meeting"
 	"zanteyard/remote"
 	"zanteyard/server"
@@ -172,7 +173,11 @@ func run(ctx context.Context, f flags, in io.Reader, out io.Writer) error {
 		Shared:    session.NewShared(),
 		Log:       func(text string) { log.Print(text) },
 	}
-	go fewProcessors(ctx)
+	loops, err := loop.New()
+	if err != nil {
+		return err
+	}
+	go fewProcessors(ctx, loops)
 	room := meeting.NewRoom(f.bound)
 	end, err := look(ctx, f, config, options, room, in, out)
 	if err != nil {
@@ -180,6 +185,7 @@ func run(ctx context.Context, f flags, in io.Reader, out io.Writer) error {
 	}
 	defer end()
 	s := server.New(server.Options{
+		Loops:     loops,
 		Server:    config,
 		ClientTLS: clientTLS,
 		Database:  config.Database,
