@@ -1,9 +1,12 @@
 //! The auditor: reads a script on standard input, and writes the reply to each of its lines on standard output.
 #![tactic(auto)]
 
-ghost use Rattle.std.specs.Prelude.{◌≡◌, ℕ, List, Ok, Some, IfSome, OnOk, OnErr, option_map};
+ghost use Rattle.std.specs.Prelude.{◌≡◌, ◌≢◌, ℕ, ◌<◌, ◌⊎◌, List, map, codes, string_bytes, Ok, Err, Some, IfSome, IfOk, IfErr, OnOk, OnErr, option_map};
 ghost use Rattle.std.specs.Io.KnownBytes.{Appends, Keeps};
-ghost use Rattle.cobra.specs.Outputs.{IsOutput};
+ghost use Rattle.std.specs.IoError.{error_kind};
+ghost use Rattle.std.specs.Vec.Iter.{into_iter_items};
+ghost use Rattle.cobra.specs.Outputs.{IsOutput, StopsForMemory};
+ghost use Rattle.cobra.specs.Programs.{asked_by};
 
 use cobra::{
     Asked, ByteSink, ByteSource, Exit, Failure, ReaderSource, Solvers, WriterSink, asked_of,
@@ -13,9 +16,10 @@ use guided_search::{Conflicts, Guided};
 use polygraph::{PlainSolver, Solver};
 use shared_search::{OpenGate, Shared};
 use std::alloc::Global;
-use std::env;
+use std::env::Args;
 use std::io::ErrorKind;
 use std::process::ExitCode;
+use std::{env, io};
 
 const VERSION: &str = "cobra_audit 0.1.0\n";
 
@@ -57,11 +61,16 @@ memory was wanting, which standard error then tells; 2 for other arguments.
 docs/FORMATS.md describes each line, reply and refusal; docs/COLLECTORS.md, what has to be logged.
 "#;
 
-/// What the arguments ask for. One that isn't UTF-8 is unknown.
-fn asked(rt: &HostRuntime) -> Result<Asked, Failure> {
-    match env::args(rt) {
+/// What the arguments ask for, as they were read. One that isn't UTF-8 is unknown.
+fn asked(alloc: Global, given: io::Result<Args>) -> Result<Asked, Failure>
+    ensures words { IfOk given (λ args. IfOk result (λ asked. asked ≡ asked_by (map string_bytes (into_iter_items args)))) }
+    ensures unknown { IfErr given (λ error. error_kind error ≡ ErrorKind.InvalidData → result ≡ Ok Asked.Unknown) }
+    ensures failed { IfErr given (λ error. error_kind error ≢ ErrorKind.InvalidData → result ≡ Err Failure.NoMemory) }
+    ensures memory { IfErr result (λ failure. failure ≡ Failure.NoMemory) }
+{
+    match given {
         Ok(args) => {
-            let args: Vec<String> = args.collect(rt.alloc())?;
+            let args: Vec<String> = args.collect(alloc)?;
             Ok(asked_of(&args))
         }
         Err(error) if error.kind() == ErrorKind::InvalidData => Ok(Asked::Unknown),
@@ -90,6 +99,12 @@ fn run<R: ByteSource, W: ByteSink, P: PlainSolver, S: Solver>(
     // Status 0 says that the script was served to its end.
     ensures served { asked ≡ Ok Asked.Work → result.status ≡ 0 → IfSome (R.remaining input.old) (λ script. (replies : List ℕ) × IsOutput script replies × Appends (W.contents output.old) (W.contents output.new) replies) }
 
+    // Status 1 says that a device failed, or that memory was wanting; the words say which, and a front of an output was written.
+    ensures statuses { asked ≡ Ok Asked.Work → (result.status ≡ 0) ⊎ (result.status ≡ 1) }
+    ensures device { asked ≡ Ok Asked.Work → option_map (λ words. words.now) result.words ≡ Some (codes "device failed") → (R.faults input.old < R.faults input.new) ⊎ (W.faults output.old < W.faults output.new) }
+    ensures memory { asked ≡ Ok Asked.Work → option_map (λ words. words.now) result.words ≡ Some (codes "out of memory") → IfSome (R.remaining input.old) (λ script. (replies : List ℕ) × StopsForMemory script (R.remaining input.new) replies × Appends (W.contents output.old) (W.contents output.new) replies) }
+    ensures said { asked ≡ Ok Asked.Work → result.status ≡ 1 → (option_map (λ words. words.now) result.words ≡ Some (codes "device failed")) ⊎ (option_map (λ words. words.now) result.words ≡ Some (codes "out of memory")) }
+
     ensures help { asked ≡ Ok Asked.Help → result.status ≡ 0 → Appends (W.contents output.old) (W.contents output.new) HELP.now }
     ensures version { asked ≡ Ok Asked.Version → result.status ≡ 0 → Appends (W.contents output.old) (W.contents output.new) VERSION.now }
 
@@ -116,7 +131,13 @@ fn main(rt: HostRuntime) -> ExitCode {
         plain: Shared::new(&rt, OpenGate),
         guided: Guided::new(Conflicts, Shared::new(&rt, OpenGate)),
     };
-    let exit = run(rt.alloc(), asked(&rt), &mut input, &mut output, &solvers);
+    let exit = run(
+        rt.alloc(),
+        asked(rt.alloc(), env::args(&rt)),
+        &mut input,
+        &mut output,
+        &solvers,
+    );
     if let Some(words) = exit.words {
         let _ = eprintln!(rt; "{words}");
     }
