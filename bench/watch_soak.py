@@ -131,8 +131,8 @@ def shop(cursor: Any, chance: random.Random) -> None:
         cursor.execute("SELECT item, count(*) FROM shop_orders GROUP BY item ORDER BY 2 DESC LIMIT 3")
         cursor.execute("SELECT total FROM shop_totals WHERE item = %s", (item,))
     else:
-        cursor.execute("DECLARE some CURSOR FOR SELECT id, qty FROM shop_items WHERE id > %s", (item,))
-        cursor.execute("FETCH 7 FROM some")
+        cursor.execute("DECLARE few CURSOR FOR SELECT id, qty FROM shop_items WHERE id > %s", (item,))
+        cursor.execute("FETCH 7 FROM few")
         total = sum(qty for _, qty in cursor.fetchall())
         cursor.execute("UPDATE shop_totals SET total = %s WHERE item = %s", (total % 1000, item))
 
