@@ -2,9 +2,15 @@
 
 from __future__ import annotations
 
+from ._visible import shown
+
 
 class ZanteyardError(Exception):
-    """The base of every error that this package raises by itself."""
+    """The base of every error that this package raises by itself. Its text may quote what came from
+    outside, and is safe to print."""
+
+    def __str__(self) -> str:
+        return shown(super().__str__())
 
 
 class ProgramMissingError(ZanteyardError):

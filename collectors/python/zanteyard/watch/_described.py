@@ -7,8 +7,8 @@ from dataclasses import dataclass
 from typing import Any, Iterator, Optional, Sequence, Tuple
 
 from ..core._records import AuditId
+from ..core._visible import visible
 from ._origins import without_tags
-from ._text import visible
 
 VALUE, VALUES = 80, 300  # characters of one parameter, and of all of a statement
 

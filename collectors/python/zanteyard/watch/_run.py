@@ -10,6 +10,7 @@ import time
 from dataclasses import dataclass
 from typing import Callable, Iterator, Mapping, Optional, Sequence, Tuple
 
+from ..core._visible import say
 from ..core.errors import ProgramEndedError
 from ._auditing import Auditing
 from ._board import Board
@@ -53,7 +54,7 @@ class Plan:
 class Run:
     """`tell` takes what is for standard output. Not for several threads, but for `stop`."""
 
-    def __init__(self, plan: Plan, tell: Callable[[str], object] = print) -> None:
+    def __init__(self, plan: Plan, tell: Callable[[str], object] = say) -> None:
         """Raises JournalError, and OSError if it can't listen at one of the addresses."""
         self.plan, self._tell = plan, tell
         self.stop = threading.Event()
