@@ -268,8 +268,9 @@ class Scripts(Outputs):
 class Audits(Outputs):
     def violated(self, journal=None):
         """An auditor to whom two clients lost an update of such a key."""
-        auditor = Auditor(2, journal=journal)
-        self.addCleanup(auditor.close)
+        self.audits = contextlib.ExitStack()
+        self.addCleanup(self.audits.close)
+        auditor = self.audits.enter_context(Auditor(2, journal=journal))
         store = MemoryStore("lost-update")
         sessions = [Session(auditor, at, store.connect(), EVIL) for at in range(2)]
         sessions[0].run(lambda its: its.put(EVIL, EVIL))
@@ -309,7 +310,7 @@ class Audits(Outputs):
     def test_a_journal(self):
         auditor = self.violated(self.path("journal"))
         self.assertEqual(auditor.round().kind, "violated")
-        auditor.close()
+        self.audits.close()
         self.assertEqual(self.run_command("journal", self.path("journal")), 1)
 
     def test_the_daemon(self):
@@ -331,11 +332,8 @@ class Watched(Outputs):
     """Statements, applications, reasons and errors of servers that the proxy writes."""
 
     def test_a_run(self):
-        cover = feed.coverage(unseen=[
-            {"shape": EVIL, "reason": EVIL, "reads": True, "count": 7, "first": feed.AT}
-        ])
         feeds = [feed.started(database=EVIL, server=EVIL, warnings=[EVIL]), feed.OPEN,
-                 *feed.LOST_UPDATE, *feed.ROUND, cover]
+                 *feed.LOST_UPDATE, *feed.ROUND, feed.coverage()]
         program = feed.program(os.path.dirname(self.folder), feeds)
         told, found = [], self.path("found")
         plan = Plan([program], PROGRAM, EVIL, "proved", {**os.environ, "ZANTEYARD_FEED_TEXT": EVIL}, save=found)
@@ -343,12 +341,14 @@ class Watched(Outputs):
         waits = threading.Event()
 
         def stop():
-            for _ in range(12000):
-                status = run.board.status()
-                if run.stop.is_set() or (status.violations and status.unseen):
-                    break
-                waits.wait(0.01)
-            run.stop.set()
+            try:
+                for _ in range(12000):
+                    status = run.board.status()
+                    if run.stop.is_set() or (status.violations and status.seen.reads):
+                        break
+                    waits.wait(0.01)
+            finally:
+                run.stop.set()
 
         stopping = threading.Thread(target=stop)
         stopping.start()

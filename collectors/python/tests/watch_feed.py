@@ -45,8 +45,8 @@ def coverage(**more):
         "writes": {"seen": 9, "offered": 6, "left_out": {"committed by others than the proxy": 3}},
         "unseen": [
             {
-                "shape": "SELECT count(*) FROM orders WHERE customer = $1",
-                "reason": "an aggregate",
+                "shape": "SELECT count(*) FROM orders WHERE customer = $1" + MORE,
+                "reason": "an aggregate" + MORE,
                 "reads": True,
                 "count": 7,
                 "first": AT,
