@@ -86,6 +86,11 @@ class StoreUnfitError(ZanteyardError, ValueError):
     fault. Nothing has begun."""
 
 
+class FolderUnfitError(ZanteyardError):
+    """Others may read or write the folder, or it is theirs: nothing of an audit is put there.
+    Nothing has begun."""
+
+
 class AuditLostError(ZanteyardError):
     """The audit ended, and why; the clients go on."""
 
