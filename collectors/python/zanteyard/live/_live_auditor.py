@@ -191,9 +191,10 @@ class LiveAuditor(ForProcesses):
 
     def _no_room(self) -> str:
         """Why clients would have to wait."""
-        waits, why = f"{len(self._backlog)} transactions wait for it", self._audit.why_no_cut
-        if self._backlog.room < self._backlog.most and why:
-            return f"the auditor holds as many transactions as it can, {waits}, and {why}"
+        waits, room = f"{len(self._backlog)} transactions wait for it", self._backlog.room
+        if room < self._backlog.most:  # it may be quick, and hold as many as it can
+            why = self._audit.why_no_cut or "the next cut hasn't come"
+            return f"the auditor has room for {room} transactions more, {waits}, and {why}"
         return f"the auditor can't keep up: {waits}"
 
     def _renew(self, session: Session) -> Optional[Place]:

@@ -177,7 +177,8 @@ class AuditClient(LocalSessions):
         while self._outbox.is_full(sessions) and not self._goes_on():
             if time.monotonic() > ends:
                 count = self._outbox.on_their_way
-                self._lose(f"the auditor can't keep up: {count} transactions are on their way")
+                waited = f"for {self.policy.wait:g} s"
+                self._lose(f"there was no room {waited}: {count} transactions are on their way")
             time.sleep(PAUSE / 8)
 
     def _goes_on(self) -> bool:
