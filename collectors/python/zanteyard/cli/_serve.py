@@ -103,6 +103,10 @@ def add_arguments(command: argparse.ArgumentParser) -> None:
         "--rather-wait", action="store_true", help="clients wait longer before the audit gives way"
     )
     command.add_argument(
+        "--redact", action="store_true",
+        help="shows no values and no constants of statements; keys stay",
+    )
+    command.add_argument(
         "--script", metavar="FILE",
         help="keeps each line that it is given; under another name where FILE is there",
     )
@@ -142,8 +146,8 @@ def run(asked: Any) -> int:
 def _audit(asked: Any, stack: contextlib.ExitStack, stopped: threading.Event) -> int:
     auditor = stack.enter_context(_auditor(asked))
     policy = RATHER_WAIT if asked.rather_wait else RATHER_LOSE_THE_AUDIT
-    is_elsewhere = asked.redis is not None
-    live = LiveAuditor(auditor, every=asked.every, policy=policy, elsewhere=is_elsewhere)
+    more = {"elsewhere": asked.redis is not None, "redacts": asked.redact}
+    live = LiveAuditor(auditor, every=asked.every, policy=policy, **more)
     live.count_awaited()
     server = _server(asked, live)
     if asked.metrics is not None:

@@ -11,6 +11,7 @@ from dataclasses import dataclass
 from typing import Any, List, Optional, Tuple
 
 from ..core._outcome import RATHER_LOSE_THE_AUDIT, RATHER_WAIT, Outcome
+from ..core._visible import say
 from ..explain._charts import RoundSeen
 from ..explain._html import page_of
 from ..explain._report import Story, story_of
@@ -120,7 +121,7 @@ class _Rounds:
         self.seen: List[RoundSeen] = []
 
     def tell(self, line: str) -> None:
-        print(line, flush=True)
+        say(line, flush=True)
         live = self.live
         if live is not None and live.report is not None and line.startswith("round"):
             at = time.monotonic() - self.began

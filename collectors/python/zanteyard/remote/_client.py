@@ -35,9 +35,11 @@ class AuditClient(LocalSessions):
     did last that is killed is found in its notes (`core/_crash_notes.py`, `_stream_client.py`).
     Raises OSError where nobody is there, ProgramEndedError where nobody answers, and
     OtherVersionError where the auditor's process is of a version that this one doesn't understand.
-    For threads."""
+    With `redacts` no values and no constants of statements leave this process, nor are they in
+    notes. For threads."""
 
-    def __init__(self, address: str, audit: str = "audit") -> None:
+    def __init__(self, address: str, audit: str = "audit", redacts: bool = False) -> None:
+        self.redacts = redacts
         self._door = door_to(address, audit)
         self._messages = self._door.messages
         run_name, self.is_named, self.token, most, policy = self._door.welcome()
@@ -175,7 +177,8 @@ class AuditClient(LocalSessions):
         while self._outbox.is_full(sessions) and not self._goes_on():
             if time.monotonic() > ends:
                 count = self._outbox.on_their_way
-                self._lose(f"the auditor can't keep up: {count} transactions are on their way")
+                waited = f"for {self.policy.wait:g} s"
+                self._lose(f"there was no room {waited}: {count} transactions are on their way")
             time.sleep(PAUSE / 8)
 
     def _goes_on(self) -> bool:

@@ -13,6 +13,7 @@ import sys
 from typing import Any, Dict, List, Sequence, Tuple
 from urllib.parse import unquote, urlsplit
 
+from ..core._visible import say, visible
 from ..core.errors import ZanteyardError
 from ..program._binaries import find_program, origin_of
 from ..promises._kinds import ASKED, LIVE, SERIALIZABLE
@@ -26,7 +27,6 @@ from ._proxy import find_proxy
 from ._run import Plan, Run, stopped_by_signals
 from ._sharing import add_sharing, mistake_of, words_of
 from ._supervising import CantBeginError
-from ._text import visible
 from ._web import host_and_port
 
 MISTAKE = 2
@@ -144,11 +144,11 @@ def run(asked: Any) -> int:
 
 
 def tell(line: str) -> None:
-    print(line, flush=True)
+    say(line, flush=True)
 
 
 def _mistake(told: str) -> int:
-    print(f"mistake: {told}", file=sys.stderr, flush=True)
+    say(f"mistake: {told}", file=sys.stderr, flush=True)
     return MISTAKE
 
 

@@ -4,10 +4,11 @@ from __future__ import annotations
 
 from typing import Iterator, List, Mapping
 
+from ..core._visible import visible
 from ..promises._kinds import SERIALIZABLE
 from ._described import clock
 from ._state import Seen, Status
-from ._text import counted, visible
+from ._text import counted
 
 STATUSES: Mapping[str, int] = {"serial": 0, "violated": 1, "pending": 3}
 UNDECIDED = 4

@@ -3,15 +3,15 @@ clients, and each violation with a link to its own page. It reads well without s
 
 from __future__ import annotations
 
-import html
 from typing import Iterator, List, Mapping, Sequence, Tuple
 
 from ..explain._charts import draw_rounds
 from ..core._version import VERSION
+from ..core._visible import escaped, html_text
 from ._described import clock
 from ._state import MOST_SHAPES, Shape, Status
 from ._style import EVERY_WITHOUT, SCRIPT, STYLE
-from ._text import counted, escaped
+from ._text import counted
 from ._violations import Violation
 from ._web import policy_for
 
@@ -222,7 +222,7 @@ def _bar(name: str, part: float, whole: float, told: str) -> Iterator[str]:
         f'<div class="share"><span>{name}</span><svg viewBox="0 0 1000 10" '
         'preserveAspectRatio="none" aria-hidden="true"><rect class="track" width="1000" '
         f'height="10"/><rect class="part" width="{width:.1f}" height="10"/></svg>'
-        f'<span class="soft">{html.escape(told)}</span></div>'
+        f'<span class="soft">{html_text(told)}</span></div>'
     )
 
 

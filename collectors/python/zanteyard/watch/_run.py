@@ -10,6 +10,7 @@ import time
 from dataclasses import dataclass
 from typing import Callable, Iterator, Mapping, Optional, Sequence, Tuple
 
+from ..core._visible import say, shown
 from ..core.errors import ProgramEndedError
 from ..promises._kinds import SERIALIZABLE, Promise
 from ._auditing import Auditing
@@ -55,9 +56,10 @@ class Plan:
 class Run:
     """`tell` takes what is for standard output. Not for several threads, but for `stop`."""
 
-    def __init__(self, plan: Plan, tell: Callable[[str], object] = print) -> None:
+    def __init__(self, plan: Plan, tell: Callable[[str], object] = say) -> None:
         """Raises JournalError, and OSError if it can't listen at one of the addresses."""
-        self.plan, self._tell = plan, tell
+        self.plan = plan
+        self._tell: Callable[[str], object] = lambda line: tell(shown(line))
         self.stop = threading.Event()
         self._turn = threading.Lock()
         self.board = Board(plan.title, plan.origin, plan.promise)

@@ -3,15 +3,15 @@ serial order is left. It is whole without scripting, and can be saved as one fil
 
 from __future__ import annotations
 
-from html import escape
 from typing import Iterable, Iterator, Sequence
 
 from ..explain._anomalies import meaning_of
 from ..explain._html import BEFORE_YOU_ACCUSE, picture_part, reasons_part
 from ..core._version import VERSION
+from ..core._visible import escaped, escaped_lines, html_lines, html_text, visible
 from ._described import Described, Statement, clock
 from ._style import STYLE
-from ._text import counted, escaped, escaped_lines, visible
+from ._text import counted
 from ._violations import Told, Violation
 from ._web import policy_for
 
@@ -70,8 +70,8 @@ def _head(one: Violation) -> Iterator[str]:
 def _ran(told: Sequence[Told]) -> Iterator[str]:
     yield "<h2>What the application ran</h2>"
     for one in told:
-        yield f'<details class="transaction" id="{escape(one.label)}" open>'
-        yield f"<summary>{escape(one.label)}: {_whose(one)}</summary>"
+        yield f'<details class="transaction" id="{html_text(one.label)}" open>'
+        yield f"<summary>{html_text(one.label)}: {_whose(one)}</summary>"
         if one.its is None:
             yield "<p>Nothing more is known of it.</p></details>"
             continue
@@ -113,7 +113,7 @@ def _statement(one: Statement) -> Iterable[str]:
     if one.origin:
         yield f'<span class="origin">{escaped(one.origin, 300)}</span>'
     values = f"\n-- {visible(one.values)}" if one.values else ""
-    yield f"<pre>{escaped_lines(one.plain)}{escape(values)}</pre>"
+    yield f"<pre>{escaped_lines(one.plain)}{html_lines(values)}</pre>"
     if one.unseen:
         yield f'<span class="soft">Not seen: {escaped("; ".join(one.unseen), 300)}.</span>'
     yield "</div>"
@@ -127,7 +127,7 @@ def _again(one: Violation, is_file: bool) -> Iterator[str]:
         f"<p>This is the same as a script: {name if is_file else link}. "
         f"{AGAIN[one.story.promise.is_split]}</p>"
     )
-    yield f"<pre>{escape(one.story.script)}</pre>"
+    yield f"<pre>{html_lines(one.story.script)}</pre>"
     yield "<h2>Before you accuse the application</h2><ul>"
     questions = SNAPSHOT_QUESTIONS if one.story.promise.is_split else QUESTIONS
     yield "".join(f"<li>{line}</li>" for line in (*questions, *BEFORE_YOU_ACCUSE[2:]))

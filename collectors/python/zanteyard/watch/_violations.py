@@ -10,6 +10,7 @@ from typing import Tuple
 
 from ..core._own_keys import FENCE
 from ..core._records import ABORTED, AuditId, History, Logged, Read, ShownId
+from ..core._visible import visible
 from ..explain._shrinking import audited, from_start, named, refuted, smaller
 from ..explain._report import Story, story_lines, story_of
 from ..explain._standing import standing
@@ -19,7 +20,6 @@ from ._described import Described, by_time, clock, lines_of
 from ._retained import Retained, Transaction
 from ._sql_anomalies import lost_update
 from ._sql_anomalies import named as named_story
-from ._text import visible
 
 EXPLAINING = 15.0  # seconds for making a violated history small, and as many for the reasons
 CLOSED_ENDS = re.compile(rb"(?:true|false)\],")  # in a reply to `show`, before the last writers

@@ -60,7 +60,8 @@ type flags struct {
 func parse(args []string, errors io.Writer) (flags, error) {
 	var f flags
 	set := flag.NewFlagSet("zanteyard-proxy", flag.ContinueOnError)
-	set.SetOutput(errors)
+	var told strings.Builder // its mistakes are in the error as well
+	set.SetOutput(&told)
 	set.StringVar(&f.listen, "listen", "127.0.0.1:6432", "`address` where clients connect; with a / it is a socket's path")
 	set.StringVar(&f.server, "server", "", "the server and database, as a `URL` or keywords, as libpq has them; "+
 		"user and password are for the audit's own connections")
@@ -104,6 +105,7 @@ func parse(args []string, errors io.Writer) (flags, error) {
 	set.BoolVar(&f.passing, "pass", false, "pass all on without looking, and audit nothing")
 	set.BoolVar(&f.version, "version", false, "print the version and end")
 	if err := set.Parse(args); err != nil {
+		fmt.Fprint(errors, strings.TrimPrefix(told.String(), err.Error()+"\n"))
 		return f, err
 	}
 	if set.NArg() > 0 {
@@ -131,7 +133,7 @@ func main() {
 	case errors.Is(err, flag.ErrHelp):
 		return
 	case err != nil:
-		fmt.Fprintln(os.Stderr, "zanteyard-proxy:", err)
+		fmt.Fprintln(shownLog{os.Stderr}, "zanteyard-proxy:", err)
 		os.Exit(2)
 	case f.version:
 		fmt.Println("zanteyard-proxy", build)
@@ -139,6 +141,7 @@ func main() {
 	}
 	log.SetFlags(log.LstdFlags | log.Lmsgprefix)
 	log.SetPrefix("zanteyard-proxy: ")
+	log.SetOutput(shownLog{os.Stderr})
 	ctx, stop := signal.NotifyContext(context.Background(), syscall.SIGINT, syscall.SIGTERM)
 	defer stop()
 	if err := run(ctx, f, os.Stdin, os.Stdout); err != nil {
