@@ -59,10 +59,11 @@ type worldTxn struct {
 	writes   map[string]bool
 }
 
-// worldFence is a fence under way.
+// worldFence is a fence under way. The server may have committed it already: then it has a number.
 type worldFence struct {
-	conn  *worldConn
-	began time.Time
+	conn   *worldConn
+	began  time.Time
+	number uint32
 }
 
 func newWorld(t testing.TB, seed int64, points bool) *world {
@@ -323,17 +324,27 @@ func (w *world) fence(c *worldConn, slow int) {
 	f := &worldFence{conn: c, began: w.now}
 	c.fencing = true
 	if w.r.Intn(slow) == 0 {
+		if w.r.Intn(2) == 0 {
+			w.commitFence(f)
+		}
 		w.fences = append(w.fences, f)
 		return
 	}
 	w.fenced(f)
 }
 
-func (w *world) fenced(f *worldFence) {
+func (w *world) commitFence(f *worldFence) {
 	w.next++
-	w.bench.commitFence(1_000_000 + w.next)
+	f.number = 1_000_000 + w.next
+	w.bench.commitFence(f.number)
+}
+
+func (w *world) fenced(f *worldFence) {
+	if f.number == 0 {
+		w.commitFence(f)
+	}
 	f.conn.fencing = false
-	w.told(f.conn, record.Transaction{Began: f.began, Number: uint64(1_000_000 + w.next), Fence: true})
+	w.told(f.conn, record.Transaction{Began: f.began, Number: uint64(f.number), Fence: true})
 }
 
 // slow ends fences that were under way.
@@ -668,6 +679,36 @@ func TestFencesAtOnce(t *testing.T) {
 		b.settle()
 		if n := b.core.counts; n.folded[acrossMoment] != 1 || n.offered != 3 {
 			t.Errorf("the fence late: %v: offered %d, folded %v", lateFence, n.offered, n.folded)
+		}
+	}
+}
+
+// A connection's fence is told late, behind the one that the audit's own connection made in its place, and was written
+// in front of it: the session doesn't take it for a later one. Told in time, both are offered.
+func TestFenceToldLate(t *testing.T) {
+	for _, late := range []bool{false, true} {
+		b := newBench(t, Options{Sessions: 2, Late: time.Second})
+		b.connect(1)
+		b.commit(1001, "a")
+		b.tell(1, 0, record.Transaction{Number: 1001})
+		b.later(time.Millisecond)
+		b.core.quiet()
+		b.later(time.Millisecond)
+		its := record.Transaction{Began: b.now, Ended: b.later(time.Millisecond).now, Number: 1002, Fence: true}
+		b.commitFence(1002)
+		if !late {
+			b.tell(1, 1, its)
+		}
+		began := b.later(time.Millisecond).now
+		b.commitFence(1003)
+		b.core.spare(0, 1003, began, b.later(time.Millisecond).now)
+		if late {
+			b.tell(1, 1, its)
+		}
+		b.settle()
+		want := map[bool]uint64{false: 0, true: 1}[late]
+		if n := b.core.counts; n.folded[acrossMoment] != want || n.offered != 3-want || !b.model.explained() {
+			t.Errorf("late: %v: offered %d, folded %v\n%v", late, n.offered, n.folded, b.lines)
 		}
 	}
 }
