@@ -97,8 +97,8 @@ func (c *Conn) move(to *loop) {
 	c.loop.leave(c)
 	c.loop = to
 	to.enter(c)
-	if c.asked != 0 {
-		to.control(c, 0, c.asked)
+	if c.asked != 0 && to.control(c, 0, c.asked) != nil {
+		c.unwatched()
 	}
 }
 
@@ -127,9 +127,24 @@ func (c *Conn) update() {
 	if c.writers != nil {
 		want |= syscall.EPOLLOUT
 	}
-	if want != c.asked {
-		c.loop.control(c, c.asked, want)
-		c.asked = want
+	if want == c.asked {
+		return
+	}
+	err := c.loop.control(c, c.asked, want)
+	if c.asked = want; err != nil {
+		c.unwatched()
+	}
+}
+
+// unwatched ends a connection that the kernel has no room to watch. No loop will tell anybody of that.
+func (c *Conn) unwatched() {
+	c.asked = 0
+	c.ended.Store(true)
+	wake(&c.readers)
+	wake(&c.writers)
+	if ready := c.ready; ready != nil {
+		c.ready = nil
+		go ready()
 	}
 }
 

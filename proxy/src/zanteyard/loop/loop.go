@@ -9,7 +9,6 @@ package loop
 import (
 	"fmt"
 	"net"
-	"runtime"
 	"sync"
 	"sync/atomic"
 	"syscall"
@@ -49,12 +48,13 @@ func (l *Loops) Share(n int) error {
 	return nil
 }
 
-// Used is the processor time that the loops have taken.
-func (l *Loops) Used() (sum time.Duration) {
+// Busy is for how long the loops haven't waited, all together. On a machine whose processors are wanted by others that is
+// more than the processor time that they took.
+func (l *Loops) Busy() (sum time.Duration) {
 	l.lock.Lock()
 	defer l.lock.Unlock()
 	for _, one := range l.all {
-		sum += one.used()
+		sum += time.Duration(one.busy.Load())
 	}
 	return sum
 }
@@ -83,9 +83,9 @@ func (l *Loops) Take(client, server net.Conn) (*Conn, *Conn, bool) {
 
 // loop is one thread that waits for its sockets.
 type loop struct {
-	loops  *Loops
-	epoll  int
-	thread atomic.Int64
+	loops *Loops
+	epoll int
+	busy  atomic.Int64
 
 	lock  sync.Mutex
 	conns map[uint64]*Conn
@@ -105,13 +105,14 @@ func start(l *Loops) (*loop, error) {
 }
 
 func (l *loop) run() {
-	runtime.LockOSThread() // its processor time is that of the thread
-	l.thread.Store(int64(syscall.Gettid()))
 	var events [atOnce]syscall.EpollEvent
 	shares := l.loops.shares.Load()
-	for {
+	start := time.Now()
+	for woken := time.Duration(0); ; {
+		l.busy.Add(int64(time.Since(start) - woken))
 		n, _, errno := syscall.Syscall6(syscall.SYS_EPOLL_PWAIT, uintptr(l.epoll), uintptr(unsafe.Pointer(&events[0])),
 			atOnce, ^uintptr(0), 0, 0)
+		woken = time.Since(start)
 		if errno != 0 {
 			continue // EINTR: Go stops a thread by a signal
 		}
@@ -141,17 +142,6 @@ func (l *loop) share(shares []*loop) {
 	for _, c := range gone {
 		c.move(of(shares, c.number/2))
 	}
-}
-
-// used is the processor time that the thread has taken.
-func (l *loop) used() time.Duration {
-	var t syscall.Timespec
-	const perThread = 6
-	clock := int32(^l.thread.Load()<<3 | perThread)
-	if _, _, errno := syscall.RawSyscall(syscall.SYS_CLOCK_GETTIME, uintptr(clock), uintptr(unsafe.Pointer(&t)), 0); errno != 0 {
-		return 0
-	}
-	return time.Duration(t.Nano())
 }
 
 // A socket's number takes the place of its descriptor: it is never used again, so that what was told of a socket that

@@ -273,7 +273,7 @@ func TestEnds(t *testing.T) {
 	}
 }
 
-// TestRests: a loop takes no processor time for sockets that nobody waits for, whatever has happened to them.
+// TestRests: a loop does nothing for sockets that nobody waits for, whatever has happened to them.
 func TestRests(t *testing.T) {
 	l := started(t, 1)
 	a, b, farA, farB := taken(t, l, "tcp")
@@ -287,11 +287,9 @@ func TestRests(t *testing.T) {
 	farB.(*net.TCPConn).SetLinger(0)
 	farB.Close()
 	a.CloseWrite()
-	var used time.Duration
 	until(t, "the loop rests", func() bool {
-		before := l.Used()
+		before := l.Busy()
 		time.Sleep(200 * time.Millisecond)
-		used = l.Used() - before
-		return used < 20*time.Millisecond
+		return l.Busy()-before < 20*time.Millisecond
 	})
 }

@@ -200,7 +200,10 @@ func (s *Session) fenceLost() {
 // wait holds what the client has sent, if it has nothing under way. Called with writes locked, without which no fence
 // is begun: so what isn't held is in front of the session's first fence.
 func (s *Session) wait(h *hold) {
-	if !s.holds() {
+	s.state.Lock()
+	between := s.between()
+	s.state.Unlock()
+	if !between {
 		return
 	}
 	s.writes.Unlock()
@@ -212,13 +215,6 @@ func (s *Session) wait(h *hold) {
 	case <-h.released:
 	case <-timer.C:
 	}
-}
-
-// holds says that what the client sends now is held by a meeting.
-func (s *Session) holds() bool {
-	s.state.Lock()
-	defer s.state.Unlock()
-	return s.between()
 }
 
 func itoa(n uint64) string { return strconv.FormatUint(n, 10) }

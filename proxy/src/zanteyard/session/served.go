@@ -5,6 +5,9 @@ import (
 	"zanteyard/wire"
 )
 
+// mostNow is how many bytes of a client's are looked at by a loop. To parse a long statement takes time.
+const mostNow = 16 << 10
+
 // direction is one of a session's two directions while a loop serves it. What has to wait is done by a goroutine, which
 // then takes all that comes, until nothing is there to be read.
 type direction struct {
@@ -121,7 +124,7 @@ func (d *direction) end(err error) {
 	d.ended <- err
 }
 
-// sendLater is for what waits for somebody else.
+// sendLater is for what waits for somebody else, or takes long.
 func (d *direction) sendLater(batch []byte, more int) func() error {
 	return func() error { return d.session.send(d.in, batch, more) }
 }
@@ -129,11 +132,7 @@ func (d *direction) sendLater(batch []byte, more int) func() error {
 // forth takes messages of the client's.
 func (d *direction) forth(batch []byte, more int) (left func() error, err error) {
 	s := d.session
-	if more > 0 || s.greeting.Load() != nil || !s.writes.TryLock() {
-		return d.sendLater(batch, more), nil
-	}
-	if h := s.hold.Load(); h != nil && s.holds() {
-		s.writes.Unlock()
+	if more > 0 || len(batch) > mostNow || s.greeting.Load() != nil || !s.writes.TryLock() {
 		return d.sendLater(batch, more), nil
 	}
 	out, ok := s.lookedNow(batch)
@@ -159,7 +158,10 @@ func (d *direction) back(batch []byte, more int) (left func() error, err error) 
 	if more > 0 {
 		return func() error { return s.passLong(d.in, batch, more) }, nil
 	}
-	out, again, rest := s.answered(batch)
+	out, again, rest, ok := s.answeredNow(batch)
+	if !ok {
+		return func() error { return s.pass(batch) }, nil
+	}
 	if again {
 		return func() error { return s.passOn(out, again, rest) }, nil
 	}

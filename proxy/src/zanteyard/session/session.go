@@ -258,11 +258,14 @@ func (s *Session) looked(batch []byte, more int) []byte {
 	return s.lookAt(batch, more)
 }
 
-// lookedNow is looked without waiting. ok is false if it would have to wait for a replay.
+// lookedNow is looked without waiting. ok is false if it would have to wait: for a replay, for a meeting, for whoever
+// looks at something else of the session.
 func (s *Session) lookedNow(batch []byte) (out []byte, ok bool) {
-	s.state.Lock()
+	if !s.state.TryLock() {
+		return nil, false
+	}
 	defer s.state.Unlock()
-	if s.replay.running {
+	if s.replay.running || s.hold.Load() != nil && s.between() {
 		return nil, false
 	}
 	return s.lookAt(batch, 0), true
@@ -340,6 +343,21 @@ func (s *Session) passOn(out []byte, again, rest bool) error {
 func (s *Session) answered(batch []byte) (out []byte, again, rest bool) {
 	s.state.Lock()
 	defer s.state.Unlock()
+	return s.answers(batch)
+}
+
+// answeredNow is answered without waiting for whoever looks at something else of the session: ok is false then.
+func (s *Session) answeredNow(batch []byte) (out []byte, again, rest, ok bool) {
+	if !s.state.TryLock() {
+		return nil, false, false, false
+	}
+	defer s.state.Unlock()
+	out, again, rest = s.answers(batch)
+	return out, again, rest, true
+}
+
+// answers is both, called with state locked.
+func (s *Session) answers(batch []byte) (out []byte, again, rest bool) {
 	s.now = clock()
 	if s.blind.Load() {
 		return batch, false, false
@@ -399,7 +417,7 @@ func (s *Session) unseen(to, from Conn, in *wire.Reader) error {
 
 // lost says that an answer wasn't one that was expected: a fault of the proxy's. It goes on without rewriting.
 func (s *Session) lost(answer, message byte) {
-	s.options.Log("connection " + itoa(s.number) + ": an answer of type " + string(rune(answer)) +
+	go s.options.Log("connection " + itoa(s.number) + ": an answer of type " + string(rune(answer)) +
 		" to a message of type " + string(rune(message)) + "; it is passed on without looking from here on")
 	s.trust.broken = true
 	s.plain, s.encoding = false, false

@@ -13,6 +13,7 @@ import (
 	"net"
 	"os"
 	"os/signal"
+	"runtime"
 	"strings"
 	"sync"
 	"sync/atomic"
@@ -176,6 +177,10 @@ func run(ctx context.Context, f flags, in io.Reader, out io.Writer) error {
 		Shared:    session.NewShared(),
 		Log:       func(text string) { log.Print(text) },
 	}
+	// Go collects garbage when there is as much of it as of what is in use, which here is little. This is in use, and takes
+	// no memory, since nothing is ever written to it.
+	ballast := make([]byte, 16<<20)
+	defer runtime.KeepAlive(ballast)
 	loops, err := loop.New()
 	if err != nil {
 		return err

@@ -36,23 +36,25 @@ func fewProcessors(ctx context.Context, loops *loop.Loops) {
 	set()
 	tick := time.NewTicker(lookAtUse)
 	defer tick.Stop()
-	last, used, usedByLoops := time.Now(), processorTime(), loops.Used()
+	last, used, busy := time.Now(), processorTime(), loops.Busy()
 	for {
 		select {
 		case <-ctx.Done():
 			return
 		case <-tick.C:
 		}
-		now, taken, takenByLoops := time.Now(), processorTime(), loops.Used()
+		now, taken, busyNow := time.Now(), processorTime(), loops.Busy()
 		wasPassing, wasOthers := passing.now, others.now
-		span := float64(now.Sub(last))
-		byLoops := float64(takenByLoops - usedByLoops)
+		span, all, byLoops := float64(now.Sub(last)), float64(taken-used), float64(busyNow-busy)
+		if byLoops > all { // a loop was busy, but had no processor
+			byLoops = all
+		}
 		passing.look(byLoops / span)
-		others.look((float64(taken-used) - byLoops) / span)
+		others.look((all - byLoops) / span)
 		if passing.now != wasPassing || others.now != wasOthers {
 			set()
 		}
-		last, used, usedByLoops = now, taken, takenByLoops
+		last, used, busy = now, taken, busyNow
 	}
 }
 
