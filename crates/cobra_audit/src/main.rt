@@ -7,9 +7,9 @@ use cobra::{
 };
 use guided_search::{Conflicts, Guided};
 use shared_search::{OpenGate, Shared};
-use std::env;
 use std::io::ErrorKind;
 use std::process::ExitCode;
+use std::{env, thread};
 
 const VERSION: &str = "cobra_audit 0.1.0\n";
 
@@ -38,9 +38,10 @@ The replies:
   ["report",1,"serial",[1],[[0,0]]]
 
 A round that ends with "guided", ["round",32,0,1,"guided"], searches in other ways first: it finds more
-within its budget. Other lines end a session (close), begin a round and finish it later (begin, finish), forget what is
-settled (truncate), have all made anew of what is kept (rebuild), tell the state (show), give out what
-is kept (save), and begin with what another run gave out (resume).
+within its budget. Other lines end a session (close), begin a round and finish it later (begin, finish),
+search for it while lines are read on (search, collect, skip), forget what is settled (truncate), have
+all made anew of what is kept (rebuild), tell the state (show), give out what is kept (save), and begin
+with what another run gave out (resume).
 
 A script that begins with ["open",1,8,2] is of version 2: in it a transaction that aborted is offered
 with what it tried, as [[],[5],"aborted"], and whoever has read from it is told.
@@ -77,7 +78,12 @@ fn main(rt: HostRuntime) -> ExitCode {
         guided: Guided::new(Conflicts, Shared::new(&rt, OpenGate)),
     };
     let exit = match asked(&rt) {
-        Ok(Asked::Work) => exit_of(serve(alloc, &mut input, &mut output, &solvers)),
+        Ok(Asked::Work) => {
+            let served = thread::scope(thread::scope_env(), &rt, |scope| {
+                serve(scope, &rt, alloc, &mut input, &mut output, &solvers)
+            });
+            exit_of(served)
+        }
         Ok(Asked::Help) => exit_of(told(&mut output, HELP)),
         Ok(Asked::Version) => exit_of(told(&mut output, VERSION)),
         Ok(Asked::Unknown) => Exit {
