@@ -64,14 +64,14 @@ round_keeps old new search budget depth workers said is =
 
 -- a search that goes on while the round is open is about that
 pub about_after : (old new : Option Parts) (search after : Option SearchOf) → IsWhileOpen new search after → KeepsRound old new → IsAboutRound search old → IsAboutRound after new
-about_after old None search after open keeps about = subst (λ (s : Option SearchOf). IsAboutRound s None) (sym open) tt
-about_after old (Some parts) None after open keeps about = subst (λ (s : Option SearchOf). IsAboutRound s (Some parts)) (sym open) tt
-about_after old (Some parts) (Some of) after open keeps about =
-    subst (λ (s : Option SearchOf). IsAboutRound s (Some parts)) (sym open) (ap (λ (p : Parts). Some p) (keeps of.parts parts about refl))
+about_after old None search after still keeps about = subst (λ (s : Option SearchOf). IsAboutRound s None) (sym still) tt
+about_after old (Some parts) None after still keeps about = subst (λ (s : Option SearchOf). IsAboutRound s (Some parts)) (sym still) tt
+about_after old (Some parts) (Some of) after still keeps about =
+    subst (λ (s : Option SearchOf). IsAboutRound s (Some parts)) (sym still) (ap (λ (p : Parts). Some p) (keeps of.parts parts about refl))
 
 pub effort_after : (new : Option Parts) (search after : Option SearchOf) → IsWhileOpen new search after → option_map effort_of after ≡ search_after (option_map effort_of search) new
-effort_after None search after open = ap (λ (s : Option SearchOf). option_map effort_of s) open
-effort_after (Some parts) search after open = ap (λ (s : Option SearchOf). option_map effort_of s) open
+effort_after None search after still = ap (λ (s : Option SearchOf). option_map effort_of s) still
+effort_after (Some parts) search after still = ap (λ (s : Option SearchOf). option_map effort_of s) still
 
 -- and it isn't there where no round is open
 pub lasts : (asked : Option Parts) (search : Option SearchOf) → IsAboutRound search asked → option_map effort_of search ≡ search_after (option_map effort_of search) asked
