@@ -1,2 +1,3 @@
 pub mod Searches
 pub mod UnderWay
+pub mod Ways

@@ -3,7 +3,7 @@ ghost use Rattle.std.specs.Prelude.{◌≡◌, IfOk, IfErr};
 ghost use Rattle.order_check.specs.Effort.{IsEffort};
 ghost use Rattle.polygraph.specs.declared.solving.Answer.TheVariants as answers;
 ghost use Rattle.script_searches.specs.Searches.{MayAnswer};
-ghost use Rattle.script_searches.specs.UnderWay.{IsWayOf};
+ghost use Rattle.script_searches.specs.Ways.{IsWayOf};
 
 use crate::searches::{Effort, Solvers, search};
 use order_check::Parts;
@@ -37,9 +37,13 @@ struct Searcher {
 }
 
 impl Model for Searcher {
+    ghost use Rattle.std.specs.Coded.{codes};
+    ghost use Rattle.order_check.specs.Codes.{coded_last};
     ghost use Rattle.script_searches.specs.UnderWay.{SearchOf};
 
     ghost Value = { SearchOf };
+
+    ghost coded = { Prim.hlevel (codes, coded_last) };
 
     ghost view = { λ s. record { effort = s.thread.promise.effort; parts = s.thread.promise.problem.value.known.parts } };
 }
@@ -86,9 +90,14 @@ pub struct UnderWay {
 }
 
 impl Model for UnderWay {
-    ghost use Rattle.script_searches.specs.UnderWay.{SearchOf, IsWayOf};
+    ghost use Rattle.std.specs.Coded.{codes};
+    ghost use Rattle.order_check.specs.Codes.{coded_last};
+    ghost use Rattle.script_searches.specs.UnderWay.{SearchOf};
+    ghost use Rattle.script_searches.specs.Ways.{IsWayOf};
 
     ghost Value = { SearchOf };
+
+    ghost coded = { Prim.hlevel (codes, coded_last) };
 
     ghost view = { λ u. record { effort = u.effort; parts = u.parts.value } };
 
@@ -232,7 +241,12 @@ impl UnderWay {
     pub fn answer<R: Threads>(self, rt: &R) -> Answer
         ensures { MayAnswer self.effort.search self.parts self.effort.budget self.effort.depth result }
     {
-        match self.way {
+        let UnderWay {
+            effort: _,
+            parts: _,
+            way,
+        } = self;
+        match way {
             Way::Going(searcher) => searcher.answer(rt),
             Way::Ended(answer) => answer,
         }
