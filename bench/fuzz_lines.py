@@ -27,7 +27,8 @@ NO_TEXT = (b"\xff", b"\xfe\xff", b"\xc3", b"\xc0\x80", b"\xed\xa0\x80", b"\xf4\x
            b"\x80", b"\xe2\x28\xa1", b"\xf8\x88\x80\x80\x80", b"\xef\xbb\xbf", b"\x00", b"\r",
            b"\x1b", b"\x7f", b"\xef\xbb", b"\xf0\x9f\x98")
 WORDS = ("open", "offer", "join", "close", "begin", "finish", "round", "search", "collect",
-         "wait", "skip", "truncate", "rebuild", "show", "resume", "marks", "last", "resumed", "save",
+         "wait", "skip", "truncate", "rebuild", "show", "resume", "marks", "last", "resumed",
+         "save",
          "remain", "answer", "order", "refuted", ABORTED)
 BUDGETS = (1, 1, 1, 2, 2, 3, 4, 5, 7, 8, 15, 16, 31, 32, 33, 64, 64, 128, 256)
 

@@ -1,5 +1,5 @@
-"""A search beside a script of `cobra_audit`: lines are answered while it goes on, and it ends when it
-is told to. No proof says how long anything takes (docs/PROVED.md)."""
+"""A search beside a script of `cobra_audit`: lines are answered while it goes on, and it ends when
+it is told to. No proof says how long anything takes (docs/PROVED.md)."""
 import json
 import os
 import subprocess
