@@ -28,8 +28,7 @@ NO_TEXT = (b"\xff", b"\xfe\xff", b"\xc3", b"\xc0\x80", b"\xed\xa0\x80", b"\xf4\x
            b"\x1b", b"\x7f", b"\xef\xbb", b"\xf0\x9f\x98")
 WORDS = ("open", "offer", "join", "close", "begin", "finish", "round", "search", "collect",
          "wait", "skip", "truncate", "rebuild", "show", "resume", "marks", "last", "resumed",
-         "save",
-         "remain", "answer", "order", "refuted", ABORTED)
+         "save", "remain", "answer", "order", "refuted", ABORTED)
 BUDGETS = (1, 1, 1, 2, 2, 3, 4, 5, 7, 8, 15, 16, 31, 32, 33, 64, 64, 128, 256)
 
 
@@ -350,10 +349,9 @@ class Scripts:
         if turn < 0.45:
             self.is_open = not self.is_open
             return ["begin"] if self.is_open else self.ending()
-        if turn < 0.55:
-            return ["search", *effort(dice)]
         if turn < 0.75:
-            return ["finish" if self.is_open else "round", *effort(dice)]
+            words = ("search", "search", "finish") if self.is_open else ("round",) * 9 + ("search",)
+            return [dice.choice(words), *effort(dice)]
         if turn < 0.95:
             return ["truncate"]
         if turn < 0.98:
