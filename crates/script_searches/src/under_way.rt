@@ -184,6 +184,27 @@ fn begin_with_copy<'s, E, P: PlainSolver + Sync, S: Solver + Sync>(
     begin_on(scope, alloc, copy, effort, solvers)
 }
 
+/// The same; where memory is wanting, a search that has ended as one for which it was.
+fn way_of<'s, E, P: PlainSolver + Sync, S: Solver + Sync>(
+    scope: &Scope<'s, E>,
+    alloc: Global,
+    problem: &Problem,
+    effort: Effort,
+    solvers: &'s Solvers<P, S>,
+) -> Way
+    requires plain { P.ready }
+    requires guided { S.ready }
+    requires effort { IsEffort effort.budget effort.depth effort.workers }
+    ensures { IsWayOf (record { effort = effort; parts = problem.now.known.parts }) result }
+{
+    // It tells that the problem's choices are those of its parts.
+    let _ = problem.open_choices();
+    match begin_with_copy(scope, alloc, problem, effort, solvers) {
+        Ok(way) => way,
+        Err(_) => Way::Ended(Answer::NoMemory),
+    }
+}
+
 impl UnderWay {
     /// Begins the search in a thread of its own, where one can be made, and else makes it in place. Where memory is wanting for what the thread
     /// needs, the search has ended as one for which memory was wanting.
@@ -199,10 +220,7 @@ impl UnderWay {
         requires effort { IsEffort effort.budget effort.depth effort.workers }
         ensures { result ≡ record { effort = effort; parts = problem.now.known.parts } }
     {
-        let way = match begin_with_copy(scope, alloc, problem, effort, solvers) {
-            Ok(way) => way,
-            Err(_) => Way::Ended(Answer::NoMemory),
-        };
+        let way = way_of(scope, alloc, problem, effort, solvers);
         UnderWay {
             effort,
             parts: Snapshot::of(problem.parts()),
