@@ -2,7 +2,7 @@ use Rattle.std.proofs.Common.{Some, refl}
 use Rattle.std.proofs.lemmas.Result.{IfOk-weaker}
 use Rattle.report_checking.specs.Owing.{Owes, OwesOpen}
 use Rattle.report_checking.specs.Reading.{Leads, LeadsScript, IsOwedBy}
-use Rattle.report_checking.specs.declared.pairs.OpenScript.{OpenScript}
+use Rattle.report_checking.specs.declared.open_scripts.OpenScript.{OpenScript}
 use Rattle.report_checking.proofs.OwedReplies.{open_owed}
 use Rattle.report_checking.proofs.pairs.Replay.owed.Goals as goal
 
