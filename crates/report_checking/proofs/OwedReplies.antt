@@ -1,6 +1,7 @@
 -- What is owed to steps and commands.
 use Rattle.std.proofs.Common.{◌≡◌, ◌≢◌, ℕ, ◌+◌, Some, None, true, false, refl, sym, subst, ◌∙◌, inl, inr}
-use Rattle.std.specs.Prelude.{Bool}
+use Rattle.std.specs.Prelude.{Bool, Option, IsSome}
+use Rattle.order_check.specs.declared.remainder.Parts.{Parts}
 use Rattle.txn.specs.declared.refusals.Refusal.{Refusal}
 use Rattle.txn.specs.declared.refusals.Refusal.TheVariants.{BadLine, NoRound}
 use Rattle.log_text.specs.declared.commands.Command.{Command}
@@ -155,6 +156,15 @@ skipped old new now answer none owes before holds =
 pub skip_owed : (old new : EngineState) (now : Bool) (given : Owed) → now ≡ false → IsOwedBy (λ answer. Leads old new (λ before after. IsStep before step.Abandon answer after)) given → IsOwedBy (λ answer. Leads old new (λ before after. IsStep before step.Abandon answer after × (now ≡ false))) given
 skip_owed old new now (owed.Reply answer) none owes = (owes.0, skipped old new now answer none owes.1)
 skip_owed old new now (owed.Nothing why) none owes = tt
+
+-- it goes on for as long as its round is open
+pub lasts_open : (asked : Option Parts) (searched : Bool) → IsSome asked → searched ≡ searched_after searched asked
+lasts_open None searched some = absurd some
+lasts_open (Some parts) searched some = refl
+
+pub lasts_closed : (asked : Option Parts) (searched : Bool) → asked ≡ None → false ≡ searched_after searched asked
+lasts_closed None searched none = refl
+lasts_closed (Some parts) searched none = let no : Some parts ≡ None = none in absurd (let it : ⊥ = cc in it)
 
 -- a command that is about the engine alone
 beside_row : (version : Version) (searched now : Bool) (before after : State) (command : Command) (answer : Reply) → IsOfEngine command → OwesOpen version before command answer after → now ≡ searched_after searched after.engine.asked → OwesBeside version searched before command answer now after

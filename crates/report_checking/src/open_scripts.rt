@@ -2,7 +2,7 @@
 ghost use Rattle.std.specs.Prelude.{◌≡◌, false, IfOk};
 ghost use Rattle.log_text.specs.Replies.{HasKindOfOrder};
 ghost use Rattle.round_state.specs.declared.steps.Step.TheVariants as step;
-ghost use Rattle.report_checking.specs.Owing.{BeginsSearch, FinishesWhere, IsOfEngine, IsStep, OwesBeside};
+ghost use Rattle.report_checking.specs.Owing.{BeginsSearch, FinishesWhere, IsOfEngine, IsStep, OwesBeside, searched_after};
 ghost use Rattle.report_checking.specs.Reading.{Leads, IsOwedBy, IsToldOf, OfRight, OwesText, IsAlone, EarnsWhere, GivesWhere, EarnsBeside, GivesBeside};
 
 use crate::findings::Owed;
@@ -20,6 +20,14 @@ pub(crate) struct OpenScript {
     version: Version,
     /// A search was begun for the round that is open, and isn't collected yet.
     searched: bool,
+}
+
+/// Whether a search goes on, if one did: it does for as long as its round is open.
+#[tactic(auto, using(crate::proofs::OwedReplies::lasts_open, crate::proofs::OwedReplies::lasts_closed))]
+fn lasts(searched: bool, engine: &Replayed) -> bool
+    ensures { result ≡ searched_after searched engine.now.asked }
+{
+    if engine.has_round() { searched } else { false }
 }
 
 impl OpenScript {
@@ -76,11 +84,12 @@ impl OpenScript {
         ensures right { IfOk result (λ owed. OfRight (EarnsWhere may self.old.engine) stored.now (λ text. OwesText text owed)) }
         ensures alone { IfOk result (IsAlone (GivesWhere may refusal self.old.engine)) }
     {
-        if !may {
-            return Ok(Owed::Reply(Reply::No(refusal)));
+        if may {
+            self.searched = false;
+            owed_finish(&mut self.engine, alloc, stored)
+        } else {
+            Ok(Owed::Reply(Reply::No(refusal)))
         }
-        self.searched = false;
-        owed_finish(&mut self.engine, alloc, stored)
     }
 
     /// What is owed to who gives the search and the round up.
@@ -107,9 +116,7 @@ impl OpenScript {
         ensures alone { IfOk result (IsAlone (GivesBeside self.old.version self.old.searched self.old.engine command)) }
     {
         let owed = owed_open(&mut self.engine, alloc, self.version, command, stored)?;
-        if !self.engine.has_round() {
-            self.searched = false;
-        }
+        self.searched = lasts(self.searched, &self.engine);
         Ok(owed)
     }
 
