@@ -1,6 +1,6 @@
 -- A search beside a script is about the round that is open, for as long as that is.
 use Rattle.std.proofs.Common.{◌≡◌, ℕ, Option, Some, None, refl, sym, ap, ◌∙◌, subst, ⊎_elim}
-use Rattle.std.specs.Prelude.{IfSome, MatchOption, option_map}
+use Rattle.std.specs.Prelude.{option_map}
 use Rattle.order_check.specs.declared.remainder.Parts.{Parts}
 use Rattle.log_text.specs.declared.searches.Search.{Search}
 use Rattle.polygraph.specs.ProblemState.{ProblemState}
@@ -11,9 +11,8 @@ use Rattle.round_state.specs.declared.steps.Step.TheVariants as step
 use Rattle.round_state.specs.declared.steps.StepReply.{StepReply}
 use Rattle.round_state.specs.declared.steps.StepReply.TheVariants as reply
 use Rattle.script_searches.specs.UnderWay.{SearchOf}
-use Rattle.script_searches.specs.declared.searches.Effort.{Effort}
 use Rattle.cobra.specs.Audits.{IsAboutRound, IsWhileOpen, effort_of}
-use Rattle.cobra.specs.Scripts.{Goes, IsRound, search_after}
+use Rattle.cobra.specs.Scripts.{IsRound, search_after}
 
 none_some : (parts : Parts) → None ≡ Some parts → ⊥
 none_some parts e = cc

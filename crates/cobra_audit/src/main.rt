@@ -79,15 +79,7 @@ fn told<W: ByteSink>(sink: &mut W, text: &str) -> Result<(), Failure>
 }
 
 /// Does what the arguments ask for, and says how the program ends.
-fn run<
-    's,
-    E,
-    T: Threads,
-    R: ByteSource,
-    W: ByteSink,
-    P: PlainSolver + Sync,
-    S: Solver + Sync,
->(
+fn run<'s, E, T: Threads, R: ByteSource, W: ByteSink, P: PlainSolver + Sync, S: Solver + Sync>(
     scope: &Scope<'s, E>,
     rt: &T,
     alloc: Global,
