@@ -159,7 +159,7 @@ skip_owed old new now (owed.Nothing why) none owes = tt
 
 -- it goes on for as long as its round is open
 pub lasts_open : (asked : Option Parts) (searched : Bool) → IsSome asked → searched ≡ searched_after searched asked
-lasts_open None searched some = absurd some
+lasts_open None searched some = absurd (let it : ⊥ = cc in it)
 lasts_open (Some parts) searched some = refl
 
 pub lasts_closed : (asked : Option Parts) (searched : Bool) → asked ≡ None → false ≡ searched_after searched asked
@@ -177,7 +177,7 @@ beside_row version searched now before after command answer of owes is = (owes, 
 beside_engine : (old new : EngineState) (version : Version) (searched now : Bool) (command : Command) (answer : Reply) → IsOfEngine command → now ≡ searched_after searched new.asked → Leads old new (λ before after. OwesOpen version before command answer after) → Leads old new (λ before after. OwesBeside version searched before command answer now after)
 beside_engine old new version searched now command answer of is owes before holds =
     let after = owes before holds in
-    (after.0, beside_row version searched now before after.0 command answer of after.1 (subst (λ (engine : EngineState). now ≡ searched_after searched engine.asked) after.2.same is), after.2)
+    (after.0, beside_row version searched now before after.0 command answer of after.1 (subst (λ (engine : EngineState). now ≡ searched_after searched engine.asked) (sym after.2.same) is), after.2)
 
 pub engine_owed : (old new : EngineState) (version : Version) (searched now : Bool) (command : Command) (given : Owed) → IsOfEngine command → now ≡ searched_after searched new.asked → IsOwedBy (λ answer. Leads old new (λ before after. OwesOpen version before command answer after)) given → IsOwedBy (λ answer. Leads old new (λ before after. OwesBeside version searched before command answer now after)) given
 engine_owed old new version searched now command (owed.Reply answer) of is owes = (owes.0, beside_engine old new version searched now command answer of is owes.1)

@@ -375,7 +375,7 @@ pub where_right : (old : EngineState) (may : Bool) (stored : List ℕ) (given : 
 where_right old may stored given right report new earned shows = right report new earned.1 shows
 
 pub where_refused : (old : EngineState) (may : Bool) (stored : List ℕ) (given : Owed) → may ≡ false → OfRight (EarnsWhere may old) stored (λ text. OwesText text given)
-where_refused old may stored given no report new earned shows = absurd (let e : true ≡ false = sym earned.0 ∙ no in false≢true (sym e))
+where_refused old may stored given refused report new earned shows = absurd (false≢true (sym refused ∙ earned.0))
 
 earns_by_engine : (searched : Bool) (old : EngineState) (asked : Command) (report : Report) (new : EngineState) → IsOfEngine asked → EarnsBeside searched old asked report new → Earns old asked report new
 earns_by_engine searched old (command.BeginSearch budget depth workers search) report new of earned = absurd of

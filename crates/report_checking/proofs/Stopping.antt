@@ -41,7 +41,7 @@ no_right_report None (Some before) next line stored why holds said fair right = 
 no_right_report (Some script) (Some before) next line stored why holds said fair right =
     fair line said right.command right.asks right.report right.new.engine
     (subst (λ (s : Bool). EarnsBeside s script.engine right.command right.report right.new.engine) (sym holds.2)
-     (subst (λ (e : EngineState). EarnsBeside before.searched e right.command right.report right.new.engine) holds.0.same (earns_of before right.command right.report right.new right.owed))) right.shows right.text_is
+    (subst (λ (e : EngineState). EarnsBeside before.searched e right.command right.report right.new.engine) holds.0.same (earns_of before right.command right.report right.new right.owed))) right.shows right.text_is
 
 -- what was read behind the line
 wrong_behind : (limit : ℕ) (left : List (List ℕ)) (after : Option (List (List ℕ))) (line : List ℕ) (next stored : Next) (script : Option OpenScript) (state : Option ScriptState) (why : Fault) → limit ≡ 1073741824 → HoldsScript script state → IsTold line next → IsNextOf limit (Some left) stored after
