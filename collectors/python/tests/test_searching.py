@@ -4,6 +4,7 @@ import json
 import os
 import subprocess
 import sys
+import threading
 import time
 import unittest
 
@@ -13,9 +14,11 @@ sys.path.append(os.path.join(os.path.dirname(os.path.abspath(__file__)), "../../
 import hard  # noqa: E402
 from judge import Model  # noqa: E402
 
-SOON = 5.0  # seconds for a search to be given up, which looks up at each node
-AT_ONCE = 1.0  # seconds for a line that waits for no search, beside other programs
-EFFORTS = ([1 << 32, 0, 1], [1 << 32, 6, 4])  # which take hours, in one thread and in four
+# Each search here takes hours, so these tell a wait for its end on a busy machine, too.
+SOON = 60.0  # seconds for a search to be given up, which looks up at each node
+AT_ONCE = 20.0  # seconds for a line that waits for no search
+LIMIT = 300.0  # seconds after which a script is killed
+EFFORTS = ([1 << 32, 0, 1], [1 << 32, 6, 4])  # in one thread and in four
 
 
 class Script:
@@ -25,6 +28,16 @@ class Script:
         self.model = Model()
         pipes = {"stdin": subprocess.PIPE, "stdout": subprocess.PIPE, "stderr": subprocess.PIPE}
         self.running = subprocess.Popen([path_of("cobra_audit")], **pipes)
+        self.limit = threading.Timer(LIMIT, self.running.kill)
+        self.limit.daemon = True
+        self.limit.start()
+
+    def close(self):
+        self.limit.cancel()
+        self.running.kill()
+        self.running.wait()
+        for end in (self.running.stdin, self.running.stdout, self.running.stderr):
+            end.close()
 
     def ask(self, *command):
         """The reply, and how many seconds it took."""
@@ -40,7 +53,7 @@ class Script:
     def end(self):
         """The status, what else was written, and how many seconds the end took."""
         begin = time.monotonic()
-        told, error = self.running.communicate(timeout=10 * SOON)
+        told, error = self.running.communicate(timeout=LIMIT)
         return (self.running.returncode, told, error), time.monotonic() - begin
 
 
@@ -51,7 +64,7 @@ class Searches(unittest.TestCase):
         log = hard.contradiction(2, hard.all_ways(2), 40)
         *offers, _ = [json.loads(line) for line in log.lines(*effort)]
         script = Script()
-        self.addCleanup(script.running.kill)
+        self.addCleanup(script.close)
         for line in offers:
             self.assertEqual(script.ask(*line)[0], ["ok"])
         self.assertEqual(script.ask("begin")[0], ["ok"])
@@ -108,16 +121,14 @@ class Searches(unittest.TestCase):
         script.running.stdin.write(b'["show"]\n')
         script.running.stdin.flush()
         begin = time.monotonic()
-        self.assertEqual(script.running.wait(10 * SOON), 1)
+        self.assertEqual(script.running.wait(LIMIT), 1)
         self.assertLess(time.monotonic() - begin, SOON)
         self.assertEqual(script.running.stderr.read(), b"device failed\n")
-        for end in (script.running.stdin, script.running.stderr):
-            end.close()
 
     def test_collect_tells_it_once_it_has_ended(self):
         """A search that uses its budget up is told as spent, by a collect that doesn't wait."""
         script, session = self.begun([200, 0, 1])
-        told, until = ["searching"], time.monotonic() + 12 * SOON
+        told, until = ["searching"], time.monotonic() + LIMIT
         while told == ["searching"]:
             self.assertLess(time.monotonic(), until)
             time.sleep(0.05)

@@ -37,9 +37,13 @@ fn is_answered<R: Threads + Wait, P: PlainSolver + Sync, S: Solver + Sync>(
         bytes: Vec::new(alloc),
         pace: Pace::new(most, 0),
     };
-    let end = thread::scope(thread::scope_env(), rt, |scope| {
-        serve(scope, rt, alloc, &mut source, &mut sink, solvers)
-    });
+    let end = thread::scope(
+        thread::scope_env(),
+        rt,
+        |scope|
+            requires { P.ready × S.ready }
+        { serve(scope, rt, alloc, &mut source, &mut sink, solvers) },
+    );
     end.is_ok() && sink.bytes.as_slice() == replies
 }
 
