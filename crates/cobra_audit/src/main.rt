@@ -19,7 +19,8 @@ use std::alloc::Global;
 use std::env::Args;
 use std::io::ErrorKind;
 use std::process::ExitCode;
-use std::{env, io};
+use std::thread::{Scope, Threads};
+use std::{env, thread};
 
 const VERSION: &str = "cobra_audit 0.1.0\n";
 
@@ -48,9 +49,10 @@ The replies:
   ["report",1,"serial",[1],[[0,0]]]
 
 A round that ends with "guided", ["round",32,0,1,"guided"], searches in other ways first: it finds more
-within its budget. Other lines end a session (close), begin a round and finish it later (begin, finish), forget what is
-settled (truncate), have all made anew of what is kept (rebuild), tell the state (show), give out what
-is kept (save), and begin with what another run gave out (resume).
+within its budget. Other lines end a session (close), begin a round and finish it later (begin, finish),
+search for it while lines are read on (search, collect, skip), forget what is settled (truncate), have
+all made anew of what is kept (rebuild), tell the state (show), give out what is kept (save), and begin
+with what another run gave out (resume).
 
 A script that begins with ["open",1,8,2] is of version 2: in it a transaction that aborted is offered
 with what it tried, as [[],[5],"aborted"], and whoever has read from it is told.
@@ -86,12 +88,14 @@ fn told<W: ByteSink>(sink: &mut W, text: &str) -> Result<(), Failure>
 }
 
 /// Does what the arguments ask for, and says how the program ends.
-fn run<R: ByteSource, W: ByteSink, P: PlainSolver, S: Solver>(
+fn run<'s, E, T: Threads, R: ByteSource, W: ByteSink, P: PlainSolver + Sync, S: Solver + Sync>(
+    scope: &Scope<'s, E>,
+    rt: &T,
     alloc: Global,
     asked: Result<Asked, Failure>,
     input: &mut R,
     output: &mut W,
-    solvers: &Solvers<P, S>,
+    solvers: &'s Solvers<P, S>,
 ) -> Exit
     requires plain { P.ready }
     requires guided { S.ready }
@@ -113,7 +117,7 @@ fn run<R: ByteSource, W: ByteSink, P: PlainSolver, S: Solver>(
     ensures failed { OnErr asked ((result.status ≡ 1) × Keeps (W.contents output.old) (W.contents output.new)) }
 {
     match asked {
-        Ok(Asked::Work) => exit_of(serve(alloc, input, output, solvers)),
+        Ok(Asked::Work) => exit_of(serve(scope, rt, alloc, input, output, solvers)),
         Ok(Asked::Help) => exit_of(told(output, HELP)),
         Ok(Asked::Version) => exit_of(told(output, VERSION)),
         Ok(Asked::Unknown) => Exit {
@@ -131,13 +135,11 @@ fn main(rt: HostRuntime) -> ExitCode {
         plain: Shared::new(&rt, OpenGate),
         guided: Guided::new(Conflicts, Shared::new(&rt, OpenGate)),
     };
-    let exit = run(
-        rt.alloc(),
-        asked(rt.alloc(), env::args(&rt)),
-        &mut input,
-        &mut output,
-        &solvers,
-    );
+    let alloc = rt.alloc();
+    let asked = asked(alloc, env::args(&rt));
+    let exit = thread::scope(thread::scope_env(), &rt, |scope| {
+        run(scope, &rt, alloc, asked, &mut input, &mut output, &solvers)
+    });
     if let Some(words) = exit.words {
         let _ = eprintln!(rt; "{words}");
     }

@@ -1,5 +1,5 @@
 use Rattle.cobra.proofs.ScriptRounds.{rounds_begun, rounds_refused}
-use Rattle.cobra.proofs.scripts.make_round.Goals as goal
+use Rattle.cobra.proofs.rounds.make_round.Goals as goal
 
 pub returns-in-Done : goal.returns-in-Done
 returns-in-Done g c =

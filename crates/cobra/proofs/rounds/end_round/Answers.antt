@@ -1,5 +1,5 @@
 use Rattle.cobra.proofs.ScriptRounds.{ends_abandoned, ends_finished}
-use Rattle.cobra.proofs.scripts.end_round.Goals as goal
+use Rattle.cobra.proofs.rounds.end_round.Goals as goal
 
 pub returns-in-Refused : goal.returns-in-Refused
 returns-in-Refused g c =
