@@ -123,10 +123,13 @@ func (c *core) mayStand(s *session, it *record.Transaction, follows bool) bool {
 }
 
 // mayFence says whether a fence may be offered next in the session. It needn't have begun after what is in front of it
-// had ended, if no moment is between.
+// had ended, if no moment is between. But of two fences of a session the later one has to be written behind the other:
+// the audit's own connection makes one for a session whose connection may be making one, too.
 func (c *core) mayFence(s *session, it *record.Transaction) bool {
 	began, _ := span(it)
 	switch {
+	case began.Before(s.wrote): // it may have been written before the one in front of it
+		return false
 	case s.last.IsZero() || c.moments.between(s.last, began):
 		return true
 	case c.moments.between(began, s.last), began.Before(c.opened):
@@ -141,6 +144,9 @@ func (c *core) mayFence(s *session, it *record.Transaction) bool {
 // stood notes what was named last in the session.
 func (s *session) stood(it *record.Transaction) {
 	_, ended := span(it)
+	if it.Fence && ended.After(s.wrote) {
+		s.wrote = ended
+	}
 	if !it.Fence {
 		s.last, s.fence = ended, time.Time{}
 	} else if ended.After(s.fence) {

@@ -17,6 +17,7 @@ type session struct {
 	tenant  *connection
 	last    time.Time // when the last one that is named in it, and is no fence, had ended
 	fence   time.Time // when the last fence behind that had ended
+	wrote   time.Time // when the last fence of all of them had ended
 	own     bool      // what stands last in it is the tenant's
 	had     uint64    // the connection whose transaction was named last
 	place   uint64    // of that in its connection
