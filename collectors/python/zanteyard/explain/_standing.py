@@ -41,8 +41,8 @@ class Standing:
             yield f"(there was no time to ask about {listed(self.late)})"
         if self.many:
             yield (
-                f"(which promises it breaks wasn't asked: it has {self.many:,} transactions, and at "
-                f"most {FEW} are asked about)"
+                f"(which promises it breaks wasn't asked: it has {self.many:,} transactions, and "
+                f"at most {FEW} are asked about)"
             )
 
 

@@ -712,3 +712,36 @@ func TestFenceToldLate(t *testing.T) {
 		}
 	}
 }
+
+// A session's connection makes its fence late, while the audit's own connection makes one for it. Whichever is told
+// first, two of them stand in the session only in the order in which they were written.
+func TestFencesOfOneSession(t *testing.T) {
+	for _, spareIsLate := range []bool{false, true} {
+		b := newBench(t, Options{Late: time.Second})
+		b.core.quiet()
+		b.later(time.Millisecond)
+		b.connect(1)
+		b.commit(1001, "a")
+		b.tell(1, 0, record.Transaction{Number: 1001})
+		began := b.now
+		own, spare := uint32(1002), uint32(1003)
+		if spareIsLate {
+			own, spare = spare, own
+		}
+		b.commitFence(1002)
+		b.commitFence(1003)
+		b.later(time.Millisecond)
+		ended := b.now
+		tells := []func(){
+			func() { b.core.spare(0, uint64(spare), began, ended) },
+			func() { b.tell(1, 1, record.Transaction{Began: began, Ended: ended, Number: uint64(own), Fence: true}) },
+		}
+		tells[0]()
+		tells[1]()
+		b.settle()
+		b.settle()
+		if !b.model.explained() {
+			t.Errorf("the spare is written last: %v: no order explains it\n%v", !spareIsLate, b.lines)
+		}
+	}
+}
