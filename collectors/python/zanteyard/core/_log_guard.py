@@ -41,7 +41,7 @@ def guard(logger: logging.Logger) -> None:
 
 
 def make_visible(record: logging.LogRecord) -> None:
-    """Changes it only where something in it can't be seen; the lines of a traceback begin with a mark."""
+    """Changes it only if something in it can't be seen. Lines of a traceback begin with a mark."""
     message = record.getMessage()
     safe = shown(message)
     if safe != message:

@@ -235,8 +235,9 @@ def _arc(link: Link, boxes: Mapping[ShownId, Box], number: int) -> Tuple[str, Li
         f'<circle cx="{middle[0]:.1f}" cy="{middle[1]:.1f}" r="11"/>'
         f'<text class="number" x="{middle[0]:.1f}" y="{middle[1] + 4.5:.1f}">{number}</text>'
     )
+    its = f"{number}. " if number else ""
     text = (
-        f'<g class="arc {kind}"><title>{f"{number}. " if number else ""}{html_text(link.why)}</title>'
+        f'<g class="arc {kind}"><title>{its}{html_text(link.why)}</title>'
         f'<path d="M{first[0]:.1f} {first[1]:.1f}{way} {last[0]:.1f} {last[1]:.1f}" '
         f'marker-end="url(#{colour}-head)"/>{badge if number else ""}</g>'
     )

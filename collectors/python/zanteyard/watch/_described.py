@@ -91,7 +91,8 @@ def lines_of(label: str, its: Optional[Described]) -> Iterator[str]:
     if its is None:
         yield f"{label}: nothing more is known of it"
         return
-    facts = [its.client, visible(its.level, 80), f"began at {clock(its.began)}" if its.began else ""]
+    began = f"began at {clock(its.began)}" if its.began else ""
+    facts = [its.client, visible(its.level, 80), began]
     yield f"{label}: " + ", ".join(fact for fact in facts if fact)
     for one in its.statements:
         more = "".join(f"  [{it}]" for it in (one.values, visible(one.origin)) if it)

@@ -9,6 +9,7 @@ from ._described import Described, Statement
 from ._origins import without_tags
 from ._violations import Answered, Row
 
+
 def without_values(answered: Answered) -> Answered:
     """The same, where rows are named by the auditor's numbers of their keys."""
     keys = {number: Row(row.table, f"#{number}") for number, row in answered.keys.items()}

@@ -1,0 +1,48 @@
+package join
+
+import (
+	"encoding/json"
+	"fmt"
+	"testing"
+
+	"zanteyard/record"
+)
+
+// TestAsManyReadsAsTheAuditorTakes: of a transaction of 256 reads none is left out, of one of 257 one is, and counted;
+// so it is with writes.
+func TestAsManyReadsAsTheAuditorTakes(t *testing.T) {
+	for _, x := range []struct{ did, left int }{{255, 0}, {256, 0}, {257, 1}, {300, 44}} {
+		b := newBench(t, Options{Sessions: 2})
+		b.connect(1, 2)
+		var reads []record.Read
+		var keys []string
+		for i := 0; i < x.did; i++ {
+			keys = append(keys, fmt.Sprint("k", i))
+			reads = append(reads, read(keys[i], 5))
+		}
+		b.tell(1, 0, record.Transaction{Reads: reads})
+		b.commit(1001, keys...)
+		b.tell(2, 1, record.Transaction{Number: 1001})
+		b.settle()
+		var readers, writers []any
+		for _, line := range b.lines[1:] {
+			var it []any
+			if err := json.Unmarshal([]byte(line), &it); err != nil {
+				t.Fatal(err)
+			}
+			did := it[3].([]any)[0].([]any)
+			if it[1].(float64) == 0 {
+				readers = append(readers, did[0].([]any)...)
+			} else {
+				writers = append(writers, did[1].([]any)...)
+			}
+		}
+		if len(readers) != x.did-x.left || len(writers) != x.did-x.left {
+			t.Errorf("of %d reads and writes there are %d and %d", x.did, len(readers), len(writers))
+		}
+		n := b.core.counts
+		if n.leftReads[tooMany] != uint64(x.left) || n.leftWrites["more than 256 writes of one transaction"] != uint64(x.left) {
+			t.Errorf("of %d are left out %v and %v", x.did, n.leftReads, n.leftWrites)
+		}
+	}
+}
