@@ -290,3 +290,11 @@ IsKept-back gone received arcs first count new_first new_count n long_first long
   firsts = said_firsts;
   counts = said_counts;
 }
+
+-- a trail with the same items
+pub IsTrail-copy : (gone received : List ℕ) (arcs : List Arc) (first count : List (Vec ℕ Global)) (trail copy : Trail) → copy.marks.items ≡ trail.marks.items → copy.first.items ≡ trail.first.items → copy.count.items ≡ trail.count.items
+    → IsTrail gone received arcs first count trail → IsTrail gone received arcs first count copy
+IsTrail-copy gone received arcs first count trail copy marks same_first same_count is = record {
+  firsts = subst₂ (λ numbers ms. IsTrailOf (SayFirsts gone received) (λ mark. mark.first) arcs first numbers (reverse ms)) (sym same_first) (sym marks) is.firsts;
+  counts = subst₂ (λ numbers ms. IsTrailOf (SayCounts gone received) (λ mark. mark.count) arcs count numbers (reverse ms)) (sym same_count) (sym marks) is.counts;
+}

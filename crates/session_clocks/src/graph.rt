@@ -7,7 +7,7 @@ ghost use Rattle.session_clocks.specs.Graphs.{HasNode, IsOneMore, back_to, last_
 ghost use Rattle.session_clocks.specs.Reach.{IsThere, Reaches, IsOrReaches};
 
 use crate::drops::{drop_arcs, drop_rows};
-use crate::lines::{no_lines, push_rows};
+use crate::lines::{copied, no_lines, push_rows};
 use crate::rows::{clock, count_row, first_row};
 use crate::sweeps::{lower_all, raise_all};
 use crate::trail::{Mark, Trail, put_back};
@@ -283,5 +283,29 @@ impl Graph {
         drop_arcs(&mut self.arcs, gone);
         self.gone.copy_from_slice(gone);
         self.trail.clear();
+    }
+}
+
+impl Clone for Graph {
+    ghost use Rattle.std.specs.Prelude.{◌≡◌};
+
+    ghost is_clone = { λ old new. new ≡ old };
+
+    fn clone(&self) -> Result<Self, NoMemory> {
+        let alloc = *self.arcs.allocator();
+        let gone = Vec::from_slice(alloc, &self.gone)?;
+        let received = Vec::from_slice(alloc, &self.received)?;
+        let first = copied(alloc, &self.first)?;
+        let count = copied(alloc, &self.count)?;
+        let arcs = Vec::from_slice(alloc, &self.arcs)?;
+        let trail = self.trail.copied(alloc)?;
+        Ok(Graph {
+            gone,
+            received,
+            first,
+            count,
+            arcs,
+            trail,
+        })
     }
 }

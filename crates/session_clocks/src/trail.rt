@@ -1,5 +1,5 @@
 // The numbers that additions write over, so that a graph can be taken back to a mark.
-ghost use Rattle.std.specs.Prelude.{◌≡◌, ◌≢◌, ℕ, ◌+◌, ◌*◌, ◌<◌, ◌≤◌, [], ◌∷◌, All, OnOk, length, set, take, drop, slice_index};
+ghost use Rattle.std.specs.Prelude.{◌≡◌, ◌≢◌, ℕ, ◌+◌, ◌*◌, ◌<◌, ◌≤◌, [], ◌∷◌, All, IfOk, OnOk, length, set, take, drop, slice_index};
 ghost use Rattle.session_clocks.specs.Rows.{line_at};
 ghost use Rattle.session_clocks.specs.Sweeps.{FitTops, FitSpans, AreAsLong};
 ghost use Rattle.session_clocks.specs.SavedNumbers.{place_in, IsWithin, IsMoreOf, since, had, IsRowSaved, IsTailSaved, IsSpanSaved, AreTailsSaved, AreSpansSaved};
@@ -43,6 +43,21 @@ impl Trail {
             first: Vec::new(alloc),
             count: Vec::new(alloc),
         }
+    }
+
+    pub fn copied(&self, alloc: Global) -> Result<Trail, NoMemory>
+        ensures marks { IfOk result (λ copy. copy.marks.items ≡ self.now.marks.items) }
+        ensures first { IfOk result (λ copy. copy.first.items ≡ self.now.first.items) }
+        ensures count { IfOk result (λ copy. copy.count.items ≡ self.now.count.items) }
+    {
+        let marks = Vec::from_slice(alloc, &self.marks)?;
+        let first = Vec::from_slice(alloc, &self.first)?;
+        let count = Vec::from_slice(alloc, &self.count)?;
+        Ok(Trail {
+            marks,
+            first,
+            count,
+        })
     }
 
     /// Saves the numbers of first ones that an arc changes, if a mark is set.
