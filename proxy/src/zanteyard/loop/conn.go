@@ -33,8 +33,8 @@ type Conn struct {
 	writers chan struct{}
 }
 
-// Plain says that a connection is a plain socket.
-func Plain(c net.Conn) bool {
+// plain says that a connection is a plain socket.
+func plain(c net.Conn) bool {
 	switch c.(type) {
 	case *net.TCPConn, *net.UnixConn:
 		return true
@@ -45,7 +45,7 @@ func Plain(c net.Conn) bool {
 // newConn duplicates a plain connection's socket.
 func newConn(from net.Conn, its *loop, number uint64) *Conn {
 	socket, is := from.(syscall.Conn)
-	if !is || !Plain(from) {
+	if !is || !plain(from) {
 		return nil
 	}
 	raw, err := socket.SyscallConn()
@@ -64,8 +64,8 @@ func newConn(from net.Conn, its *loop, number uint64) *Conn {
 	return c
 }
 
-// Abandon lets go of the descriptor without an end of the connection.
-func (c *Conn) Abandon() {
+// abandon lets go of the descriptor without an end of the connection.
+func (c *Conn) abandon() {
 	c.lock.Lock()
 	defer c.lock.Unlock()
 	c.ended.Store(true)

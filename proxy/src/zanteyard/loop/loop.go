@@ -73,7 +73,7 @@ func (l *Loops) Take(client, server net.Conn) (*Conn, *Conn, bool) {
 	}
 	far := newConn(server, its, 2*pair+1)
 	if far == nil {
-		near.Abandon()
+		near.abandon()
 		return nil, nil, false
 	}
 	client.Close()
