@@ -1,5 +1,5 @@
 -- The marks of a graph, as it grows and is taken back.
-use Rattle.std.proofs.Common.{◌≡◌, ◌≢◌, ◌⊎◌, ℕ, ◌+◌, ◌-◌, ◌*◌, ◌<◌, ◌≤◌, ◌/◌, ◌%◌, min, List, [], ◌∷◌, ◌++◌, Vec, Global, Option, Some, length, take, drop, map, get_or, refl, sym, ap, subst, subst₂, ◌∙◌, inl, inr, arith, All}
+use Rattle.std.proofs.Common.{◌≡◌, ◌≢◌, ◌⊎◌, ℕ, ◌+◌, ◌-◌, ◌*◌, ◌<◌, ◌≤◌, ◌/◌, ◌%◌, min, List, [], ◌∷◌, ◌++◌, Vec, Global, Some, length, take, drop, map, get_or, refl, sym, ap, subst, subst₂, ◌∙◌, inl, inr, arith, All}
 use Rattle.std.specs.Prelude.{reverse}
 use Rattle.std.proofs.lemmas.Bool.{cases_lt}
 use Rattle.std.proofs.lemmas.Nat.{div-add-mod'}
@@ -12,10 +12,10 @@ use Rattle.txn.specs.Arcs.{start_of, end_of}
 use Rattle.session_clocks.specs.declared.trail.Mark.{Mark}
 use Rattle.session_clocks.specs.declared.trail.Saved.{Saved}
 use Rattle.session_clocks.specs.declared.trail.Trail.{Trail}
-use Rattle.session_clocks.specs.Clocks.{AreFirsts, AreCounts, AreLines, IsKept}
-use Rattle.session_clocks.specs.Graphs.{GraphState, back_to, last_mark}
+use Rattle.session_clocks.specs.Clocks.{IsKept}
+use Rattle.session_clocks.specs.Graphs.{GraphState, last_mark}
 use Rattle.session_clocks.specs.Lines.{AreSameNumbers}
-use Rattle.session_clocks.specs.Marks.{AreMarked, IsTrailOf, SayFirsts, SayCounts, IsTrail, IsMarkedGraph, clock_in}
+use Rattle.session_clocks.specs.Marks.{AreMarked, IsTrailOf, SayFirsts, SayCounts, IsTrail, clock_in}
 use Rattle.session_clocks.specs.Reach.{IsThere, Reaches}
 use Rattle.session_clocks.specs.Rows.{line_at, number_at}
 use Rattle.session_clocks.specs.SavedNumbers.{place_in, IsWithin, IsSavedFrom, IsSavedIn, IsMoreOf, since, had, AreTailsSaved, AreSpansSaved}

@@ -1,14 +1,12 @@
 -- Numbers that were saved before they were written over, and what they say of the lines.
-use Rattle.std.proofs.Common.{◌≡◌, ◌≢◌, ◌⊎◌, ℕ, zero, suc, ◌+◌, ◌-◌, ◌*◌, ◌<◌, ◌≤◌, ◌/◌, ◌%◌, min, Bool, true, false, cond, ◌&&◌, List, [], ◌∷◌, ◌++◌, Vec, Global, length, drop, get_or, set, refl, sym, ap, subst, ◌∙◌, inl, inr, arith, Contains, All}
+use Rattle.std.proofs.Common.{◌≡◌, ◌≢◌, ◌⊎◌, ℕ, zero, suc, ◌+◌, ◌*◌, ◌<◌, ◌≤◌, Bool, true, false, cond, ◌&&◌, List, [], ◌∷◌, ◌++◌, Vec, Global, length, drop, get_or, set, refl, sym, ap, subst, ◌∙◌, inl, inr, arith, Contains, All}
 use Rattle.std.proofs.lemmas.Bool.{cases_eq, cases_lt, eq-eqb, ne_eqb}
-use Rattle.std.proofs.lemmas.Nat.{div-add-mod'}
 use Rattle.std.proofs.lemmas.List.{append-nil, append_assoc, get_or-set_same, get_or-set_other}
 use Rattle.std.proofs.lemmas.List.Elements.{All-append, All-push, All-nil, Contains-append_left, Contains-append_right}
 use Rattle.std.proofs.Math.Seq.{drop-append_seam}
 use Rattle.std.specs.Prelude.{nat_eq}
-use Rattle.txn.specs.declared.transactions.TxnId.{TxnId}
-use Rattle.session_clocks.specs.Rows.{line_at, number_at, IsLesser, IsGreater}
-use Rattle.session_clocks.specs.SavedNumbers.{place_in, IsWithin, IsSavedFrom, IsSavedIn, IsMoreOf, since, had, IsRowSaved, IsTailSaved, IsSpanSaved, AreTailsSaved, AreSpansSaved}
+use Rattle.session_clocks.specs.Rows.{line_at, number_at}
+use Rattle.session_clocks.specs.SavedNumbers.{place_in, IsSavedFrom, IsSavedIn, IsMoreOf, since, had, IsRowSaved, IsTailSaved, IsSpanSaved}
 use Rattle.session_clocks.specs.declared.trail.Saved.{Saved}
 
 -- whether it is the place that a number was saved of

@@ -1,5 +1,5 @@
 -- For private clauses: the marks to which a graph can be taken back.
-use Rattle.std.specs.Prelude.{◌≡◌, ◌≤◌, ℕ, ◌+◌, ◌-◌, ◌*◌, ⊤, List, [], ◌∷◌, Vec, length, take, drop, map, reverse, All, slice_index}
+use Rattle.std.specs.Prelude.{◌≤◌, ℕ, ◌+◌, ◌-◌, ◌*◌, ⊤, List, [], ◌∷◌, Vec, length, take, drop, map, reverse, All, slice_index}
 use Rattle.std.specs.declared.alloc.Global.{Global}
 use Rattle.txn.specs.declared.transactions.TxnId.{TxnId}
 use Rattle.txn.specs.declared.choices.Arc.{Arc}

@@ -1,4 +1,4 @@
-use Rattle.std.proofs.Common.{arith, ◌-◌, ◌<◌, ℕ, length, sym, subst, inl, inr}
+use Rattle.std.proofs.Common.{arith, ◌-◌, ◌<◌, length, sym, subst, inl, inr}
 use Rattle.std.proofs.lemmas.Bool.{cases_eq}
 use Rattle.session_clocks.specs.Rows.{number_at}
 use Rattle.session_clocks.proofs.Steps.{IsLowering-more}

@@ -1,6 +1,6 @@
-use Rattle.std.proofs.Common.{◌≡◌, ◌+◌, ◌*◌, arith, ap, sym, subst, get_or, length, refl}
+use Rattle.std.proofs.Common.{◌+◌, ◌*◌, arith, ap, sym, subst, get_or, length}
 use Rattle.session_clocks.specs.SavedNumbers.{IsMoreOf, IsSavedFrom, since}
-use Rattle.session_clocks.proofs.Trails.{IsMoreOf-none, IsMoreOf-push, AreSavedBelow, AreSavedBelow-save, AreSavedBelow-same}
+use Rattle.session_clocks.proofs.Trails.{IsMoreOf-none, IsMoreOf-push, AreSavedBelow, AreSavedBelow-save}
 use Rattle.session_clocks.proofs.trail.save_row.Goals as goal
 
 pub loop-k-init : goal.loop-k-init

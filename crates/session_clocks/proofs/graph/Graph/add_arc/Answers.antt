@@ -1,4 +1,4 @@
-use Rattle.std.proofs.Common.{◌≡◌, ◌≢◌, ◌++◌, ◌∷◌, [], ℕ, List, Vec, Global, length, arith, ap, sym, subst, subst₂, ◌∙◌}
+use Rattle.std.proofs.Common.{◌≡◌, ◌≢◌, ◌++◌, ◌∷◌, [], ℕ, List, Vec, Global, arith, ap, sym, subst, subst₂, ◌∙◌}
 use Rattle.std.specs.Prelude.{reverse}
 use Rattle.std.specs.Vec.{with_items}
 use Rattle.std.proofs.lemmas.List.{with_items_is}
@@ -6,9 +6,8 @@ use Rattle.txn.specs.declared.choices.Arc.{Arc}
 use Rattle.txn.specs.Arcs.{start_of, end_of}
 use Rattle.session_clocks.specs.declared.trail.Mark.{Mark}
 use Rattle.session_clocks.specs.declared.trail.Saved.{Saved}
-use Rattle.session_clocks.specs.declared.trail.Trail.{Trail}
 use Rattle.session_clocks.specs.Graphs.{GraphState, HasNode, last_mark}
-use Rattle.session_clocks.specs.Marks.{marks_of, SayFirsts, IsTrail, IsMarkedGraph}
+use Rattle.session_clocks.specs.Marks.{marks_of, SayFirsts, IsMarkedGraph}
 use Rattle.session_clocks.specs.Reach.{Reaches}
 use Rattle.session_clocks.specs.SavedNumbers.{place_in, IsMoreOf, since, AreTailsSaved, AreSpansSaved}
 use Rattle.session_clocks.proofs.Kept.{HasRow-first, HasRow-count, IsKept-known, IsKept-joined, FitTops-is, FitSpans-is}

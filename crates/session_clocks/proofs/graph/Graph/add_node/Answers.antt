@@ -1,7 +1,6 @@
 use Rattle.std.proofs.Common.{◌≡◌, ◌+◌, ◌-◌, ◌^◌, ◌<◌, ℕ, List, Vec, Global, length, get_or, set, arith, sym, ap, subst, subst₂, ◌∙◌}
 use Rattle.std.specs.Vec.{with_items}
 use Rattle.std.proofs.lemmas.List.{with_items_is, get_or_read}
-use Rattle.session_clocks.specs.Clocks.{IsKept}
 use Rattle.session_clocks.specs.Marks.{IsMarkedGraph}
 use Rattle.session_clocks.specs.Graphs.{GraphState}
 use Rattle.session_clocks.proofs.Added.{count_rows, IsOneMore-set}
