@@ -46,3 +46,13 @@ func TestAsManyReadsAsTheAuditorTakes(t *testing.T) {
 		}
 	}
 }
+
+// TestFencesAreCountedApart: a fence is offered, and neither its read nor its write is the application's.
+func TestFencesAreCountedApart(t *testing.T) {
+	c := newBench(t, Options{Sessions: 2}).core
+	c.counts.put(&entry{its: record.Transaction{Fence: true}}, &resolution{})
+	c.counts.put(&entry{its: record.Transaction{Reads: []record.Read{read("a", 5)}}}, &resolution{})
+	if n := c.counts; n.offered != 2 || n.fences != 1 || n.readsOffered != 1 {
+		t.Errorf("offered are %d, of them fences %d, with reads %d", n.offered, n.fences, n.readsOffered)
+	}
+}
