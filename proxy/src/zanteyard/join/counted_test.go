@@ -56,3 +56,31 @@ func TestFencesAreCountedApart(t *testing.T) {
 		t.Errorf("offered are %d, of them fences %d, with reads %d", n.offered, n.fences, n.readsOffered)
 	}
 }
+
+// TestWhatIsFoldedTakesNoRoom: nobody asks for its writer by number any more.
+func TestWhatIsFoldedTakesNoRoom(t *testing.T) {
+	b := newBench(t, Options{Sessions: 2})
+	b.commit(1001, "a")
+	w := b.core.writers[1001]
+	if w == nil || w.place == 0 {
+		t.Fatalf("the writer is %v", w)
+	}
+	b.core.fold(w, byOthers)
+	if its := b.core.writers[1001]; its != nil || w.fate != folded || len(w.writes) != 0 {
+		t.Errorf("it is still there: %v", its)
+	}
+}
+
+// TestFencesDontAskForMeetings: only what the application did counts from one meeting to the next.
+func TestFencesDontAskForMeetings(t *testing.T) {
+	b := newBench(t, Options{Sessions: 2})
+	b.connect(1)
+	b.tell(1, 0, record.Transaction{Fence: true, Number: 1001})
+	if b.core.since != 0 {
+		t.Errorf("after a fence it is %d", b.core.since)
+	}
+	b.tell(1, 1, record.Transaction{Reads: []record.Read{read("a", 5)}})
+	if b.core.since != 1 {
+		t.Errorf("after a transaction it is %d", b.core.since)
+	}
+}
