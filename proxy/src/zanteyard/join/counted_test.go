@@ -84,3 +84,18 @@ func TestFencesDontAskForMeetings(t *testing.T) {
 		t.Errorf("after a transaction it is %d", b.core.since)
 	}
 }
+
+// TestRowsOfManyVersionsAreLookedAtAgain: as long as one has older versions, a later trim may forget them.
+func TestRowsOfManyVersionsAreLookedAtAgain(t *testing.T) {
+	b := newBench(t, Options{Sessions: 2})
+	b.commit(1001, "a", "b")
+	b.commit(1002, "a")
+	b.commit(1003, "a")
+	r := b.core.rows
+	for i := 0; i < 2; i++ {
+		r.trim(func(*version) bool { return false })
+		if len(r.many) != 1 {
+			t.Errorf("after %d looks that forget nothing there are %d", i+1, len(r.many))
+		}
+	}
+}
