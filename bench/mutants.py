@@ -135,7 +135,8 @@ def go_mutants(path):
 def tests_of(kind, names):
     """The calls that run them, one after another, until one fails."""
     if kind == "go":
-        return [["go", "build", "zanteyard/join"], ["go", "test", "-failfast", "zanteyard/join"]]
+        return [["go", "build", "zanteyard/join"], ["go", "test", "-failfast", "zanteyard/join"],
+                ["go", "test", "-failfast", "zanteyard/audit"]]
     unittest = [sys.executable, "-W", "ignore", "-m", "unittest", "-f"]
     return [[*unittest, f"tests.test_{name}"] for name in names]
 

@@ -45,7 +45,7 @@ class Outputs(unittest.TestCase):
         its = tempfile.TemporaryDirectory()
         self.addCleanup(its.cleanup)
         self.folder = os.path.join(its.name, NAME)  # all files lie in a folder of such a name
-        os.mkdir(self.folder)
+        os.mkdir(self.folder, 0o700)
         here = os.getcwd()
         self.addCleanup(os.chdir, here)
         os.chdir(self.folder)
