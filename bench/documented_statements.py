@@ -42,7 +42,7 @@ OTHERWISE = re.compile(
     r"regclass::oid|pg_relation|size|EXPLAIN|ANALYZE|pg_terminate|pg_cancel|pg_reload|SYSTEM|SUBSCRIPTION|"
     r"PUBLICATION|TABLESPACE|DATABASE|dblink|PROGRAM|lo_|uuid|pg_ls|pg_read|statement_timeout|"
     r"current_setting|version\(|oid|\bpid\b|notify|listen|yesterday|today|tomorrow|pg_advisory|"
-    r"EVENT TRIGGER|log_|gen_|prepared transaction|TABLESAMPLE",
+    r"EVENT TRIGGER|log_|gen_|prepared transaction|TABLESAMPLE|backup|relpages|replication_slots",
     re.I,
 )
 
