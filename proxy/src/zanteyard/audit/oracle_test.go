@@ -66,7 +66,11 @@ func TestLockstep(t *testing.T) {
 	}
 	// Without the commits' places savepoints can't be looked up: what is offered is right, and what isn't is counted.
 	must(t, setup, "DELETE FROM child; DELETE FROM parent; DELETE FROM t; DELETE FROM part; DELETE FROM whole;"+oracleRows)
-	t.Run("test_decoding", func(t *testing.T) { runLockstep(t, s, 100, *lockstep/4, slot.TestDecoding) })
+	few := *lockstep / 4
+	if most := 1500; few > most { // as above
+		few = most
+	}
+	t.Run("test_decoding", func(t *testing.T) { runLockstep(t, s, 100, few, slot.TestDecoding) })
 }
 
 func runLockstep(t *testing.T, s *server, seed int64, commits int, plugin slot.Plugin) {
