@@ -51,10 +51,14 @@ CLAIM_ALL = """INSERT INTO {table} SELECT DISTINCT %s || run, '', run, -1, 0 FRO
     WHERE session >= 0 ON CONFLICT (key) DO NOTHING"""
 READING = "SET TRANSACTION ISOLATION LEVEL SERIALIZABLE, READ ONLY; "
 # The server's process of a connection and since when it is, and what changes whenever the server
-# is started or has crashed, after which it may give a transaction's number to another one.
+# is started or has crashed, after which it may give a transaction's number to another one; and
+# which database and table these are.
 AGE = "extract(epoch FROM backend_start)::text"
 LIVES = """concat_ws(' ', extract(epoch FROM pg_postmaster_start_time()),
-    (SELECT extract(epoch FROM stats_reset) FROM pg_stat_bgwriter))"""
+    (SELECT extract(epoch FROM stats_reset) FROM pg_stat_bgwriter),
+    (SELECT system_identifier FROM pg_control_system()),
+    (SELECT oid FROM pg_database WHERE datname = current_database()),
+    (SELECT tableoid FROM {table} LIMIT 1))"""
 LIFE = f"""SELECT pg_backend_pid(),
     (SELECT {AGE} FROM pg_stat_activity WHERE pid = pg_backend_pid()), {LIVES}"""
 CONFLICTS = (errors.SerializationFailure, errors.DeadlockDetected, errors.LockNotAvailable)
@@ -130,7 +134,7 @@ class PostgresStore:
         self.life = (self.connection.info.backend_pid, None, None)
         if self.is_asked:
             try:
-                self.life = self.send(LIFE).fetchone()
+                self.life = self.send(LIFE.format(table=self.table)).fetchone()
             except psycopg2.Error:
                 pass  # then less is found out
 
@@ -186,7 +190,7 @@ class PostgresStore:
         return None if row is None else (row[0], row[1:])
 
     def read_all(self, keys: Sequence[str]) -> Dict[str, StoredValue]:
-        rows = self.ask(READ_ALL, (keys,), is_reading=True)
+        rows = self.ask(READ_ALL, ([*keys],), is_reading=True)
         return {row[0]: (row[1], row[2:]) for row in rows}
 
     def write(self, key: str, value: Any, name: Name) -> None:
