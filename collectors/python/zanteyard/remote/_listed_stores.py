@@ -41,5 +41,5 @@ class ListedStores:
         if not isinstance(told, (tuple, list)) or len(told) != 2 or told[0] != POSTGRES:
             return None
         tables = [table for table in self._tables if table == told[1]]
-        each = [(POSTGRES, words, {}, table) for table in tables for words in self._words]
+        each: List[Any] = [(POSTGRES, words, {}, table) for table in tables for words in self._words]
         return (POSTGRES, each) if each else None
